@@ -1,6 +1,6 @@
 -- Theorems on the bench schedule and on the order of a set. Assumes nothing.
 use mathlib.Core.Path.{_≡_, refl, sym, ap, _∙_}
-use mathlib.Core.Bool.{Bool, true, false, not, _&&_, _||_, cond}
+use mathlib.Core.Bool.{Bool, true, false, not, _&&_, _||_, cond, and-false}
 use mathlib.Core.Logic.{_↔_}
 use mathlib.Core.List.{List, [], _∷_, _++_, append-assoc, append-nil}
 use mathlib.Core.Option.{Option, none, some}
@@ -12,7 +12,7 @@ use Rattle.record.specs.Lists.{any, mem, at, _among_, _within_, distinct
 use Rattle.record.specs.Record.{Record, names, written, notafter, enables, WellFormed}
 use Rattle.record.specs.Sound.{Sound}
 use Rattle.record.specs.Schedule.{Next, needs, musts, ready, order, ring, barred, admit, admits, scheduled, schedule}
-use Rattle.record.specs.Judgement.{sound}
+use Rattle.record.specs.Judgement.{sound, must}
 use Rattle.record.proofs.Lists.{
   by,
   clash,
@@ -31,6 +31,8 @@ use Rattle.record.proofs.Lists.{
   one-within,
   mem-append,
   mem-left,
+  mem-right,
+  any-no,
   no-any,
   same-by,
   option-by,
@@ -42,7 +44,7 @@ use Rattle.record.proofs.Lists.{
   grown-next,
 }
 use Rattle.record.proofs.Records.{written-names, init-known}
-use Rattle.record.proofs.Order.{Closed, needs-holds, needs-closed, needs-known, needs-within, order-placed, ring-order, ring-grows}
+use Rattle.record.proofs.Order.{Closed, needs-holds, needs-least, needs-closed, needs-known, needs-within, order-placed, ring-order, ring-grows}
 use Rattle.record.proofs.Judged.{Good, good-sound, needs-good, musts-good, init-must}
 
 -- what a schedule keeps on the way: a good set of known edits
@@ -142,6 +144,41 @@ schedule-maximal R w h x i m =
     let into : scheduled R [] within schedule R [] = λ y j. g y ∙ j in
     ring-later R w (scheduled R []) (schedule R []) x (written-names R x i) (λ y j. schedule-sound R w h [] .known y (into y j)) into
     (admits-out R w [] (musts R) (written R) (musts-known R w) (written-names R) x (none-barred R x) i (sym (g x) ∙ m))
+
+-- what enters with x is of the set already or among the needs of x
+entering : (R : Record) → WellFormed R → (s : List ℕ) (x : ℕ) → Closed R s → needs R (x ∷ s) within s ++ needs R (0 ∷ x ∷ [])
+entering R w s x c =
+    let n = needs R (0 ∷ x ∷ []) in
+    needs-least R (x ∷ s) (s ++ n)
+    (λ a b e i. or-by (mem b s) (mem b n) (sym (mem-append b s n) ∙ i)
+    (λ j. mem-left a s n (c a b e j))
+    (λ j. mem-right a s n (needs-closed R w (0 ∷ x ∷ []) a b e j)))
+    (cons-within x s (s ++ n) (mem-right x s n (needs-holds R (0 ∷ x ∷ []) x (mem-tail x 0 (x ∷ []) (mem-head x [])))) (λ y i. mem-left y s n i))
+
+abbrev Spared : Record → List ℕ → List ℕ → Type 0
+Spared R hidden s = (h : ℕ) → h among s → (mem h hidden && not (mem h (musts R))) ≡ false
+
+admit-spared : (R : Record) → WellFormed R → (hidden s : List ℕ) (x : ℕ) → Good R s → Spared R hidden s → Spared R hidden (admit R hidden s x)
+unfolding admit barred
+admit-spared R w hidden s x g f =
+    by (mem x s || barred R hidden x || ring R (needs R (x ∷ s))) (λ e. rw e f)
+    (λ e. let n = needs R (0 ∷ x ∷ []) in
+    rw e (λ h i. or-by (mem h s) (mem h n) (sym (mem-append h s n) ∙ entering R w s x (g .closed) h i) (f h)
+    (any-no _ n (or-no-r (mem x s) (barred R hidden x) (or-no-l _ (ring R (needs R (x ∷ s))) e)) h)))
+
+admits-spared : (R : Record) → WellFormed R → (hidden s l : List ℕ) → Good R s → Spared R hidden s → Spared R hidden (admits R hidden s l)
+unfolding admits
+admits-spared R w hidden s [] g f = f
+admits-spared R w hidden s (x ∷ l) g f =
+    admits-spared R w hidden (admit R hidden s x) l (admit-good R w hidden s x g) (admit-spared R w hidden s x g f)
+
+-- A hidden edit stands in the schedule only if it must.
+pub schedule-hides : (R : Record) → WellFormed R → sound R ≡ true → (hidden : List ℕ) (x : ℕ) → x among hidden → x among schedule R hidden → must R x ≡ true
+unfolding scheduled must
+schedule-hides R w h hidden x i j =
+    let r = admits-spared R w hidden (musts R) (written R) (musts-good R w h) (λ y k. rw k (and-false (mem y hidden))) x
+    (sym (schedule-members R w h hidden x) ∙ j) in
+    by (mem x (musts R)) (λ m. m) (λ m. clash refl (rw (i, m) at r))
 
 -- The order puts the lowest ready name next, and ends when none is ready.
 pub order-next : (R : Record) → ascending (names R) ≡ true → (t placed : List ℕ) (x : ℕ) (rest : List ℕ) → order R t ≡ placed ++ x ∷ rest → Next R t placed x

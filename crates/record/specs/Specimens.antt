@@ -89,6 +89,8 @@ table =
     -- P8, hiding 258, then hiding 257
     record { names = 257 ∷ 258 ∷ []; constraints = con 257 1 258 ∷ []; hidden = 258 ∷ []; sound = true; nevers = []; musts = []; settleds = []; row = 0 ∷ 257 ∷ []; unsound = (0 ∷ 258 ∷ []) ∷ [] } ∷
     record { names = 257 ∷ 258 ∷ []; constraints = con 257 1 258 ∷ []; hidden = 257 ∷ []; sound = true; nevers = []; musts = []; settleds = []; row = 0 ∷ []; unsound = [] } ∷
+    -- a hidden edit that must stand bars nothing
+    record { names = 257 ∷ 258 ∷ []; constraints = con 257 1 0 ∷ con 257 1 258 ∷ []; hidden = 257 ∷ []; sound = true; nevers = []; musts = 257 ∷ []; settleds = 257 ∷ []; row = 0 ∷ 257 ∷ 258 ∷ []; unsound = (0 ∷ []) ∷ [] } ∷
     -- the three-edit text
     record { names = 257 ∷ 258 ∷ 513 ∷ []; constraints = con 257 0 258 ∷ con 257 0 513 ∷ con 257 1 258 ∷ con 257 1 513 ∷ con 258 2 513 ∷ con 513 1 0 ∷ []; hidden = []; sound = true; nevers = []; musts = 257 ∷ 513 ∷ []; settleds = 257 ∷ []; row = 0 ∷ 257 ∷ 258 ∷ 513 ∷ []; unsound = (0 ∷ 257 ∷ 258 ∷ []) ∷ [] } ∷
     []
