@@ -1,7 +1,7 @@
 -- Entries and catalogues run by edits, as the code writes it. For any number of cells and places.
-use mathlib.Core.Path.{_≡_, refl, sym, ap, _∙_}
-use mathlib.Core.Bool.{Bool, true, false, cond}
-use mathlib.Core.List.{List, [], _∷_, map}
+use mathlib.Core.Path.{_≡_, refl}
+use mathlib.Core.Bool.{true, false}
+use mathlib.Core.List.{List, _∷_, map}
 use Prim.Native.Nat.{ℕ, zero, suc, _<_, _≤_, suc-le-suc}
 use native.Mathlib.Omega.{arith}
 use lib.ListN.{length, getD, set, replicate, length-map, List·getD-eq-default}
@@ -9,7 +9,7 @@ use lib.Seq.{set-out}
 use Rattle.record.specs.declared.Field.{Field}
 use Rattle.record.specs.declared.Field.the-variants.{Id, Size, Erase, Page}
 use Rattle.record.specs.declared.Body.{Body}
-use Rattle.record.specs.declared.Body.the-variants.{Insert, Set, Remove}
+use Rattle.record.specs.declared.Body.the-variants.{Insert, Set}
 use Rattle.record.specs.declared.Edit.{Edit}
 use Rattle.record.specs.Stored.{padded}
 use Rattle.pages.specs.Pages.{touched, runEdit, run, kept, emptyCatalogue, viewOf}

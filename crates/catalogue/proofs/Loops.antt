@@ -1,12 +1,12 @@
 -- The loops over pages: a turn of each, as the code writes it.
-use mathlib.Core.Path.{_≡_, refl, sym, ap, _∙_}
+use mathlib.Core.Path.{_≡_, sym, ap, _∙_}
 use mathlib.Core.List.{List}
 use Prim.Native.Nat.{ℕ, _+_, _-_, _<_, _≤_, min}
 use native.Mathlib.Omega.{arith}
 use lib.ListN.{length, getD, set, drop, length-set}
 use lib.Seq.{slice, set-out}
 use Rattle.record.specs.declared.Edit.{Edit}
-use Rattle.pages.specs.Pages.{View, touched, runEdit}
+use Rattle.pages.specs.Pages.{View}
 use Rattle.pages.specs.Steps.{stepForward, stepBack, forward, back}
 use Rattle.pages.proofs.Turns.{take-least, forward-more, back-more, forward-end, back-end}
 use Rattle.catalogue.specs.declared.Entry.{Entry}

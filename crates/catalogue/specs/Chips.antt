@@ -1,7 +1,7 @@
 -- Document 01, "Entries and pages": the chip catalogue has 64 places of four cells, and its journal 127 rows. Assumes nothing.
 use mathlib.Core.List.{List, []}
 use Prim.Native.Nat.{ℕ}
-use lib.ListN.{length, take}
+use lib.ListN.{length}
 use Rattle.record.specs.declared.Edit.{Edit}
 use Rattle.record.specs.declared.Schedule.{Schedule}
 use Rattle.record.specs.Stored.{padded, fillerEdit}

@@ -4,15 +4,14 @@ use record::Edit;
 use record::Field;
 use record::Schedule;
 ghost use mathlib.Core.Path.{_≡_};
-ghost use mathlib.Core.List.{map};
 ghost use Prim.Native.Nat.{min};
 ghost use lib.ListN.{take};
 ghost use lib.Seq.{slice};
-ghost use Rattle.record.specs.Record.{nameOf};
 ghost use Rattle.pages.specs.Pages.{runEdit};
-ghost use Rattle.pages.specs.Steps.{back, commonBeginning, forward};
+ghost use Rattle.pages.specs.Steps.{back, forward, turn};
 ghost use Rattle.catalogue.specs.Entries.{absentEntry, cellOf, placeOf, runBody};
 ghost use Rattle.catalogue.specs.Chips.{cells, chips, content, emptyView, stored};
+ghost use Rattle.catalogue.specs.Changes.{Changes, Turns, changed, common};
 
 // The sizes of the chip catalogue; specs/Chips.antt has the same numbers.
 pub const CELLS: usize = 4;
@@ -191,4 +190,55 @@ pub fn back_to(view: View, schedule: Schedule, from: usize, to: usize) -> View
         }
     }
     View { catalogue, journal }
+}
+
+// From the open page to another page of the schedule.
+pub fn turn_to(view: View, schedule: Schedule, opened: usize, page: usize) -> View
+    ensures moves { λ r. ⌜ r ≡ stored (turn chips (schedule .edits) opened page (content view)) ⌝ }
+    ensures opens { λ r. ⌜ Turns schedule opened page view r ⌝ }
+{
+    if opened <= page {
+        forward_to(view, schedule, opened, page)
+    } else {
+        back_to(view, schedule, opened, page)
+    }
+}
+
+// How many pages the open part of the old schedule and the new schedule have in common at their beginning, by their names.
+pub fn common_beginning(old: Schedule, opened: usize, new: Schedule) -> usize
+    ensures { λ r. ⌜ r ≡ common (take opened (old .edits)) (take (new .count) (new .edits)) ⌝ }
+{
+    let end = least(least(opened, new.count), PAGES);
+    let mut page: usize = 0;
+    while page < end {
+        let before = old.edits[page].name;
+        let after = new.edits[page].name;
+        if before != after {
+            return page;
+        }
+        page += 1;
+    }
+    page
+}
+
+// The view at the last page of the new schedule, and the pages undone and redone.
+pub struct Changed {
+    pub view: View,
+    pub undone: usize,
+    pub redone: usize,
+}
+
+// Back to the common beginning by the journal, and on along the new schedule.
+pub fn change(view: View, old: Schedule, opened: usize, new: Schedule) -> Changed
+    ensures moves { λ r. ⌜ r ≡ changed view old opened new ⌝ }
+    ensures opens { λ r. ⌜ Changes old opened new view r ⌝ }
+{
+    let last = new.count;
+    let common = common_beginning(old, opened, new);
+    let undone = back_to(view, old, opened, common);
+    Changed {
+        view: forward_to(undone, new, common, last),
+        undone: opened - common,
+        redone: last - common,
+    }
 }

@@ -1,7 +1,6 @@
-use Prim.Native.Nat.{ℕ, zero, suc, _+_, _-_, _*_, _≤_, _<_}
-use mathlib.Core.Path.{_≡_, refl, ap, sym, _∙_}
-use mathlib.Core.List.{List, [], _∷_, _++_}
-use lib.ListN.{length, getD, take, drop, set}
+use Prim.Native.Nat.{_-_, _≤_}
+use mathlib.Core.Path.{_≡_, refl, ap}
+use lib.ListN.{length}
 use native.Mathlib.Omega.{arith}
 use borrow.Author.Needs.{needs}
 use Rattle.catalogue.specs.Chips.{cells, places, rows, stored}
@@ -9,12 +8,6 @@ use Rattle.catalogue.proofs.Entries.{length-mapped}
 use Rattle.catalogue.proofs.Loops.{Running, run-within, run-past, run-end}
 use Rattle.catalogue.proofs.forward_to.Statement.{statement}
 use Rattle.catalogue.proofs.forward_to.Tie as tie
-use Rattle.catalogue.proofs.forward_to.Reads as reads
-use Rattle.catalogue.proofs.forward_to.Lts as lts
-use Rattle.catalogue.proofs.absent_entry.Reads as absent-entry-reads
-use Rattle.catalogue.proofs.least.Reads as least-reads
-use Rattle.catalogue.proofs.place_of.Reads as place-of-reads
-use Rattle.catalogue.proofs.run_entry.Reads as run-entry-reads
 
 abbrev Inv-loop : tie.InvT-loop
 Inv-loop from to schedule end catalogue₀ journal₀ page₀ catalogue journal page =
@@ -24,11 +17,9 @@ Inv-loop from to schedule end catalogue₀ journal₀ page₀ catalogue journal 
 abbrev μ-loop : tie.MeasureT-loop
 μ-loop from to schedule end catalogue₀ journal₀ page₀ catalogue journal page = end - page
 
--- src/lib.rt:148:9
 least-requires : tie.Need-least-requires Inv-loop μ-loop
 least-requires c κs = search needs
 
--- src/lib.rt:152:5
 loop-holds : tie.Need-loop-holds Inv-loop μ-loop
 loop-holds c =
     let s = c .before .before .before in
@@ -36,59 +27,45 @@ loop-holds c =
     let j : length (s .args .view .journal .rows) ≡ 127 = search (needs, length-mapped) in
     record { sized = record { catalogue = e; journal = j }; rest = refl }
 
--- src/lib.rt:154:9
 add-page : tie.Need-add-page Inv-loop μ-loop
 add-page c = search needs
 
--- src/lib.rt:155:20
 mul-edit : tie.Need-mul-edit Inv-loop μ-loop
 mul-edit c = search needs
 
--- src/lib.rt:155:20
 element-copy-out-edit : tie.Need-element-copy-out-edit Inv-loop μ-loop
 element-copy-out-edit c = search needs
 
--- src/lib.rt:157:21
 place-of-requires : tie.Need-place-of-requires Inv-loop μ-loop
 place-of-requires c κs = search needs
 
--- src/lib.rt:157:21
 cast-place : tie.Need-cast-place Inv-loop μ-loop
 cast-place c = search needs
 
--- src/lib.rt:159:25
 mul-entry : tie.Need-mul-entry Inv-loop μ-loop
 mul-entry c = search needs
 
--- src/lib.rt:159:25
 element-copy-out-entry : tie.Need-element-copy-out-entry Inv-loop μ-loop
 element-copy-out-entry c = search needs
 
--- src/lib.rt:160:13
 mul-entry-2 : tie.Need-mul-entry-2 Inv-loop μ-loop
 mul-entry-2 c = search needs
 
--- src/lib.rt:160:13
 element-set-from-entry : tie.Need-element-set-from-entry Inv-loop μ-loop
 element-set-from-entry c = search needs
 
--- src/lib.rt:161:40
 run-entry-requires : tie.Need-run-entry-requires Inv-loop μ-loop
 run-entry-requires c κs = search needs
 
--- src/lib.rt:161:13
 mul-t21 : tie.Need-mul-t21 Inv-loop μ-loop
 mul-t21 c = search needs
 
--- src/lib.rt:161:13
 element-set-from-catalogue : tie.Need-element-set-from-catalogue Inv-loop μ-loop
 element-set-from-catalogue c = search needs
 
--- src/lib.rt:152:5
 loop-less : tie.Need-loop-less Inv-loop μ-loop
 loop-less c = search needs
 
--- src/lib.rt:152:5
 loop-again : tie.Need-loop-again Inv-loop μ-loop
 loop-again c =
     let p = c .before .before .before in
@@ -99,23 +76,18 @@ loop-again c =
     run-within cells places rows (s .args .t2 .edits) _ _ _ _ _ _ _ (l .loop .inv) (p .before .before .loop-test .taken) r (p .place-of .ensures)
     _ _ (c .before .before .if1 .taken) (c .run-entry .ensures)
 
--- src/lib.rt:163:33
 absent-entry-requires : tie.Need-absent-entry-requires Inv-loop μ-loop
 absent-entry-requires c κs = search needs
 
--- src/lib.rt:163:13
 mul-t30 : tie.Need-mul-t30 Inv-loop μ-loop
 mul-t30 c = search needs
 
--- src/lib.rt:163:13
 element-set-from-journal : tie.Need-element-set-from-journal Inv-loop μ-loop
 element-set-from-journal c = search needs
 
--- src/lib.rt:152:5
 loop-less-2 : tie.Need-loop-less-2 Inv-loop μ-loop
 loop-less-2 c = search needs
 
--- src/lib.rt:152:5
 loop-again-2 : tie.Need-loop-again-2 Inv-loop μ-loop
 loop-again-2 c =
     let p = c .before .before in
@@ -126,7 +98,6 @@ loop-again-2 c =
     run-past cells places rows (s .args .t2 .edits) _ _ _ _ _ _ _ (l .loop .inv) (p .before .before .loop-test .taken) r (p .place-of .ensures)
     _ (c .before .if1 .left) (c .absent-entry .ensures)
 
--- src/lib.rt:145:1
 returns : tie.Need-returns Inv-loop μ-loop
 returns c =
     let l = c .before in
