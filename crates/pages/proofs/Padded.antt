@@ -26,7 +26,7 @@ module _ {A : Type 0} (n : ℕ) (filler : A) where
       let k : n - length l ≡ suc (n - length (l ++ (a ∷ []))) = simp length-append (omega arith) in
       rw (k, set-append-seam l filler (replicate (n - length (l ++ (a ∷ []))) filler) a, append-assoc)
 
-  getD-filled : (k i : ℕ) → getD (replicate k filler) i filler ≡ filler
+  pub getD-filled : (k i : ℕ) → getD (replicate k filler) i filler ≡ filler
   getD-filled zero i = refl
   getD-filled (suc k) zero = refl
   getD-filled (suc k) (suc i) = getD-filled k i
