@@ -3,7 +3,7 @@ use mathlib.Core.Path.{_≡_, refl, sym, ap, _∙_}
 use mathlib.Core.List.{List, [], _∷_, _++_, append-assoc}
 use Prim.Native.Nat.{ℕ, zero, suc, _+_, _-_, _≤_, _<_}
 use native.Mathlib.Omega.{arith}
-use lib.ListN.{length, take, drop, getD, set, replicate, length-append, length-replicate, List·getD-append, List·getD-eq-default}
+use lib.ListN.{length, take, drop, getD, set, replicate, length-append, length-replicate, List·getD-append}
 use lib.Seq.{take-append-le, set-append-seam, getD-append-add, slice}
 use Rattle.record.specs.Stored.{padded}
 
@@ -26,7 +26,7 @@ module _ {A : Type 0} (n : ℕ) (filler : A) where
       let k : n - length l ≡ suc (n - length (l ++ (a ∷ []))) = simp length-append (omega arith) in
       rw (k, set-append-seam l filler (replicate (n - length (l ++ (a ∷ []))) filler) a, append-assoc)
 
-  getD-filled : (k i : ℕ) → getD (replicate k filler) i filler ≡ filler
+  pub getD-filled : (k i : ℕ) → getD (replicate k filler) i filler ≡ filler
   getD-filled zero i = refl
   getD-filled (suc k) zero = refl
   getD-filled (suc k) (suc i) = getD-filled k i

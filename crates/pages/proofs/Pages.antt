@@ -1,9 +1,9 @@
 -- What the open pages make: the journal's rows, one page more, and a page run and undone. For any number of places and rows and any kind of entry.
 use mathlib.Core.Path.{_≡_, refl, sym, ap, _∙_}
 use mathlib.Core.List.{List, [], _∷_, _++_}
-use Prim.Native.Nat.{ℕ, zero, suc, _+_, _-_, _≤_, _<_, suc-le-suc}
+use Prim.Native.Nat.{ℕ, zero, suc, _≤_, _<_, suc-le-suc}
 use native.Mathlib.Omega.{arith}
-use lib.ListN.{length, getD, set, take, replicate, length-set, length-replicate}
+use lib.ListN.{length, getD, set, take, length-set, length-replicate}
 use lib.Seq.{getD-set-same, set-set, set-getD}
 use Rattle.record.specs.Stored.{padded}
 use Rattle.pages.specs.Pages.{Kind, View, touched, runEdit, run, kept, emptyCatalogue, viewOf}

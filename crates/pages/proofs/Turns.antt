@@ -1,14 +1,14 @@
 -- Pages run, undone, turned and changed come to the view of the edits that are then open. For any number of places and rows and any kind of entry.
 use mathlib.Core.Path.{_≡_, refl, sym, ap, _∙_}
-use mathlib.Core.Bool.{Bool, true, false, cond}
+use mathlib.Core.Bool.{Bool, true, false}
 use mathlib.Core.List.{List, [], _∷_, _++_, append-assoc, append-nil}
-use Prim.Native.Nat.{ℕ, zero, suc, _+_, _-_, _≤_, _<_, min}
+use Prim.Native.Nat.{ℕ, suc, _+_, _-_, _≤_, _<_, min}
 use native.Mathlib.Omega.{arith}
 use native.Mathlib.Numerals.{add-one}
 use native.Mathlib.Nat.{add-zero, add-suc, suc-add, min-eq-left, min-eq-right}
 use lib.Dec.{leb}
 use lib.ListN.{length, getD, take, drop, length-append, length-take, length-drop, take-append-drop, drop-of-length-le}
-use lib.Seq.{slice, slice-cons, length-slice, length-take-le, take-take, take-suc, take-all, drop-append-le, append-snoc}
+use lib.Seq.{slice, slice-cons, length-slice, length-take-le, take-take, take-suc, take-all, drop-append-le}
 use borrow.Author.Tests.{leb-true, leb-false}
 use Rattle.pages.specs.Pages.{Kind, View, viewOf}
 use Rattle.pages.specs.Steps.{stepForward, stepBack, forward, back, turn, change}

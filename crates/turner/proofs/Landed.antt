@@ -1,13 +1,12 @@
 -- Where a turn lands: never past the last page; on the open page for 0; nowhere for a number as far as either end of i32.
-use Prim.Native.Nat.{ℕ, zero, suc, _+_, _-_, _<_, _≤_}
-use mathlib.Core.Path.{_≡_, refl, sym, ap, _∙_}
+use Prim.Native.Nat.{ℕ, suc, _+_, _<_, _≤_}
+use mathlib.Core.Path.{_≡_, refl, ap}
 use mathlib.Core.Bool.{Bool, true, false, cond}
 use native.Mathlib.Omega.{arith}
 use native.Mathlib.Nat.{add-zero}
 use lib.IntN.{ℤ, pos, negsuc, _+ℤ_}
-use lib.Dec.{ltb, leb}
+use lib.Dec.{leb}
 use borrow.Author.Tests.{leb-true, le-leb, lt-leb, lt-ltb}
-use Rattle.turner.specs.declared.Turned.{Turned}
 use Rattle.turner.specs.declared.Turned.the-variants.{To, Refused}
 use Rattle.turner.specs.Turn.{landed, turned}
 

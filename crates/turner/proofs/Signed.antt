@@ -1,16 +1,15 @@
 -- The open page and an i32 added as i64, and the page that the sum comes to.
-use Prim.Native.Nat.{ℕ, zero, suc, _+_, _-_, _^_, _<_, _≤_}
+use Prim.Native.Nat.{ℕ, suc, _-_, _^_, _<_, _≤_}
 use mathlib.Core.Path.{_≡_, refl, sym, _∙_}
 use mathlib.Core.Bool.{Bool, true, false, cond}
 use native.Mathlib.Omega.{arith}
 use lib.IntN.{ℤ, pos, negsuc, natAbs, _+ℤ_}
 use lib.Signed.{mag, ltZ, nonNeg}
-use lib.Dec.{T, ltb, leb}
-use borrow.Author.Tests.{ltb-true, leb-true, le-leb, lt-leb}
+use lib.Dec.{T, ltb}
+use borrow.Author.Tests.{ltb-true, le-leb, lt-leb}
 use mir.Syntax.{w32, w64}
 use mir.Val.{SFits, Fits, toZ, ofZ}
 use mir.Facts.{sfits-widen, fits-natAbs, toZ-ofZ, toZ-pos}
-use Rattle.turner.specs.declared.Turned.{Turned}
 use Rattle.turner.specs.declared.Turned.the-variants.{To, Refused}
 use Rattle.turner.specs.Turn.{landed, turned, turnOf}
 
