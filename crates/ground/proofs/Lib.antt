@@ -3,3 +3,4 @@ pub mod Grounds
 pub mod Walks
 pub mod Lates
 pub mod Loop
+pub mod Accepted
