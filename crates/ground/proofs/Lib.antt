@@ -4,3 +4,4 @@ pub mod Walks
 pub mod Lates
 pub mod Loop
 pub mod Accepted
+pub mod Decoded

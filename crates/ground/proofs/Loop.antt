@@ -106,7 +106,7 @@ module _ (K : Elements) where
   abbrev limit : ℕ
   limit = K .kind .limit
 
-  key-wide : (row : Row) → length row ≡ K .width → length (take key row) ≡ key
+  pub key-wide : (row : Row) → length row ≡ K .width → length (take key row) ≡ key
   key-wide row h = let n : key ≤ K .width = K .narrow in length-take-le key row (omega arith)
 
   keys-wide : (l : List (K .A)) (r : Row) → Has r (map (K .rowOf) l) → length (take key r) ≡ key

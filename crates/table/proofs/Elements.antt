@@ -12,9 +12,10 @@ use Rattle.record.specs.Stored.{recordOf}
 use Rattle.record.specs.Record.{Record}
 use Rattle.keyed.specs.Keyed.{Ascending}
 use Rattle.keyed.proofs.Union.{ascending-map}
-use Rattle.row.specs.Row.{editRow, constraintRow}
-use Rattle.row.proofs.Cells.{edit-wide, constraint-wide}
+use Rattle.row.specs.Row.{editRow, constraintRow, editOf, constraintOf}
+use Rattle.row.proofs.Cells.{edit-wide, constraint-wide, edit-back, edit-again, constraint-back, constraint-again}
 use Rattle.ground.proofs.Loop.{Elements}
+use Rattle.ground.proofs.Decoded.{Coding}
 use Rattle.table.specs.Table.{editKind, constraintKind, editRows, constraintRows, editKey, constraintKey}
 use Rattle.table.specs.Checked.{Ordered}
 
@@ -33,6 +34,12 @@ edit-key e = refl
 pub constraint-key : (c : Constraint) → take 3 (constraintRow c) ≡ constraintKey c
 unfolding constraintRow
 constraint-key c = refl
+
+abbrev pub editCoding : Coding editElements
+editCoding = record { key = editKey; keyed = edit-key; of = editOf; back = edit-back; again = edit-again }
+
+abbrev pub constraintCoding : (names : List ℕ) (adding : Bool) → Coding (constraintElements names adding)
+constraintCoding names adding = record { key = constraintKey; keyed = constraint-key; of = constraintOf; back = constraint-back; again = constraint-again }
 
 pub edit-rows-ascend : (l : List Edit) → Ascending editKey l → Ascending (take 1) (map editRow l)
 edit-rows-ascend l a = ascending-map editKey (take 1) editRow l (λ e m. edit-key e) a

@@ -1,2 +1,4 @@
 pub mod Further
 pub mod Elements
+pub mod Unions
+pub mod Records
