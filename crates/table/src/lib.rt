@@ -11,14 +11,14 @@ ghost use Prim.Native.Nat.{ℕ, _<_, _≤_};
 ghost use lib.Dec.{eqb};
 ghost use lib.ListN.{length, getD, take};
 ghost use Rattle.record.specs.Record as theory;
-ghost use Rattle.record.specs.Record.{written};
+ghost use Rattle.record.specs.Record.{nameOf};
 ghost use Rattle.record.specs.Lists.{all};
 ghost use Rattle.record.specs.Stored.{recordOf, stored};
 ghost use Rattle.keyed.specs.Keyed.{Ascending};
 ghost use Rattle.row.specs.Row.{editInRange, editRow, constraintRow};
 ghost use Rattle.ground.specs.Ground.{known, misplaced, tableFault};
 ghost use Rattle.ground.specs.Walk.{PlaceOf, lateFault, stepAt};
-ghost use Rattle.table.specs.Table.{editRows, constraintRows, namesOf, pairNotAllowed, decision, constraintFurther, editKind, constraintKind, lentFault};
+ghost use Rattle.table.specs.Table.{editRows, constraintRows, namesOf, pairNotAllowed, decision, constraintFurther, editKind, constraintKind, emptyTables, lentFault, addEditFault, addConstraintFault};
 ghost use Rattle.table.specs.Checked.{Checked, Ordered, Marked};
 
 // Whether row i is above the row before it.
@@ -289,4 +289,85 @@ pub fn constraint_fault(r: Record, t: &[[u32; 3]], marks: &[u8], adding: bool) -
         i += s.judged;
     }
     0
+}
+
+fn wide(n: u32) -> usize
+    ensures { λ r. ⌜ r ≡ n ⌝ }
+{
+    n as usize
+}
+
+// The marks of the names of a table of edits in range.
+pub fn mark_rows(t: &[[u32; 5]]) -> [u8; 2304]
+    ensures { λ r. ⌜ (all editInRange (now (t .entry)) ≡ true → Marked r (namesOf (now (t .entry)))) ⌝ }
+{
+    let mut marks = [0u8; 2304];
+    marks[0] = 1;
+    let mut i = 0;
+    while i < t.len() {
+        let n = wide(t[i][0]);
+        let k = ground::slot(n, 2304, 2304);
+        marks[k] = 1;
+        i += 1;
+    }
+    marks
+}
+
+// The marks of the first n edits, in range.
+pub fn mark_edits(a: [Edit; 127], n: usize) -> [u8; 2304]
+    requires { ⌜ n ≤ 127 ⌝ }
+    ensures { λ r. ⌜ (all (λ e. editInRange (editRow e)) (take n a) ≡ true → Marked r (map nameOf (take n a))) ⌝ }
+{
+    let mut marks = [0u8; 2304];
+    marks[0] = 1;
+    let mut i = 0;
+    while i < n {
+        let e = a[i];
+        let name = e.name as usize;
+        let k = ground::slot(name, 2304, 2304);
+        marks[k] = 1;
+        i += 1;
+    }
+    marks
+}
+
+// The number of the first faulty row of a lent record that joins a record; its constraints know only its own edits.
+pub fn fault(joined: Record, edits: &[[u32; 5]], constraints: &[[u32; 3]]) -> u32
+    ensures { λ q. ⌜ ((R : theory.Record) → joined ≡ stored R → Checked R → q ≡ lentFault R (now (edits .entry)) (now (constraints .entry))) ⌝ }
+{
+    let number = edit_fault(joined, edits);
+    if number != 0 {
+        return number;
+    }
+    let marks = mark_rows(edits);
+    constraint_fault(joined, constraints, &marks, false)
+}
+
+// The same of a lent record by itself.
+pub fn lent_fault(edits: &[[u32; 5]], constraints: &[[u32; 3]]) -> u32
+    ensures { λ q. ⌜ q ≡ lentFault emptyTables (now (edits .entry)) (now (constraints .entry)) ⌝ }
+{
+    fault(record::empty(), edits, constraints)
+}
+
+// The number of one edit that is added to a record.
+pub fn edit_add_fault(joined: Record, row: [u32; 5]) -> u32
+    ensures { λ q. ⌜ ((R : theory.Record) → joined ≡ stored R → Checked R → q ≡ addEditFault R row) ⌝ }
+{
+    let t = [row];
+    edit_fault(joined, &t)
+}
+
+// The number of one constraint that is added to a record; it knows the record's edits.
+pub fn constraint_add_fault(joined: Record, row: [u32; 3]) -> u32
+    ensures { λ q. ⌜ ((R : theory.Record) → joined ≡ stored R → Checked R → q ≡ addConstraintFault R row) ⌝ }
+{
+    let n = joined.editcount;
+    if 127 < n {
+        return 0;
+    }
+    let a = joined.edits;
+    let marks = mark_edits(a, n);
+    let t = [row];
+    constraint_fault(joined, &t, &marks, true)
 }
