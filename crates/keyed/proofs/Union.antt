@@ -10,7 +10,7 @@ use borrow.Author.Tests.{not-true, not-false}
 use Rattle.record.specs.Lists.{any}
 use Rattle.keyed.specs.Keyed.{precedes, Below, Ascending, inserted, united}
 use Rattle.keyed.proofs.Logic.{by, clash, Has, or-no-l, or-no-r, any-append, any-none, any-no}
-use Rattle.keyed.proofs.Order.{less-irrefl, less-trans}
+use Rattle.keyed.proofs.Order.{less-irrefl, less-trans, less-total}
 
 module _ {A : Type 0} (key : A → List ℕ) where
   pub below-trans : (x y : A) (t : List A) → precedes (key x) (key y) ≡ true → Below key y t → Below key x t
@@ -193,6 +193,21 @@ module _ {A : Type 0} (key : A → List ℕ) where
   pub united-both : (x y : A) (t s : List A) → key x ≡ key y → Below key y s → united key (y ∷ t) (x ∷ s) ≡ y ∷ united key t s
   unfolding united inserted
   united-both x y t s e b = rw (e, less-irrefl (key y)) (united-first y t s b)
+
+  -- the key of each that joins is there afterwards
+  module _ (even : (x y : A) → length (key x) ≡ length (key y)) where
+    inserted-key : {P : Type 0} (x : A) (t : List A) → ((y : A) → Has y (inserted key x t) → key y ≡ key x → P) → P
+    unfolding inserted
+    inserted-key x [] f = f x (inl refl) refl
+    inserted-key {P} x (r ∷ t) f =
+        inserting (λ l. ((y : A) → Has y l → key y ≡ key x → P) → P) x r t (λ e g. g x (inl refl) refl) (λ e g. inserted-key x t (λ y m q. g y (inr m) q))
+        (λ e q g. g r (inl refl) (less-total (key r) (key x) (even r x) q e)) f
+
+    pub united-key : {P : Type 0} (x : A) (t s : List A) → Has x s → ((y : A) → Has y (united key t s) → key y ≡ key x → P) → P
+    unfolding united
+    united-key x t [] h f = absurd h
+    united-key x t (z ∷ s) (inl e) f = inserted-key z t (λ y m q. f y (united-old y (inserted key z t) s m) (rw e q))
+    united-key x t (z ∷ s) (inr h) f = united-key x (inserted key z t) s h f
 
   -- a table joins an empty one
   pub united-alone : (s : List A) → Ascending key s → united key [] s ≡ s
