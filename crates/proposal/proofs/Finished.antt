@@ -22,7 +22,8 @@ use Rattle.record.proofs.Scheduled.{schedule-sound, musts-scheduled, schedule-m
 use Rattle.keyed.specs.Keyed.{Ascending}
 use Rattle.keyed.proofs.Logic.{Has}
 use Rattle.keyed.proofs.Union.{ascending-united}
-use Rattle.proposal.specs.Proposal.{constraintKey, withConstraints, before, unordered, decisions, orders, finished, Paired}
+use Rattle.table.specs.Table.{constraintKey}
+use Rattle.proposal.specs.Proposal.{withConstraints, before, unordered, decisions, orders, finished, Paired}
 use Rattle.proposal.proofs.Joined.{con, has-in, in-has, has-append, has-with, written-with, extends-with, with-well-formed, with-part}
 
 -- two names of a row at one place are one

@@ -17,7 +17,9 @@ use Rattle.keyed.specs.Keyed.{precedes, Ascending, united}
 use Rattle.keyed.proofs.Logic.{Has}
 use Rattle.keyed.proofs.Order.{less-total}
 use Rattle.keyed.proofs.Union.{Agree, agree-self, agree-sym, united-has, united-old, united-new, united-comm, united-part, ascending-united}
-use Rattle.proposal.specs.Proposal.{editKey, constraintKey, withConstraints, unite}
+use Rattle.table.specs.Table.{editKey, constraintKey, unite}
+use Rattle.table.proofs.Unions.{mem-by, mem-has, united-extends, joining-extends}
+use Rattle.proposal.specs.Proposal.{withConstraints}
 
 abbrev pub con : ℕ → ℕ → ℕ → Constraint
 con a k b = record { left = a; rule = k; right = b }
@@ -59,16 +61,6 @@ has-united a k b s t =
     (λ m. united-old constraintKey (con a k b) s t (has-in a k b s m))
     (λ m. united-new constraintKey (con a k b) s t (constraints-agree t s) (constraints-agree t t) (has-in a k b t m))))
 
--- names of edits
-pub has-name : (e : Edit) (l : List Edit) → Has e l → e .name among map nameOf l
-has-name e [] h = absurd h
-has-name e (d ∷ l) (inl q) = rw q (mem-head (d .name) (map nameOf l))
-has-name e (d ∷ l) (inr h) = mem-tail (e .name) (d .name) (map nameOf l) (has-name e l h)
-
-pub name-has {ℓ} : {P : Type ℓ} (x : ℕ) (l : List Edit) → x among map nameOf l → ((e : Edit) → Has e l → x ≡ e .name → P) → P
-name-has x [] h f = nil-no x h
-name-has x (d ∷ l) h f = cons-by x (d .name) (map nameOf l) h (λ e. f d (inl refl) e) (λ i. name-has x l i (λ e m. f e (inr m)))
-
 -- what is needed of two records that are joined: ascending tables, and one body for a name
 pub record Joins (M Q : Record) : Type 0 where
   pub left-edits : Ascending editKey (M .edits)
@@ -94,35 +86,21 @@ module _ {M Q : Record} (j : Joins M Q) where
   unfolding unite
   has-unite a k b = has-united a k b (M .constraints) (Q .constraints)
 
-  pub extends-left : Extends M (unite M Q)
-  unfolding written
-  extends-left = record {
-    edits = λ x h. name-has x (M .edits) h (λ e m q. rw q (has-name e (unite M Q .edits) (unite-left e m)));
-    constraints = λ a k b h. has-unite a k b ∙ or-l _ _ h;
-  }
-
-  pub extends-right : Extends Q (unite M Q)
-  unfolding written
-  extends-right = record {
-    edits = λ x h. name-has x (Q .edits) h (λ e m q. rw q (has-name e (unite M Q .edits) (unite-right e m)));
-    constraints = λ a k b h. has-unite a k b ∙ or-r (has a k b (M .constraints)) _ h;
-  }
-
   -- a name of the union is of either
   written-by {ℓ} : {P : Type ℓ} (x : ℕ) → x among written (unite M Q) → (x among written M → P) → (x among written Q → P) → P
   unfolding written
   written-by x h f g =
-      name-has x (unite M Q .edits) h
-      (λ e m q. ⊎-elim (λ (i : Has e (M .edits)). f (rw q (has-name e (M .edits) i))) (λ (i : Has e (Q .edits)). g (rw q (has-name e (Q .edits) i))) (unite-from e m))
+      mem-by x (unite M Q .edits) h
+      (λ e m q. ⊎-elim (λ (i : Has e (M .edits)). f (mem-has x (M .edits) e i q)) (λ (i : Has e (Q .edits)). g (mem-has x (Q .edits) e i q)) (unite-from e m))
 
   pub unite-well-formed : WellFormed M → WellFormed Q → WellFormed (unite M Q)
   unite-well-formed v w = record {
     unwritten = by (mem 0 (written (unite M Q))) (λ h. written-by 0 h (λ i. clash i (v .unwritten)) (λ i. clash i (w .unwritten))) (λ h. h);
     left = λ a k b h. or-by (has a k b (M .constraints)) (has a k b (Q .constraints)) (sym (has-unite a k b) ∙ h)
-        (λ i. extends-left .edits a (v .left a k b i)) (λ i. extends-right .edits a (w .left a k b i));
+        (λ i. united-extends M Q .edits a (v .left a k b i)) (λ i. joining-extends M Q .edits a (w .left a k b i));
     right = λ a k b h. or-by (has a k b (M .constraints)) (has a k b (Q .constraints)) (sym (has-unite a k b) ∙ h)
-        (λ i. ⊎-elim (λ (n : b among written M). inl (extends-left .edits b n)) (λ (z : (k ≡ 1) × (b ≡ 0)). inr z) (v .right a k b i))
-        (λ i. ⊎-elim (λ (n : b among written Q). inl (extends-right .edits b n)) (λ (z : (k ≡ 1) × (b ≡ 0)). inr z) (w .right a k b i));
+        (λ i. ⊎-elim (λ (n : b among written M). inl (united-extends M Q .edits b n)) (λ (z : (k ≡ 1) × (b ≡ 0)). inr z) (v .right a k b i))
+        (λ i. ⊎-elim (λ (n : b among written Q). inl (joining-extends M Q .edits b n)) (λ (z : (k ≡ 1) × (b ≡ 0)). inr z) (w .right a k b i));
   }
 
   -- what is contained in the other adds nothing

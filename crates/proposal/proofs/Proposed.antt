@@ -20,8 +20,10 @@ use Rattle.vote.specs.Bundle.{bundle, eligible}
 use Rattle.vote.specs.Tally.{sameBundle}
 use Rattle.vote.proofs.Bundles.{bundle-written, written-bundle, member-self}
 use Rattle.vote.proofs.Elections.{same-is}
-use Rattle.proposal.specs.Proposal.{editKey, constraintKey, withConstraints, unite, before, unordered, settledIn, settledFirst, firsts, started, finished, proposed, Paired, Keeps, keeps}
-use Rattle.proposal.proofs.Joined.{con, has-in, in-has, has-with, written-with, extends-with, with-well-formed, with-part, Joins, unite-left, unite-right, has-unite, extends-left, extends-right, unite-well-formed, unite-part}
+use Rattle.table.specs.Table.{editKey, constraintKey, unite}
+use Rattle.table.proofs.Unions.{united-extends, joining-extends}
+use Rattle.proposal.specs.Proposal.{withConstraints, before, unordered, settledIn, settledFirst, firsts, started, finished, proposed, Paired, Keeps, keeps}
+use Rattle.proposal.proofs.Joined.{con, has-in, in-has, has-with, written-with, extends-with, with-well-formed, with-part, Joins, unite-left, unite-right, has-unite, unite-well-formed, unite-part}
 use Rattle.proposal.proofs.Finished.{unordered-from, finished-written, finished-extends, finished-well-formed, finished-paired, finished-sound, finished-settled, finished-ascending, finished-again}
 
 pub extends-trans : {P Q R : Record} → Extends P Q → Extends Q R → Extends P R
@@ -107,10 +109,10 @@ module _ {M Q : Record} (j : Joins M Q) (v : WellFormed M) (w : WellFormed Q) (p
     from-union = extends-trans started-extends (finished-extends started-well-formed started-paired h)
 
     pub proposed-left : Extends M (proposed M Q)
-    proposed-left = extends-trans (extends-left j) from-union
+    proposed-left = extends-trans (united-extends M Q) from-union
 
     pub proposed-right : Extends Q (proposed M Q)
-    proposed-right = extends-trans (extends-right j) from-union
+    proposed-right = extends-trans (joining-extends M Q) from-union
 
     -- with the bodies of its edits
     pub proposed-edits : proposed M Q .edits ≡ unite M Q .edits

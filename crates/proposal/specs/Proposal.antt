@@ -4,29 +4,19 @@ use mathlib.Core.Bool.{Bool, true, false, not, _&&_, _||_, cond}
 use mathlib.Core.List.{List, [], _∷_, _++_, map}
 use Prim.Native.Nat.{ℕ, _<_}
 use lib.Dec.{eqb, ltb}
-use Rattle.record.specs.declared.Edit.{Edit}
 use Rattle.record.specs.declared.Constraint.{Constraint}
 use Rattle.record.specs.Lists.{all, sift, mem, at, _among_}
 use Rattle.record.specs.Record.{Record, written, has, notafter}
 use Rattle.record.specs.Schedule.{schedule}
 use Rattle.record.specs.Judgement.{settled}
 use Rattle.keyed.specs.Keyed.{united}
+use Rattle.table.specs.Table.{constraintKey, unite}
 use Rattle.vote.specs.Bundle.{bundle, eligible}
 use Rattle.vote.specs.Tally.{sameBundle}
-
-abbrev pub editKey : Edit → List ℕ
-editKey e = e .name ∷ []
-
-abbrev pub constraintKey : Constraint → List ℕ
-constraintKey c = c .left ∷ c .rule ∷ c .right ∷ []
 
 -- the record with the constraints of a list
 unfoldable pub withConstraints : Record → List Constraint → Record
 withConstraints R l = record { edits = R .edits; constraints = united constraintKey (R .constraints) l }
-
--- set union, in table order
-unfoldable pub unite : Record → Record → Record
-unite M Q = record { edits = united editKey (M .edits) (Q .edits); constraints = united constraintKey (M .constraints) (Q .constraints) }
 
 abbrev pub before : ℕ → ℕ → Constraint
 before a b = record { left = a; rule = 0; right = b }

@@ -16,11 +16,11 @@ use Rattle.record.specs.declared.Edit.{Edit}
 use Rattle.record.specs.declared.Constraint.{Constraint}
 use Rattle.record.specs.Record.{Record}
 use Rattle.record.proofs.Lists.{by, clash, and-l, and-r, and-i, le-by}
+use Rattle.row.specs.Row.{fieldOf, fieldNumber, bodyCells, editRow, constraintRow}
+use Rattle.row.proofs.Compared.{same-eq, same-refl}
 use Rattle.vote.specs.declared.RollRow.{RollRow}
 use Rattle.vote.specs.Bundle.{vote}
 use Rattle.vote.specs.Tally.{
-  fieldNumber,
-  sameBody,
   sameEdit,
   sameConstraint,
   sameList,
@@ -42,67 +42,54 @@ use Rattle.vote.specs.Tally.{
 }
 
 -- Votes are equal just where the test says so.
-same-field : (f g : Field) → fieldNumber f ≡ fieldNumber g → f ≡ g
-same-field Id Id e = refl
-same-field Id Size e = absurd (omega arith)
-same-field Id Erase e = absurd (omega arith)
-same-field Id Page e = absurd (omega arith)
-same-field Size Id e = absurd (omega arith)
-same-field Size Size e = refl
-same-field Size Erase e = absurd (omega arith)
-same-field Size Page e = absurd (omega arith)
-same-field Erase Id e = absurd (omega arith)
-same-field Erase Size e = absurd (omega arith)
-same-field Erase Erase e = refl
-same-field Erase Page e = absurd (omega arith)
-same-field Page Id e = absurd (omega arith)
-same-field Page Size e = absurd (omega arith)
-same-field Page Erase e = absurd (omega arith)
-same-field Page Page e = refl
+field-number : (f g : Field) → fieldNumber f ≡ fieldNumber g → f ≡ g
+field-number f g e = sym (field-of f) ∙ (ap fieldOf e ∙ field-of g)
+  where
+    field-of : (f : Field) → fieldOf (fieldNumber f) ≡ f
+    field-of Id = refl
+    field-of Size = refl
+    field-of Erase = refl
+    field-of Page = refl
 
-body-same : (a b : Body) → sameBody a b ≡ true → a ≡ b
-unfolding sameBody
-body-same (Insert p) (Insert q) h = ap (λ x. Insert x) (eqb-true p q h)
-body-same (Insert p) (Set q g w) h = clash h refl
-body-same (Insert p) (Remove q) h = clash h refl
-body-same (Set p f v) (Insert q) h = clash h refl
-body-same (Set p f v) (Set q g w) h =
-    let k = and-r (eqb p q) _ h in
-    rw (eqb-true p q (and-l _ _ h), same-field f g (eqb-true _ _ (and-l _ _ k)), eqb-true v w (and-r (eqb (fieldNumber f) (fieldNumber g)) _ k))
-body-same (Set p f v) (Remove q) h = clash h refl
-body-same (Remove p) (Insert q) h = clash h refl
-body-same (Remove p) (Set q g w) h = clash h refl
-body-same (Remove p) (Remove q) h = ap (λ x. Remove x) (eqb-true p q h)
-
-same-body : (a : Body) → sameBody a a ≡ true
-unfolding sameBody
-same-body (Insert p) = eq-eqb p p refl
-same-body (Set p f v) = rw (eq-eqb p p refl, eq-eqb (fieldNumber f) (fieldNumber f) refl, eq-eqb v v refl)
-same-body (Remove p) = eq-eqb p p refl
+body-cells : (a b : Body) → bodyCells a ≡ bodyCells b → a ≡ b
+body-cells (Insert p) (Insert q) e = let h : p ≡ q = cc in ap (λ x. Insert x) h
+body-cells (Insert p) (Set q g w) e = let h : _≡_ {A = ℕ} 0 1 = cc in absurd (omega arith)
+body-cells (Insert p) (Remove q) e = let h : _≡_ {A = ℕ} 0 2 = cc in absurd (omega arith)
+body-cells (Set p f v) (Insert q) e = let h : _≡_ {A = ℕ} 1 0 = cc in absurd (omega arith)
+body-cells (Set p f v) (Set q g w) e =
+    let h : p ≡ q = cc in
+    let i : fieldNumber f ≡ fieldNumber g = cc in
+    let j : v ≡ w = cc in
+    rw (h, field-number f g i, j)
+body-cells (Set p f v) (Remove q) e = let h : _≡_ {A = ℕ} 1 2 = cc in absurd (omega arith)
+body-cells (Remove p) (Insert q) e = let h : _≡_ {A = ℕ} 2 0 = cc in absurd (omega arith)
+body-cells (Remove p) (Set q g w) e = let h : _≡_ {A = ℕ} 2 1 = cc in absurd (omega arith)
+body-cells (Remove p) (Remove q) e = let h : p ≡ q = cc in ap (λ x. Remove x) h
 
 edit-same : (d e : Edit) → sameEdit d e ≡ true → d ≡ e
-unfolding sameEdit
+unfolding sameEdit editRow
 edit-same d e h =
-    let n = eqb-true (d .name) (e .name) (and-l _ _ h) in
-    let b = body-same (d .body) (e .body) (and-r (eqb (d .name) (e .name)) _ h) in
+    let r = same-eq (editRow d) (editRow e) h in
+    let n : d .name ≡ e .name = cc in
+    let b = body-cells (d .body) (e .body) (cc) in
     λ i. record { name = n i; body = b i }
 
 same-edit : (d : Edit) → sameEdit d d ≡ true
 unfolding sameEdit
-same-edit d = and-i _ _ (eq-eqb (d .name) (d .name) refl) (same-body (d .body))
+same-edit d = same-refl (editRow d)
 
 constraint-same : (c d : Constraint) → sameConstraint c d ≡ true → c ≡ d
-unfolding sameConstraint
+unfolding sameConstraint constraintRow
 constraint-same c d h =
-    let k = and-r (eqb (c .left) (d .left)) _ h in
-    let l = eqb-true (c .left) (d .left) (and-l _ _ h) in
-    let r = eqb-true (c .rule) (d .rule) (and-l _ _ k) in
-    let t = eqb-true (c .right) (d .right) (and-r (eqb (c .rule) (d .rule)) _ k) in
+    let e = same-eq (constraintRow c) (constraintRow d) h in
+    let l : c .left ≡ d .left = cc in
+    let r : c .rule ≡ d .rule = cc in
+    let t : c .right ≡ d .right = cc in
     λ i. record { left = l i; rule = r i; right = t i }
 
 same-constraint : (c : Constraint) → sameConstraint c c ≡ true
 unfolding sameConstraint
-same-constraint c = rw (eq-eqb (c .left) (c .left) refl, eq-eqb (c .rule) (c .rule) refl, eq-eqb (c .right) (c .right) refl)
+same-constraint c = same-refl (constraintRow c)
 
 module _ {A : Type 0} (same : A → A → Bool) where
   list-same : ((x y : A) → same x y ≡ true → x ≡ y) → (s t : List A) → sameList same s t ≡ true → s ≡ t

@@ -4,46 +4,26 @@ use mathlib.Core.Bool.{Bool, true, false, _&&_, cond}
 use mathlib.Core.List.{List, [], _∷_, map}
 use mathlib.Core.Option.{Option, none, some}
 use Prim.Native.Nat.{ℕ, _+_, _*_, _<_, max}
-use lib.Dec.{eqb, ltb}
-use Rattle.record.specs.declared.Field.{Field}
-use Rattle.record.specs.declared.Field.the-variants.{Id, Size, Erase, Page}
-use Rattle.record.specs.declared.Body.{Body}
-use Rattle.record.specs.declared.Body.the-variants.{Insert, Set, Remove}
+use lib.Dec.{ltb}
 use Rattle.record.specs.declared.Edit.{Edit}
 use Rattle.record.specs.declared.Constraint.{Constraint}
 use Rattle.record.specs.Record.{Record}
+use Rattle.row.specs.Row.{same, editRow, constraintRow}
 use Rattle.vote.specs.declared.RollRow.{RollRow}
 use Rattle.vote.specs.Bundle.{vote}
 
 -- Votes are equal when edits, bodies and constraints are.
-abbrev pub fieldNumber : Field → ℕ
-fieldNumber Id = 0
-fieldNumber Size = 1
-fieldNumber Erase = 2
-fieldNumber Page = 3
-
-unfoldable pub sameBody : Body → Body → Bool
-sameBody (Insert p) (Insert q) = eqb p q
-sameBody (Insert p) (Set q g w) = false
-sameBody (Insert p) (Remove q) = false
-sameBody (Set p f v) (Insert q) = false
-sameBody (Set p f v) (Set q g w) = eqb p q && (eqb (fieldNumber f) (fieldNumber g) && eqb v w)
-sameBody (Set p f v) (Remove q) = false
-sameBody (Remove p) (Insert q) = false
-sameBody (Remove p) (Set q g w) = false
-sameBody (Remove p) (Remove q) = eqb p q
-
 unfoldable pub sameEdit : Edit → Edit → Bool
-sameEdit d e = eqb (d .name) (e .name) && sameBody (d .body) (e .body)
+sameEdit d e = same (editRow d) (editRow e)
 
 unfoldable pub sameConstraint : Constraint → Constraint → Bool
-sameConstraint c d = eqb (c .left) (d .left) && (eqb (c .rule) (d .rule) && eqb (c .right) (d .right))
+sameConstraint c d = same (constraintRow c) (constraintRow d)
 
 unfoldable pub sameList : {A : Type 0} → (A → A → Bool) → List A → List A → Bool
-sameList same [] [] = true
-sameList same [] (y ∷ t) = false
-sameList same (x ∷ s) [] = false
-sameList same (x ∷ s) (y ∷ t) = same x y && sameList same s t
+sameList equal [] [] = true
+sameList equal [] (y ∷ t) = false
+sameList equal (x ∷ s) [] = false
+sameList equal (x ∷ s) (y ∷ t) = equal x y && sameList equal s t
 
 unfoldable pub sameBundle : Record → Record → Bool
 sameBundle P Q = sameList sameEdit (P .edits) (Q .edits) && sameList sameConstraint (P .constraints) (Q .constraints)
