@@ -20,7 +20,7 @@ use Rattle.pages.proofs.Turns.{pages-turn, pages-change}
 use Rattle.pages.proofs.Common.{common-left, common-right, common-found, common-take}
 use Rattle.catalogue.specs.declared.View.{View}
 use Rattle.catalogue.specs.declared.Changed.{Changed}
-use Rattle.catalogue.specs.Chips.{rows, places, chips, storedView, contentOf, viewOf, storedSchedule}
+use Rattle.catalogue.specs.Chips.{rows, places, chips, storedView, contentOf, viewOf, scheduleOf}
 use Rattle.catalogue.specs.Changes.{Turns, Changes, changed, common}
 
 name-at : (l : List Edit) (n j : ℕ) → j < n → getD (map nameOf (take n l)) j 0 ≡ getD l j fillerEdit .name
@@ -76,7 +76,7 @@ turn-stored edits opened page view h k =
 
 pub turn-opens : (schedule : Schedule) (opened page : ℕ) (view r : View) → r ≡ storedView (steps.turn chips (schedule .edits) opened page (contentOf view))
     → Turns schedule opened page view r
-unfolding Turns viewOf storedSchedule
+unfolding Turns viewOf scheduleOf
 turn-opens schedule opened page view r e edits room s h k v =
     e ∙ (λ i. storedView (steps.turn chips (s i .edits) opened page (contentOf (v i))))
     ∙ ap storedView (turn-stored edits opened page (pages.viewOf chips places rows (take opened edits)) h k ∙ pages-turn chips places rows edits opened page room h k)
@@ -99,7 +99,7 @@ unfolding common
 same-edits old new agree = common-take nameOf old new agree
 
 pub change-opens : (view : View) (old : Schedule) (opened : ℕ) (new : Schedule) (r : Changed) → r ≡ changed view old opened new → Changes old opened new view r
-unfolding Changes viewOf storedSchedule changed
+unfolding Changes viewOf scheduleOf changed
 change-opens view old opened new r e edits news room size o n h agree v =
     let before : take opened (old .edits) ≡ take opened edits = (λ i. take opened (o i .edits)) ∙ take-padded rows fillerEdit opened edits h in
     let after : take (new .count) (new .edits) ≡ news = (λ i. take (n i .count) (n i .edits)) ∙ pages-stored news in

@@ -41,5 +41,5 @@ abbrev pub emptyView : View
 emptyView = viewOf []
 
 -- a row of edits, no longer than the journal, as it is stored
-unfoldable pub storedSchedule : List Edit → Schedule
-storedSchedule edits = record { edits = padded rows fillerEdit edits; count = length edits }
+unfoldable pub scheduleOf : List Edit → Schedule
+scheduleOf edits = record { edits = padded rows fillerEdit edits; count = length edits }
