@@ -1,19 +1,19 @@
 -- Absent entries have blank cells, whatever edits ran. For any number of places and cells.
-use mathlib.Core.Path.{_≡_, refl, sym, ap, _∙_}
+use mathlib.Core.Path.{_≡_, refl, sym, _∙_}
 use mathlib.Core.Bool.{Bool, true, false, cond}
 use mathlib.Core.List.{List, [], _∷_}
-use Prim.Native.Nat.{ℕ, zero, suc, _<_, _≤_}
+use Prim.Native.Nat.{ℕ, _<_, _≤_}
 use native.Mathlib.Omega.{arith}
 use lib.Dec.{eqb, leb}
-use lib.ListN.{length, getD, set, replicate}
+use lib.ListN.{length, getD, set}
 use lib.Seq.{getD-set-same, getD-set-other, set-out}
 use borrow.Author.Tests.{eqb-true, eqb-false, leb-true, leb-false}
 use Rattle.record.specs.declared.Body.{Body}
 use Rattle.record.specs.declared.Body.the-variants.{Insert, Set, Remove}
 use Rattle.record.specs.declared.Edit.{Edit}
+use Rattle.record.proofs.Lists.{by}
 use Rattle.pages.specs.Pages.{touched, runEdit, run, emptyCatalogue}
 use Rattle.pages.proofs.Padded.{getD-filled}
-use Rattle.pages.proofs.Turns.{by}
 use Rattle.catalogue.specs.declared.Entry.{Entry}
 use Rattle.catalogue.specs.Entries.{placeOf, absentEntry, runBody}
 use Rattle.catalogue.specs.Chips.{shelf}

@@ -20,7 +20,7 @@ use Rattle.pages.proofs.Turns.{pages-turn, pages-change}
 use Rattle.pages.proofs.Common.{common-left, common-right, common-found, common-take}
 use Rattle.catalogue.specs.declared.View.{View}
 use Rattle.catalogue.specs.declared.Changed.{Changed}
-use Rattle.catalogue.specs.Chips.{rows, places, chips, stored, content, viewOf, scheduleOf}
+use Rattle.catalogue.specs.Chips.{rows, places, chips, storedView, contentOf, viewOf, scheduleOf}
 use Rattle.catalogue.specs.Changes.{Turns, Changes, changed, common}
 
 name-at : (l : List Edit) (n j : ℕ) → j < n → getD (map nameOf (take n l)) j 0 ≡ getD l j fillerEdit .name
@@ -55,13 +55,13 @@ common-le old new n m c e =
 
 -- a turn as the code makes it
 module _ (edits : List Edit) (opened page : ℕ) (view : View) (r : View) where
-  pub turned-on : opened ≤ page → r ≡ stored (steps.forward chips opened (slice opened page edits) (content view))
-      → r ≡ stored (steps.turn chips edits opened page (content view))
+  pub turned-on : opened ≤ page → r ≡ storedView (steps.forward chips opened (slice opened page edits) (contentOf view))
+      → r ≡ storedView (steps.turn chips edits opened page (contentOf view))
   unfolding steps.turn
   turned-on h e = rw (le-leb _ _ h) e
 
-  pub turned-back : page < opened → r ≡ stored (steps.back chips page (slice page opened edits) (content view))
-      → r ≡ stored (steps.turn chips edits opened page (content view))
+  pub turned-back : page < opened → r ≡ storedView (steps.back chips page (slice page opened edits) (contentOf view))
+      → r ≡ storedView (steps.turn chips edits opened page (contentOf view))
   unfolding steps.turn
   turned-back h e = rw (lt-leb _ _ h) e
 
@@ -74,18 +74,18 @@ turn-stored edits opened page view h k =
     let b = slice-padded rows fillerEdit page opened edits h in
     λ i. cond (leb opened page) (steps.forward chips opened (a i) view) (steps.back chips page (b i) view)
 
-pub turn-opens : (schedule : Schedule) (opened page : ℕ) (view r : View) → r ≡ stored (steps.turn chips (schedule .edits) opened page (content view))
+pub turn-opens : (schedule : Schedule) (opened page : ℕ) (view r : View) → r ≡ storedView (steps.turn chips (schedule .edits) opened page (contentOf view))
     → Turns schedule opened page view r
 unfolding Turns viewOf scheduleOf
 turn-opens schedule opened page view r e edits room s h k v =
-    e ∙ (λ i. stored (steps.turn chips (s i .edits) opened page (content (v i))))
-    ∙ ap stored (turn-stored edits opened page (pages.viewOf chips places rows (take opened edits)) h k ∙ pages-turn chips places rows edits opened page room h k)
+    e ∙ (λ i. storedView (steps.turn chips (s i .edits) opened page (contentOf (v i))))
+    ∙ ap storedView (turn-stored edits opened page (pages.viewOf chips places rows (take opened edits)) h k ∙ pages-turn chips places rows edits opened page room h k)
 
 -- a change as the code makes it
 pub change-moves : (view : View) (old : Schedule) (opened : ℕ) (new : Schedule) (c : ℕ) (w x : View)
     → c ≡ common (take opened (old .edits)) (take (new .count) (new .edits))
-    → w ≡ stored (steps.back chips c (slice c opened (old .edits)) (content view))
-    → x ≡ stored (steps.forward chips c (slice c (new .count) (new .edits)) (content w))
+    → w ≡ storedView (steps.back chips c (slice c opened (old .edits)) (contentOf view))
+    → x ≡ storedView (steps.forward chips c (slice c (new .count) (new .edits)) (contentOf w))
     → record { view = x; undone = opened - c; redone = new .count - c } ≡ changed view old opened new
 unfolding changed steps.change
 change-moves view old opened new c w x hc hw hx = rw (hx, hw, hc)
@@ -107,12 +107,12 @@ change-opens view old opened new r e edits news room size o n h agree v =
     let fits : length (take opened edits) ≤ rows = omega (arith, length-take opened edits) in
     let come = pages-change chips places rows (take opened edits) news (common (take opened edits) news) fits size (short .0) (short .1) (same-edits (take opened edits) news agree) in
     e ∙ (λ i. record {
-      view = stored (steps.change chips (before i) (after i) (common (before i) (after i)) (content (v i)));
+      view = storedView (steps.change chips (before i) (after i) (common (before i) (after i)) (contentOf (v i)));
       undone = opened - common (before i) (after i);
       redone = n i .count - common (before i) (after i);
     })
     ∙ (λ i. record {
-      view = stored (come i);
+      view = storedView (come i);
       undone = opened - common (take opened edits) news;
       redone = length news - common (take opened edits) news;
     })

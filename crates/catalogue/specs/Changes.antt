@@ -10,7 +10,7 @@ use Rattle.pages.specs.Steps as steps
 use Rattle.pages.specs.Steps.{commonBeginning, Agree}
 use Rattle.catalogue.specs.declared.View.{View}
 use Rattle.catalogue.specs.declared.Changed.{Changed}
-use Rattle.catalogue.specs.Chips.{rows, chips, stored, content, viewOf, scheduleOf}
+use Rattle.catalogue.specs.Chips.{rows, chips, storedView, contentOf, viewOf, scheduleOf}
 
 -- From a view of the first `opened` edits of a row to that of the first `page` edits.
 unfoldable pub Turns : Schedule → ℕ → ℕ → View → View → Type 0
@@ -35,4 +35,4 @@ changed view old opened new =
     let before = take opened (old .edits) in
     let after = take (new .count) (new .edits) in
     let c = common before after in
-    record { view = stored (steps.change chips before after c (content view)); undone = opened - c; redone = new .count - c }
+    record { view = storedView (steps.change chips before after c (contentOf view)); undone = opened - c; redone = new .count - c }

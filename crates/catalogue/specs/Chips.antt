@@ -27,15 +27,15 @@ abbrev pub chips : pages.Kind
 chips = shelf cells
 
 -- a view as it is stored, and what it holds
-abbrev pub stored : pages.View chips → View
-stored view = record { catalogue = record { entries = view .catalogue }; journal = record { rows = view .journal } }
+abbrev pub storedView : pages.View chips → View
+storedView view = record { catalogue = record { entries = view .catalogue }; journal = record { rows = view .journal } }
 
-abbrev pub content : View → pages.View chips
-content view = record { catalogue = view .catalogue .entries; journal = view .journal .rows }
+abbrev pub contentOf : View → pages.View chips
+contentOf view = record { catalogue = view .catalogue .entries; journal = view .journal .rows }
 
 -- the view that open edits make
 unfoldable pub viewOf : List Edit → View
-viewOf edits = stored (pages.viewOf chips places rows edits)
+viewOf edits = storedView (pages.viewOf chips places rows edits)
 
 abbrev pub emptyView : View
 emptyView = viewOf []

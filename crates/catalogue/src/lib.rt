@@ -10,7 +10,7 @@ ghost use lib.Seq.{slice};
 ghost use Rattle.pages.specs.Pages.{runEdit};
 ghost use Rattle.pages.specs.Steps.{back, forward, turn};
 ghost use Rattle.catalogue.specs.Entries.{absentEntry, cellOf, placeOf, runBody};
-ghost use Rattle.catalogue.specs.Chips.{cells, chips, content, emptyView, stored};
+ghost use Rattle.catalogue.specs.Chips.{cells, chips, contentOf, emptyView, storedView};
 ghost use Rattle.catalogue.specs.Changes.{Changes, Turns, changed, common};
 
 // The sizes of the chip catalogue; specs/Chips.antt has the same numbers.
@@ -102,10 +102,11 @@ fn run_entry(entry: Entry, body: Body) -> Entry
             if entry.present {
                 let mut filled = entry;
                 let cell = cell_of(field);
-                filled.cells[cell] = Cell {
+                let made = Cell {
                     filled: true,
-                    value: value,
+                    value,
                 };
+                filled.cells[cell] = made;
                 filled
             } else {
                 entry
@@ -124,7 +125,8 @@ pub fn run_edit(catalogue: Catalogue, edit: Edit) -> Catalogue
     if place < PLACES {
         let mut changed = catalogue;
         let entry = changed.entries[place];
-        changed.entries[place] = run_entry(entry, body);
+        let made = run_entry(entry, body);
+        changed.entries[place] = made;
         changed
     } else {
         catalogue
@@ -148,7 +150,7 @@ pub fn empty_view() -> View
 
 // The pages after page `from` up to page `to`, run. A schedule has no page past its rows.
 pub fn forward_to(view: View, schedule: Schedule, from: usize, to: usize) -> View
-    ensures { λ r. ⌜ r ≡ stored (forward chips from (slice from to (schedule .edits)) (content view)) ⌝ }
+    ensures { λ r. ⌜ r ≡ storedView (forward chips from (slice from to (schedule .edits)) (contentOf view)) ⌝ }
 {
     let end = least(to, PAGES);
     let mut catalogue = view.catalogue;
@@ -163,9 +165,11 @@ pub fn forward_to(view: View, schedule: Schedule, from: usize, to: usize) -> Vie
         if place < PLACES {
             let entry = catalogue.entries[place];
             journal.rows[row] = entry;
-            catalogue.entries[place] = run_entry(entry, body);
+            let made = run_entry(entry, body);
+            catalogue.entries[place] = made;
         } else {
-            journal.rows[row] = absent_entry();
+            let absent = absent_entry();
+            journal.rows[row] = absent;
         }
     }
     View { catalogue, journal }
@@ -173,7 +177,7 @@ pub fn forward_to(view: View, schedule: Schedule, from: usize, to: usize) -> Vie
 
 // The pages after page `to` up to page `from`, undone by the journal, the last one first.
 pub fn back_to(view: View, schedule: Schedule, from: usize, to: usize) -> View
-    ensures { λ r. ⌜ r ≡ stored (back chips to (slice to from (schedule .edits)) (content view)) ⌝ }
+    ensures { λ r. ⌜ r ≡ storedView (back chips to (slice to from (schedule .edits)) (contentOf view)) ⌝ }
 {
     let mut catalogue = view.catalogue;
     let mut journal = view.journal;
@@ -184,7 +188,8 @@ pub fn back_to(view: View, schedule: Schedule, from: usize, to: usize) -> View
         let body = edit.body;
         let place = place_of(body) as usize;
         let entry = journal.rows[page];
-        journal.rows[page] = absent_entry();
+        let absent = absent_entry();
+        journal.rows[page] = absent;
         if place < PLACES {
             catalogue.entries[place] = entry;
         }
@@ -194,7 +199,7 @@ pub fn back_to(view: View, schedule: Schedule, from: usize, to: usize) -> View
 
 // From the open page to another page of the schedule.
 pub fn turn_to(view: View, schedule: Schedule, opened: usize, page: usize) -> View
-    ensures moves { λ r. ⌜ r ≡ stored (turn chips (schedule .edits) opened page (content view)) ⌝ }
+    ensures moves { λ r. ⌜ r ≡ storedView (turn chips (schedule .edits) opened page (contentOf view)) ⌝ }
     ensures opens { λ r. ⌜ Turns schedule opened page view r ⌝ }
 {
     if opened <= page {
@@ -209,16 +214,16 @@ pub fn common_beginning(old: Schedule, opened: usize, new: Schedule) -> usize
     ensures { λ r. ⌜ r ≡ common (take opened (old .edits)) (take (new .count) (new .edits)) ⌝ }
 {
     let end = least(least(opened, new.count), PAGES);
-    let mut page: usize = 0;
-    while page < end {
-        let before = old.edits[page].name;
-        let after = new.edits[page].name;
+    let mut same: usize = 0;
+    while same < end {
+        let before = old.edits[same].name;
+        let after = new.edits[same].name;
         if before != after {
-            return page;
+            return same;
         }
-        page += 1;
+        same += 1;
     }
-    page
+    same
 }
 
 // The view at the last page of the new schedule, and the pages undone and redone.

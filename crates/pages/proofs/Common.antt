@@ -6,8 +6,8 @@ use native.Mathlib.Omega.{arith}
 use lib.Dec.{eqb}
 use lib.ListN.{length, getD, take}
 use borrow.Author.Tests.{eqb-true, eq-eqb, ne-eqb}
+use Rattle.record.proofs.Lists.{by}
 use Rattle.pages.specs.Steps.{commonBeginning, Agree}
-use Rattle.pages.proofs.Turns.{by}
 
 pub common-left : (s t : List ℕ) → commonBeginning s t ≤ length s
 unfolding commonBeginning

@@ -1,6 +1,5 @@
 -- Pages run, undone, turned and changed come to the view of the edits that are then open. For any number of places and rows and any kind of entry.
-use mathlib.Core.Path.{_≡_, refl, sym, ap, _∙_}
-use mathlib.Core.Bool.{Bool, true, false}
+use mathlib.Core.Path.{_≡_, sym, ap, _∙_}
 use mathlib.Core.List.{List, [], _∷_, _++_, append-assoc, append-nil}
 use Prim.Native.Nat.{ℕ, suc, _+_, _-_, _≤_, _<_, min}
 use native.Mathlib.Omega.{arith}
@@ -10,13 +9,10 @@ use lib.Dec.{leb}
 use lib.ListN.{length, getD, take, drop, length-append, length-take, length-drop, take-append-drop, drop-of-length-le}
 use lib.Seq.{slice, slice-cons, length-slice, length-take-le, take-take, take-suc, take-all, drop-append-le}
 use borrow.Author.Tests.{leb-true, leb-false}
+use Rattle.record.proofs.Lists.{by}
 use Rattle.pages.specs.Pages.{Kind, View, viewOf}
 use Rattle.pages.specs.Steps.{stepForward, stepBack, forward, back, turn, change}
 use Rattle.pages.proofs.Pages.{view-more, view-less}
-
-pub by : {P : Type 0} (b : Bool) → (b ≡ true → P) → (b ≡ false → P) → P
-by true f g = f refl
-by false f g = g refl
 
 -- the first rows up to one that is not past a later one
 pub take-slice : {A : Type 0} (p q : ℕ) (l : List A) → p ≤ q → take p l ++ slice p q l ≡ take q l

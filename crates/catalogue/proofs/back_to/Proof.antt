@@ -1,9 +1,10 @@
+-- `catalogue::back_to` meets its contract. The invariant: the pages that are left, undone from here, come to what all of them come to.
 use Prim.Native.Nat.{_≤_}
 use mathlib.Core.Path.{_≡_, refl, ap}
 use lib.ListN.{length}
 use native.Mathlib.Omega.{arith}
 use borrow.Author.Needs.{needs}
-use Rattle.catalogue.specs.Chips.{cells, places, rows, stored}
+use Rattle.catalogue.specs.Chips.{cells, places, rows, storedView}
 use Rattle.catalogue.specs.Entries.{absentEntry}
 use Rattle.catalogue.proofs.Entries.{length-mapped}
 use Rattle.catalogue.proofs.Loops.{Undoing, undo-within, undo-past, undo-end}
@@ -25,8 +26,8 @@ least-requires c κs = search needs
 loop-holds : tie.Need-loop-holds Inv-loop μ-loop
 loop-holds c =
     let s = c .before .before .before in
-    let e : length (s .args .view .catalogue .entries) ≡ 64 = search (needs, length-mapped) in
-    let j : length (s .args .view .journal .rows) ≡ 127 = search (needs, length-mapped) in
+    let e : length (s .args .view .catalogue .entries) ≡ places = search (needs, length-mapped) in
+    let j : length (s .args .view .journal .rows) ≡ rows = search (needs, length-mapped) in
     (record { sized = record { catalogue = e; journal = j }; rest = refl }, omega arith)
 
 sub-page : tie.Need-sub-page Inv-loop μ-loop
@@ -53,11 +54,11 @@ element-copy-out-entry c = search needs
 absent-entry-requires : tie.Need-absent-entry-requires Inv-loop μ-loop
 absent-entry-requires c κs = search needs
 
-mul-t14 : tie.Need-mul-t14 Inv-loop μ-loop
-mul-t14 c = search needs
+mul-absent : tie.Need-mul-absent Inv-loop μ-loop
+mul-absent c = search needs
 
-element-set-from-journal : tie.Need-element-set-from-journal Inv-loop μ-loop
-element-set-from-journal c = search needs
+element-set-from-absent : tie.Need-element-set-from-absent Inv-loop μ-loop
+element-set-from-absent c = search needs
 
 mul-entry-2 : tie.Need-mul-entry-2 Inv-loop μ-loop
 mul-entry-2 c = search needs
@@ -73,7 +74,7 @@ loop-again c =
     let p = c .before .before .before in
     let l = p .before .before .before in
     let s = l .before .before .before .before in
-    let g : length (s .args .t2 .edits) ≡ 127 = search (needs, length-mapped) in
+    let g : length (s .args .t2 .edits) ≡ rows = search (needs, length-mapped) in
     let r : l .loop .page ≤ length (s .args .t2 .edits) = omega arith in (
       undo-within cells places rows (s .args .t2 .edits) _ _ _ _ _ _ _ (l .loop .inv .0) (p .before .before .loop-test .taken) r (l .loop .inv .1) (p .place-of .ensures)
           _ _ (c .before .absent-entry .ensures),
@@ -88,7 +89,7 @@ loop-again-2 c =
     let p = c .before .before .before in
     let l = p .before .before .before in
     let s = l .before .before .before .before in
-    let g : length (s .args .t2 .edits) ≡ 127 = search (needs, length-mapped) in
+    let g : length (s .args .t2 .edits) ≡ rows = search (needs, length-mapped) in
     let r : l .loop .page ≤ length (s .args .t2 .edits) = omega arith in (
       undo-past cells places rows (s .args .t2 .edits) _ _ _ _ _ _ _ (l .loop .inv .0) (p .before .before .loop-test .taken) r (l .loop .inv .1) (p .place-of .ensures)
           (absentEntry cells) _ (c .before .absent-entry .ensures) (c .if1 .left),
@@ -99,8 +100,8 @@ returns : tie.Need-returns Inv-loop μ-loop
 returns c =
     let l = c .before in
     let s = l .before .before .before .before in
-    let g : length (s .args .t2 .edits) ≡ 127 = search (needs, length-mapped) in
-    ap stored (undo-end cells places rows (s .args .t2 .edits) g _ _ _ _ _ _ (l .loop .inv .0) (c .loop-test .left) (l .before .least .ensures))
+    let g : length (s .args .t2 .edits) ≡ rows = search (needs, length-mapped) in
+    ap storedView (undo-end cells places rows (s .args .t2 .edits) g _ _ _ _ _ _ (l .loop .inv .0) (c .loop-test .left) (l .before .least .ensures))
 
 pub back-to-spec : {M : Type 1} → statement M
 back-to-spec =
@@ -118,8 +119,8 @@ back-to-spec =
     mul-entry
     element-copy-out-entry
     absent-entry-requires
-    mul-t14
-    element-set-from-journal
+    mul-absent
+    element-set-from-absent
     mul-entry-2
     element-set-from-entry
     loop-less

@@ -1,3 +1,4 @@
+-- `catalogue::common_beginning` meets its contract. The invariant: the names passed are the same.
 use Prim.Native.Nat.{ℕ, _-_, _≤_, _<_, min}
 use mathlib.Core.Path.{_≡_, ap, _∙_}
 use lib.ListN.{length, getD}
@@ -12,11 +13,11 @@ use Rattle.catalogue.proofs.common_beginning.Statement.{statement}
 use Rattle.catalogue.proofs.common_beginning.Tie as tie
 
 abbrev Inv-loop : tie.InvT-loop
-Inv-loop opened old new end page₀ page =
-    (page ≤ end) × ((q : ℕ) → q < page → getD (old .edits) q fillerEdit .name ≡ getD (new .edits) q fillerEdit .name)
+Inv-loop opened old new end same₀ same =
+    (same ≤ end) × ((q : ℕ) → q < same → getD (old .edits) q fillerEdit .name ≡ getD (new .edits) q fillerEdit .name)
 
 abbrev μ-loop : tie.MeasureT-loop
-μ-loop opened old new end page₀ page = end - page
+μ-loop opened old new end same₀ same = end - same
 
 least-requires : tie.Need-least-requires Inv-loop μ-loop
 least-requires c κs = search needs
@@ -43,13 +44,13 @@ returns : tie.Need-returns Inv-loop μ-loop
 returns c =
     let l = c .before .before in
     let s = l .before .before .before in
-    let g : length (s .args .t1 .edits) ≡ 127 = search (needs, length-mapped) in
-    let h : length (s .args .t3 .edits) ≡ 127 = search (needs, length-mapped) in
+    let g : length (s .args .t1 .edits) ≡ rows = search (needs, length-mapped) in
+    let h : length (s .args .t3 .edits) ≡ rows = search (needs, length-mapped) in
     let e = l .before .least2 .ensures ∙ ap (λ (n : ℕ). min n rows) (l .before .before .least .ensures) in
     common-stops (s .args .t1 .edits) (s .args .t3 .edits) _ _ _ _ g h e (l .loop .inv .0) (l .loop .inv .1) (λ _. c .if1 .taken)
 
-add-page : tie.Need-add-page Inv-loop μ-loop
-add-page c = search needs
+add-same : tie.Need-add-same Inv-loop μ-loop
+add-same c = search needs
 
 loop-less : tie.Need-loop-less Inv-loop μ-loop
 loop-less c = search needs
@@ -61,8 +62,8 @@ returns-2 : tie.Need-returns-2 Inv-loop μ-loop
 returns-2 c =
     let l = c .before in
     let s = l .before .before .before in
-    let g : length (s .args .t1 .edits) ≡ 127 = search (needs, length-mapped) in
-    let h : length (s .args .t3 .edits) ≡ 127 = search (needs, length-mapped) in
+    let g : length (s .args .t1 .edits) ≡ rows = search (needs, length-mapped) in
+    let h : length (s .args .t3 .edits) ≡ rows = search (needs, length-mapped) in
     let e = l .before .least2 .ensures ∙ ap (λ (n : ℕ). min n rows) (l .before .before .least .ensures) in
     common-stops (s .args .t1 .edits) (s .args .t3 .edits) _ _ _ _ g h e (l .loop .inv .0) (l .loop .inv .1) (λ k. absurd (omega arith))
 
@@ -80,7 +81,7 @@ common-beginning-spec =
     mul-after
     element-copy-out-after
     returns
-    add-page
+    add-same
     loop-less
     loop-again
     returns-2)

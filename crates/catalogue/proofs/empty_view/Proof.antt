@@ -1,3 +1,4 @@
+-- `catalogue::empty_view` meets its contract.
 use borrow.Author.Needs.{needs}
 use Rattle.catalogue.proofs.Entries.{empty-stored}
 use Rattle.catalogue.proofs.empty_view.Statement.{statement}

@@ -1,9 +1,10 @@
+-- `catalogue::forward_to` meets its contract. The invariant: the pages that are left, run from here, come to what all of them come to.
 use Prim.Native.Nat.{_-_, _≤_}
 use mathlib.Core.Path.{_≡_, refl, ap}
 use lib.ListN.{length}
 use native.Mathlib.Omega.{arith}
 use borrow.Author.Needs.{needs}
-use Rattle.catalogue.specs.Chips.{cells, places, rows, stored}
+use Rattle.catalogue.specs.Chips.{cells, places, rows, storedView}
 use Rattle.catalogue.proofs.Entries.{length-mapped}
 use Rattle.catalogue.proofs.Loops.{Running, run-within, run-past, run-end}
 use Rattle.catalogue.proofs.forward_to.Statement.{statement}
@@ -23,8 +24,8 @@ least-requires c κs = search needs
 loop-holds : tie.Need-loop-holds Inv-loop μ-loop
 loop-holds c =
     let s = c .before .before .before in
-    let e : length (s .args .view .catalogue .entries) ≡ 64 = search (needs, length-mapped) in
-    let j : length (s .args .view .journal .rows) ≡ 127 = search (needs, length-mapped) in
+    let e : length (s .args .view .catalogue .entries) ≡ places = search (needs, length-mapped) in
+    let j : length (s .args .view .journal .rows) ≡ rows = search (needs, length-mapped) in
     record { sized = record { catalogue = e; journal = j }; rest = refl }
 
 add-page : tie.Need-add-page Inv-loop μ-loop
@@ -57,11 +58,11 @@ element-set-from-entry c = search needs
 run-entry-requires : tie.Need-run-entry-requires Inv-loop μ-loop
 run-entry-requires c κs = search needs
 
-mul-t21 : tie.Need-mul-t21 Inv-loop μ-loop
-mul-t21 c = search needs
+mul-made : tie.Need-mul-made Inv-loop μ-loop
+mul-made c = search needs
 
-element-set-from-catalogue : tie.Need-element-set-from-catalogue Inv-loop μ-loop
-element-set-from-catalogue c = search needs
+element-set-from-made : tie.Need-element-set-from-made Inv-loop μ-loop
+element-set-from-made c = search needs
 
 loop-less : tie.Need-loop-less Inv-loop μ-loop
 loop-less c = search needs
@@ -71,7 +72,7 @@ loop-again c =
     let p = c .before .before .before in
     let l = p .before .before .before in
     let s = l .before .before .before .before in
-    let g : length (s .args .t2 .edits) ≡ 127 = search (needs, length-mapped) in
+    let g : length (s .args .t2 .edits) ≡ rows = search (needs, length-mapped) in
     let r : l .before .before .before .least .result ≤ length (s .args .t2 .edits) = omega arith in
     run-within cells places rows (s .args .t2 .edits) _ _ _ _ _ _ _ (l .loop .inv) (p .before .before .loop-test .taken) r (p .place-of .ensures)
     _ _ (c .before .before .if1 .taken) (c .run-entry .ensures)
@@ -79,11 +80,11 @@ loop-again c =
 absent-entry-requires : tie.Need-absent-entry-requires Inv-loop μ-loop
 absent-entry-requires c κs = search needs
 
-mul-t30 : tie.Need-mul-t30 Inv-loop μ-loop
-mul-t30 c = search needs
+mul-absent : tie.Need-mul-absent Inv-loop μ-loop
+mul-absent c = search needs
 
-element-set-from-journal : tie.Need-element-set-from-journal Inv-loop μ-loop
-element-set-from-journal c = search needs
+element-set-from-absent : tie.Need-element-set-from-absent Inv-loop μ-loop
+element-set-from-absent c = search needs
 
 loop-less-2 : tie.Need-loop-less-2 Inv-loop μ-loop
 loop-less-2 c = search needs
@@ -93,7 +94,7 @@ loop-again-2 c =
     let p = c .before .before in
     let l = p .before .before .before in
     let s = l .before .before .before .before in
-    let g : length (s .args .t2 .edits) ≡ 127 = search (needs, length-mapped) in
+    let g : length (s .args .t2 .edits) ≡ rows = search (needs, length-mapped) in
     let r : l .before .before .before .least .result ≤ length (s .args .t2 .edits) = omega arith in
     run-past cells places rows (s .args .t2 .edits) _ _ _ _ _ _ _ (l .loop .inv) (p .before .before .loop-test .taken) r (p .place-of .ensures)
     _ (c .before .if1 .left) (c .absent-entry .ensures)
@@ -102,8 +103,8 @@ returns : tie.Need-returns Inv-loop μ-loop
 returns c =
     let l = c .before in
     let s = l .before .before .before .before in
-    let g : length (s .args .t2 .edits) ≡ 127 = search (needs, length-mapped) in
-    ap stored (run-end cells places rows (s .args .t2 .edits) g _ _ _ _ _ _ (l .loop .inv) (c .loop-test .left) (l .before .before .before .least .ensures))
+    let g : length (s .args .t2 .edits) ≡ rows = search (needs, length-mapped) in
+    ap storedView (run-end cells places rows (s .args .t2 .edits) g _ _ _ _ _ _ (l .loop .inv) (c .loop-test .left) (l .before .before .before .least .ensures))
 
 pub forward-to-spec : {M : Type 1} → statement M
 forward-to-spec =
@@ -123,13 +124,13 @@ forward-to-spec =
     mul-entry-2
     element-set-from-entry
     run-entry-requires
-    mul-t21
-    element-set-from-catalogue
+    mul-made
+    element-set-from-made
     loop-less
     loop-again
     absent-entry-requires
-    mul-t30
-    element-set-from-journal
+    mul-absent
+    element-set-from-absent
     loop-less-2
     loop-again-2
     returns)

@@ -1,9 +1,10 @@
+-- `catalogue::run_edit` meets its contract: a place in range, and one past the last.
 use Prim.Native.Nat.{_≤_, _<_}
 use mathlib.Core.Path.{_≡_, ap}
 use lib.ListN.{length}
 use native.Mathlib.Omega.{arith}
 use borrow.Author.Needs.{needs}
-use Rattle.catalogue.specs.Chips.{cells}
+use Rattle.catalogue.specs.Chips.{cells, places}
 use Rattle.catalogue.proofs.Entries.{length-mapped, ran-within, ran-past}
 use Rattle.catalogue.proofs.run_edit.Statement.{statement}
 use Rattle.catalogue.proofs.run_edit.Tie as tie
@@ -23,23 +24,23 @@ element-copy-out-entry c = search needs
 run-entry-requires : tie.Need-run-entry-requires
 run-entry-requires c κs = search needs
 
-mul-t10 : tie.Need-mul-t10
-mul-t10 c = search needs
+mul-made : tie.Need-mul-made
+mul-made c = search needs
 
-element-set-from-changed : tie.Need-element-set-from-changed
-element-set-from-changed c = search needs
+element-set-from-made : tie.Need-element-set-from-made
+element-set-from-made c = search needs
 
 returns : tie.Need-returns
 returns c =
     let s = c .before .before .before .before in
-    let h : length (s .args .catalogue .entries) ≡ 64 = search (needs, length-mapped) in
+    let h : length (s .args .catalogue .entries) ≡ places = search (needs, length-mapped) in
     let k : c .before .before .before .place-of .result < length (s .args .catalogue .entries) = omega arith in
     ap (λ l. record { entries = l }) (ran-within cells (s .args .catalogue .entries) (s .args .edit) _ (c .before .before .before .place-of .ensures) _ _ k (c .run-entry .ensures))
 
 returns-2 : tie.Need-returns-2
 returns-2 c =
     let s = c .before .before in
-    let h : length (s .args .catalogue .entries) ≡ 64 = search (needs, length-mapped) in
+    let h : length (s .args .catalogue .entries) ≡ places = search (needs, length-mapped) in
     let k : length (s .args .catalogue .entries) ≤ c .before .place-of .result = omega arith in
     ap (λ l. record { entries = l }) (ran-past cells (s .args .catalogue .entries) (s .args .edit) _ (c .before .place-of .ensures) k)
 
@@ -52,7 +53,7 @@ run-edit-spec =
     mul-entry
     element-copy-out-entry
     run-entry-requires
-    mul-t10
-    element-set-from-changed
+    mul-made
+    element-set-from-made
     returns
     returns-2)

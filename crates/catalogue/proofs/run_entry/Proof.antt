@@ -1,3 +1,4 @@
+-- `catalogue::run_entry` meets its contract.
 use native.Mathlib.Omega.{arith}
 use borrow.Author.Needs.{needs}
 use Rattle.catalogue.proofs.Entries.{cell-within, ran-insert, ran-set, left-absent}
@@ -16,11 +17,11 @@ enum-known-body c = search needs
 cell-of-requires : tie.Need-cell-of-requires
 cell-of-requires c κs = search needs
 
-mul-t14 : tie.Need-mul-t14
-mul-t14 c = omega (arith, cell-within (c .before .before .before .body .given .0 .1 .0), c .cell-of .ensures)
+mul-made : tie.Need-mul-made
+mul-made c = omega (arith, cell-within (c .before .before .before .body .given .0 .1 .0), c .cell-of .ensures)
 
-element-set-from-filled : tie.Need-element-set-from-filled
-element-set-from-filled c = rw (c .cell-of .ensures) (cell-within (c .before .before .before .body .given .0 .1 .0))
+element-set-from-made : tie.Need-element-set-from-made
+element-set-from-made c = rw (c .cell-of .ensures) (cell-within (c .before .before .before .body .given .0 .1 .0))
 
 enum-told-2 : tie.Need-enum-told-2
 enum-told-2 c = search needs
@@ -51,8 +52,8 @@ run-entry-spec =
     absent-entry-requires
     enum-known-body
     cell-of-requires
-    mul-t14
-    element-set-from-filled
+    mul-made
+    element-set-from-made
     enum-told-2
     absent-entry-requires-2
     returns

@@ -1,3 +1,4 @@
+-- `catalogue::turn_to` meets its contract: forward and back.
 use borrow.Author.Needs.{needs}
 use Rattle.catalogue.proofs.Moves.{turned-on, turned-back, turn-opens}
 use Rattle.catalogue.proofs.turn_to.Statement.{statement}

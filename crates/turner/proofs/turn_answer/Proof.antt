@@ -1,3 +1,4 @@
+-- `turner::turn_answer` meets its contract.
 use borrow.Author.Needs.{needs}
 use Rattle.turner.proofs.turn_answer.Statement.{statement}
 use Rattle.turner.proofs.turn_answer.Tie as tie

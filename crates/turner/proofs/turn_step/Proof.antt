@@ -1,3 +1,4 @@
+-- `turner::turn_step` meets its contract: one law for each return.
 use borrow.Author.Needs.{needs}
 use Rattle.turner.proofs.Signed.{opened-past, by-wide, added-fits, turn-below, page-fits, turn-on, turn-past}
 use Rattle.turner.proofs.turn_step.Statement.{statement}
