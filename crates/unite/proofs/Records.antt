@@ -1,22 +1,22 @@
 -- Tables as a stored record, and the union of two stored records. Assumes nothing.
 use mathlib.Core.Path.{_≡_, refl, ap, sym, subst, _∙_}
-use mathlib.Core.List.{List, map}
+use mathlib.Core.List.{List, [], _∷_, map}
 use Prim.Native.Nat.{ℕ, _≤_}
 use native.Mathlib.Omega.{arith}
-use lib.ListN.{length, length-map}
+use lib.ListN.{length, set, replicate, length-map}
 use Rattle.record.specs.declared.Edit.{Edit}
 use Rattle.record.specs.declared.Constraint.{Constraint}
 use Rattle.record.specs.declared.Record as declared
 use Rattle.record.specs.Record.{Record}
-use Rattle.record.specs.Stored.{padded, recordOf, stored, fillerEdit, fillerConstraint}
+use Rattle.record.specs.Stored.{padded, recordOf, stored, emptyRecord, fillerEdit, fillerConstraint}
 use Rattle.keyed.specs.Keyed.{united}
 use Rattle.keyed.proofs.Union.{length-grown}
-use Rattle.row.specs.Row.{editOf, constraintOf}
+use Rattle.row.specs.Row.{Row, editOf, constraintOf}
 use Rattle.ground.specs.Ground.{Rows}
 use Rattle.table.specs.Table.{decoded, editKey, constraintKey, unite}
 use Rattle.table.proofs.Tables.{stored-back}
 use Rattle.unite.specs.Union.{Unites, withEdits, withConstraints}
-use Rattle.unite.proofs.Joining.{padded-fits}
+use Rattle.unite.proofs.Joining.{padded-begin, padded-next, padded-fits}
 
 pub decoded-is : (es cs : Rows) {a : List Edit} {b : List Constraint} → a ≡ padded 127 fillerEdit (map editOf es) → b ≡ padded 512 fillerConstraint (map constraintOf cs)
     → record { edits = a; editcount = length es; constraints = b; constraintcount = length cs } ≡ stored (decoded es cs)
@@ -61,3 +61,20 @@ module _ (R S : Record) (u : Unites editKey 127 (R .edits) (S .edits)) (v : Unit
   pub uniting : (joined joining : declared.Record) → joined ≡ stored R → joining ≡ stored S → Uniting joined joining
   uniting joined joining e f =
       subst (λ (x : declared.Record). Uniting x joining) (sym e) (subst (λ (y : declared.Record). Uniting (stored R) y) (sym f) both-united)
+
+-- a record of one row
+pub edit-alone-is : (row : Row) {z x : Edit} {e : declared.Record} → z ≡ fillerEdit → x ≡ editOf row → e ≡ emptyRecord
+    → record { edits = set (replicate 127 z) 0 x; editcount = 1; constraints = e .constraints; constraintcount = e .constraintcount } ≡ stored (decoded (row ∷ []) [])
+edit-alone-is row {z} {x} {e} f g h =
+    let p : set (replicate 127 z) 0 x ≡ padded 127 fillerEdit (editOf row ∷ []) = ap (λ (l : List Edit). set l 0 x) (padded-begin 127 fillerEdit f) ∙ padded-next 127 fillerEdit [] 0 x refl (omega arith) ∙ ap (λ (y : Edit). padded 127 fillerEdit (y ∷ [])) g in
+    let q : e .constraints ≡ padded 512 fillerConstraint [] = ap (λ (r : declared.Record). r .constraints) h ∙ padded-begin 512 fillerConstraint refl in
+    let n : e .constraintcount ≡ 0 = ap (λ (r : declared.Record). r .constraintcount) h in
+    λ i. record { edits = p i; editcount = 1; constraints = q i; constraintcount = n i }
+
+pub constraint-alone-is : (row : Row) {z x : Constraint} {e : declared.Record} → z ≡ fillerConstraint → x ≡ constraintOf row → e ≡ emptyRecord
+    → record { edits = e .edits; editcount = e .editcount; constraints = set (replicate 512 z) 0 x; constraintcount = 1 } ≡ stored (decoded [] (row ∷ []))
+constraint-alone-is row {z} {x} {e} f g h =
+    let p : set (replicate 512 z) 0 x ≡ padded 512 fillerConstraint (constraintOf row ∷ []) = ap (λ (l : List Constraint). set l 0 x) (padded-begin 512 fillerConstraint f) ∙ padded-next 512 fillerConstraint [] 0 x refl (omega arith) ∙ ap (λ (y : Constraint). padded 512 fillerConstraint (y ∷ [])) g in
+    let q : e .edits ≡ padded 127 fillerEdit [] = ap (λ (r : declared.Record). r .edits) h ∙ padded-begin 127 fillerEdit refl in
+    let n : e .editcount ≡ 0 = ap (λ (r : declared.Record). r .editcount) h in
+    λ i. record { edits = q i; editcount = n i; constraints = p i; constraintcount = 1 }

@@ -6,7 +6,7 @@ use record::Edit;
 use record::Record;
 ghost use mathlib.Core.Path.{_≡_};
 ghost use mathlib.Core.Bool.{cond};
-ghost use mathlib.Core.List.{List, map};
+ghost use mathlib.Core.List.{List, [], _∷_, map};
 ghost use Prim.Native.Nat.{ℕ, _<_, _≤_};
 ghost use lib.Dec.{eqb};
 ghost use lib.ListN.{length};
@@ -84,6 +84,31 @@ pub fn decode(edits: &[[u32; 5]], constraints: &[[u32; 3]]) -> Record
         constraints: cs,
         constraintcount: constraints.len(),
     }
+}
+
+// One edit, or one constraint, as a record.
+pub fn edit_alone(row: [u32; 5]) -> Record
+    ensures { λ r. ⌜ r ≡ stored (decoded (row ∷ []) []) ⌝ }
+{
+    let filler = edit_filler();
+    let mut edits = [filler; 127];
+    edits[0] = row::edit_of(row);
+    let mut r = record::empty();
+    r.edits = edits;
+    r.editcount = 1;
+    r
+}
+
+pub fn constraint_alone(row: [u32; 3]) -> Record
+    ensures { λ r. ⌜ r ≡ stored (decoded [] (row ∷ [])) ⌝ }
+{
+    let filler = constraint_filler();
+    let mut constraints = [filler; 512];
+    constraints[0] = row::constraint_of(row);
+    let mut r = record::empty();
+    r.constraints = constraints;
+    r.constraintcount = 1;
+    r
 }
 
 // How far a union goes on in the record's table and in the joining one.
