@@ -9,7 +9,7 @@ use lib.ListN.{length, take, length-map}
 use lib.Seq.{length-take-le}
 use Rattle.keyed.specs.Keyed.{precedes, Ascending, united}
 use Rattle.keyed.proofs.Logic.{Has, has-map, has-mapped}
-use Rattle.keyed.proofs.Union.{ascending-map, map-united, Agree}
+use Rattle.keyed.proofs.Union.{ascending-map, map-united, Agree, united-comm, length-grown}
 use Rattle.row.specs.Row.{Row, same}
 use Rattle.row.proofs.Compared.{neither-same}
 use Rattle.ground.specs.Ground.{Rows, Kind, tableFault}
@@ -93,3 +93,9 @@ module _ (K : Elements) (C : Coding K) where
         let one : take (K .kind .key) row ≡ C .key x = ap (take (K .kind .key)) (sym back) ∙ C .keyed x in
         let alike : same (take (K .kind .key) row) (take (K .kind .key) (K .rowOf r)) ≡ true = rw (one, C .keyed r) (neither-same (C .key x) (C .key r) (key-even x r) p q) in
         e ∙ ap (C .of) (accepted-alike (K .kind) (map (K .rowOf) E) t h row k (K .rowOf r) (has-map (K .rowOf) r E n) alike) ∙ C .again r (f r n))
+
+    -- it has no more rows than there are places
+    pub lent-places : Ascending (C .key) E → ((x : K .A) → Has x E → K .kind .inRange (K .rowOf x) ≡ true) → length E ≤ K .kind .limit → length t ≤ K .kind .limit
+    lent-places a f l =
+        let c : united (C .key) E (map (C .of) t) ≡ united (C .key) (map (C .of) t) E = united-comm (C .key) (map (C .of) t) E lent-ascending a (lent-agree f) in
+        omega (arith, lent-within a l, ap length c, length-grown (C .key) (map (C .of) t) E, length-map t (C .of))

@@ -173,6 +173,15 @@ module _ {A : Type 0} (key : A → List ℕ) where
   length-inserted x (r ∷ t) =
       inserting (λ l. length l ≤ suc (suc (length t))) x r t (λ e. omega arith) (λ e. omega (arith, length-inserted x t)) (λ e f. omega arith)
 
+  pub length-grown : (t s : List A) → length t ≤ length (united key t s)
+  unfolding united
+  length-grown t [] = omega arith
+  length-grown t (x ∷ s) = omega (arith, grown x t, length-grown (inserted key x t) s)
+    where
+      grown : (x : A) (t : List A) → length t ≤ length (inserted key x t)
+      grown x [] = omega arith
+      grown x (r ∷ t) = inserting (λ l. suc (length t) ≤ length l) x r t (λ e. omega arith) (λ e. omega (arith, grown x t)) (λ e f. omega arith)
+
   -- the steps of a merge: y, which stands, is below all that joins
   pub united-first : (y : A) (t s : List A) → Below key y s → united key (y ∷ t) s ≡ y ∷ united key t s
   unfolding united
