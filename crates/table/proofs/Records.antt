@@ -21,7 +21,7 @@ use Rattle.row.proofs.Cells.{edit-in-range, edit-decoded, edit-again, name-not-
 use Rattle.ground.specs.Ground.{Rows, tableFault, _given_, _orelse_}
 use Rattle.ground.proofs.Grounds.{orelse-none, orelse-second, given-none}
 use Rattle.ground.proofs.Accepted.{accepted-range}
-use Rattle.ground.proofs.Decoded.{decoded-again, elements-accepted, lent-range, lent-further, lent-ascending, lent-within, lent-agree}
+use Rattle.ground.proofs.Decoded.{decoded-again, elements-accepted, lent-range, lent-further, lent-ascending, lent-within, lent-agree, lent-places}
 use Rattle.table.specs.Table.{unknown, pairNotAllowed, decision, constraintFurther, editKind, constraintKind, editRows, constraintRows, decoded, emptyTables, joinFault, namesOf, lentFault, addEditFault, addConstraintFault, recordFault, editKey, constraintKey, unite}
 use Rattle.table.specs.Checked.{Checked}
 use Rattle.table.proofs.Elements.{editElements, constraintElements, editCoding, constraintCoding}
@@ -280,3 +280,14 @@ checked-ascending R k =
     positive : (n : ℕ) → (n ≡ 0 → ⊥) → 0 < n
     positive zero h = absurd (h refl)
     positive (suc n) h = omega arith
+
+-- tables without fault have no more rows than there are places
+module _ (R : Record) (known : List ℕ) (adding : Bool) (es cs : Rows) (k : Checked R) (h : joinFault R known adding es cs ≡ 0) where
+  pub joining-editplaces : length es ≤ 127
+  joining-editplaces =
+      lent-places editElements editCoding (R .edits) es (both R known adding es cs k h .0) (k .editorder) (all-has (λ e. editInRange (editRow e)) (R .edits) (k .editrange)) (k .editplaces)
+
+  pub joining-constraintplaces : length cs ≤ 512
+  joining-constraintplaces =
+      lent-places (constraintElements known adding) (constraintCoding known adding) (R .constraints) cs (both R known adding es cs k h .1) (k .constraintorder)
+      (all-has (λ c. constraintInRange (constraintRow c)) (R .constraints) (k .constraintrange)) (k .constraintplaces)
