@@ -1,24 +1,24 @@
 -- The scans around the walk: the row before, a repeated key, the place of a row out of order, and what a step makes of the first fault. Assumes nothing.
 use mathlib.Core.Path.{_≡_, refl, ap, sym, _∙_}
-use mathlib.Core.Bool.{Bool, true, false, cond, not, _&&_, _||_, and-false}
-use mathlib.Core.Logic.{_⊎_, inl, inr}
+use mathlib.Core.Bool.{Bool, true, false, cond, not, _&&_, and-false}
+use mathlib.Core.Logic.{inl, inr}
 use mathlib.Core.List.{List, [], _∷_, _++_, map}
 use Prim.Native.Nat.{ℕ, zero, suc, _+_, _-_, _≤_, _<_}
 use native.Mathlib.Nat.{add-zero}
 use native.Mathlib.Numerals.{add-one}
 use native.Mathlib.Omega.{arith}
 use borrow.Author.Tests.{ltb-true, ltb-false}
-use lib.Dec.{leb, ltb, eqb}
+use lib.Dec.{leb, ltb}
 use lib.ListN.{length, take, drop, getD, drop-of-length-le, length-map}
 use lib.Seq.{take-suc, drop-cons, length-take-le, getD-take}
 use Rattle.record.specs.Lists.{any}
 use Rattle.keyed.specs.Keyed.{precedes, Ascending}
-use Rattle.keyed.proofs.Logic.{by, clash, Has, has-getD}
+use Rattle.keyed.proofs.Logic.{by, Has, has-getD}
 use Rattle.keyed.proofs.Union.{late, late-snoc, late-is}
-use Rattle.row.specs.Row.{Row, same}
+use Rattle.row.specs.Row.{same}
 use Rattle.row.proofs.Compared.{neither-same}
 use Rattle.ground.specs.declared.Step.{Step}
-use Rattle.ground.specs.Ground.{Rows, alike, known, noPlace, otherBody, misplaced, firstFault, _given_, _orelse_}
+use Rattle.ground.specs.Ground.{Rows, known, noPlace, otherBody, misplaced, firstFault}
 use Rattle.ground.specs.Walk.{stepped, stepAt, asNew, lateNumber, laterNumber, PlaceOf, lateFault}
 use Rattle.ground.proofs.Grounds.{clashes, place-end, place-new, place-known, scan-here, scan-more}
 use Rattle.ground.proofs.Walks.{Walk, Told, passes, stays, joins, lacks, differs}

@@ -1,12 +1,12 @@
 -- Tables in order of a key, insertion and union, for elements of any type. Assumes nothing.
 use mathlib.Core.Path.{_≡_, refl, ap, sym, _∙_}
-use mathlib.Core.Bool.{Bool, true, false, cond, not, _&&_, _||_}
+use mathlib.Core.Bool.{Bool, true, false, not}
 use mathlib.Core.Logic.{_⊎_, inl, inr, ⊎-elim}
 use mathlib.Core.List.{List, [], _∷_, _++_, map}
-use Prim.Native.Nat.{ℕ, zero, suc, _+_, _≤_, _<_}
+use Prim.Native.Nat.{ℕ, suc, _≤_}
 use native.Mathlib.Omega.{arith}
 use lib.ListN.{length}
-use borrow.Author.Tests.{not-true, not-false}
+use borrow.Author.Tests.{not-false}
 use Rattle.record.specs.Lists.{any}
 use Rattle.keyed.specs.Keyed.{precedes, Below, Ascending, inserted, united}
 use Rattle.keyed.proofs.Logic.{by, clash, Has, or-no-l, or-no-r, any-append, any-none, any-no}
