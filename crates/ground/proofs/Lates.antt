@@ -61,11 +61,6 @@ getD-map f [] p d h = absurd (omega arith)
 getD-map f (x ∷ l) zero d h = refl
 getD-map f (x ∷ l) (suc p) d h = getD-map f l p d (omega arith)
 
-pub wide-map : {A : Type 0} (f : A → List ℕ) (k w : ℕ) → ((x : A) → length (take k (f x)) ≡ w) → (l : List A) (r : List ℕ) → Has r (map f l) → length (take k r) ≡ w
-wide-map f k w g [] r h = absurd h
-wide-map f k w g (x ∷ l) r (inl e) = rw e (g x)
-wide-map f k w g (x ∷ l) r (inr h) = wide-map f k w g l r h
-
 module _ {A : Type 0} (f : A → List ℕ) (a : List A) (n : ℕ) (l : n ≤ length a) where
   pub table-length : length (map f (take n a)) ≡ n
   table-length = length-map (take n a) f ∙ length-take-le n a l

@@ -243,9 +243,6 @@ module _ {A : Type 0} (key : A → List ℕ) where
   pub late-has : (s : List A) (q : List ℕ) → late s q ≡ false → (r : A) → Has r s → precedes (key r) q ≡ true
   late-has s q h r m = not-false (precedes (key r) q) (any-no (λ r. not (precedes (key r) q)) s h r m)
 
-  pub late-none : (s : List A) (q : List ℕ) → ((r : A) → Has r s → precedes (key r) q ≡ true) → late s q ≡ false
-  late-none s q f = any-none (λ r. not (precedes (key r) q)) s (λ r m. let e : precedes (key r) q ≡ true = f r m in rw e)
-
   pub late-snoc : (s : List A) (r : A) (q : List ℕ) → late s q ≡ false → precedes (key r) q ≡ true → late (s ++ (r ∷ [])) q ≡ false
   unfolding any
   late-snoc s r q h e = rw (any-append (λ r. not (precedes (key r) q)) s (r ∷ []), h, e)
