@@ -1,9 +1,9 @@
 // Numbers in decimal without leading zeros, written and read (document 01, "Text"). Public for the crates of forms and lines.
 ghost use mathlib.Core.Path.{_≡_};
 ghost use Prim.Native.Nat.{_≤_};
-ghost use lib.ListN.{length, drop};
-ghost use mathlib.Core.List.{_++_};
+ghost use lib.ListN.{length};
 ghost use Rattle.decimal.specs.Decimal.{decimal, digitRun, valueFrom, numeralSize, numeralRead, saturated};
+ghost use Rattle.decimal.specs.Written.{Written};
 
 // The numeral that a text starts with: how many bytes it takes (0 where there is none), and its value, cut off at 2^32.
 pub struct Numeral {
@@ -27,7 +27,7 @@ pub fn number_length(n: u64) -> usize
 // Writes n to the start of out, and answers how many bytes that took.
 pub fn write_number(out: &mut [u8], n: u64) -> usize
     requires { ⌜ length (decimal n) ≤ length (now out) ⌝ }
-    ensures { λ r. ⌜ (r ≡ length (decimal n)) × (now (out .exit) ≡ decimal n ++ drop (length (decimal n)) (now (out .entry))) ⌝ }
+    ensures { λ r. ⌜ Written (decimal n) (now (out .entry)) r (now (out .exit)) ⌝ }
 {
     if n < 10 {
         out[0] = (48 + n) as u8;
