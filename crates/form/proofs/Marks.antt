@@ -11,34 +11,34 @@ use lib.ListN.{length, getD, drop, set, drop-of-length-le}
 use lib.Seq.{drop-cons}
 use Rattle.decimal.specs.Written.{Written}
 use Rattle.decimal.specs.declared.Numeral.{Numeral}
-use Rattle.form.specs.Spelling.{bytes, Spelling, numbers, names, answers, startsWith, numeralOf}
+use Rattle.form.specs.Spelling.{bytes, Spelling, numberSpelling, nameSpelling, answerSpelling, startsWith, numeralOf}
 use Rattle.form.specs.Form.{isMark, spelling}
 use Rattle.form.proofs.Lawful.{lawful}
 
 -- yes and no
-pub no-is : (n : ℕ) → n ≡ 0 → (answers .write) n ≡ bytes "no"
-unfolding answers
+pub no-is : (n : ℕ) → n ≡ 0 → (answerSpelling .write) n ≡ bytes "no"
+unfolding answerSpelling
 no-is n e = rw (eq-eqb n 0 e)
 
-pub yes-is : (n : ℕ) → n ≢ 0 → (answers .write) n ≡ bytes "yes"
-unfolding answers
+pub yes-is : (n : ℕ) → n ≢ 0 → (answerSpelling .write) n ≡ bytes "yes"
+unfolding answerSpelling
 yes-is n e = rw (ne-eqb n 0 e)
 
-pub no-length : (n : ℕ) → n ≡ 0 → length ((answers .write) n) ≡ 2
+pub no-length : (n : ℕ) → n ≡ 0 → length ((answerSpelling .write) n) ≡ 2
 unfolding bytes
 no-length n e = rw (no-is n e)
 
-pub yes-length : (n : ℕ) → n ≢ 0 → length ((answers .write) n) ≡ 3
+pub yes-length : (n : ℕ) → n ≢ 0 → length ((answerSpelling .write) n) ≡ 3
 unfolding bytes
 yes-length n e = rw (yes-is n e)
 
-pub no-written : (n : ℕ) (out : List ℕ) → n ≡ 0 → length ((answers .write) n) ≤ length out → Written ((answers .write) n) out 2 (set (set out 0 110) 1 111)
+pub no-written : (n : ℕ) (out : List ℕ) → n ≡ 0 → length ((answerSpelling .write) n) ≤ length out → Written ((answerSpelling .write) n) out 2 (set (set out 0 110) 1 111)
 unfolding bytes
 no-written n [] e h = absurd (omega (arith, no-length n e))
 no-written n (a ∷ []) e h = absurd (omega (arith, no-length n e))
 no-written n (a ∷ b ∷ out) e h = rw (no-is n e) (refl, refl)
 
-pub yes-written : (n : ℕ) (out : List ℕ) → n ≢ 0 → length ((answers .write) n) ≤ length out → Written ((answers .write) n) out 3 (set (set (set out 0 121) 1 101) 2 115)
+pub yes-written : (n : ℕ) (out : List ℕ) → n ≢ 0 → length ((answerSpelling .write) n) ≤ length out → Written ((answerSpelling .write) n) out 3 (set (set (set out 0 121) 1 101) 2 115)
 unfolding bytes
 yes-written n [] e h = absurd (omega (arith, yes-length n e))
 yes-written n (a ∷ []) e h = absurd (omega (arith, yes-length n e))
@@ -46,16 +46,16 @@ yes-written n (a ∷ b ∷ []) e h = absurd (omega (arith, yes-length n e))
 yes-written n (a ∷ b ∷ d ∷ out) e h = rw (yes-is n e) (refl, refl)
 
 module _ (s : List ℕ) where
-  pub read-yes : startsWith (bytes "yes") s ≡ true → record { size = 3; value = 1 } ≡ numeralOf answers s
-  unfolding answers
+  pub read-yes : startsWith (bytes "yes") s ≡ true → record { size = 3; value = 1 } ≡ numeralOf answerSpelling s
+  unfolding answerSpelling
   read-yes e = rw e
 
-  pub read-no : startsWith (bytes "yes") s ≡ false → startsWith (bytes "no") s ≡ true → record { size = 2; value = 0 } ≡ numeralOf answers s
-  unfolding answers
+  pub read-no : startsWith (bytes "yes") s ≡ false → startsWith (bytes "no") s ≡ true → record { size = 2; value = 0 } ≡ numeralOf answerSpelling s
+  unfolding answerSpelling
   read-no e f = rw (e, f)
 
-  pub read-neither : startsWith (bytes "yes") s ≡ false → startsWith (bytes "no") s ≡ false → record { size = 0; value = 0 } ≡ numeralOf answers s
-  unfolding answers
+  pub read-neither : startsWith (bytes "yes") s ≡ false → startsWith (bytes "no") s ≡ false → record { size = 0; value = 0 } ≡ numeralOf answerSpelling s
+  unfolding answerSpelling
   read-neither e f = rw (e, f)
 
 -- a word at the start of a text, from place i on
@@ -94,15 +94,15 @@ module _ (c : ℕ) where
   unfolding isMark
   mark-none e f g = rw (ne-eqb c 35 e, ne-eqb c 64 f, ne-eqb c 63 g)
 
-  pub spells-answers : c ≡ 63 → spelling c ≡ answers
+  pub spells-answers : c ≡ 63 → spelling c ≡ answerSpelling
   unfolding spelling
   spells-answers e = rw (eq-eqb c 63 e)
 
-  pub spells-names : c ≡ 64 → spelling c ≡ names
+  pub spells-names : c ≡ 64 → spelling c ≡ nameSpelling
   unfolding spelling
   spells-names e = rw e
 
-  pub spells-numbers : c ≢ 63 → c ≢ 64 → spelling c ≡ numbers
+  pub spells-numbers : c ≢ 63 → c ≢ 64 → spelling c ≡ numberSpelling
   unfolding spelling
   spells-numbers e f = rw (ne-eqb c 63 e, ne-eqb c 64 f)
 

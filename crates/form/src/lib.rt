@@ -5,7 +5,7 @@ ghost use Prim.Native.Nat.{_≤_};
 ghost use mathlib.Core.Option.{none};
 ghost use lib.ListN.{length, getD, set};
 ghost use Rattle.decimal.specs.Written.{Written};
-ghost use Rattle.form.specs.Spelling.{names, answers, startsWith, numeralOf};
+ghost use Rattle.form.specs.Spelling.{nameSpelling, answerSpelling, startsWith, numeralOf};
 ghost use Rattle.form.specs.Form.{isMark, spelling, fill, taken, told};
 use decimal::Numeral;
 
@@ -17,27 +17,27 @@ pub struct Filled {
 
 // The spelling of an edit's name.
 fn name_length(n: u64) -> usize
-    ensures { λ r. ⌜ r ≡ length ((names .write) n) ⌝ }
+    ensures { λ r. ⌜ r ≡ length ((nameSpelling .write) n) ⌝ }
 {
     decimal::number_length(n)
 }
 
 fn write_name(out: &mut [u8], n: u64) -> usize
-    requires { ⌜ length ((names .write) n) ≤ length (now out) ⌝ }
-    ensures { λ r. ⌜ Written ((names .write) n) (now (out .entry)) r (now (out .exit)) ⌝ }
+    requires { ⌜ length ((nameSpelling .write) n) ≤ length (now out) ⌝ }
+    ensures { λ r. ⌜ Written ((nameSpelling .write) n) (now (out .entry)) r (now (out .exit)) ⌝ }
 {
     decimal::write_number(&mut out[..], n)
 }
 
 fn read_name(bytes: &[u8]) -> Numeral
-    ensures { λ r. ⌜ r ≡ numeralOf names (now (bytes .entry)) ⌝ }
+    ensures { λ r. ⌜ r ≡ numeralOf nameSpelling (now (bytes .entry)) ⌝ }
 {
     decimal::read_number(bytes)
 }
 
 // The spelling of yes and no.
 fn answer_length(n: u64) -> usize
-    ensures { λ r. ⌜ r ≡ length ((answers .write) n) ⌝ }
+    ensures { λ r. ⌜ r ≡ length ((answerSpelling .write) n) ⌝ }
 {
     if n == 0 {
         return 2;
@@ -46,8 +46,8 @@ fn answer_length(n: u64) -> usize
 }
 
 fn write_answer(out: &mut [u8], n: u64) -> usize
-    requires { ⌜ length ((answers .write) n) ≤ length (now out) ⌝ }
-    ensures { λ r. ⌜ Written ((answers .write) n) (now (out .entry)) r (now (out .exit)) ⌝ }
+    requires { ⌜ length ((answerSpelling .write) n) ≤ length (now out) ⌝ }
+    ensures { λ r. ⌜ Written ((answerSpelling .write) n) (now (out .entry)) r (now (out .exit)) ⌝ }
 {
     if n == 0 {
         out[0] = b'n';
@@ -78,7 +78,7 @@ fn starts_with(word: &[u8], bytes: &[u8]) -> bool
 }
 
 fn read_answer(bytes: &[u8]) -> Numeral
-    ensures { λ r. ⌜ r ≡ numeralOf answers (now (bytes .entry)) ⌝ }
+    ensures { λ r. ⌜ r ≡ numeralOf answerSpelling (now (bytes .entry)) ⌝ }
 {
     if starts_with(b"yes", bytes) {
         return Numeral { size: 3, value: 1 };
