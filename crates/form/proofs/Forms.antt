@@ -12,7 +12,8 @@ use lib.Dec.{eqb}
 use lib.ListN.{length, getD, drop, length-append}
 use lib.Seq.{drop-append-seam}
 use Rattle.record.specs.Lists.{mem}
-use Rattle.record.proofs.Lists.{by, clash, and-l, and-r, mem-append}
+use Rattle.record.proofs.Lists.{by, clash, and-l, and-r, mem-append, or-no-l, or-no-r}
+use Rattle.form.specs.Spelling.{nameSpelling, numberSpelling}
 use Rattle.form.specs.Form.{isMark, spelling, fill, more, starts, taken}
 use Rattle.form.proofs.Lawful.{stopped, lawful}
 
@@ -45,6 +46,21 @@ differ [] [] = false
 differ [] (d ∷ g) = true
 differ (c ∷ f) [] = true
 differ (c ∷ f) (d ∷ g) = cond (eqb c d) (differ f g) (unlike c d)
+
+-- # and @ spell every number
+spells-all : (c n : ℕ) → eqb 63 c ≡ false → (spelling c) .spells n ≡ true
+unfolding spelling nameSpelling numberSpelling
+spells-all c n h =
+    let e : eqb c 63 ≡ false = ne-eqb c 63 (λ q. eqb-false 63 c h (sym q)) in
+    by (eqb c 64) (λ (g : eqb c 64 ≡ true). rw (e, g)) (λ (g : eqb c 64 ≡ false). rw (e, g))
+
+pub spelled-all : (f ns : List ℕ) → mem 63 f ≡ false → spelled f ns ≡ true
+unfolding spelled mem
+spelled-all [] ns h = refl
+spelled-all (c ∷ f) ns h =
+    by (isMark c)
+    (λ (m : isMark c ≡ true). rw (m, spells-all c (getD ns 0 0) (or-no-l (eqb 63 c) (mem 63 f) h)) (spelled-all f (drop 1 ns) (or-no-r (eqb 63 c) (mem 63 f) h)))
+    (λ (m : isMark c ≡ false). rw m (spelled-all f ns (or-no-r (eqb 63 c) (mem 63 f) h)))
 
 -- one step of the writer and of the reader
 module _ (c : ℕ) (f : List ℕ) where
