@@ -379,3 +379,32 @@ module _ (leads : ℕ → ℕ → Bool) (names s : List ℕ) where
       → ((x : ℕ) → x among s → p x ≡ true) → ((x : ℕ) → p x ≡ true → x among closure leads names s)
       → (x : ℕ) → p x ≡ mem x (closure leads names s)
   closure-unique p c b l x = same-by _ _ (l x) (closure-least (λ y. p y ≡ true) c b x)
+
+-- a list less the first place of x
+unfoldable without : ℕ → List ℕ → List ℕ
+without x [] = []
+without x (y ∷ l) = cond (eqb x y) l (y ∷ without x l)
+
+without-length : (x : ℕ) (l : List ℕ) → x among l → suc (length (without x l)) ≡ length l
+unfolding without
+without-length x [] h = nil-no x h
+without-length x (y ∷ l) h =
+    by (eqb x y) (λ e. rw e)
+    (λ e. rw e (ap suc (without-length x l (cons-by x y l h (λ q. clash (eq-eqb x y q) e) (λ q. q)))))
+
+without-mem : (x y : ℕ) (l : List ℕ) → y among l → eqb y x ≡ false → y among without x l
+unfolding without
+without-mem x y [] h n = nil-no y h
+without-mem x y (z ∷ l) h n =
+    by (eqb x z)
+    (λ e. rw e (cons-by y z l h (λ q. clash (eq-eqb y x (q ∙ sym (eqb-true x z e))) n) (λ q. q)))
+    (λ e. rw e (cons-by y z l h (λ q. rw q (mem-head z (without x l))) (λ q. mem-tail y z (without x l) (without-mem x y l q n))))
+
+-- distinct names of a list are no more than it has
+pub distinct-length : (s t : List ℕ) → distinct s ≡ true → s within t → length s ≤ length t
+unfolding distinct
+distinct-length [] t h k = omega arith
+distinct-length (x ∷ s) t h k =
+    let r = distinct-length s (without x t) (and-r (not (mem x s)) _ h)
+    (λ y i. without-mem x y t (k y (mem-tail y x s i)) (by (eqb y x) (λ e. clash (rw (eqb-true y x e) at i) (not-true _ (and-l _ _ h))) (λ e. e))) in
+    omega (arith, without-length x t (k x (mem-head x s)))

@@ -6,7 +6,7 @@ use mathlib.Core.List.{List, [], _∷_, _++_, append-assoc, append-nil}
 use mathlib.Core.Option.{Option, none, some}
 use Prim.Native.Nat.{ℕ, zero, suc, _+_, _≤_, _<_}
 use native.Mathlib.Omega.{arith}
-use lib.ListN.{length, length-append}
+use lib.ListN.{length, drop, length-append}
 use borrow.Author.Tests.{not-true, not-false}
 use Rattle.record.specs.Lists.{any, mem, at, _among_, _within_, distinct, ascending, first, grown}
 use Rattle.record.specs.Record.{Record, names, written, notafter, enables, WellFormed}
@@ -39,6 +39,7 @@ use Rattle.record.proofs.Lists.{
   first-some,
   first-none,
   first-lowest,
+  distinct-length,
   missing-le-length,
   grown-full,
   grown-next,
@@ -195,3 +196,19 @@ order-next R a t placed x rest e =
 pub order-ends : (R : Record) (t : List ℕ) (x : ℕ) → x among names R → mem x (order R t) ≡ false → ready R t (order R t) x ≡ false
 unfolding order
 order-ends R t = grown-full (ready R t) (names R) (length (names R)) [] (missing-le-length (names R) [])
+
+-- A schedule has no more pages than the record has written edits.
+pub schedule-length : (R : Record) → WellFormed R → sound R ≡ true → (hidden : List ℕ) → length (schedule R hidden) ≤ suc (length (written R))
+unfolding names
+schedule-length R w h hidden =
+    let s = schedule-sound R w h hidden in distinct-length (schedule R hidden) (names R) (s .apart) (s .known)
+
+-- the pages after INIT are written edits
+pub schedule-pages : (R : Record) → WellFormed R → sound R ≡ true → (hidden : List ℕ) → drop 1 (schedule R hidden) within written R
+unfolding names distinct
+schedule-pages R w h hidden x i =
+    let s = schedule-sound R w h hidden in
+    let e = s .starts .1 in
+    let j : x among s .starts .0 = rw e at i in
+    cons-by x 0 (written R) (s .known x (rw e (mem-tail x 0 (s .starts .0) j)))
+    (λ q. clash (rw q at j) (not-true _ (and-l _ _ (rw e at (s .apart))))) (λ q. q)

@@ -1,0 +1,70 @@
+-- Entries and catalogues run by edits, as the code writes it. For any number of cells and places.
+use mathlib.Core.Path.{_≡_, refl}
+use mathlib.Core.Bool.{true, false}
+use mathlib.Core.List.{List, _∷_, map}
+use Prim.Native.Nat.{ℕ, zero, suc, _<_, _≤_, suc-le-suc}
+use native.Mathlib.Omega.{arith}
+use lib.ListN.{length, getD, set, replicate, length-map, List·getD-eq-default}
+use lib.Seq.{set-out}
+use Rattle.record.specs.declared.Field.{Field}
+use Rattle.record.specs.declared.Field.the-variants.{Id, Size, Erase, Page}
+use Rattle.record.specs.declared.Body.{Body}
+use Rattle.record.specs.declared.Body.the-variants.{Insert, Set}
+use Rattle.record.specs.declared.Edit.{Edit}
+use Rattle.record.specs.Stored.{padded}
+use Rattle.pages.specs.Pages.{touched, runEdit, run, kept, emptyCatalogue, viewOf}
+use Rattle.catalogue.specs.declared.Entry.{Entry}
+use Rattle.catalogue.specs.Entries.{placeOf, cellOf, absentEntry, runBody}
+use Rattle.catalogue.specs.Chips as chips-specs
+use Rattle.catalogue.specs.Chips.{shelf, cells, places, rows, emptyView}
+
+pub cell-within : (field : Field) → cellOf field < cells
+cell-within Id = omega arith
+cell-within Size = omega arith
+cell-within Erase = omega arith
+cell-within Page = omega arith
+
+-- below the length the default is not read
+pub getD-any : {A : Type 0} (l : List A) (i : ℕ) (d e : A) → i < length l → getD l i d ≡ getD l i e
+getD-any (a ∷ l) zero d e h = refl
+getD-any (a ∷ l) (suc i) d e (suc-le-suc h) = getD-any l i d e h
+
+-- the length of a field that is an array of structs
+pub length-mapped : {A B : Type 0} (f : A → B) (l : List A) (n : ℕ) → length (map f l) ≡ n → length l ≡ n
+length-mapped f l n h = simp length-map at h
+
+module _ (n : ℕ) (body : Body) (entry : Entry) where
+  pub ran-insert : (place : ℕ) (made : Entry) → body ≡ Insert place → entry .present ≡ false → made ≡ absentEntry n
+      → record { present = true; cells = made .cells } ≡ runBody n body entry
+  ran-insert place made b p m = rw (b, p, m)
+
+  pub ran-set : (place : ℕ) (field : Field) (value i : ℕ) → body ≡ Set place field value → entry .present ≡ true → i ≡ cellOf field
+      → record { present = entry .present; cells = set (entry .cells) i (record { filled = true; value = value }) } ≡ runBody n body entry
+  ran-set place field value i b p e = rw (b, p, e)
+
+  pub left-absent : (place : ℕ) (field : Field) (value : ℕ) → body ≡ Set place field value → entry .present ≡ false → entry ≡ runBody n body entry
+  left-absent place field value b p = rw (b, p)
+
+module _ (n : ℕ) (entries : List Entry) (edit : Edit) (place : ℕ) (at : place ≡ placeOf (edit .body)) where
+  pub touched-within : (d : Entry) → place < length entries → getD entries place d ≡ touched (shelf n) entries edit
+  unfolding touched
+  touched-within d h = rw (getD-any entries place d (absentEntry n) h, at)
+
+  pub touched-past : length entries ≤ place → absentEntry n ≡ touched (shelf n) entries edit
+  unfolding touched
+  touched-past h = rw (← at, List·getD-eq-default entries (absentEntry n) h)
+
+  pub ran-within : (d made : Entry) → place < length entries → made ≡ runBody n (edit .body) (getD entries place d)
+      → set entries place made ≡ runEdit (shelf n) entries edit
+  unfolding runEdit
+  ran-within d made h e = rw (e, touched-within d h, at)
+
+  pub ran-past : length entries ≤ place → entries ≡ runEdit (shelf n) entries edit
+  unfolding runEdit
+  ran-past h = rw (← at, set-out entries place (runBody n (edit .body) (touched (shelf n) entries edit)) h)
+
+-- the empty view is stored as absent entries alone
+pub empty-stored : (made : Entry) → made ≡ absentEntry cells
+    → record { catalogue = record { entries = replicate places made }; journal = record { rows = replicate rows made } } ≡ emptyView
+unfolding chips-specs.viewOf viewOf run kept emptyCatalogue padded
+empty-stored made e = rw e

@@ -1,0 +1,4 @@
+pub mod Entries
+pub mod Loops
+pub mod Moves
+pub mod Absent

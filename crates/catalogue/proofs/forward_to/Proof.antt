@@ -1,0 +1,136 @@
+-- `catalogue::forward_to` meets its contract. The invariant: the pages that are left, run from here, come to what all of them come to.
+use Prim.Native.Nat.{_-_, _≤_}
+use mathlib.Core.Path.{_≡_, refl, ap}
+use lib.ListN.{length}
+use native.Mathlib.Omega.{arith}
+use borrow.Author.Needs.{needs}
+use Rattle.catalogue.specs.Chips.{cells, places, rows, storedView}
+use Rattle.catalogue.proofs.Entries.{length-mapped}
+use Rattle.catalogue.proofs.Loops.{Running, run-within, run-past, run-end}
+use Rattle.catalogue.proofs.forward_to.Statement.{statement}
+use Rattle.catalogue.proofs.forward_to.Tie as tie
+
+abbrev Inv-loop : tie.InvT-loop
+Inv-loop from to schedule end catalogue₀ journal₀ page₀ catalogue journal page =
+    Running cells places rows (schedule .edits) page₀ end (record { catalogue = catalogue₀ .entries; journal = journal₀ .rows }) page
+    (record { catalogue = catalogue .entries; journal = journal .rows })
+
+abbrev μ-loop : tie.MeasureT-loop
+μ-loop from to schedule end catalogue₀ journal₀ page₀ catalogue journal page = end - page
+
+least-requires : tie.Need-least-requires Inv-loop μ-loop
+least-requires c κs = search needs
+
+loop-holds : tie.Need-loop-holds Inv-loop μ-loop
+loop-holds c =
+    let s = c .before .before .before in
+    let e : length (s .args .view .catalogue .entries) ≡ places = search (needs, length-mapped) in
+    let j : length (s .args .view .journal .rows) ≡ rows = search (needs, length-mapped) in
+    record { sized = record { catalogue = e; journal = j }; rest = refl }
+
+add-page : tie.Need-add-page Inv-loop μ-loop
+add-page c = search needs
+
+mul-edit : tie.Need-mul-edit Inv-loop μ-loop
+mul-edit c = search needs
+
+element-copy-out-edit : tie.Need-element-copy-out-edit Inv-loop μ-loop
+element-copy-out-edit c = search needs
+
+place-of-requires : tie.Need-place-of-requires Inv-loop μ-loop
+place-of-requires c κs = search needs
+
+cast-place : tie.Need-cast-place Inv-loop μ-loop
+cast-place c = search needs
+
+mul-entry : tie.Need-mul-entry Inv-loop μ-loop
+mul-entry c = search needs
+
+element-copy-out-entry : tie.Need-element-copy-out-entry Inv-loop μ-loop
+element-copy-out-entry c = search needs
+
+mul-entry-2 : tie.Need-mul-entry-2 Inv-loop μ-loop
+mul-entry-2 c = search needs
+
+element-set-from-entry : tie.Need-element-set-from-entry Inv-loop μ-loop
+element-set-from-entry c = search needs
+
+run-entry-requires : tie.Need-run-entry-requires Inv-loop μ-loop
+run-entry-requires c κs = search needs
+
+mul-made : tie.Need-mul-made Inv-loop μ-loop
+mul-made c = search needs
+
+element-set-from-made : tie.Need-element-set-from-made Inv-loop μ-loop
+element-set-from-made c = search needs
+
+loop-less : tie.Need-loop-less Inv-loop μ-loop
+loop-less c = search needs
+
+loop-again : tie.Need-loop-again Inv-loop μ-loop
+loop-again c =
+    let p = c .before .before .before in
+    let l = p .before .before .before in
+    let s = l .before .before .before .before in
+    let g : length (s .args .t2 .edits) ≡ rows = search (needs, length-mapped) in
+    let r : l .before .before .before .least .result ≤ length (s .args .t2 .edits) = omega arith in
+    run-within cells places rows (s .args .t2 .edits) _ _ _ _ _ _ _ (l .loop .inv) (p .before .before .loop-test .taken) r (p .place-of .ensures)
+    _ _ (c .before .before .if1 .taken) (c .run-entry .ensures)
+
+absent-entry-requires : tie.Need-absent-entry-requires Inv-loop μ-loop
+absent-entry-requires c κs = search needs
+
+mul-absent : tie.Need-mul-absent Inv-loop μ-loop
+mul-absent c = search needs
+
+element-set-from-absent : tie.Need-element-set-from-absent Inv-loop μ-loop
+element-set-from-absent c = search needs
+
+loop-less-2 : tie.Need-loop-less-2 Inv-loop μ-loop
+loop-less-2 c = search needs
+
+loop-again-2 : tie.Need-loop-again-2 Inv-loop μ-loop
+loop-again-2 c =
+    let p = c .before .before in
+    let l = p .before .before .before in
+    let s = l .before .before .before .before in
+    let g : length (s .args .t2 .edits) ≡ rows = search (needs, length-mapped) in
+    let r : l .before .before .before .least .result ≤ length (s .args .t2 .edits) = omega arith in
+    run-past cells places rows (s .args .t2 .edits) _ _ _ _ _ _ _ (l .loop .inv) (p .before .before .loop-test .taken) r (p .place-of .ensures)
+    _ (c .before .if1 .left) (c .absent-entry .ensures)
+
+returns : tie.Need-returns Inv-loop μ-loop
+returns c =
+    let l = c .before in
+    let s = l .before .before .before .before in
+    let g : length (s .args .t2 .edits) ≡ rows = search (needs, length-mapped) in
+    ap storedView (run-end cells places rows (s .args .t2 .edits) g _ _ _ _ _ _ (l .loop .inv) (c .loop-test .left) (l .before .before .before .least .ensures))
+
+pub forward-to-spec : {M : Type 1} → statement M
+forward-to-spec =
+    tie.close
+    (tie.spec
+    Inv-loop
+    μ-loop
+    least-requires
+    loop-holds
+    add-page
+    mul-edit
+    element-copy-out-edit
+    place-of-requires
+    cast-place
+    mul-entry
+    element-copy-out-entry
+    mul-entry-2
+    element-set-from-entry
+    run-entry-requires
+    mul-made
+    element-set-from-made
+    loop-less
+    loop-again
+    absent-entry-requires
+    mul-absent
+    element-set-from-absent
+    loop-less-2
+    loop-again-2
+    returns)

@@ -1,0 +1,59 @@
+-- `catalogue::run_edit` meets its contract: a place in range, and one past the last.
+use Prim.Native.Nat.{_≤_, _<_}
+use mathlib.Core.Path.{_≡_, ap}
+use lib.ListN.{length}
+use native.Mathlib.Omega.{arith}
+use borrow.Author.Needs.{needs}
+use Rattle.catalogue.specs.Chips.{cells, places}
+use Rattle.catalogue.proofs.Entries.{length-mapped, ran-within, ran-past}
+use Rattle.catalogue.proofs.run_edit.Statement.{statement}
+use Rattle.catalogue.proofs.run_edit.Tie as tie
+
+place-of-requires : tie.Need-place-of-requires
+place-of-requires c κs = search needs
+
+cast-place : tie.Need-cast-place
+cast-place c = search needs
+
+mul-entry : tie.Need-mul-entry
+mul-entry c = search needs
+
+element-copy-out-entry : tie.Need-element-copy-out-entry
+element-copy-out-entry c = search needs
+
+run-entry-requires : tie.Need-run-entry-requires
+run-entry-requires c κs = search needs
+
+mul-made : tie.Need-mul-made
+mul-made c = search needs
+
+element-set-from-made : tie.Need-element-set-from-made
+element-set-from-made c = search needs
+
+returns : tie.Need-returns
+returns c =
+    let s = c .before .before .before .before in
+    let h : length (s .args .catalogue .entries) ≡ places = search (needs, length-mapped) in
+    let k : c .before .before .before .place-of .result < length (s .args .catalogue .entries) = omega arith in
+    ap (λ l. record { entries = l }) (ran-within cells (s .args .catalogue .entries) (s .args .edit) _ (c .before .before .before .place-of .ensures) _ _ k (c .run-entry .ensures))
+
+returns-2 : tie.Need-returns-2
+returns-2 c =
+    let s = c .before .before in
+    let h : length (s .args .catalogue .entries) ≡ places = search (needs, length-mapped) in
+    let k : length (s .args .catalogue .entries) ≤ c .before .place-of .result = omega arith in
+    ap (λ l. record { entries = l }) (ran-past cells (s .args .catalogue .entries) (s .args .edit) _ (c .before .place-of .ensures) k)
+
+pub run-edit-spec : {M : Type 1} → statement M
+run-edit-spec =
+    tie.close
+    (tie.spec
+    place-of-requires
+    cast-place
+    mul-entry
+    element-copy-out-entry
+    run-entry-requires
+    mul-made
+    element-set-from-made
+    returns
+    returns-2)

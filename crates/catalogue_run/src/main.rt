@@ -1,0 +1,115 @@
+// Document 01, "Entries and pages", run: P10 with both ends of a turn, a turn back over a remove, a set on an absent entry, an insert on a
+// present one, and a change.
+use catalogue::Catalogue;
+use catalogue::Changed;
+use libc::STDOUT_FILENO;
+use record::Body;
+use record::Edit;
+use record::Field;
+use record::Schedule;
+
+fn tell(label: &[u8], n: u64) {
+    io::write_all(STDOUT_FILENO, label);
+    io::print_decimal(STDOUT_FILENO, n);
+}
+
+fn bit(b: bool) -> u64 {
+    if b { 1 } else { 0 }
+}
+
+fn wide(n: u32) -> u64 {
+    n as u64
+}
+
+// A turn at page 3 of three pages.
+fn tell_turn(label: &[u8], by: i32) {
+    let answer = turner::turn_answer(3, turner::turn_step(3, 3, by));
+    let number = answer.number;
+    let page = answer.opened;
+    io::write_all(STDOUT_FILENO, label);
+    tell(b"number=", wide(number as u32));
+    tell(b" page=", page as u64);
+    io::write_all(STDOUT_FILENO, b"\n");
+}
+
+// The entry at place 5 and its size.
+fn tell_entry(label: &[u8], catalogue: Catalogue) {
+    let entry = catalogue.entries[5];
+    let size = entry.cells[1];
+    io::write_all(STDOUT_FILENO, label);
+    tell(b"present=", bit(entry.present));
+    tell(b" filled=", bit(size.filled));
+    tell(b" size=", wide(size.value));
+    io::write_all(STDOUT_FILENO, b"\n");
+}
+
+fn tell_change(label: &[u8], changed: Changed) {
+    let undone = changed.undone;
+    let redone = changed.redone;
+    io::write_all(STDOUT_FILENO, label);
+    tell(b"undone=", undone as u64);
+    tell(b" redone=", redone as u64);
+    io::write_all(STDOUT_FILENO, b"\n");
+}
+
+fn insert() -> Edit {
+    Edit {
+        name: 257,
+        body: Body::Insert(5),
+    }
+}
+
+fn set(name: u16, size: u32) -> Edit {
+    Edit {
+        name,
+        body: Body::Set(5, Field::Size, size),
+    }
+}
+
+fn remove() -> Edit {
+    Edit {
+        name: 259,
+        body: Body::Remove(5),
+    }
+}
+
+// Three pages: insert, set, and the third as given.
+fn three(third: Edit) -> Schedule {
+    let mut edits = [Edit {
+        name: 0,
+        body: Body::Insert(0),
+    }; 127];
+    edits[0] = insert();
+    edits[1] = set(258, 8192);
+    edits[2] = third;
+    Schedule { edits, count: 3 }
+}
+
+fn main() {
+    tell_turn(b"turn -3: ", -3);
+    tell_turn(b"turn -4: ", -4);
+    tell_turn(b"turn +1: ", 1);
+    tell_turn(b"turn 0: ", 0);
+    tell_turn(b"turn -2147483648: ", -2147483648);
+    tell_turn(b"turn +2147483647: ", 2147483647);
+
+    let old = three(remove());
+    let empty = catalogue::empty_view();
+    let third = catalogue::turn_to(empty, old, 0, 3);
+    tell_entry(b"after the remove: ", third.catalogue);
+    let second = catalogue::turn_to(third, old, 3, 2);
+    tell_entry(b"one page back: ", second.catalogue);
+    tell_entry(
+        b"an insert there: ",
+        catalogue::run_edit(second.catalogue, insert()),
+    );
+    tell_entry(
+        b"a set at page 0: ",
+        catalogue::run_edit(empty.catalogue, set(258, 8192)),
+    );
+
+    let changed = catalogue::change(third, old, 3, three(set(260, 16384)));
+    tell_change(b"another third edit: ", changed);
+    let view = changed.view;
+    tell_entry(b"then: ", view.catalogue);
+}

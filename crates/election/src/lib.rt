@@ -1,0 +1,1 @@
+// Elections (document 01, "Proposals and votes" and "What is turned away").

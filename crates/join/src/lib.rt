@@ -1,0 +1,147 @@
+// Rows that join a record (document 01, "The record" and "What is turned away"): a lent record, an add, a merge, a record that joins another.
+// Each call refuses with a number, or gives the union. A record handed in is one that these calls, or `record::empty`, left.
+use record::Constraint;
+use record::Edit;
+use record::Record;
+ghost use mathlib.Core.Path.{_≡_};
+ghost use mathlib.Core.List.{List, [], _∷_, map};
+ghost use Prim.Native.Nat.{ℕ, _<_, _≤_};
+ghost use lib.ListN.{take};
+ghost use Rattle.record.specs.Record as theory;
+ghost use Rattle.record.specs.Stored.{stored};
+ghost use Rattle.row.specs.Row.{editRow, constraintRow};
+ghost use Rattle.table.specs.Table.{decoded, emptyTables, lentFault, addEditFault, addConstraintFault, recordFault, unite};
+ghost use Rattle.table.specs.Checked.{Checked};
+ghost use Rattle.join.specs.Join.{outcome};
+
+// number: 0, or that of the refusal; after: the record afterwards.
+pub struct Joined {
+    pub number: u32,
+    pub after: Record,
+}
+
+// A lent record by itself.
+pub fn lent(edits: &[[u32; 5]], constraints: &[[u32; 3]]) -> Joined
+    ensures { λ r. ⌜ r ≡ outcome (lentFault emptyTables (now (edits .entry)) (now (constraints .entry))) emptyTables (decoded (now (edits .entry)) (now (constraints .entry))) ⌝ }
+{
+    let number = table::lent_fault(edits, constraints);
+    if number != 0 {
+        return Joined {
+            number: number,
+            after: record::empty(),
+        };
+    }
+    Joined {
+        number: 0,
+        after: unite::decode(edits, constraints),
+    }
+}
+
+// A lent record joins a record.
+pub fn merge(joined: Record, edits: &[[u32; 5]], constraints: &[[u32; 3]]) -> Joined
+    ensures { λ r. ⌜ ((R : theory.Record) → joined ≡ stored R → Checked R → r ≡ outcome (lentFault R (now (edits .entry)) (now (constraints .entry))) R (unite R (decoded (now (edits .entry)) (now (constraints .entry))))) ⌝ }
+{
+    let number = table::fault(joined, edits, constraints);
+    if number != 0 {
+        return Joined {
+            number: number,
+            after: joined,
+        };
+    }
+    let joining = unite::decode(edits, constraints);
+    Joined {
+        number: 0,
+        after: unite::union(joined, joining),
+    }
+}
+
+// One edit is added.
+pub fn add_edit(joined: Record, row: [u32; 5]) -> Joined
+    ensures { λ r. ⌜ ((R : theory.Record) → joined ≡ stored R → Checked R → r ≡ outcome (addEditFault R row) R (unite R (decoded (row ∷ []) []))) ⌝ }
+{
+    let number = table::edit_add_fault(joined, row);
+    if number != 0 {
+        return Joined {
+            number: number,
+            after: joined,
+        };
+    }
+    let joining = unite::edit_alone(row);
+    Joined {
+        number: 0,
+        after: unite::union(joined, joining),
+    }
+}
+
+// One constraint is added.
+pub fn add_constraint(joined: Record, row: [u32; 3]) -> Joined
+    ensures { λ r. ⌜ ((R : theory.Record) → joined ≡ stored R → Checked R → r ≡ outcome (addConstraintFault R row) R (unite R (decoded [] (row ∷ [])))) ⌝ }
+{
+    let number = table::constraint_add_fault(joined, row);
+    if number != 0 {
+        return Joined {
+            number: number,
+            after: joined,
+        };
+    }
+    let joining = unite::constraint_alone(row);
+    Joined {
+        number: 0,
+        after: unite::union(joined, joining),
+    }
+}
+
+// The rows of the first n edits.
+fn edit_rows(a: [Edit; 127], n: usize) -> [[u32; 5]; 127]
+    requires { ⌜ n ≤ 127 ⌝ }
+    ensures { λ r. ⌜ take n r ≡ map editRow (take n a) ⌝ }
+{
+    let mut out = [[0u32; 5]; 127];
+    let mut i = 0;
+    while i < n {
+        let e = a[i];
+        out[i] = row::edit_row(e);
+        i += 1;
+    }
+    out
+}
+
+// The rows of the first n constraints.
+fn constraint_rows(a: [Constraint; 512], n: usize) -> [[u32; 3]; 512]
+    requires { ⌜ n ≤ 512 ⌝ }
+    ensures { λ r. ⌜ take n r ≡ map constraintRow (take n a) ⌝ }
+{
+    let mut out = [[0u32; 3]; 512];
+    let mut i = 0;
+    while i < n {
+        let c = a[i];
+        out[i] = row::constraint_row(c);
+        i += 1;
+    }
+    out
+}
+
+// A record joins a record: its rows do.
+pub fn merge_record(joined: Record, joining: Record) -> Joined
+    ensures { λ r. ⌜ ((R S : theory.Record) → joined ≡ stored R → Checked R → joining ≡ stored S → r ≡ outcome (recordFault R S) R (unite R S)) ⌝ }
+{
+    let n = joining.editcount;
+    let m = joining.constraintcount;
+    if 127 < n {
+        return Joined {
+            number: 0,
+            after: joined,
+        };
+    }
+    if 512 < m {
+        return Joined {
+            number: 0,
+            after: joined,
+        };
+    }
+    let a = joining.edits;
+    let b = joining.constraints;
+    let edits = edit_rows(a, n);
+    let constraints = constraint_rows(b, m);
+    merge(joined, &edits[0..n], &constraints[0..m])
+}

@@ -1,0 +1,265 @@
+-- The undo rule over every list of calls, and what follows from it. Assumes nothing.
+use mathlib.Core.Path.{_≡_, refl, sym, ap, subst, _∙_}
+use mathlib.Core.Bool.{Bool, true, false, not, _&&_, _||_, cond}
+use mathlib.Core.Logic.{inl}
+use mathlib.Core.List.{List, [], _∷_, _++_, map}
+use mathlib.Core.Option.{Option, none as nothing, some}
+use Prim.Native.Nat.{ℕ, zero, suc, _≤_, _<_}
+use native.Mathlib.Omega.{arith}
+use lib.Dec.{eqb, leb}
+use lib.IntN.{ℤ, pos, _+ℤ_, +ℤ-assoc, +ℤ-idr}
+use lib.ListN.{length, take, drop}
+use borrow.Author.Tests.{eqb-true, eqb-false, eq-eqb, ne-eqb, not-true, not-false, le-leb}
+use Rattle.record.specs.declared.Edit.{Edit}
+use Rattle.record.specs.Lists.{sift, mem, at, _among_, _within_}
+use Rattle.record.specs.Record.{Record, written, notafter, enables}
+use Rattle.record.specs.Sound.{Sound}
+use Rattle.record.specs.Schedule.{schedule}
+use Rattle.record.specs.Judgement.{sound, must}
+use Rattle.record.proofs.Lists.{by, clash, is-by, mem-head, mem-tail, or-no-r}
+use Rattle.record.proofs.Scheduled.{schedule-sound}
+use Rattle.keyed.specs.Keyed.{united}
+use Rattle.keyed.proofs.Logic.{Has}
+use Rattle.keyed.proofs.Union.{united-old}
+use Rattle.row.specs.Row.{Row, isName, editOf}
+use Rattle.ground.specs.Ground.{_given_, _orelse_}
+use Rattle.table.specs.Table.{decoded, editKey, unite, addEditFault}
+use Rattle.table.proofs.Records.{joining-kept}
+use Rattle.vote.specs.declared.Election.{Election}
+use Rattle.vote.specs.Tally.{winner}
+use Rattle.election.specs.Election.{cast, counted}
+use Rattle.turner.specs.declared.Turned.{Turned}
+use Rattle.turner.specs.declared.Turned.the-variants.{To, Refused}
+use Rattle.turner.specs.Turn.{landed, turned, answerOf}
+use Rattle.turner.proofs.Landed.{turned-lands}
+use Rattle.pages.specs.Pages.{run, emptyCatalogue}
+use Rattle.pages.proofs.Pages.{catalogue-of}
+use Rattle.catalogue.specs.Chips.{chips, places, rows, viewOf}
+use Rattle.ledger.specs.declared.Answer.{Answer}
+use Rattle.ledger.specs.declared.Bench.{Bench}
+use Rattle.ledger.specs.declared.Outcome.{Outcome}
+use Rattle.ledger.specs.Ledger.{Ledger, Call, addEdit, addConstraint, merge, hide, show, turn, adopt, Reply, start, pages, last, judge, noElection, answered, change, shown, adopted, act, refusal, step, fed}
+use Rattle.ledger.specs.Bench.{openEdits, benchOf, outcome, Answers, Linked, none, more, answersOf, told, Undo}
+use Rattle.ledger.proofs.Valid.{Valid, well-formed, start-valid, fed-valid, step-valid, given-none, orelse-left, orelse-right}
+
+-- what is shown of every valid ledger is promised of every list of calls
+pub from-valid : (bench : Bench) (call : Call) (r : Outcome) → ((L : Ledger) → Valid L → bench ≡ benchOf L → r ≡ outcome (step L call)) → Answers bench call r
+unfolding Answers
+from-valid bench call r f = λ calls e. f (fed start calls) (fed-valid start calls start-valid) e
+
+fed-more : (L : Ledger) (calls : List Call) (call : Call) → fed L (calls ++ (call ∷ [])) ≡ step (fed L calls) call .after
+unfolding fed
+fed-more L [] call = refl
+fed-more L (k ∷ calls) call = fed-more (step L k .after) calls call
+
+record Kept (L : Ledger) (calls : List Call) (rs : List Outcome) (c : Bench) : Type 0 where
+  ledger : c ≡ benchOf (fed L calls)
+  answers : answersOf rs ≡ told L calls
+
+kept : (before : List Call) {b c : Bench} {calls : List Call} {rs : List Outcome} → Linked b calls rs c → b ≡ benchOf (fed start before)
+    → Kept (fed start before) calls rs c
+unfolding fed told answersOf Answers outcome
+kept before none e = record { ledger = e; answers = refl }
+kept before (more {call = k} {r = r} a l) e =
+    let s = a before e in
+    let m = fed-more start before k in
+    let q = kept (before ++ (k ∷ [])) l (ap (λ (o : Outcome). o .bench) s ∙ ap benchOf (sym m)) in
+    let w : r .answer ≡ step (fed start before) k .answer = ap (λ (o : Outcome). o .answer) s in
+    record { ledger = rw m at (q .ledger); answers = λ i. w i ∷ (rw m at (q .answers)) i }
+
+-- the catalogue of a ledger's bench is the fold of its open edits
+ran : (L : Ledger) → benchOf L .view .catalogue .entries ≡ run chips (emptyCatalogue chips places) (openEdits L)
+unfolding benchOf viewOf
+ran L = catalogue-of chips places rows (openEdits L)
+
+-- THE UNDO RULE
+pub undo-rule : {calls : List Call} {rs : List Outcome} {c : Bench} → Linked (benchOf start) calls rs c → Undo calls rs c
+unfolding fed
+undo-rule {calls} l =
+    let k = kept [] l refl in
+    record {
+      ledger = k .ledger;
+      answers = k .answers;
+      catalogue = ap (λ (b : Bench). b .view .catalogue .entries) (k .ledger) ∙ ran (fed start calls);
+    }
+
+-- a step by its judgement
+pub step-refused : (L : Ledger) (call : Call) → (judge L call ≡ 0 → ⊥) → step L call ≡ refusal L (judge L call)
+unfolding step
+step-refused L call n = rw (ne-eqb (judge L call) 0 n)
+
+pub step-accepted : (L : Ledger) (call : Call) → judge L call ≡ 0 → step L call ≡ act L call
+unfolding step
+step-accepted L call e = rw e
+
+accepted-judged : (L : Ledger) (call : Call) → step L call .answer .number ≡ 0 → judge L call ≡ 0
+unfolding refusal
+accepted-judged L call e =
+    is-by (judge L call) 0 (λ q. q) (λ q. sym (ap (λ (r : Reply). r .answer .number) (step-refused L call q)) ∙ e)
+
+adopted-number : (L : Ledger) (E : Election) (o : Option Record) → adopted L E o .answer .number ≡ 0
+unfolding change
+adopted-number L E nothing = refl
+adopted-number L E (some B) = refl
+
+accepted-number : (L : Ledger) (call : Call) → act L call .answer .number ≡ 0
+unfolding act change
+accepted-number L (addEdit row) = refl
+accepted-number L (addConstraint row) = refl
+accepted-number L (merge edits constraints) = refl
+accepted-number L (hide x) = refl
+accepted-number L (show x) = refl
+accepted-number L (turn n) = refl
+accepted-number L (adopt e P roll) = adopted-number L (counted (cast e P roll)) (winner (cast e P roll))
+
+-- A REFUSED CALL leaves the bench as it was.
+pub refused-unchanged : (calls : List Call) (call : Call) (b : Bench) (r : Outcome) → b ≡ benchOf (fed start calls) → Answers b call r
+    → (r .answer .number ≡ 0 → ⊥) → r .bench ≡ b
+unfolding Answers outcome refusal
+refused-unchanged calls call b r e a n =
+    let L = fed start calls in
+    let x = a calls e in
+    is-by (judge L call) 0
+    (λ q. absurd (n (ap (λ (o : Outcome). o .answer .number) x ∙ (ap (λ (s : Reply). s .answer .number) (step-accepted L call q) ∙ accepted-number L call))))
+    (λ q. ap (λ (o : Outcome). o .bench) x ∙ (ap (λ (s : Reply). benchOf (s .after)) (step-refused L call q) ∙ sym e))
+
+-- A TURN AND ITS OPPOSITE
+turned-back : (opened last page : ℕ) (n k : ℤ) → n +ℤ k ≡ pos 0 → opened ≤ last → turned opened last n ≡ To page → turned page last k ≡ To opened
+unfolding turned landed
+turned-back opened last page n k o l h =
+    let a : pos page +ℤ k ≡ pos opened =
+    ap (λ (z : ℤ). z +ℤ k) (sym (turned-lands last page opened n h .is)) ∙ +ℤ-assoc (pos opened) n k ∙ ap (λ (z : ℤ). pos opened +ℤ z) o ∙ +ℤ-idr (pos opened) in
+    ap (landed last) a ∙ rw (le-leb opened last l)
+
+-- the ledger open at another page
+unfoldable pub at-page : Ledger → ℕ → Ledger
+at-page L page = record { multilog = L .multilog; hidden = L .hidden; schedule = L .schedule; opened = page }
+
+turn-judged : (L : Ledger) (n : ℤ) (t : Turned) → turned (L .opened) (last L) n ≡ t → judge L (turn n) ≡ answerOf (L .opened) t .number
+unfolding judge
+turn-judged L n t e = ap (λ (u : Turned). answerOf (L .opened) u .number) e
+
+turn-after : (L : Ledger) (n : ℤ) (page : ℕ) → turned (L .opened) (last L) n ≡ To page → step L (turn n) .after ≡ at-page L page
+unfolding act at-page
+turn-after L n page t =
+    ap (λ (r : Reply). r .after) (step-accepted L (turn n) (turn-judged L n (To page) t)) ∙ ap (λ (u : Turned). at-page L (answerOf (L .opened) u .opened)) t
+
+-- an accepted turn lands on a page
+turn-by {ℓ} : {P : Type ℓ} (L : Ledger) (n : ℤ) → judge L (turn n) ≡ 0 → ((page : ℕ) → turned (L .opened) (last L) n ≡ To page → P) → P
+turn-by {P = P} L n h f = go (turned (L .opened) (last L) n) refl
+  where
+    go : (t : Turned) → turned (L .opened) (last L) n ≡ t → P
+    go (To page) e = f page e
+    go Refused e = absurd (omega (arith, turn-judged L n Refused e))
+
+pub opposite-turns : (calls : List Call) (n k : ℤ) (b : Bench) (r s : Outcome) → b ≡ benchOf (fed start calls) → n +ℤ k ≡ pos 0
+    → Answers b (turn n) r → r .answer .number ≡ 0 → Answers (r .bench) (turn k) s → (s .answer .number ≡ 0) × (s .bench ≡ b)
+unfolding Answers outcome at-page last pages
+opposite-turns calls n k b r s e o a z c =
+    let L = fed start calls in
+    let x = a calls e in
+    let first = accepted-judged L (turn n) (sym (ap (λ (u : Outcome). u .answer .number) x) ∙ z) in
+    turn-by L n first (λ page t.
+    let v = fed-valid start calls start-valid in
+    let m : fed start (calls ++ (turn n ∷ [])) ≡ at-page L page = fed-more start calls (turn n) ∙ turn-after L n page t in
+    let w : r .bench ≡ benchOf (fed start (calls ++ (turn n ∷ []))) = ap (λ (u : Outcome). u .bench) x ∙ ap benchOf (sym (fed-more start calls (turn n))) in
+    let y : s ≡ outcome (step (at-page L page) (turn k)) = rw m at (c (calls ++ (turn n ∷ [])) w) in
+    let t₂ = turned-back (L .opened) (last L) page n k o (v .opened-within) t in
+    let second = turn-judged (at-page L page) k (To (L .opened)) t₂ in (
+      ap (λ (u : Outcome). u .answer .number) y ∙ (ap (λ (u : Reply). u .answer .number) (step-accepted (at-page L page) (turn k) second) ∙ accepted-number (at-page L page) (turn k)),
+      ap (λ (u : Outcome). u .bench) y ∙ (ap benchOf (turn-after (at-page L page) k (L .opened) t₂) ∙ sym e),
+    ))
+
+-- HIDING AND THEN SHOWING gives the bench of before with its last page open.
+sift-all : (p : ℕ → Bool) (l : List ℕ) → ((y : ℕ) → y among l → p y ≡ true) → sift p l ≡ l
+unfolding sift
+sift-all p [] f = refl
+sift-all p (y ∷ l) f = rw (f y (mem-head y l)) (ap (λ (t : List ℕ). y ∷ t) (sift-all p l (λ z i. f z (mem-tail z y l i))))
+
+shown-hidden : (x : ℕ) (hidden : List ℕ) → mem x hidden ≡ false → shown x (x ∷ hidden) ≡ hidden
+unfolding shown sift
+shown-hidden x hidden n =
+    rw (eq-eqb x x refl) (sift-all (λ y. not (eqb y x)) hidden (λ y i. by (eqb y x) (λ e. clash (rw (eqb-true y x e) at i) n) (λ e. rw e)))
+
+fresh : (L : Ledger) (x : ℕ) → judge L (hide x) ≡ 0 → mem x (L .hidden) ≡ false
+unfolding judge
+fresh L x h =
+    let k = orelse-right (5 given not (mem x (written (L .multilog)))) _ (orelse-right (2 given not (isName x)) _ h) in
+    or-no-r (must (L .multilog) x) _ (given-none 9 _ k (omega arith))
+
+again : (L : Ledger) (x : ℕ) → Valid L → mem x (L .hidden) ≡ false → act (act L (hide x) .after) (show x) .after ≡ at-page L (last L)
+unfolding act change at-page last pages
+again L x v n =
+    let e = shown-hidden x (L .hidden) n in
+    let m : schedule (L .multilog) (shown x (x ∷ L .hidden)) ≡ L .schedule = ap (schedule (L .multilog)) e ∙ sym (v .made) in
+    λ i. record { multilog = L .multilog; hidden = e i; schedule = m i; opened = length (drop 1 (m i)) }
+
+pub hidden-shown : (calls : List Call) (x : ℕ) (b : Bench) (r s : Outcome) → b ≡ benchOf (fed start calls)
+    → Answers b (hide x) r → r .answer .number ≡ 0 → Answers (r .bench) (show x) s → s .answer .number ≡ 0
+    → s .bench ≡ benchOf (at-page (fed start calls) (last (fed start calls)))
+unfolding Answers outcome at-page last pages act change
+hidden-shown calls x b r s e a z c w =
+    let L = fed start calls in
+    let v = fed-valid start calls start-valid in
+    let y = a calls e in
+    let hid = accepted-judged L (hide x) (sym (ap (λ (u : Outcome). u .answer .number) y) ∙ z) in
+    let L₁ = act L (hide x) .after in
+    let m : fed start (calls ++ (hide x ∷ [])) ≡ L₁ = fed-more start calls (hide x) ∙ ap (λ (u : Reply). u .after) (step-accepted L (hide x) hid) in
+    let q : r .bench ≡ benchOf (fed start (calls ++ (hide x ∷ []))) = ap (λ (u : Outcome). u .bench) y ∙ ap benchOf (sym (fed-more start calls (hide x))) in
+    let y₂ : s ≡ outcome (step L₁ (show x)) = rw m at (c (calls ++ (hide x ∷ [])) q) in
+    let sho = accepted-judged L₁ (show x) (sym (ap (λ (u : Outcome). u .answer .number) y₂) ∙ w) in
+    let n : mem x (L .hidden) ≡ false = fresh L x hid in
+    ap (λ (u : Outcome). u .bench) y₂ ∙ (ap (λ (u : Reply). benchOf (u .after)) (step-accepted L₁ (show x) sho) ∙ ap benchOf (again L x v n))
+
+-- THE DESK'S RULES. An edit never stands without the edits that enable it: of every schedule that calls lead to, whose pages are all in the view
+-- whenever the last one is open.
+pub never-alone : (calls : List Call) (a b : ℕ) → enables (fed start calls .multilog) a b ≡ true → b among fed start calls .schedule → a among fed start calls .schedule
+never-alone calls a b e i =
+    let v = fed-valid start calls start-valid in
+    let s = schedule-sound (fed start calls .multilog) (well-formed v) (v .sound-now) (fed start calls .hidden) in
+    rw (v .made) (s .complete a b e (rw (v .made) at i))
+
+-- Two edits that are each notafter the other never both stand.
+pub never-both : (calls : List Call) (a b : ℕ) → notafter (fed start calls .multilog) a b ≡ true → notafter (fed start calls .multilog) b a ≡ true
+    → a among fed start calls .schedule → b among fed start calls .schedule → ⊥
+never-both calls a b e f i j =
+    let v = fed-valid start calls start-valid in
+    let s = schedule-sound (fed start calls .multilog) (well-formed v) (v .sound-now) (fed start calls .hidden) in
+    let p = s .orders a b e (rw (v .made) at i) (rw (v .made) at j) in
+    let q = s .orders b a f (rw (v .made) at j) (rw (v .made) at i) in
+    omega arith
+
+-- Every edit of the record stays in it, with its body.
+act-stays : (L : Ledger) (call : Call) (e : Edit) → Has e (L .multilog .edits) → Has e (act L call .after .multilog .edits)
+unfolding act change unite
+act-stays L (addEdit row) e h = united-old editKey e (L .multilog .edits) _ h
+act-stays L (addConstraint row) e h = united-old editKey e (L .multilog .edits) _ h
+act-stays L (merge edits constraints) e h = united-old editKey e (L .multilog .edits) _ h
+act-stays L (hide x) e h = h
+act-stays L (show x) e h = h
+act-stays L (turn n) e h = h
+act-stays L (adopt x P roll) e h = stays (winner (cast x P roll))
+  where
+    stays : (o : Option Record) → Has e (adopted L (counted (cast x P roll)) o .after .multilog .edits)
+    stays nothing = h
+    stays (some B) = united-old editKey e (L .multilog .edits) (B .edits) h
+
+step-stays : (L : Ledger) (call : Call) (e : Edit) → Has e (L .multilog .edits) → Has e (step L call .after .multilog .edits)
+unfolding step refusal
+step-stays L call e h = by (eqb (judge L call) 0) (λ q. rw q (act-stays L call e h)) (λ q. rw q h)
+
+pub edits-stay : (L : Ledger) (calls : List Call) (e : Edit) → Has e (L .multilog .edits) → Has e (fed L calls .multilog .edits)
+unfolding fed
+edits-stay L [] e h = h
+edits-stay L (call ∷ calls) e h = edits-stay (step L call .after) calls e (step-stays L call e h)
+
+added-in : (L : Ledger) (row : Row) → Valid L → judge L (addEdit row) ≡ 0 → Has (editOf row) (act L (addEdit row) .after .multilog .edits)
+unfolding act change unite judge
+added-in L row v j = joining-kept (L .multilog) (written (L .multilog)) true (row ∷ []) [] (v .checked) (orelse-left _ _ j) (editOf row) (inl refl)
+
+-- and an edit that is added and accepted is of the record from then on
+pub added-stays : (before after : List Call) (row : Row) → judge (fed start before) (addEdit row) ≡ 0
+    → Has (editOf row) (fed (step (fed start before) (addEdit row) .after) after .multilog .edits)
+added-stays before after row h =
+    let L = fed start before in
+    edits-stay _ after (editOf row) (rw (step-accepted L (addEdit row) h) (added-in L row (fed-valid start before start-valid) h))

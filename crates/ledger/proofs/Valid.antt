@@ -1,0 +1,129 @@
+-- What holds of every ledger that calls lead to. Assumes nothing.
+use mathlib.Core.Path.{_≡_, refl, sym, ap, _∙_}
+use mathlib.Core.Bool.{Bool, true, false, not, _&&_, _||_, cond}
+use mathlib.Core.List.{List, [], _∷_, map}
+use mathlib.Core.Option.{Option, none, some}
+use Prim.Native.Nat.{ℕ, zero, suc, _+_, _≤_, _<_}
+use native.Mathlib.Omega.{arith}
+use lib.Dec.{eqb}
+use lib.IntN.{ℤ}
+use lib.ListN.{length, take, drop, length-map}
+use borrow.Author.Tests.{eqb-true, eqb-false, eq-eqb, not-true, not-false}
+use Rattle.record.specs.Lists.{any, mem, _among_, _within_, first, grown, closure}
+use Rattle.record.specs.Record.{Record, names, written, has, WellFormed}
+use Rattle.record.specs.Schedule.{needs, musts, ready, order, ring, admits, scheduled, schedule}
+use Rattle.record.specs.Judgement.{sound, must}
+use Rattle.record.proofs.Lists.{by, clash, and-l, and-r, or-by, or-no-l, cons-by, nil-no, cons-within, sift-mem}
+use Rattle.record.proofs.Scheduled.{schedule-length, schedule-pages}
+use Rattle.row.specs.Row.{Row, isName}
+use Rattle.ground.specs.Ground.{Rows, _given_, _orelse_}
+use Rattle.table.specs.Table.{emptyTables, decoded, lentFault, addEditFault, addConstraintFault, recordFault, unite}
+use Rattle.table.specs.Checked.{Checked}
+use Rattle.table.proofs.Unions.{united-extends}
+use Rattle.table.proofs.Records.{empty-checked, joined-checked, added-edit-checked, added-constraint-checked, record-checked, checked-wellformed}
+use Rattle.vote.specs.declared.RollRow.{RollRow}
+use Rattle.vote.specs.declared.Election.{Election}
+use Rattle.vote.specs.Tally.{winner}
+use Rattle.election.specs.Election.{Proposals, electionFault, cast, counted}
+use Rattle.turner.specs.declared.Turned.{Turned}
+use Rattle.turner.specs.declared.Turned.the-variants.{To, Refused}
+use Rattle.turner.specs.Turn.{turned, answerOf}
+use Rattle.turner.proofs.Landed.{turned-lands}
+use Rattle.ledger.specs.Ledger.{Ledger, Call, addEdit, addConstraint, merge, hide, show, turn, adopt, Reply, start, pages, last, bundleFault, judge, noElection, change, shown, adopted, act, refusal, step, fed}
+
+-- the ledger's record is as every stored record is, and sound; hidden edits are written; the schedule is the record's; the open page is one of it
+pub record Valid (L : Ledger) : Type 0 where
+  pub checked : Checked (L .multilog)
+  pub sound-now : sound (L .multilog) ≡ true
+  pub hidden-written : L .hidden within written (L .multilog)
+  pub made : L .schedule ≡ schedule (L .multilog) (L .hidden)
+  pub opened-within : L .opened ≤ last L
+
+-- a number that is not given
+pub given-none : (n : ℕ) (b : Bool) → (n given b) ≡ 0 → 0 < n → b ≡ false
+given-none n true h l = absurd (omega arith)
+given-none n false h l = refl
+
+pub orelse-left : (a b : ℕ) → (a orelse b) ≡ 0 → a ≡ 0
+orelse-left a b h = by (eqb a 0) (eqb-true a 0) (λ e. absurd (eqb-false a 0 e (rw e at h)))
+
+pub orelse-right : (a b : ℕ) → (a orelse b) ≡ 0 → b ≡ 0
+orelse-right a b h = let z = orelse-left a b h in rw (z) at h
+
+-- the empty record is sound, and its schedule is INIT alone
+empty-sound : sound emptyTables ≡ true
+unfolding sound musts ring order ready needs names written has closure grown first any mem
+empty-sound = refl
+
+empty-schedule : schedule emptyTables [] ≡ 0 ∷ []
+unfolding schedule scheduled admits musts order ready needs names written has closure grown first any mem
+empty-schedule = refl
+
+pub start-valid : Valid start
+unfolding start last pages
+start-valid =
+    record { checked = empty-checked; sound-now = empty-sound; hidden-written = λ x i. nil-no x i; made = sym empty-schedule; opened-within = omega arith }
+
+module _ {L : Ledger} (v : Valid L) where
+  pub well-formed : WellFormed (L .multilog)
+  well-formed = checked-wellformed (L .multilog) (v .checked)
+
+change-valid : (L : Ledger) (R : Record) (hidden : List ℕ) (E : Election) → Checked R → sound R ≡ true → hidden within written R
+    → Valid (change L R hidden E .after)
+unfolding change last pages
+change-valid L R hidden E k h w = record { checked = k; sound-now = h; hidden-written = w; made = refl; opened-within = omega arith }
+
+-- a union with a checked result, that is sound
+union-valid : (L : Ledger) (S : Record) (E : Election) → Valid L → Checked (unite (L .multilog) S) → sound (unite (L .multilog) S) ≡ true
+    → Valid (change L (unite (L .multilog) S) (L .hidden) E .after)
+union-valid L S E v k h =
+    change-valid L (unite (L .multilog) S) (L .hidden) E k h (λ x i. united-extends (L .multilog) S .edits x (v .hidden-written x i))
+
+adopted-valid : (L : Ledger) (E : Election) (o : Option Record) → Valid L → bundleFault (L .multilog) o ≡ 0 → Valid (adopted L E o .after)
+adopted-valid L E none v h = v
+adopted-valid L E (some B) v h =
+    union-valid L B E v (record-checked (L .multilog) B (v .checked) (orelse-left _ _ h)) (not-false _ (given-none 8 _ (orelse-right (recordFault (L .multilog) B) _ h) (omega arith)))
+
+landing-within : (opened last : ℕ) (n : ℤ) (t : Turned) → turned opened last n ≡ t → opened ≤ last → answerOf opened t .opened ≤ last
+landing-within opened last n (To page) e h = turned-lands last page opened n e .within
+landing-within opened last n Refused e h = h
+
+shown-within : (x : ℕ) (hidden : List ℕ) → shown x hidden within hidden
+unfolding shown
+shown-within x hidden y i = sift-mem (λ y. not (eqb y x)) hidden y i .0
+
+act-valid : (L : Ledger) (call : Call) → Valid L → judge L call ≡ 0 → Valid (act L call .after)
+unfolding act judge last pages
+act-valid L (addEdit row) v h =
+    union-valid L _ noElection v (added-edit-checked (L .multilog) row (v .checked) (orelse-left _ _ h))
+    (not-false _ (given-none 8 _ (orelse-right (addEditFault (L .multilog) row) _ h) (omega arith)))
+act-valid L (addConstraint row) v h =
+    union-valid L _ noElection v (added-constraint-checked (L .multilog) row (v .checked) (orelse-left _ _ h))
+    (not-false _ (given-none 8 _ (orelse-right (addConstraintFault (L .multilog) row) _ h) (omega arith)))
+act-valid L (merge edits constraints) v h =
+    union-valid L _ noElection v (joined-checked (L .multilog) edits constraints (v .checked) (orelse-left _ _ h))
+    (and-r (sound (decoded edits constraints)) _ (not-false _ (given-none 8 _ (orelse-right (lentFault (L .multilog) edits constraints) _ h) (omega arith))))
+act-valid L (hide x) v h =
+    let k = orelse-right (2 given not (isName x)) _ h in
+    change-valid L (L .multilog) (x ∷ L .hidden) noElection (v .checked) (v .sound-now)
+    (cons-within x (L .hidden) (written (L .multilog)) (not-false _ (given-none 5 _ (orelse-left _ _ k) (omega arith))) (v .hidden-written))
+act-valid L (show x) v h =
+    change-valid L (L .multilog) (shown x (L .hidden)) noElection (v .checked) (v .sound-now) (λ y i. v .hidden-written y (shown-within x (L .hidden) y i))
+act-valid L (turn n) v h = record {
+  checked = v .checked;
+  sound-now = v .sound-now;
+  hidden-written = v .hidden-written;
+  made = v .made;
+  opened-within = landing-within (L .opened) (last L) n (turned (L .opened) (last L) n) refl (v .opened-within);
+}
+act-valid L (adopt e P roll) v h =
+    adopted-valid L (counted (cast e P roll)) (winner (cast e P roll)) v (orelse-right (electionFault e P roll) _ h)
+
+pub step-valid : (L : Ledger) (call : Call) → Valid L → Valid (step L call .after)
+unfolding step refusal
+step-valid L call v = by (eqb (judge L call) 0) (λ e. rw e (act-valid L call v (eqb-true _ 0 e))) (λ e. rw e v)
+
+pub fed-valid : (L : Ledger) (calls : List Call) → Valid L → Valid (fed L calls)
+unfolding fed
+fed-valid L [] v = v
+fed-valid L (call ∷ calls) v = fed-valid (step L call .after) calls (step-valid L call v)

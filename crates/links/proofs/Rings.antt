@@ -1,0 +1,71 @@
+-- The search finds a ring just where the marked set holds one. Assumes nothing.
+use mathlib.Core.Path.{_≡_, refl, sym, ap, _∙_}
+use mathlib.Core.Bool.{Bool, true, false, not}
+use mathlib.Core.List.{List}
+use Prim.Native.Nat.{ℕ, _+_, _≤_, _<_}
+use native.Mathlib.Omega.{arith}
+use lib.ListN.{length, getD}
+use borrow.Author.Tests.{not-true}
+use Rattle.record.specs.Lists.{mem, at, _among_, _within_}
+use Rattle.record.specs.Record.{Record, names, notafter}
+use Rattle.record.specs.Schedule.{order, ring}
+use Rattle.record.proofs.Lists.{by, clash, any-by, le-by, mem-at}
+use Rattle.record.proofs.Order.{Placed, order-placed, ring-order, left-by}
+use Rattle.links.specs.Marks.{nameAt, marksOf}
+use Rattle.links.specs.Links.{Leads, RowOf}
+use Rattle.links.specs.Reach.{On}
+use Rattle.links.specs.Search.{Is, Held, Rising, Follows, NoRank}
+use Rattle.links.proofs.Names.{getD-place, place-getD}
+use Rattle.links.proofs.Marks.{marks-low, marks-on, on-marks, marks-past}
+use Rattle.links.proofs.Search.{Searching, Searched}
+
+-- one of a set whose predecessors in it are placed is placed
+order-next : (R : Record) (t : List ℕ) → t within names R → (x : ℕ) → x among t → ((a : ℕ) → notafter R a x ≡ true → a among t → a among order R t) → x among order R t
+order-next R t k x i h = by (mem x (order R t)) (λ m. m) (λ m. left-by R t k x i m (λ a j p e. clash (h a e j) p))
+
+module _ (R : Record) (t s heads links lefts : List ℕ) (g : Leads (notafter R) R 0 heads links lefts) (sub : t within names R)
+    (e : s ≡ marksOf R (λ y. mem y t)) where
+  low : (y : ℕ) → getD s y 0 ≤ 1
+  low y = rw e (marks-low R (λ y. mem y t) y)
+
+  held-in : (y : ℕ) → Held s y → (y < length (names R)) × (nameAt R y among t)
+  held-in y h = marks-on R (λ y. mem y t) y (rw (← e) (one-of (getD s y 0) h (low y)))
+    where
+      one-of : (v : ℕ) → (v ≡ 0 → ⊥) → v ≤ 1 → v ≡ 1
+      one-of v n l = omega (arith, n)
+
+  in-held : (a : ℕ) → a among t → Held s (at a (names R))
+  in-held a i z =
+      let o : On s (at a (names R)) = rw e (on-marks R (λ y. mem y t) (at a (names R)) (mem-at a (names R) (sub a i)) (rw (getD-place a (names R) (sub a i)) i)) in
+      omega (arith, o, z)
+
+  follows : Follows (g .keys) lefts s (λ y. mem (nameAt R y) (order R t))
+  follows y h f =
+      let i = held-in y h in
+      order-next R t sub (nameAt R y) (i .1)
+      (λ a q j. let r = g .row-of a (nameAt R y) q in
+      let z = r .left in
+      rw (← getD-place a (names R) (r .left-known), ← z)
+      (f (r .row) (r .low) (omega (arith, r .key, place-getD (names R) y (g .apart) (i .0))) (rw z (in-held a j))))
+
+  pub ring-found : NoRank (g .keys) lefts s → true ≡ ring R t
+  ring-found u =
+      sym (by (ring R t) (λ r. r)
+      (λ r. absurd (u (λ y. at (nameAt R y) (order R t))
+      (λ i y l q h k. let a = held-in y h in
+      order-placed R t .orders (nameAt R (getD lefts i 0)) (nameAt R y) (g .holds i y l (a .0) (omega (arith, q))) (held-in _ k .1) (ring-order R t r (nameAt R y) (a .1))))))
+
+  pub ring-none : (n : ℕ) (w : List ℕ) → n ≡ length (names R) → Searching heads links lefts s n w → false ≡ ring R t
+  unfolding ring
+  ring-none n w q k =
+      let d = k .search (g .keys) (g .linked) low in
+      sym (by (ring R t)
+      (λ r. any-by _ t r (λ a i m. clash
+      (rw (getD-place a (names R) (sub a i)) at
+      (d .placed (λ y. mem (nameAt R y) (order R t)) follows (λ y h. absurd (omega (arith, low y, h))) (at a (names R))
+      (d .done (at a (names R)) (omega (arith, mem-at a (names R) (sub a i))) (in-held a i))))
+      (not-true _ m)))
+      (λ r. r))
+
+  pub ring-low : (y : ℕ) → getD s y 0 ≤ 1
+  ring-low = low

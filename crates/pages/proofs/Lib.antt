@@ -1,0 +1,4 @@
+pub mod Padded
+pub mod Pages
+pub mod Turns
+pub mod Common

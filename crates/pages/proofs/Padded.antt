@@ -1,0 +1,44 @@
+-- Laws of lists stored in rows, the others filled.
+use mathlib.Core.Path.{_≡_, refl, sym, ap, _∙_}
+use mathlib.Core.List.{List, [], _∷_, _++_, append-assoc}
+use Prim.Native.Nat.{ℕ, zero, suc, _+_, _-_, _≤_, _<_}
+use native.Mathlib.Omega.{arith}
+use lib.ListN.{length, take, drop, getD, set, replicate, length-append, length-replicate, List·getD-append}
+use lib.Seq.{take-append-le, set-append-seam, getD-append-add, slice}
+use Rattle.record.specs.Stored.{padded}
+
+module _ {A : Type 0} (n : ℕ) (filler : A) where
+  pub length-padded : (l : List A) → length l ≤ n → length (padded n filler l) ≡ n
+  unfolding padded
+  length-padded l h = length-append l (replicate (n - length l) filler) ∙ rw length-replicate (omega arith)
+
+  pub take-padded : (k : ℕ) (l : List A) → k ≤ length l → take k (padded n filler l) ≡ take k l
+  unfolding padded
+  take-padded k l h = take-append-le k l (replicate (n - length l) filler) h
+
+  pub slice-padded : (j k : ℕ) (l : List A) → k ≤ length l → slice j k (padded n filler l) ≡ slice j k l
+  slice-padded j k l h = ap (drop j) (take-padded k l h)
+
+  -- one element more
+  pub padded-more : (l : List A) (a : A) → length l < n → set (padded n filler l) (length l) a ≡ padded n filler (l ++ (a ∷ []))
+  unfolding padded
+  padded-more l a h =
+      let k : n - length l ≡ suc (n - length (l ++ (a ∷ []))) = simp length-append (omega arith) in
+      rw (k, set-append-seam l filler (replicate (n - length (l ++ (a ∷ []))) filler) a, append-assoc)
+
+  pub getD-filled : (k i : ℕ) → getD (replicate k filler) i filler ≡ filler
+  getD-filled zero i = refl
+  getD-filled (suc k) zero = refl
+  getD-filled (suc k) (suc i) = getD-filled k i
+
+  pub getD-padded : (l : List A) (i : ℕ) (d : A) → i < length l → getD (padded n filler l) i d ≡ getD l i d
+  unfolding padded
+  getD-padded l i d h = List·getD-append l (replicate (n - length l) filler) d i h
+
+  -- past the list stand fillers
+  pub padded-past : (l : List A) (i : ℕ) → length l ≤ i → getD (padded n filler l) i filler ≡ filler
+  unfolding padded
+  padded-past l i h =
+      let e : length l + (i - length l) ≡ i = omega arith in
+      ap (λ (j : ℕ). getD (l ++ replicate (n - length l) filler) j filler) (sym e)
+      ∙ getD-append-add l (replicate (n - length l) filler) (i - length l) filler ∙ getD-filled (n - length l) (i - length l)
