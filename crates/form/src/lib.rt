@@ -1,0 +1,246 @@
+// Forms (document 01, "Text"): quoted texts in which `#` stands for a number, `@` for an edit's name and `?` for yes or no, read and
+// written. Public for the crates of this workspace that read and write lines; what they lend is long enough, so the writers require it.
+ghost use mathlib.Core.Path.{_≡_};
+ghost use Prim.Native.Nat.{_≤_};
+ghost use mathlib.Core.Option.{none};
+ghost use lib.ListN.{length, getD, set};
+ghost use Rattle.decimal.specs.Written.{Written};
+ghost use Rattle.form.specs.Spelling.{nameSpelling, answerSpelling, startsWith, numeralOf};
+ghost use Rattle.form.specs.Form.{isMark, spelling, fill, taken, told};
+use decimal::Numeral;
+
+// The numbers with which a form gives a text, cut off at 2^32, or that it does not. Places past the form's own numbers hold 0.
+pub struct Filled {
+    pub fits: bool,
+    pub numbers: [u64; 8],
+}
+
+// The spelling of an edit's name.
+fn name_length(n: u64) -> usize
+    ensures { λ r. ⌜ r ≡ length ((nameSpelling .write) n) ⌝ }
+{
+    decimal::number_length(n)
+}
+
+fn write_name(out: &mut [u8], n: u64) -> usize
+    requires { ⌜ length ((nameSpelling .write) n) ≤ length (now out) ⌝ }
+    ensures { λ r. ⌜ Written ((nameSpelling .write) n) (now (out .entry)) r (now (out .exit)) ⌝ }
+{
+    decimal::write_number(&mut out[..], n)
+}
+
+fn read_name(bytes: &[u8]) -> Numeral
+    ensures { λ r. ⌜ r ≡ numeralOf nameSpelling (now (bytes .entry)) ⌝ }
+{
+    decimal::read_number(bytes)
+}
+
+// The spelling of yes and no.
+fn answer_length(n: u64) -> usize
+    ensures { λ r. ⌜ r ≡ length ((answerSpelling .write) n) ⌝ }
+{
+    if n == 0 {
+        return 2;
+    }
+    3
+}
+
+fn write_answer(out: &mut [u8], n: u64) -> usize
+    requires { ⌜ length ((answerSpelling .write) n) ≤ length (now out) ⌝ }
+    ensures { λ r. ⌜ Written ((answerSpelling .write) n) (now (out .entry)) r (now (out .exit)) ⌝ }
+{
+    if n == 0 {
+        out[0] = b'n';
+        out[1] = b'o';
+        return 2;
+    }
+    out[0] = b'y';
+    out[1] = b'e';
+    out[2] = b's';
+    3
+}
+
+// The text starts with this word.
+fn starts_with(word: &[u8], bytes: &[u8]) -> bool
+    ensures { λ r. ⌜ r ≡ startsWith (now (word .entry)) (now (bytes .entry)) ⌝ }
+{
+    let mut i = 0;
+    while i < word.len() {
+        if bytes.len() <= i {
+            return false;
+        }
+        if word[i] != bytes[i] {
+            return false;
+        }
+        i += 1;
+    }
+    true
+}
+
+fn read_answer(bytes: &[u8]) -> Numeral
+    ensures { λ r. ⌜ r ≡ numeralOf answerSpelling (now (bytes .entry)) ⌝ }
+{
+    if starts_with(b"yes", bytes) {
+        return Numeral { size: 3, value: 1 };
+    }
+    if starts_with(b"no", bytes) {
+        return Numeral { size: 2, value: 0 };
+    }
+    Numeral { size: 0, value: 0 }
+}
+
+fn is_mark(c: u8) -> bool
+    ensures { λ r. ⌜ r ≡ isMark c ⌝ }
+{
+    match c {
+        b'#' => true,
+        b'@' => true,
+        b'?' => true,
+        _ => false,
+    }
+}
+
+fn mark_length(mark: u8, n: u64) -> usize
+    ensures { λ r. ⌜ (r ≡ length ((spelling mark) .write n)) × (r ≤ 20) ⌝ }
+{
+    match mark {
+        b'?' => answer_length(n),
+        b'@' => name_length(n),
+        _ => decimal::number_length(n),
+    }
+}
+
+fn write_mark(out: &mut [u8], mark: u8, n: u64) -> usize
+    requires { ⌜ length ((spelling mark) .write n) ≤ length (now out) ⌝ }
+    ensures { λ r. ⌜ Written ((spelling mark) .write n) (now (out .entry)) r (now (out .exit)) ⌝ }
+{
+    match mark {
+        b'?' => write_answer(&mut out[..], n),
+        b'@' => write_name(&mut out[..], n),
+        _ => decimal::write_number(&mut out[..], n),
+    }
+}
+
+fn read_mark(mark: u8, bytes: &[u8]) -> Numeral
+    ensures { λ r. ⌜ r ≡ numeralOf (spelling mark) (now (bytes .entry)) ⌝ }
+{
+    match mark {
+        b'?' => read_answer(bytes),
+        b'@' => read_name(bytes),
+        _ => decimal::read_number(bytes),
+    }
+}
+
+// A number that is not there is 0.
+fn number_at(numbers: &[u64], k: usize) -> u64
+    ensures { λ r. ⌜ r ≡ getD (now (numbers .entry)) k 0 ⌝ }
+{
+    if k < numbers.len() {
+        return numbers[k];
+    }
+    0
+}
+
+// How many bytes the form takes with these numbers.
+pub fn form_length(form: &[u8], numbers: &[u64]) -> usize
+    requires { ⌜ length (now form) ≤ 4096 ⌝ }
+    ensures { λ r. ⌜ r ≡ length (fill (now (form .entry)) (now (numbers .entry))) ⌝ }
+{
+    let mut total = 0;
+    let mut i = 0;
+    let mut k = 0;
+    while i < form.len() {
+        let c = form[i];
+        i += 1;
+        if is_mark(c) {
+            let n = number_at(numbers, k);
+            total += mark_length(c, n);
+            k += 1;
+        } else {
+            total += 1;
+        }
+    }
+    total
+}
+
+// Writes the form with these numbers to the start of out, and answers how many bytes that took.
+pub fn write_form(out: &mut [u8], form: &[u8], numbers: &[u64]) -> usize
+    requires { ⌜ length (fill (now form) (now numbers)) ≤ length (now out) ⌝ }
+    ensures { λ r. ⌜ Written (fill (now (form .entry)) (now (numbers .entry))) (now (out .entry)) r (now (out .exit)) ⌝ }
+{
+    let mut at = 0;
+    let mut i = 0;
+    let mut k = 0;
+    while i < form.len() {
+        let c = form[i];
+        i += 1;
+        if is_mark(c) {
+            let n = number_at(numbers, k);
+            at += write_mark(&mut out[at..], c, n);
+            k += 1;
+        } else {
+            out[at] = c;
+            at += 1;
+        }
+    }
+    at
+}
+
+fn stored(numbers: [u64; 8], k: usize, n: u64) -> [u64; 8]
+    ensures { λ r. ⌜ r ≡ set numbers k n ⌝ }
+{
+    let mut changed = numbers;
+    if k < 8 {
+        changed[k] = n;
+    }
+    changed
+}
+
+fn no_fit() -> Filled
+    ensures { λ r. ⌜ r ≡ told none ⌝ }
+{
+    Filled {
+        fits: false,
+        numbers: [0; 8],
+    }
+}
+
+// The numbers with which the form gives these bytes, where it does.
+pub fn read_form(form: &[u8], bytes: &[u8]) -> Filled
+    ensures { λ r. ⌜ r ≡ told (taken (now (form .entry)) (now (bytes .entry))) ⌝ }
+{
+    let mut numbers = [0u64; 8];
+    let mut at = 0;
+    let mut i = 0;
+    let mut k = 0;
+    while i < form.len() {
+        let c = form[i];
+        i += 1;
+        if is_mark(c) {
+            let numeral = read_mark(c, &bytes[at..]);
+            let size = numeral.size;
+            if size == 0 {
+                return no_fit();
+            }
+            let changed = stored(numbers, k, numeral.value);
+            numbers = changed;
+            at += size;
+            k += 1;
+        } else {
+            if bytes.len() <= at {
+                return no_fit();
+            }
+            if bytes[at] != c {
+                return no_fit();
+            }
+            at += 1;
+        }
+    }
+    if at < bytes.len() {
+        return no_fit();
+    }
+    Filled {
+        fits: true,
+        numbers: numbers,
+    }
+}

@@ -1,0 +1,4 @@
+pub mod Says
+pub mod Puts
+pub mod Ends
+pub mod RoundTrip

@@ -1,0 +1,289 @@
+// The lines of the exchanged text (document 01, "Text") as rows of numbers. Public for the crates of this workspace that read and write
+// texts; these lend what is long enough, so the writers require it.
+ghost use mathlib.Core.Path.{_≡_};
+ghost use mathlib.Core.List.{[], _∷_};
+ghost use Prim.Native.Nat.{_+_, _≤_};
+ghost use lib.ListN.{length, drop};
+ghost use Rattle.decimal.specs.Written.{Written};
+ghost use Rattle.form.specs.Form.{fill, taken, told};
+ghost use Rattle.line.specs.Line.{setForm, editForm, ruleForm, editLine, constraintLine, faulty, editShape, ruleShape, setShapes, ruleShapes, readAs, readBy, lineRead};
+ghost use Rattle.line.specs.Lines.{firstLine};
+use form::Filled;
+
+// What a line says. Number 0: a row, an edit's or a constraint's; 1: it is not in form; 2: a number in it does not fit 32 bits.
+// Cells that say nothing hold 0.
+pub struct Line {
+    pub number: u32,
+    pub isedit: bool,
+    pub edit: [u32; 5],
+    pub constraint: [u32; 3],
+}
+
+fn fault(number: u32) -> Line
+    ensures { λ r. ⌜ r ≡ faulty number ⌝ }
+{
+    let edit = [0; 5];
+    let constraint = [0; 3];
+    Line {
+        number: number,
+        isedit: false,
+        edit: edit,
+        constraint: constraint,
+    }
+}
+
+fn fill_set(field: u32, bytes: &[u8]) -> Filled
+    ensures { λ r. ⌜ r ≡ told (taken (setForm field) (now (bytes .entry))) ⌝ }
+{
+    match field {
+        0 => form::read_form(b"edit=@ do=set chip=# field=id value=#\n", bytes),
+        1 => form::read_form(b"edit=@ do=set chip=# field=size value=#\n", bytes),
+        2 => form::read_form(b"edit=@ do=set chip=# field=erase value=#\n", bytes),
+        _ => form::read_form(b"edit=@ do=set chip=# field=page value=#\n", bytes),
+    }
+}
+
+fn fill_edit(kind: u32, field: u32, bytes: &[u8]) -> Filled
+    ensures { λ r. ⌜ r ≡ told (taken (editForm kind field) (now (bytes .entry))) ⌝ }
+{
+    match kind {
+        0 => form::read_form(b"edit=@ do=insert chip=#\n", bytes),
+        1 => fill_set(field, bytes),
+        _ => form::read_form(b"edit=@ do=remove chip=#\n", bytes),
+    }
+}
+
+fn fill_rule(rule: u32, bytes: &[u8]) -> Filled
+    ensures { λ r. ⌜ r ≡ told (taken (ruleForm rule) (now (bytes .entry))) ⌝ }
+{
+    match rule {
+        0 => form::read_form(b"left=@ rule=notafter right=@\n", bytes),
+        1 => form::read_form(b"left=@ rule=enables right=@\n", bytes),
+        _ => form::read_form(b"left=@ rule=noncommuting right=@\n", bytes),
+    }
+}
+
+// What the bytes say as an edit of this kind and field.
+fn read_edit_as(kind: u32, field: u32, bytes: &[u8]) -> Line
+    ensures { λ r. ⌜ r ≡ readAs (editShape kind field) (now (bytes .entry)) ⌝ }
+{
+    let filled = fill_edit(kind, field, bytes);
+    if !filled.fits {
+        return fault(1);
+    }
+    let numbers = filled.numbers;
+    let name = numbers[0];
+    let place = numbers[1];
+    let value = numbers[2];
+    if 4294967295 < name {
+        return fault(2);
+    }
+    if 4294967295 < place {
+        return fault(2);
+    }
+    if 4294967295 < value {
+        return fault(2);
+    }
+    let edit = [name as u32, kind, place as u32, field, value as u32];
+    let constraint = [0; 3];
+    Line {
+        number: 0,
+        isedit: true,
+        edit: edit,
+        constraint: constraint,
+    }
+}
+
+// What the bytes say as a constraint of this rule.
+fn read_rule_as(rule: u32, bytes: &[u8]) -> Line
+    ensures { λ r. ⌜ r ≡ readAs (ruleShape rule) (now (bytes .entry)) ⌝ }
+{
+    let filled = fill_rule(rule, bytes);
+    if !filled.fits {
+        return fault(1);
+    }
+    let numbers = filled.numbers;
+    let left = numbers[0];
+    let right = numbers[1];
+    if 4294967295 < left {
+        return fault(2);
+    }
+    if 4294967295 < right {
+        return fault(2);
+    }
+    let edit = [0; 5];
+    let constraint = [left as u32, rule, right as u32];
+    Line {
+        number: 0,
+        isedit: false,
+        edit: edit,
+        constraint: constraint,
+    }
+}
+
+fn read_set(bytes: &[u8]) -> Line
+    ensures { λ r. ⌜ r ≡ readBy setShapes (now (bytes .entry)) ⌝ }
+{
+    let mut field = 0;
+    while field < 4 {
+        let line = read_edit_as(1, field, bytes);
+        if line.number != 1 {
+            return line;
+        }
+        field += 1;
+    }
+    fault(1)
+}
+
+fn read_rule(bytes: &[u8]) -> Line
+    ensures { λ r. ⌜ r ≡ readBy ruleShapes (now (bytes .entry)) ⌝ }
+{
+    let mut rule = 0;
+    while rule < 3 {
+        let line = read_rule_as(rule, bytes);
+        if line.number != 1 {
+            return line;
+        }
+        rule += 1;
+    }
+    fault(1)
+}
+
+// What a line with its end says.
+pub fn read_line(bytes: &[u8]) -> Line
+    ensures { λ r. ⌜ r ≡ lineRead (now (bytes .entry)) ⌝ }
+{
+    if 101 < bytes.len() {
+        return fault(1);
+    }
+    let insert = read_edit_as(0, 0, bytes);
+    if insert.number != 1 {
+        return insert;
+    }
+    let remove = read_edit_as(2, 0, bytes);
+    if remove.number != 1 {
+        return remove;
+    }
+    let set = read_set(bytes);
+    if set.number != 1 {
+        return set;
+    }
+    read_rule(bytes)
+}
+
+fn wide(n: u32) -> u64
+    ensures { λ r. ⌜ r ≡ n ⌝ }
+{
+    n as u64
+}
+
+fn set_length(field: u32, numbers: &[u64]) -> usize
+    ensures { λ r. ⌜ r ≡ length (fill (setForm field) (now (numbers .entry))) ⌝ }
+{
+    match field {
+        0 => form::form_length(b"edit=@ do=set chip=# field=id value=#\n", numbers),
+        1 => form::form_length(b"edit=@ do=set chip=# field=size value=#\n", numbers),
+        2 => form::form_length(b"edit=@ do=set chip=# field=erase value=#\n", numbers),
+        _ => form::form_length(b"edit=@ do=set chip=# field=page value=#\n", numbers),
+    }
+}
+
+// How many bytes an edit's line takes with its end.
+pub fn edit_line_length(row: [u32; 5]) -> usize
+    ensures { λ r. ⌜ r ≡ length (editLine row) ⌝ }
+{
+    let numbers = [wide(row[0]), wide(row[2]), wide(row[4])];
+    let kind = row[1];
+    match kind {
+        0 => form::form_length(b"edit=@ do=insert chip=#\n", &numbers),
+        1 => set_length(row[3], &numbers),
+        _ => form::form_length(b"edit=@ do=remove chip=#\n", &numbers),
+    }
+}
+
+// How many bytes a constraint's line takes with its end.
+pub fn constraint_line_length(row: [u32; 3]) -> usize
+    ensures { λ r. ⌜ r ≡ length (constraintLine row) ⌝ }
+{
+    let numbers = [wide(row[0]), wide(row[2])];
+    let rule = row[1];
+    match rule {
+        0 => form::form_length(b"left=@ rule=notafter right=@\n", &numbers),
+        1 => form::form_length(b"left=@ rule=enables right=@\n", &numbers),
+        _ => form::form_length(b"left=@ rule=noncommuting right=@\n", &numbers),
+    }
+}
+
+fn write_set(out: &mut [u8], field: u32, numbers: &[u64]) -> usize
+    requires { ⌜ length (fill (setForm field) (now numbers)) ≤ length (now out) ⌝ }
+    ensures { λ r. ⌜ Written (fill (setForm field) (now (numbers .entry))) (now (out .entry)) r (now (out .exit)) ⌝ }
+{
+    match field {
+        0 => form::write_form(
+            &mut out[..],
+            b"edit=@ do=set chip=# field=id value=#\n",
+            numbers,
+        ),
+        1 => form::write_form(
+            &mut out[..],
+            b"edit=@ do=set chip=# field=size value=#\n",
+            numbers,
+        ),
+        2 => form::write_form(
+            &mut out[..],
+            b"edit=@ do=set chip=# field=erase value=#\n",
+            numbers,
+        ),
+        _ => form::write_form(
+            &mut out[..],
+            b"edit=@ do=set chip=# field=page value=#\n",
+            numbers,
+        ),
+    }
+}
+
+// Writes an edit's line to the start of out, and answers how many bytes that took.
+pub fn write_edit_line(out: &mut [u8], row: [u32; 5]) -> usize
+    requires { ⌜ length (editLine row) ≤ length (now out) ⌝ }
+    ensures { λ r. ⌜ Written (editLine row) (now (out .entry)) r (now (out .exit)) ⌝ }
+{
+    let numbers = [wide(row[0]), wide(row[2]), wide(row[4])];
+    let kind = row[1];
+    match kind {
+        0 => form::write_form(&mut out[..], b"edit=@ do=insert chip=#\n", &numbers),
+        1 => write_set(&mut out[..], row[3], &numbers),
+        _ => form::write_form(&mut out[..], b"edit=@ do=remove chip=#\n", &numbers),
+    }
+}
+
+// Writes a constraint's line to the start of out, and answers how many bytes that took.
+pub fn write_constraint_line(out: &mut [u8], row: [u32; 3]) -> usize
+    requires { ⌜ length (constraintLine row) ≤ length (now out) ⌝ }
+    ensures { λ r. ⌜ Written (constraintLine row) (now (out .entry)) r (now (out .exit)) ⌝ }
+{
+    let numbers = [wide(row[0]), wide(row[2])];
+    let rule = row[1];
+    match rule {
+        0 => form::write_form(&mut out[..], b"left=@ rule=notafter right=@\n", &numbers),
+        1 => form::write_form(&mut out[..], b"left=@ rule=enables right=@\n", &numbers),
+        _ => form::write_form(
+            &mut out[..],
+            b"left=@ rule=noncommuting right=@\n",
+            &numbers,
+        ),
+    }
+}
+
+// Where the line ends that starts at `from`: past its byte 10, or at the end of the text.
+pub fn line_end(bytes: &[u8], from: usize) -> usize
+    ensures { λ r. ⌜ r ≡ from + length (firstLine (drop from (now (bytes .entry)))) ⌝ }
+{
+    let mut i = from;
+    while i < bytes.len() {
+        if bytes[i] == 10 {
+            return i + 1;
+        }
+        i += 1;
+    }
+    i
+}
