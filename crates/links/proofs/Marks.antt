@@ -20,14 +20,14 @@ zeros-get zero y = refl
 zeros-get (suc c) zero = refl
 zeros-get (suc c) (suc y) = zeros-get c y
 
-length-mapped : (f : ℕ → ℕ) (l : List ℕ) → length (map f l) ≡ length l
+pub length-mapped : {A B : Type 0} (f : A → B) (l : List A) → length (map f l) ≡ length l
 length-mapped f [] = refl
 length-mapped f (x ∷ l) = ap suc (length-mapped f l)
 
-getD-mapped : (f : ℕ → ℕ) (l : List ℕ) (i : ℕ) → i < length l → getD (map f l) i 0 ≡ f (getD l i 0)
-getD-mapped f [] i h = absurd (omega arith)
-getD-mapped f (x ∷ l) zero h = refl
-getD-mapped f (x ∷ l) (suc i) h = getD-mapped f l i (omega arith)
+pub getD-mapped : {A B : Type 0} (f : A → B) (l : List A) (i : ℕ) (d : A) (e : B) → i < length l → getD (map f l) i e ≡ f (getD l i d)
+getD-mapped f [] i d e h = absurd (omega arith)
+getD-mapped f (x ∷ l) zero d e h = refl
+getD-mapped f (x ∷ l) (suc i) d e h = getD-mapped f l i d e (omega arith)
 
 past-end : (f : ℕ → ℕ) (l : List ℕ) (c y : ℕ) → length l ≤ y → getD (map f l ++ replicate c 0) y 0 ≡ 0
 past-end f [] c y h = zeros-get c y
@@ -45,7 +45,7 @@ module _ (R : Record) (value : ℕ → ℕ) where
   unfolding valuesOf padded
   values-at y h =
       rw (List·getD-append (map value (names R)) (replicate (128 - length (map value (names R))) 0) 0 y (omega (arith, length-mapped value (names R))))
-      (getD-mapped value (names R) y h)
+      (getD-mapped value (names R) y 0 0 h)
 
   pub values-past : (y : ℕ) → length (names R) ≤ y → getD (valuesOf R value) y 0 ≡ 0
   unfolding valuesOf padded
