@@ -6,7 +6,7 @@ use mathlib.Core.List.{List, [], _∷_, _++_, map}
 use Prim.Native.Nat.{ℕ, zero, suc, _+_, _-_, _≤_, _<_}
 use native.Mathlib.Omega.{arith}
 use lib.ListN.{length, getD, set, replicate, length-append, length-replicate, List·getD-append}
-use lib.Seq.{ext-getD, getD-set-same, getD-set-other}
+use lib.Seq.{ext-getD, set-out, getD-set-same, getD-set-other}
 use Rattle.record.specs.Lists.{mem, _among_}
 use Rattle.record.specs.Record.{Record, names}
 use Rattle.record.specs.Stored.{padded}
@@ -19,6 +19,13 @@ pub zeros-get : (c y : ℕ) → _≡_ {A = ℕ} (getD (replicate c 0) y 0) 0
 zeros-get zero y = refl
 zeros-get (suc c) zero = refl
 zeros-get (suc c) (suc y) = zeros-get c y
+
+-- a bound on all values stays, wherever one below it is set
+pub set-below : (l : List ℕ) (i v b : ℕ) → v < b → ((q : ℕ) → getD l q 0 < b) → (q : ℕ) → getD (set l i v) q 0 < b
+set-below l i v b k f q =
+    is-by q i
+    (λ e. le-by (length l) i (λ h. rw (set-out l i v h) (f q)) (λ h. rw (e, getD-set-same l i v 0 h) k))
+    (λ e. rw (getD-set-other l i q v 0 e) (f q))
 
 pub length-mapped : {A B : Type 0} (f : A → B) (l : List A) → length (map f l) ≡ length l
 length-mapped f [] = refl

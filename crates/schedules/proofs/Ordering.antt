@@ -174,6 +174,3 @@ module _ (R : Record) (t : List ℕ) (sub : t within names R) (d : distinct (nam
   ordering-end indexes waits k h g =
       let z : n - k ≡ 0 = omega arith in
       record { names-are = sym (g .rest ∙ ap (λ m. grown (ready R t) (names R) m (map (nameAt R) (take k indexes))) z); known = g .known }
-
-pub set-below : (l : List ℕ) (i v b : ℕ) → i < length l → v < b → ((q : ℕ) → getD l q 0 < b) → (q : ℕ) → getD (set l i v) q 0 < b
-set-below l i v b h k f q = is-by q i (λ e. rw (e, getD-set-same l i v 0 h) k) (λ e. rw (getD-set-other l i q v 0 e) (f q))

@@ -13,11 +13,11 @@ use borrow.Author.Tests.{eq-eqb, ne-eqb}
 use Rattle.record.specs.Lists.{mem, at, distinct}
 use Rattle.record.specs.Record.{Record, names}
 use Rattle.record.proofs.Lists.{is-by}
-use Rattle.links.specs.Marks.{nameAt, valuesOf}
+use Rattle.links.specs.Marks.{nameAt, valuesOf, placeIn}
 use Rattle.links.proofs.Names.{place-same}
 use Rattle.links.proofs.Marks.{zeros-get, length-mapped, getD-mapped, values-are}
 use Rattle.schedules.specs.declared.Row.{Row}
-use Rattle.schedules.specs.Rows.{RowIs, pageIn}
+use Rattle.schedules.specs.Rows.{RowIs}
 
 -- the page of x among the rows from k on
 unfoldable pub pageFrom : List ℕ → ℕ → ℕ → ℕ
@@ -61,10 +61,10 @@ module _ (R : Record) (d : distinct (names R) ≡ true) (few : length (names R) 
       shift : (k v : ℕ) → k + 1 + v ≡ k + suc v
       shift k v = omega arith
 
-  pub paging-end : (pages : List ℕ) → length pages ≡ 128 → Paging R list pages 0 → pages ≡ valuesOf R (pageIn list)
-  unfolding pageFrom pageIn
+  pub paging-end : (pages : List ℕ) → length pages ≡ 128 → Paging R list pages 0 → pages ≡ valuesOf R (placeIn list)
+  unfolding pageFrom placeIn
   paging-end pages size w =
-      values-are R (pageIn list) pages few size (λ y h. w .done y h ∙ ap (λ v. cond (mem (nameAt R y) list) v 0) (plain (at (nameAt R y) list))) (w .past)
+      values-are R (placeIn list) pages few size (λ y h. w .done y h ∙ ap (λ v. cond (mem (nameAt R y) list) v 0) (plain (at (nameAt R y) list))) (w .past)
     where
       plain : (v : ℕ) → 0 + v ≡ v
       plain v = omega arith

@@ -1,12 +1,12 @@
 -- Document 01, "The bench schedule", by index: which edit may come next, which are hidden, and the row that results. Assumes nothing.
 use mathlib.Core.Path.{_≡_}
-use mathlib.Core.Bool.{Bool, true, false, not, _&&_, cond}
+use mathlib.Core.Bool.{Bool, true, false, not, _&&_}
 use mathlib.Core.List.{List, map}
 use mathlib.Core.Option.{Option, none, some}
 use Prim.Native.Nat.{ℕ, _<_}
 use lib.Dec.{eqb}
 use lib.ListN.{length, getD, take}
-use Rattle.record.specs.Lists.{any, mem, at, _among_, _within_}
+use Rattle.record.specs.Lists.{any, mem, _among_, _within_}
 use Rattle.record.specs.Record.{Record, names, notafter, enables}
 use Rattle.record.specs.Schedule.{musts}
 use Rattle.links.specs.Marks.{nameAt}
@@ -40,7 +40,3 @@ pub record Clear (R : Record) (hidden t : List ℕ) : Type 0 where
 pub record RowIs (R : Record) (row : Row) (list : List ℕ) : Type 0 where
   pub names-are : map (nameAt R) (take (row .count) (row .indexes)) ≡ list
   pub known : (q : ℕ) → q < row .count → getD (row .indexes) q 0 < length (names R)
-
--- the page of an edit in a schedule, INIT's being 0; 0 where it does not stand in it
-unfoldable pub pageIn : List ℕ → ℕ → ℕ
-pageIn row x = cond (mem x row) (at x row) 0

@@ -9,10 +9,10 @@ ghost use Rattle.record.specs.Lists.{mem, any, first, distinct, _within_};
 ghost use Rattle.record.specs.Record.{Record, names};
 ghost use Rattle.record.specs.Schedule.{order, admit, scheduled, schedule};
 ghost use Rattle.record.specs.Judgement.{must};
-ghost use Rattle.links.specs.Marks.{nameAt, valuesOf, marksOf};
+ghost use Rattle.links.specs.Marks.{nameAt, valuesOf, marksOf, placeIn};
 ghost use Rattle.links.specs.Links.{Safe};
 ghost use Rattle.marks.specs.Resolved.{Resolved};
-ghost use Rattle.schedules.specs.Rows.{free, foundAt, Hides, bars, Clear, RowIs, pageIn};
+ghost use Rattle.schedules.specs.Rows.{free, foundAt, Hides, bars, Clear, RowIs};
 
 // Edits in order, by index.
 pub struct Row {
@@ -205,7 +205,7 @@ pub fn schedule_row(
 // The page of each edit. From the end, so that where a row had a repeat its first place would count.
 pub fn page_values(row: Row) -> [u8; 128]
     requires { ⌜ (length (row .indexes) ≡ 128) × (row .count ≤ 128) × ((q : ℕ) → getD (row .indexes) q 0 < 128) ⌝ }
-    ensures { λ r. ⌜ (length r ≡ 128) × ((R : Record) (list : List ℕ) → distinct (names R) ≡ true → length (names R) ≤ 128 → RowIs R row list → r ≡ valuesOf R (pageIn list)) ⌝ }
+    ensures { λ r. ⌜ (length r ≡ 128) × ((R : Record) (list : List ℕ) → distinct (names R) ≡ true → length (names R) ≤ 128 → RowIs R row list → r ≡ valuesOf R (placeIn list)) ⌝ }
 {
     let mut pages = [0u8; 128];
     let mut k = row.count;

@@ -5,10 +5,10 @@ use mathlib.Core.List.{List}
 use lib.ListN.{length, getD, length-set}
 use native.Mathlib.Omega.{arith}
 use borrow.Author.Needs.{needs}
-use Rattle.schedules.proofs.Ordering.{Ordering, ordering-start, ordering-step, ordering-stop, ordering-end, set-below}
+use Rattle.schedules.proofs.Ordering.{Ordering, ordering-start, ordering-step, ordering-stop, ordering-end}
 use Rattle.marks.specs.Resolved.{Resolved}
 use Rattle.links.specs.Marks.{marksOf}
-use Rattle.links.proofs.Marks.{zeros-get}
+use Rattle.links.proofs.Marks.{zeros-get, set-below}
 use Rattle.record.specs.Lists.{mem, _within_}
 use Rattle.record.specs.Record.{Record, names}
 use Rattle.schedules.proofs.ordered_row.Statement.{statement}
@@ -61,7 +61,7 @@ loop-again c =
       omega arith,
       length-set (l .indexes) (l .count) (c .before .lowest .result) ∙ l .inv .1,
       length-set (l .waits) (c .before .lowest .result) 0 ∙ l .inv .2,
-      set-below (l .indexes) (l .count) (c .before .lowest .result) 128 (omega arith) (omega arith) (l .inv .3),
+      set-below (l .indexes) (l .count) (c .before .lowest .result) 128 (omega arith) (l .inv .3),
       λ R t g q sub e. let w = l .inv .4 R t g q sub e in ordering-step R t sub (g .notafters .apart) (g .notafters .few) (s .args .n) q (l .indexes) (l .waits) (l .count) (c .before .lowest .result) (omega arith) (omega arith) (omega arith) (c .before .lowest .ensures R _ g q (w .marks)) w,
     )
 
