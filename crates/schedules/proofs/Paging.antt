@@ -28,10 +28,10 @@ pub record Paging (R : Record) (list pages : List ℕ) (k : ℕ) : Type 0 where
   pub past : (y : ℕ) → length (names R) ≤ y → getD pages y 0 ≡ 0
 
 module _ (R : Record) (d : distinct (names R) ≡ true) (few : length (names R) ≤ 128) (row : Row) (list : List ℕ) (low : row .count ≤ length (row .indexes)) (g : RowIs R row list) where
-  list-length : length list ≡ row .count
+  pub list-length : length list ≡ row .count
   list-length = sym (ap length (g .names-are)) ∙ length-mapped (nameAt R) (take (row .count) (row .indexes)) ∙ length-take-le (row .count) (row .indexes) low
 
-  list-at : (q : ℕ) → q < row .count → getD list q 0 ≡ nameAt R (getD (row .indexes) q 0)
+  pub list-at : (q : ℕ) → q < row .count → getD list q 0 ≡ nameAt R (getD (row .indexes) q 0)
   list-at q h =
       sym (ap (λ l. getD l q 0) (g .names-are)) ∙ getD-mapped (nameAt R) (take (row .count) (row .indexes)) q 0 0 (omega (arith, length-take-le (row .count) (row .indexes) low))
       ∙ ap (nameAt R) (getD-take (row .count) (row .indexes) q 0 h)
