@@ -12,7 +12,7 @@ use Rattle.record.specs.declared.Schedule.{Schedule}
 use Rattle.record.specs.Lists.{sift, at, mem, _among_}
 use Rattle.record.specs.Record.{Record, names}
 use Rattle.record.specs.Stored.{stored}
-use Rattle.record.specs.Judgement.{sound}
+use Rattle.record.specs.Judgement.{sound, soundRow}
 use Rattle.record.proofs.Lists.{by, clash}
 use Rattle.ground.specs.Ground.{Rows, _given_, _orelse_}
 use Rattle.table.specs.Table.{emptyTables, decoded, lentFault}
@@ -25,8 +25,9 @@ use Rattle.fit.proofs.Fit.{checked-fit}
 use Rattle.judge.specs.declared.Judged.{Judged}
 use Rattle.judge.specs.Judged.{judgedOf, scheduleOf, markedEdits}
 use Rattle.lent.specs.declared.Judgement.{Judgement}
+use Rattle.lent.specs.declared.RowAnswer.{RowAnswer}
 use Rattle.lent.specs.declared.ScheduleAnswer.{ScheduleAnswer}
-use Rattle.lent.specs.Lent.{recordFault, Taking, refusedJudgement, judgementIs, judgementOf, emptySchedule, scheduleAnswerOf}
+use Rattle.lent.specs.Lent.{recordFault, Taking, refusedJudgement, judgementIs, judgementOf, rowAnswerOf, emptySchedule, scheduleAnswerOf}
 
 module _ (es cs : Rows) (j : Joined) (e : j ≡ outcome (lentFault emptyTables es cs) emptyTables (decoded es cs)) where
   pub lent-refused : (j .number ≡ 0 → ⊥) → (j .number ≡ recordFault es cs) × (j .number ≡ 0 → Taking es cs (j .after))
@@ -85,6 +86,10 @@ module _ (es cs : Rows) (n : ℕ) (h : n ≡ recordFault es cs) where
   unfolding scheduleAnswerOf
   schedule-refused f = let z : eqb (recordFault es cs) 0 ≡ false = ne-eqb _ 0 (λ s. f (h ∙ s)) in rw z (λ i. record { number = h i; schedule = emptySchedule })
 
+  pub row-refused : (row : List ℕ) → (n ≡ 0 → ⊥) → _≡_ {A = RowAnswer} (record { number = n; sound = false }) (rowAnswerOf es cs row)
+  unfolding rowAnswerOf
+  row-refused row f = let z : eqb (recordFault es cs) 0 ≡ false = ne-eqb _ 0 (λ s. f (h ∙ s)) in rw z (λ i. record { number = h i; sound = false })
+
   module _ (z : n ≡ 0) (r : declared.Record) (t : Taking es cs r) where
     fit : Fit (decoded es cs)
     fit = checked-fit (decoded es cs) (t .checked)
@@ -105,3 +110,11 @@ module _ (es cs : Rows) (n : ℕ) (h : n ≡ recordFault es cs) where
         let q : eqb (recordFault es cs) 0 ≡ true = eq-eqb _ 0 (sym h ∙ z) in
         let e = f (decoded es cs) (t .is) fit ∙ ap (scheduleOf (decoded es cs)) (none-marked (decoded es cs)) in
         rw q (λ i. record { number = 0; schedule = e i })
+
+    pub row-told : (row : List ℕ) (b : Bool) → ((R : Record) → r ≡ stored R → Fit R → b ≡ soundRow R row)
+        → _≡_ {A = RowAnswer} (record { number = 0; sound = b }) (rowAnswerOf es cs row)
+    unfolding rowAnswerOf
+    row-told row b f =
+        let q : eqb (recordFault es cs) 0 ≡ true = eq-eqb _ 0 (sym h ∙ z) in
+        let e = f (decoded es cs) (t .is) fit in
+        rw q (λ i. record { number = 0; sound = e i })

@@ -9,12 +9,13 @@ use Rattle.record.specs.declared.Schedule.{Schedule}
 use Rattle.record.specs.Record.{Record}
 use Rattle.record.specs.declared.Record as declared
 use Rattle.record.specs.Stored.{fillerEdit, stored}
-use Rattle.record.specs.Judgement.{sound}
+use Rattle.record.specs.Judgement.{sound, soundRow}
 use Rattle.ground.specs.Ground.{Rows, _given_, _orelse_}
 use Rattle.table.specs.Table.{emptyTables, decoded, lentFault}
 use Rattle.table.specs.Checked.{Checked}
 use Rattle.judge.specs.Judged.{judgedOf, scheduleOf}
 use Rattle.lent.specs.declared.Judgement.{Judgement}
+use Rattle.lent.specs.declared.RowAnswer.{RowAnswer}
 use Rattle.lent.specs.declared.ScheduleAnswer.{ScheduleAnswer}
 
 -- the number: rows first; then 8, the record is not sound
@@ -40,6 +41,12 @@ judgementIs R = let j = judgedOf R in record { number = 0; count = length (R .ed
 unfoldable pub judgementOf : Rows → Rows → Judgement
 judgementOf edits constraints =
     let n = recordFault edits constraints in cond (eqb n 0) (judgementIs (decoded edits constraints)) (refusedJudgement n)
+
+-- any row gets yes or no
+unfoldable pub rowAnswerOf : Rows → Rows → List ℕ → RowAnswer
+rowAnswerOf edits constraints row =
+    let n = recordFault edits constraints in
+    cond (eqb n 0) (record { number = 0; sound = soundRow (decoded edits constraints) row }) (record { number = n; sound = false })
 
 abbrev pub emptySchedule : Schedule
 emptySchedule = record { edits = replicate 127 fillerEdit; count = 0 }

@@ -5,7 +5,7 @@ use record::Edit;
 use record::Record;
 use record::Schedule;
 ghost use mathlib.Core.Path.{_≡_};
-ghost use Rattle.lent.specs.Lent.{recordFault, Taking, refusedJudgement, judgementOf, emptySchedule, scheduleAnswerOf};
+ghost use Rattle.lent.specs.Lent.{recordFault, Taking, refusedJudgement, judgementOf, rowAnswerOf, emptySchedule, scheduleAnswerOf};
 
 // For each edit, INIT first: must, never, settled and its page with nothing hidden (0: not in it). Refused: 0 throughout.
 pub struct Judgement {
@@ -15,6 +15,12 @@ pub struct Judgement {
     pub never: [u8; 128],
     pub settled: [u8; 128],
     pub place: [u8; 128],
+}
+
+// Whether the row is a sound schedule. Refused: no.
+pub struct RowAnswer {
+    pub number: u32,
+    pub sound: bool,
 }
 
 pub struct ScheduleAnswer {
@@ -122,5 +128,24 @@ pub fn schedule_lent(edits: &[[u32; 5]], constraints: &[[u32; 3]]) -> ScheduleAn
     ScheduleAnswer {
         number: 0,
         schedule: judge::schedule(multilog, hidden),
+    }
+}
+
+// The test of any row of numbers against a lent record.
+pub fn test_row(edits: &[[u32; 5]], constraints: &[[u32; 3]], row: &[u32]) -> RowAnswer
+    ensures { λ r. ⌜ r ≡ rowAnswerOf (now (edits .entry)) (now (constraints .entry)) (now (row .entry)) ⌝ }
+{
+    let taken = take_record(edits, constraints);
+    let number = taken.number;
+    if number != 0 {
+        return RowAnswer {
+            number: number,
+            sound: false,
+        };
+    }
+    let multilog = taken.multilog;
+    RowAnswer {
+        number: 0,
+        sound: rowtest::is_schedule(multilog, row),
     }
 }
