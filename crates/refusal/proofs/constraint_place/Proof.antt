@@ -1,4 +1,4 @@
--- `table::constraint_place` meets its contract. Assumes nothing.
+-- `refusal::constraint_place` meets its contract. Assumes nothing.
 use Prim.Native.Nat.{_-_, _≤_}
 use mathlib.Core.Path.{_≡_}
 use mathlib.Core.List.{map}
@@ -10,8 +10,8 @@ use Rattle.ground.specs.Ground.{misplaced}
 use Rattle.ground.proofs.Lates.{place-first, place-next, place-here, place-last}
 use Rattle.ground.proofs.Loop.{compared}
 use borrow.Author.Needs.{needs}
-use Rattle.table.proofs.constraint_place.Statement.{statement}
-use Rattle.table.proofs.constraint_place.Tie as tie
+use Rattle.refusal.proofs.constraint_place.Statement.{statement}
+use Rattle.refusal.proofs.constraint_place.Tie as tie
 
 abbrev Inv-loop : tie.InvT-loop
 Inv-loop n a row p₀ p = (p ≤ n) × (n ≤ 512) × (misplaced 3 (take p (map constraintRow (take n a))) row ≡ false)

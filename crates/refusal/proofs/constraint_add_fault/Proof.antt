@@ -1,9 +1,9 @@
--- `table::constraint_add_fault` meets its contract. Assumes nothing.
+-- `refusal::constraint_add_fault` meets its contract. Assumes nothing.
 use native.Mathlib.Omega.{arith}
 use Rattle.table.proofs.Tables.{stored-ordered, add-constraint}
 use borrow.Author.Needs.{needs}
-use Rattle.table.proofs.constraint_add_fault.Statement.{statement}
-use Rattle.table.proofs.constraint_add_fault.Tie as tie
+use Rattle.refusal.proofs.constraint_add_fault.Statement.{statement}
+use Rattle.refusal.proofs.constraint_add_fault.Tie as tie
 
 returns : tie.Need-returns
 returns c = λ R e k. absurd (let o = stored-ordered (c .before .args .joined) R e k in omega (arith, o .editplaces))

@@ -1,14 +1,12 @@
--- `table::constraint_step` meets its contract. Assumes nothing.
-use mathlib.Core.List.{[]}
-use mathlib.Core.Bool.{false}
+-- `refusal::edit_step` meets its contract. Assumes nothing.
 use Rattle.ground.proofs.Loop.{step-of}
-use Rattle.table.proofs.Elements.{constraintElements}
+use Rattle.table.proofs.Elements.{editElements}
 use borrow.Author.Needs.{needs}
-use Rattle.table.proofs.constraint_step.Statement.{statement}
-use Rattle.table.proofs.constraint_step.Tie as tie
+use Rattle.refusal.proofs.edit_step.Statement.{statement}
+use Rattle.refusal.proofs.edit_step.Tie as tie
 
-constraint-row-requires : tie.Need-constraint-row-requires
-constraint-row-requires c κs = search needs
+edit-row-requires : tie.Need-edit-row-requires
+edit-row-requires c κs = search needs
 
 slice-aggregate-below : tie.Need-slice-aggregate-below
 slice-aggregate-below c = search needs
@@ -43,16 +41,16 @@ advance-requires c κs = search needs
 returns : tie.Need-returns
 returns c =
     let s = c .before .before .before .before .before .before .before .before .before .before .before in (
-      step-of (constraintElements [] false) (s .args .e) (s .args .t3) (s .args .there) (s .args .full) (c .before .before .before .before .before .before .before .before .before .before .constraint-row .ensures) (search needs)
+      step-of editElements (s .args .e) (s .args .t3) (s .args .there) (s .args .full) (c .before .before .before .before .before .before .before .before .before .before .edit-row .ensures) (search needs)
           (c .before .before .before .before .before .before .before .below .ensures) (c .before .before .before .before .below2 .ensures) (c .before .alike .ensures) (c .advance .ensures),
       search needs,
     )
 
-pub constraint-step-spec : {M : Type 1} → statement M
-constraint-step-spec =
+pub edit-step-spec : {M : Type 1} → statement M
+edit-step-spec =
     tie.close
     (tie.spec
-    constraint-row-requires
+    edit-row-requires
     slice-aggregate-below
     slice-aggregate-below-2
     below-requires

@@ -1,4 +1,4 @@
--- `table::edit_fault` meets its contract. Assumes nothing.
+-- `refusal::edit_fault` meets its contract. Assumes nothing.
 use Prim.Native.Nat.{_+_, _-_, _≤_}
 use mathlib.Core.Path.{_≡_, refl, sym, _∙_}
 use lib.ListN.{length, take}
@@ -6,10 +6,10 @@ use native.Mathlib.Omega.{arith}
 use borrow.Author.Tests.{not-true, not-false}
 use Rattle.ground.proofs.Walks.{bounds}
 use Rattle.ground.proofs.Loop.{State, state-start, state-end, state-outside, state-late, state-goes, state-stops, later-zero, late-zero}
 use Rattle.table.proofs.Elements.{editElements, edit-rows-ascend, length-mapped}
 use borrow.Author.Needs.{needs}
-use Rattle.table.proofs.edit_fault.Statement.{statement}
-use Rattle.table.proofs.edit_fault.Tie as tie
+use Rattle.refusal.proofs.edit_fault.Statement.{statement}
+use Rattle.refusal.proofs.edit_fault.Tie as tie
 
 abbrev Inv-loop : tie.InvT-loop
 Inv-loop t a n at₀ count₀ i₀ at count i = (at ≤ n) × (n ≤ 127) × (count ≤ 127) × (i ≤ length t) × State editElements a n t at count i

@@ -1,8 +1,8 @@
--- `table::edit_add_fault` meets its contract. Assumes nothing.
+-- `refusal::edit_add_fault` meets its contract. Assumes nothing.
 use Rattle.table.proofs.Tables.{add-edit}
 use borrow.Author.Needs.{needs}
-use Rattle.table.proofs.edit_add_fault.Statement.{statement}
-use Rattle.table.proofs.edit_add_fault.Tie as tie
+use Rattle.refusal.proofs.edit_add_fault.Statement.{statement}
+use Rattle.refusal.proofs.edit_add_fault.Tie as tie
 
 slice-aggregate-edit-fault : tie.Need-slice-aggregate-edit-fault
 slice-aggregate-edit-fault c = search needs

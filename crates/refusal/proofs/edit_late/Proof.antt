@@ -1,9 +1,9 @@
--- `table::edit_late` meets its contract. Assumes nothing.
+-- `refusal::edit_late` meets its contract. Assumes nothing.
 use Rattle.ground.proofs.Loop.{late-is}
 use Rattle.table.proofs.Elements.{editElements}
 use borrow.Author.Needs.{needs}
-use Rattle.table.proofs.edit_late.Statement.{statement}
-use Rattle.table.proofs.edit_late.Tie as tie
+use Rattle.refusal.proofs.edit_late.Statement.{statement}
+use Rattle.refusal.proofs.edit_late.Tie as tie
 
 mul-row : tie.Need-mul-row
 mul-row c = search needs

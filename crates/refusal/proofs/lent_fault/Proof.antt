@@ -1,11 +1,11 @@
--- `table::lent_fault` meets its contract. Assumes nothing.
+-- `refusal::lent_fault` meets its contract. Assumes nothing.
 use mathlib.Core.Path.{_∙_}
 use Rattle.table.specs.Table.{emptyTables}
 use Rattle.table.proofs.Tables.{empty-stored}
 use Rattle.table.proofs.Records.{empty-checked}
 use borrow.Author.Needs.{needs}
-use Rattle.table.proofs.lent_fault.Statement.{statement}
-use Rattle.table.proofs.lent_fault.Tie as tie
+use Rattle.refusal.proofs.lent_fault.Statement.{statement}
+use Rattle.refusal.proofs.lent_fault.Tie as tie
 
 empty-requires : tie.Need-empty-requires
 empty-requires c κs = search needs

@@ -1,11 +1,11 @@
--- `table::constraint_late` meets its contract. Assumes nothing.
+-- `refusal::constraint_late` meets its contract. Assumes nothing.
 use mathlib.Core.List.{[]}
 use mathlib.Core.Bool.{false}
 use Rattle.ground.proofs.Loop.{late-is}
 use Rattle.table.proofs.Elements.{constraintElements}
 use borrow.Author.Needs.{needs}
-use Rattle.table.proofs.constraint_late.Statement.{statement}
-use Rattle.table.proofs.constraint_late.Tie as tie
+use Rattle.refusal.proofs.constraint_late.Statement.{statement}
+use Rattle.refusal.proofs.constraint_late.Tie as tie
 
 mul-row : tie.Need-mul-row
 mul-row c = search needs

@@ -1,4 +1,4 @@
--- `table::constraint_fault` meets its contract. Assumes nothing.
+-- `refusal::constraint_fault` meets its contract. Assumes nothing.
 use Prim.Native.Nat.{ℕ, _+_, _-_, _≤_}
 use mathlib.Core.Path.{_≡_, sym, _∙_}
 use mathlib.Core.List.{List}
@@ -7,11 +7,11 @@ use native.Mathlib.Omega.{arith}
 use borrow.Author.Tests.{not-true, not-false}
 use Rattle.ground.proofs.Walks.{bounds}
 use Rattle.ground.proofs.Loop.{State, state-start, state-end, state-outside, state-late, state-goes, state-stops, later-none}
 use Rattle.table.specs.Checked.{Marked}
 use Rattle.table.proofs.Elements.{constraintElements, constraint-rows-ascend, length-mapped}
 use borrow.Author.Needs.{needs}
-use Rattle.table.proofs.constraint_fault.Statement.{statement}
-use Rattle.table.proofs.constraint_fault.Tie as tie
+use Rattle.refusal.proofs.constraint_fault.Statement.{statement}
+use Rattle.refusal.proofs.constraint_fault.Tie as tie
 
 abbrev Inv-loop : tie.InvT-loop
 Inv-loop t marks adding a n at₀ count₀ i₀ at count i = (at ≤ n) × (n ≤ 512) × (count ≤ 512) × (i ≤ length t) × ((names : List ℕ) → Marked marks names → State (constraintElements names adding) a n t at count i)

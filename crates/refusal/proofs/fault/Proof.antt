@@ -1,8 +1,8 @@
--- `table::fault` meets its contract. Assumes nothing.
+-- `refusal::fault` meets its contract. Assumes nothing.
 use Rattle.table.proofs.Tables.{lent-first, lent-second}
 use borrow.Author.Needs.{needs}
-use Rattle.table.proofs.fault.Statement.{statement}
-use Rattle.table.proofs.fault.Tie as tie
+use Rattle.refusal.proofs.fault.Statement.{statement}
+use Rattle.refusal.proofs.fault.Tie as tie
 
 edit-fault-requires : tie.Need-edit-fault-requires
 edit-fault-requires c κs = search needs
