@@ -1,6 +1,6 @@
 -- An adoption as the code judges it. Assumes nothing.
 use mathlib.Core.Path.{_≡_, refl, sym, ap, _∙_}
-use mathlib.Core.Bool.{Bool, true, false, not, cond}
+use mathlib.Core.Bool.{true, false}
 use mathlib.Core.List.{List}
 use mathlib.Core.Option.{Option, none, some}
 use Prim.Native.Nat.{ℕ}
@@ -9,9 +9,7 @@ use borrow.Author.Tests.{eqb-true, eqb-false}
 use Rattle.record.specs.declared.Record as declared
 use Rattle.record.specs.Record.{Record}
 use Rattle.record.specs.Stored.{stored}
-use Rattle.record.specs.Judgement.{sound}
 use Rattle.record.proofs.Lists.{by, clash}
-use Rattle.ground.specs.Ground.{_given_, _orelse_}
 use Rattle.table.specs.Table.{recordFault, unite}
 use Rattle.table.specs.Checked.{Checked}
 use Rattle.table.proofs.Records.{record-checked}
@@ -21,15 +19,15 @@ use Rattle.vote.specs.declared.RollRow.{RollRow}
 use Rattle.vote.specs.declared.Election.{Election}
 use Rattle.vote.specs.Tally.{won, winner}
 use Rattle.vote.proofs.Elections.{winner-wins, open-is}
-use Rattle.election.specs.Election.{Proposals, electionFault, cast, counted, refusedElection, electionOf}
+use Rattle.election.specs.Election.{Proposals, electionFault, cast, counted, electionOf}
 use Rattle.ledger.specs.declared.Bench.{Bench}
 use Rattle.ledger.specs.declared.Outcome.{Outcome}
-use Rattle.ledger.specs.Ledger.{Ledger, Call, adopt, Reply, start, bundleFault, judge, answered, change, adopted, act, step, fed}
+use Rattle.ledger.specs.Ledger.{Call, adopt, start, judge, answered, adopted, act, step, fed}
 use Rattle.ledger.specs.Bench.{benchOf, outcome}
-use Rattle.ledger.proofs.Valid.{Valid, start-valid, fed-valid}
+use Rattle.ledger.proofs.Valid.{start-valid, fed-valid}
 use Rattle.bench.specs.Changes.{refusedWith}
 use Rattle.bench.proofs.Moves.{refused-is, accepted-is}
-use Rattle.merge.specs.Joins.{joinReply, Joins}
+use Rattle.merge.specs.Joins.{Joins}
 use Rattle.merge.proofs.United.{union-keeps}
 use Rattle.merge.proofs.Rows.{step-joined, bench-record}
 

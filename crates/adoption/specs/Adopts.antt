@@ -1,7 +1,7 @@
 -- The promise of an adoption after its count (document 01, "Proposals and votes" and "Entries and pages"). Assumes nothing.
 use mathlib.Core.Path.{_≡_}
 use mathlib.Core.List.{List}
-use mathlib.Core.Option.{Option, none, some}
+use mathlib.Core.Option.{some}
 use Prim.Native.Nat.{ℕ}
 use Rattle.record.specs.declared.Record as declared
 use Rattle.record.specs.Record.{Record}
