@@ -1,8 +1,8 @@
 -- A refusal, a turn and a change as the code makes them are the ledger's. Assumes nothing.
 use mathlib.Core.Path.{_≡_, refl, sym, ap, _∙_}
-use mathlib.Core.Bool.{true, false}
-use mathlib.Core.List.{List, [], _∷_, map}
-use Prim.Native.Nat.{ℕ, zero, suc, _-_, _≤_, _<_}
+use mathlib.Core.Bool.{true}
+use mathlib.Core.List.{List, map}
+use Prim.Native.Nat.{ℕ, _-_, _≤_}
 use native.Mathlib.Omega.{arith}
 use lib.IntN.{ℤ}
 use mir.Syntax.{w32}
@@ -30,16 +30,16 @@ use Rattle.turner.proofs.Landed.{turned-lands}
 use Rattle.pages.specs.Steps.{commonBeginning, Agree}
 use Rattle.catalogue.specs.declared.View.{View}
 use Rattle.catalogue.specs.declared.Changed.{Changed}
-use Rattle.catalogue.specs.Chips.{rows, viewOf, scheduleOf}
+use Rattle.catalogue.specs.Chips.{viewOf, scheduleOf}
 use Rattle.catalogue.specs.Changes as moves
 use Rattle.ledger.specs.declared.Bench.{Bench}
 use Rattle.ledger.specs.declared.Outcome.{Outcome}
-use Rattle.ledger.specs.Ledger.{Ledger, Call, turn, Reply, start, pages, last, judge, act, refusal, change, step, fed}
-use Rattle.ledger.specs.Bench.{pageEdits, openEdits, benchOf, outcome, Answers}
+use Rattle.ledger.specs.Ledger.{Ledger, Call, turn, start, pages, last, judge, act, refusal, change, step, fed}
+use Rattle.ledger.specs.Bench.{pageEdits, openEdits, benchOf, outcome}
 use Rattle.ledger.proofs.Valid.{Valid, start-valid, fed-valid}
-use Rattle.ledger.proofs.Undone.{from-valid, step-refused, step-accepted}
+use Rattle.ledger.proofs.Undone.{step-refused, step-accepted}
 use Rattle.bench.specs.Changes.{refusedWith, turnedTo, Keeps, pagesOf, Reschedules}
-use Rattle.bench.proofs.Pages.{names-named, named-agree, take-map, pages-written, pages-room, ledger-written, open-written, last-room}
+use Rattle.bench.proofs.Pages.{names-named, named-agree, take-map, pages-written, pages-room, open-written, last-room}
 
 -- a call that the ledger refuses with this number
 pub refused-is : (L : Ledger) (bench : Bench) (call : Call) (n : ℕ) → bench ≡ benchOf L → judge L call ≡ n → (n ≡ 0 → ⊥) → refusedWith bench n ≡ outcome (step L call)

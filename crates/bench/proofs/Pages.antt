@@ -1,12 +1,12 @@
 -- The pages of a schedule as rows with bodies: they bear the schedule's names, there are no more than the journal has rows, and rows of two records
 -- of which one keeps the other's edits agree. Assumes nothing.
 use mathlib.Core.Path.{_≡_, refl, sym, ap, _∙_}
-use mathlib.Core.Bool.{true, cond}
+use mathlib.Core.Bool.{true}
 use mathlib.Core.List.{List, [], _∷_, map}
-use Prim.Native.Nat.{ℕ, zero, suc, _≤_, _<_}
+use Prim.Native.Nat.{ℕ, zero, suc, _≤_}
 use native.Mathlib.Omega.{arith}
 use lib.Dec.{eqb}
-use lib.ListN.{length, getD, take, drop, length-map, length-drop}
+use lib.ListN.{length, take, drop, length-map, length-drop}
 use borrow.Author.Tests.{eqb-true}
 use Rattle.record.specs.declared.Edit.{Edit}
 use Rattle.record.specs.Lists.{mem, _among_, _within_}

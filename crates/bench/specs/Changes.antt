@@ -4,7 +4,6 @@ use mathlib.Core.Bool.{true, false}
 use mathlib.Core.List.{List, map}
 use Prim.Native.Nat.{ℕ}
 use lib.ListN.{drop}
-use Rattle.record.specs.declared.Edit.{Edit}
 use Rattle.record.specs.declared.Record as declared
 use Rattle.record.specs.declared.Schedule.{Schedule}
 use Rattle.record.specs.Lists.{mem, _among_, _within_}
@@ -19,7 +18,7 @@ use Rattle.catalogue.specs.declared.View.{View}
 use Rattle.catalogue.specs.Chips.{scheduleOf}
 use Rattle.ledger.specs.declared.Bench.{Bench}
 use Rattle.ledger.specs.declared.Outcome.{Outcome}
-use Rattle.ledger.specs.Ledger.{Call, start, fed, change}
+use Rattle.ledger.specs.Ledger.{Call, noElection, answered, start, fed, change}
 use Rattle.ledger.specs.Bench.{benchOf, outcome}
 
 -- the bench that came in, with the number; every other part of the answer is 0
@@ -31,14 +30,16 @@ refusedWith bench number = record {
 
 -- the bench open at another page; a turn reports no pages
 abbrev pub turnedTo : Bench → ℕ → View → Outcome
-turnedTo bench page view =
-    refusedWith (record {
-      multilog = bench .multilog;
-      hidden = bench .hidden;
-      schedule = bench .schedule;
-      turner = record { opened = page; last = bench .turner .last };
-      view = view;
-    }) 0
+turnedTo bench page view = record {
+  answer = answered 0 0 noElection;
+  bench = record {
+    multilog = bench .multilog;
+    hidden = bench .hidden;
+    schedule = bench .schedule;
+    turner = record { opened = page; last = bench .turner .last };
+    view = view;
+  };
+}
 
 -- S has every edit of R, with its body
 abbrev pub Keeps : Record → Record → Type 0

@@ -54,7 +54,18 @@ fn opened_at(bench: Bench, page: usize, view: View) -> Outcome
     let mut turned = bench;
     turned.turner.opened = page;
     turned.view = view;
-    refused(turned, 0)
+    Outcome {
+        answer: Answer {
+            number: 0,
+            undone: 0,
+            redone: 0,
+            won: false,
+            greatest: 0,
+            silent: 0,
+            total: 0,
+        },
+        bench: turned,
+    }
 }
 
 pub fn turn(bench: Bench, by: i32) -> Outcome

@@ -10,14 +10,12 @@ use Rattle.record.specs.declared.Schedule.{Schedule}
 use Rattle.record.specs.Lists.{sift, mem, at, _among_, _within_}
 use Rattle.record.specs.Record.{Record, names, written}
 use Rattle.record.specs.Stored.{stored, editNamed}
-use Rattle.record.specs.Schedule.{schedule}
 use Rattle.record.proofs.Lists.{same-by, mem-at, sift-mem, mem-sift}
 use Rattle.record.proofs.Records.{written-names}
 use Rattle.record.proofs.Scheduled.{schedule-same}
-use Rattle.links.specs.Marks.{nameAt, marksOf}
+use Rattle.links.specs.Marks.{marksOf}
 use Rattle.links.proofs.Names.{getD-place}
 use Rattle.links.proofs.Marks.{marks-at}
-use Rattle.table.specs.Checked.{Checked}
 use Rattle.judge.specs.Judged as judge
 use Rattle.judge.specs.Judged.{markedEdits}
 use Rattle.indexes.specs.Fit.{Fit}

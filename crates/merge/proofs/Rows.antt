@@ -1,12 +1,11 @@
 -- A call that brings in rows is its judgement and its change. Assumes nothing.
 use mathlib.Core.Path.{_≡_, refl, sym, ap, _∙_}
-use mathlib.Core.Bool.{Bool, true, false, not, cond}
+use mathlib.Core.Bool.{true, false, not}
 use mathlib.Core.List.{List, [], _∷_}
-use Prim.Native.Nat.{ℕ, suc}
+use Prim.Native.Nat.{ℕ}
 use native.Mathlib.Omega.{arith}
 use lib.Dec.{eqb}
-use borrow.Author.Tests.{eqb-true, eqb-false, eq-eqb, ne-eqb}
-use Rattle.record.specs.declared.Record as declared
+use borrow.Author.Tests.{eqb-true, eqb-false, ne-eqb}
 use Rattle.record.specs.Lists.{mem, _within_}
 use Rattle.record.specs.Record.{Record, nameOf, written}
 use Rattle.record.specs.Stored.{stored}
@@ -23,7 +22,7 @@ use Rattle.join.specs.Join as join
 use Rattle.vote.specs.declared.Election.{Election}
 use Rattle.ledger.specs.declared.Bench.{Bench}
 use Rattle.ledger.specs.declared.Outcome.{Outcome}
-use Rattle.ledger.specs.Ledger.{Ledger, Call, addEdit, addConstraint, merge, Reply, start, judge, noElection, change, act, refusal, step, fed}
+use Rattle.ledger.specs.Ledger.{Ledger, Call, addEdit, addConstraint, merge, start, judge, noElection, change, act, refusal, step, fed}
 use Rattle.ledger.specs.Bench.{benchOf, outcome, Answers}
 use Rattle.ledger.proofs.Valid.{Valid, start-valid, fed-valid}
 use Rattle.ledger.proofs.Undone.{step-refused, step-accepted}

@@ -1,24 +1,21 @@
 -- Hide and show as the code judges them, by the marks at the edit's index. Assumes nothing.
 use mathlib.Core.Path.{_≡_, refl, sym, ap, _∙_}
-use mathlib.Core.Bool.{Bool, true, false, not, _||_, cond, or-true, or-false}
-use mathlib.Core.List.{List, [], _∷_}
-use Prim.Native.Nat.{ℕ, suc, _≤_, _<_}
+use mathlib.Core.Bool.{Bool, true, false, not, cond, or-true}
+use mathlib.Core.List.{List, _∷_}
+use Prim.Native.Nat.{ℕ, suc, _<_}
 use native.Mathlib.Omega.{arith}
 use lib.Dec.{eqb}
 use lib.ListN.{length, getD, set}
 use borrow.Author.Tests.{eq-eqb, ne-eqb, not-true}
-use Rattle.record.specs.declared.Record as declared
 use Rattle.record.specs.Lists.{sift, mem, at, _among_, _within_}
 use Rattle.record.specs.Record.{Record, names, written}
 use Rattle.record.specs.Stored.{stored}
 use Rattle.record.specs.Judgement.{must}
 use Rattle.record.proofs.Lists.{by, clash, same-by, mem-at, mem-head, cons-within, sift-mem, mem-sift}
 use Rattle.row.specs.Row.{isName}
-use Rattle.ground.specs.Ground.{_given_, _orelse_}
-use Rattle.links.specs.Marks.{nameAt, marksOf}
+use Rattle.links.specs.Marks.{marksOf}
 use Rattle.links.proofs.Names.{getD-place}
 use Rattle.links.proofs.Marks.{marks-at}
-use Rattle.table.specs.Checked.{Checked}
 use Rattle.vote.specs.declared.Election.{Election}
 use Rattle.hidden.specs.Marks.{indexOf}
 use Rattle.hidden.proofs.Index.{index-known, index-unknown}
@@ -28,7 +25,7 @@ use Rattle.ledger.specs.declared.Outcome.{Outcome}
 use Rattle.ledger.specs.Ledger.{Ledger, Call, hide, show, start, judge, noElection, change, shown, act, step, fed}
 use Rattle.ledger.specs.Bench.{benchOf, outcome}
 use Rattle.ledger.proofs.Valid.{Valid, start-valid, fed-valid}
-use Rattle.bench.specs.Changes.{refusedWith, Keeps, Changes}
+use Rattle.bench.specs.Changes.{refusedWith, Changes}
 use Rattle.bench.proofs.Moves.{refused-is, accepted-is}
 
 -- what stands at the index of a written edit
