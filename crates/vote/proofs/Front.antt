@@ -1,15 +1,19 @@
 -- The first elements of an array, one after the other: tests of some or every element, and what is sifted. Assumes nothing.
 use mathlib.Core.Path.{_≡_, refl, sym, ap, _∙_}
 use mathlib.Core.Bool.{Bool, true, false, _&&_, _||_, cond, or-false, or-true}
-use mathlib.Core.List.{List, [], _∷_, _++_, append-nil}
+use mathlib.Core.List.{List, [], _∷_, _++_, map, append-nil}
 use Prim.Native.Nat.{ℕ, zero, suc, _+_, _≤_, _<_}
 use native.Mathlib.Omega.{arith}
 use native.Mathlib.Numerals.{add-one}
-use lib.ListN.{length, take, getD}
+use lib.ListN.{length, take, getD, length-map}
 use lib.Seq.{take-suc, length-take-le, getD-take}
 use Rattle.record.specs.Lists.{any, all, sift}
 use Rattle.record.proofs.Lists.{by, clash}
 use Rattle.keyed.proofs.Logic.{any-append, any-has, all-has, has-getD}
+
+-- the length of an array of structs, from that of their machine values
+pub length-mapped : {A B : Type 0} (f : A → B) (l : List A) (n : ℕ) → length (map f l) ≡ n → length l ≡ n
+length-mapped f l n h = sym (length-map l f) ∙ h
 
 pub take-more : {A : Type 0} (a : List A) (i : ℕ) (d : A) → i < length a → take (i + 1) a ≡ take i a ++ (getD a i d ∷ [])
 take-more a i d h = rw (add-one i) (take-suc a i d h)
