@@ -9,6 +9,7 @@ use Rattle.record.specs.declared.Record as declared
 use Rattle.record.specs.Lists.{any}
 use Rattle.record.specs.Record.{Record}
 use Rattle.record.specs.Stored.{padded, emptyRecord, stored}
+use Rattle.vote.specs.declared.Election.{Election}
 use Rattle.vote.specs.Tally.{Ballot, sameBundle, weigh, votesFor, total, counted}
 use Rattle.tally.specs.declared.Vote.{Vote}
 use Rattle.tally.specs.declared.Vote.the-variants.{Silent, Bundle}
@@ -54,3 +55,7 @@ place B (C ∷ l) = cond (sameBundle B C) 0 (suc (place B l))
 abbrev pub winnerStored : Option Record → declared.Record
 winnerStored none = emptyRecord
 winnerStored (some B) = stored B
+
+-- the answer from its three weights
+abbrev pub answerOf : ℕ → ℕ → ℕ → Election
+answerOf greatest silent total = record { number = 0; won = ltb total (2 * greatest); greatest = greatest; silent = silent; total = total }

@@ -7,14 +7,14 @@ use vote::Election;
 ghost use mathlib.Core.Path.{_≡_};
 ghost use mathlib.Core.Bool.{cond};
 ghost use mathlib.Core.List.{List, [], _∷_, _++_, map};
-ghost use mathlib.Core.Option.{Option};
+ghost use mathlib.Core.Option.{Option, none, some};
 ghost use Prim.Native.Nat.{ℕ, _+_, _*_, _≤_, _<_, max};
 ghost use lib.Dec.{ltb};
 ghost use lib.ListN.{length, take, getD};
 ghost use Rattle.record.specs.Record as theory;
 ghost use Rattle.record.specs.Stored.{stored};
 ghost use Rattle.vote.specs.Tally.{Ballot, sameEdit, sameConstraint, sameList, sameBundle, total, winner};
-ghost use Rattle.tally.specs.Groups.{place, groupIn, castOf, tallyOf, winnerStored};
+ghost use Rattle.tally.specs.Groups.{place, groupIn, castOf, tallyOf, answerOf, winnerStored};
 
 // A vote is silent or a bundle. A bundle's record stands beside it, in Cast.
 pub enum Vote {
@@ -112,4 +112,129 @@ pub fn same_bundle(a: Record, b: Record) -> bool
     let v = a.constraints;
     let w = b.constraints;
     same_constraints(v, w, m)
+}
+
+// The sum of a weight so far and one more. Of a roll of 8 rows it is never more than the limit.
+fn plus(a: u32, weight: u16) -> u32
+    ensures { λ r. ⌜ (weight ≤ 65535) × (a ≤ 524280 → r ≡ a + weight) ⌝ }
+{
+    if 524280 < a {
+        return a;
+    }
+    a + (weight as u32)
+}
+
+fn higher(a: u32, b: u32) -> u32
+    ensures { λ r. ⌜ r ≡ max a b ⌝ }
+{
+    if a < b {
+        return b;
+    }
+    a
+}
+
+// Won when 2 × the greatest group's weight > the total.
+fn answer(greatest: u32, silent: u32, total: u32) -> Election
+    ensures { λ r. ⌜ r ≡ answerOf greatest silent total ⌝ }
+{
+    let double = 2 * (greatest as u64);
+    let whole = total as u64;
+    Election {
+        number: 0,
+        won: whole < double,
+        greatest: greatest,
+        silent: silent,
+        total: total,
+    }
+}
+
+// The tally before the first vote.
+pub fn no_votes() -> Tally
+    ensures { λ r. ⌜ r ≡ tallyOf [] ⌝ }
+{
+    let filler = Group {
+        bundle: record::empty(),
+        weight: 0,
+    };
+    let groups = [filler; 8];
+    Tally {
+        groups: groups,
+        count: 0,
+        election: answer(0, 0, 0),
+    }
+}
+
+// The place of a bundle's group; n where it has none.
+fn place_of(groups: [Group; 8], n: usize, bundle: Record) -> usize
+    requires { ⌜ n ≤ 8 ⌝ }
+    ensures { λ r. ⌜ (r ≤ n) × ((l : List Ballot) (bundles : List theory.Record) (C : theory.Record) → take n groups ≡ map (groupIn l) bundles → bundle ≡ stored C → r ≡ place C bundles) ⌝ }
+{
+    let mut i = 0;
+    while i < n {
+        let group = groups[i];
+        let other = group.bundle;
+        if same_bundle(bundle, other) {
+            return i;
+        }
+        i += 1;
+    }
+    i
+}
+
+fn with_silent(tally: Tally, weight: u16) -> Tally
+    ensures { λ r. ⌜ (weight ≤ 65535) × ((l : List Ballot) → tally ≡ tallyOf l → total l ≤ 524280 → r ≡ tallyOf (l ++ (record { weight = weight; vote = none } ∷ []))) ⌝ }
+{
+    let e = tally.election;
+    let silent = plus(e.silent, weight);
+    let whole = plus(e.total, weight);
+    let mut r = tally;
+    r.election = answer(e.greatest, silent, whole);
+    r
+}
+
+fn count_with(i: usize, n: usize) -> usize
+    requires { ⌜ n ≤ 8 ⌝ }
+    ensures { λ r. ⌜ r ≡ cond (ltb i n) n (n + 1) ⌝ }
+{
+    if i < n {
+        return n;
+    }
+    n + 1
+}
+
+fn with_bundle(tally: Tally, weight: u16, bundle: Record) -> Tally
+    ensures { λ r. ⌜ (weight ≤ 65535) × ((l : List Ballot) (C : theory.Record) → tally ≡ tallyOf l → length l < 8 → total l ≤ 524280 → bundle ≡ stored C
+        → r ≡ tallyOf (l ++ (record { weight = weight; vote = some C } ∷ []))) ⌝ }
+{
+    let n = tally.count;
+    let e = tally.election;
+    let whole = plus(e.total, weight);
+    if 8 <= n {
+        return tally;
+    }
+    let groups = tally.groups;
+    let i = place_of(groups, n, bundle);
+    let group = groups[i];
+    let more = plus(group.weight, weight);
+    let mut r = tally;
+    r.groups[i] = Group {
+        bundle: bundle,
+        weight: more,
+    };
+    r.count = count_with(i, n);
+    r.election = answer(higher(e.greatest, more), e.silent, whole);
+    r
+}
+
+// THE TALLY with one vote more.
+pub fn with_vote(tally: Tally, weight: u16, cast: Cast) -> Tally
+    ensures { λ r. ⌜ (weight ≤ 65535) × ((l : List Ballot) (v : Option theory.Record) → tally ≡ tallyOf l → length l < 8 → total l ≤ 524280 → cast ≡ castOf v
+        → r ≡ tallyOf (l ++ (record { weight = weight; vote = v } ∷ []))) ⌝ }
+{
+    let vote = cast.vote;
+    let Vote::Bundle = vote else {
+        return with_silent(tally, weight);
+    };
+    let bundle = cast.bundle;
+    with_bundle(tally, weight, bundle)
 }

@@ -47,7 +47,7 @@ same-edit-requires c κs = search needs
 
 -- src/lib.rt:67:13
 returns : tie.Need-returns Inv-loop μ-loop
-returns c =     let l = c .before .before .before .before .before in
+returns c = let l = c .before .before .before .before .before in
     let s = l .before in
     let y : length (s .args .t1) ≡ 127 = search needs in
     let z : length (s .args .t2) ≡ 127 = search needs in
@@ -63,7 +63,7 @@ loop-less c = search needs
 
 -- src/lib.rt:65:5
 loop-again : tie.Need-loop-again Inv-loop μ-loop
-loop-again c =     let l = c .before .before .before .before .before in
+loop-again c = let l = c .before .before .before .before .before in
     let s = l .before in
     let y : length (s .args .t1) ≡ 127 = search needs in
     let z : length (s .args .t2) ≡ 127 = search needs in
@@ -71,7 +71,7 @@ loop-again c =     let l = c .before .before .before .before .before in
 
 -- src/lib.rt:60:1
 returns-2 : tie.Need-returns-2 Inv-loop μ-loop
-returns-2 c =     let l = c .before in
+returns-2 c = let l = c .before in
     let s = l .before in
     let e : l .loop .i ≡ s .args .n = omega arith in
     sym (rw e at (l .loop .inv .2))
