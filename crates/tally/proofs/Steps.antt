@@ -19,9 +19,11 @@ use Rattle.pages.proofs.Padded.{length-padded, take-padded, padded-more, getD-p
 use Rattle.vote.specs.declared.Election.{Election}
 use Rattle.vote.specs.Tally.{Ballot, sameBundle, total, weigh, isSilent, votesFor, group, greatestOf, greatest, silent, won, counted}
 use Rattle.vote.proofs.Elections.{same-bundle, same-is}
+use Rattle.tally.specs.declared.Vote.the-variants.{Silent, Bundle}
+use Rattle.tally.specs.declared.Cast.{Cast}
 use Rattle.tally.specs.declared.Group.{Group}
 use Rattle.tally.specs.declared.Tally.{Tally}
-use Rattle.tally.specs.Groups.{withVote, bundlesAfter, bundles, groupIn, fillerGroup, tallyOf, place, answerOf}
+use Rattle.tally.specs.Groups.{withVote, bundlesAfter, bundles, groupIn, fillerGroup, tallyOf, place, answerOf, castOf}
 use Rattle.tally.proofs.Counts.{more, bundles-more, bundles-length, apart, same-turned, bundles-apart, total-more, weigh-more, weigh-within, unknown-weightless, greatest-more}
 
 place-unknown : (C : Record) (s : List Record) → any (sameBundle C) s ≡ false → place C s ≡ length s
@@ -196,8 +198,8 @@ module _ (tally : Tally) (l : List Ballot) (w : ℕ) (e : tally ≡ tallyOf l) w
         rw (groups-are, getD-within (padded 8 fillerGroup m) (place C s) d fillerGroup q, padded-past 8 fillerGroup m (place C s) (omega (arith, place-unknown C s k)))
         (sym (unknown-weightless l C k)))
 
-    pub weight-within : (d : Group) (i : ℕ) → i ≡ place C (bundles l) → getD (tally .groups) i d .weight ≤ total l
-    weight-within d i p = rw (p, weight-at d) (weigh-within (votesFor C) l)
+    pub weight-within : (d : Group) (i m : ℕ) → i ≡ place C (bundles l) → total l ≤ m → getD (tally .groups) i d .weight ≤ m
+    weight-within d i m p k = rw (p, weight-at d) (omega (arith, weigh-within (votesFor C) l))
 
     pub bundle-step : (d : Group) (x : declared.Record) (i m c g t : ℕ) → x ≡ stored C → i ≡ place C (bundles l) → m ≡ getD (tally .groups) i d .weight + w → c ≡ cond (ltb i (tally .count)) (tally .count) (tally .count + 1)
         → g ≡ max (tally .election .greatest) m → t ≡ tally .election .total + w
@@ -220,3 +222,12 @@ pub no-votes-is : {r : declared.Record} {x : Election} → r ≡ emptyRecord →
     → record { groups = replicate 8 (record { bundle = r; weight = 0 }); count = 0; election = x } ≡ tallyOf []
 unfolding tallyOf bundlesAfter padded won greatest greatestOf silent weigh total
 no-votes-is p q = λ i. record { groups = replicate 8 (record { bundle = p i; weight = 0 }); count = 0; election = q i }
+
+-- a vote taken apart
+pub silent-by {ℓ} : (P : Option Record → Type ℓ) (cast : Cast) (v : Option Record) → cast ≡ castOf v → cast .vote ≡ Silent → P none → P v
+silent-by P cast none e h p = p
+silent-by P cast (some B) e h p = absurd (let q : cast .vote ≡ Bundle = ap (λ x. x .vote) e in let z : _≡_ {A = ℕ} 0 1 = cc in omega arith)
+
+pub bundle-by {ℓ} : (P : Option Record → Type ℓ) (cast : Cast) (v : Option Record) → cast ≡ castOf v → cast .vote ≡ Bundle → ((B : Record) → cast .bundle ≡ stored B → P (some B)) → P v
+bundle-by P cast none e h f = absurd (let q : cast .vote ≡ Silent = ap (λ x. x .vote) e in let z : _≡_ {A = ℕ} 0 1 = cc in omega arith)
+bundle-by P cast (some B) e h f = f B (ap (λ x. x .bundle) e)
