@@ -1,19 +1,18 @@
 -- One ballot more: the bundles, the weights and the greatest group. Assumes nothing.
 use mathlib.Core.Path.{_≡_, refl, sym, ap, _∙_}
-use mathlib.Core.Bool.{Bool, true, false, not, _&&_, _||_, cond, or-true}
-use mathlib.Core.List.{List, [], _∷_, _++_, map}
+use mathlib.Core.Bool.{Bool, true, false, not, _&&_, cond, or-true}
+use mathlib.Core.List.{List, [], _∷_, _++_}
 use mathlib.Core.Option.{Option, none, some}
-use Prim.Native.Nat.{ℕ, zero, suc, _+_, _*_, _≤_, _<_, max}
+use Prim.Native.Nat.{ℕ, suc, _+_, _≤_, max}
 use native.Mathlib.Omega.{arith}
-use lib.Dec.{ltb}
 use lib.ListN.{length, length-append}
-use borrow.Author.Tests.{not-true, ltb-true, ltb-false, lt-ltb}
+use borrow.Author.Tests.{not-true}
 use Rattle.record.specs.Lists.{any}
 use Rattle.record.specs.Record.{Record}
-use Rattle.record.proofs.Lists.{by, clash, and-l, and-r, and-i, or-no-l, or-no-r}
+use Rattle.record.proofs.Lists.{by, clash, and-l, and-r, or-no-l, or-no-r}
 use Rattle.keyed.proofs.Logic.{any-append}
-use Rattle.vote.specs.Tally.{Ballot, sameBundle, total, weigh, isSilent, votesFor, group, greatestOf, greatest, silent, wins, won, winnerOf, winner, counted}
-use Rattle.vote.proofs.Elections.{same-bundle, same-is, one-winner, winner-wins, open-is}
+use Rattle.vote.specs.Tally.{Ballot, sameBundle, total, weigh, votesFor, group, greatestOf, greatest}
+use Rattle.vote.proofs.Elections.{same-is}
 use Rattle.tally.specs.Groups.{withVote, bundlesAfter, bundles}
 
 abbrev pub more : List Ballot → ℕ → Option Record → List Ballot

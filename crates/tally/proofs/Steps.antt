@@ -1,15 +1,15 @@
 -- What one vote makes of a stored tally. Assumes nothing.
 use mathlib.Core.Path.{_≡_, refl, sym, ap, _∙_}
-use mathlib.Core.Bool.{Bool, true, false, not, _&&_, _||_, cond}
+use mathlib.Core.Bool.{Bool, true, false, not, cond}
 use mathlib.Core.List.{List, [], _∷_, _++_, map, map-append}
 use mathlib.Core.Option.{Option, none, some}
-use Prim.Native.Nat.{ℕ, zero, suc, _+_, _-_, _*_, _≤_, _<_, max}
+use Prim.Native.Nat.{ℕ, zero, suc, _+_, _-_, _≤_, _<_, max}
 use native.Mathlib.Omega.{arith}
 use native.Mathlib.Numerals.{add-one}
 use lib.Dec.{ltb}
 use lib.ListN.{length, take, drop, getD, set, replicate, length-append, length-map, drop-of-length-le}
-use lib.Seq.{set-append-left, take-all, take-length, length-take-le, getD-take, drop-cons}
-use borrow.Author.Tests.{not-true, ltb-true, ltb-false, lt-ltb, le-ltb}
+use lib.Seq.{set-append-left, take-length, length-take-le, getD-take, drop-cons}
+use borrow.Author.Tests.{not-true, lt-ltb, le-ltb}
 use Rattle.record.specs.declared.Record as declared
 use Rattle.record.specs.Lists.{any}
 use Rattle.record.specs.Record.{Record}
@@ -23,7 +23,7 @@ use Rattle.tally.specs.declared.Vote.the-variants.{Silent, Bundle}
 use Rattle.tally.specs.declared.Cast.{Cast}
 use Rattle.tally.specs.declared.Group.{Group}
 use Rattle.tally.specs.declared.Tally.{Tally}
-use Rattle.tally.specs.Groups.{withVote, bundlesAfter, bundles, groupIn, fillerGroup, tallyOf, place, answerOf, castOf}
+use Rattle.tally.specs.Groups.{bundlesAfter, bundles, groupIn, fillerGroup, tallyOf, place, answerOf, castOf}
 use Rattle.tally.proofs.Counts.{more, bundles-more, bundles-length, apart, same-turned, bundles-apart, total-more, weigh-more, weigh-within, unknown-weightless, greatest-more}
 
 place-unknown : (C : Record) (s : List Record) → any (sameBundle C) s ≡ false → place C s ≡ length s
@@ -31,13 +31,13 @@ unfolding any place
 place-unknown C [] h = refl
 place-unknown C (B ∷ s) h = rw (or-no-l (sameBundle C B) (any (sameBundle C) s) h, place-unknown C s (or-no-r (sameBundle C B) (any (sameBundle C) s) h))
 
-place-known : (C : Record) (s : List Record) → any (sameBundle C) s ≡ true → place C s < length s
+pub place-known : (C : Record) (s : List Record) → any (sameBundle C) s ≡ true → place C s < length s
 unfolding any place
 place-known C [] h = clash h refl
 place-known C (B ∷ s) h = by (sameBundle C B) (λ e. rw e (omega arith)) (λ e. rw e (omega (arith, place-known C s (rw e at h))))
 
 -- at its place a known bundle stands
-place-stands : (C : Record) (s : List Record) → any (sameBundle C) s ≡ true → getD s (place C s) (record { edits = []; constraints = [] }) ≡ C
+pub place-stands : (C : Record) (s : List Record) → any (sameBundle C) s ≡ true → getD s (place C s) (record { edits = []; constraints = [] }) ≡ C
 unfolding any place
 place-stands C [] h = clash h refl
 place-stands C (B ∷ s) h = by (sameBundle C B) (λ e. rw e (sym (same-is C B .0 e))) (λ e. rw e (place-stands C s (rw e at h)))
@@ -101,7 +101,7 @@ module _ (l : List Ballot) (w : ℕ) (C : Record) where
 
 -- the search for a bundle's group
 -- below the length the default is not read
-getD-within : {A : Type 0} (s : List A) (i : ℕ) (d f : A) → i < length s → getD s i d ≡ getD s i f
+pub getD-within : {A : Type 0} (s : List A) (i : ℕ) (d f : A) → i < length s → getD s i d ≡ getD s i f
 getD-within [] i d f h = absurd (omega arith)
 getD-within (x ∷ s) zero d f h = refl
 getD-within (x ∷ s) (suc i) d f h = getD-within s i d f (omega arith)
@@ -109,7 +109,7 @@ getD-within (x ∷ s) (suc i) d f h = getD-within s i d f (omega arith)
 abbrev pub none-yet : Record
 none-yet = record { edits = []; constraints = [] }
 
-getD-mapped : {A B : Type 0} (f : A → B) (s : List A) (i : ℕ) (a : A) (b : B) → i < length s → getD (map f s) i b ≡ f (getD s i a)
+pub getD-mapped : {A B : Type 0} (f : A → B) (s : List A) (i : ℕ) (a : A) (b : B) → i < length s → getD (map f s) i b ≡ f (getD s i a)
 getD-mapped f [] i a b h = absurd (omega arith)
 getD-mapped f (x ∷ s) zero a b h = refl
 getD-mapped f (x ∷ s) (suc i) a b h = getD-mapped f s i a b (omega arith)
@@ -159,7 +159,7 @@ module _ (tally : Tally) (l : List Ballot) (w : ℕ) (e : tally ≡ tallyOf l) w
   unfolding silent
   silent-within = rw (ap (λ x. x .silent) election-is) (weigh-within isSilent l)
 
-  groups-taken : take (tally .count) (tally .groups) ≡ map (groupIn l) (bundles l)
+  pub groups-taken : take (tally .count) (tally .groups) ≡ map (groupIn l) (bundles l)
   groups-taken =
       let m = map (groupIn l) (bundles l) in
       rw (groups-are, count-is, ← length-map (bundles l) (groupIn l), take-padded 8 fillerGroup (length m) m (omega arith)) (take-length m)
@@ -174,7 +174,7 @@ module _ (tally : Tally) (l : List Ballot) (w : ℕ) (e : tally ≡ tallyOf l) w
       let b : bundles (more l w none) ≡ bundles l = bundles-more l w none in
       let ec : tally .count ≡ length (bundles (more l w none)) = count-is ∙ ap length (sym b) in
       let ep : tally .groups ≡ padded 8 fillerGroup (map (groupIn (more l w none)) (bundles (more l w none))) =
-          groups-are ∙ rw (b, groups-silent l w (bundles l)) in
+      groups-are ∙ rw (b, groups-silent l w (bundles l)) in
       λ i. record { groups = ep i; count = ec i; election = answerOf (eg i) (es i) (et i) }
 
   module _ (C : Record) (h : length l < 8) where
@@ -214,7 +214,7 @@ module _ (tally : Tally) (l : List Ballot) (w : ℕ) (e : tally ≡ tallyOf l) w
         let ec : c ≡ length (bundles l′) = pc ∙ (rw (pi, count-is) (count-more l w C)) in
         let x′ : record { bundle = x; weight = m } ≡ groupIn l′ C = λ j. record { bundle = px j; weight = em j } in
         let ep : set (tally .groups) i (record { bundle = x; weight = m }) ≡ padded 8 fillerGroup (map (groupIn l′) (bundles l′)) =
-            rw (groups-are, pi, x′) (groups-more l w C (omega (arith, bundles-length l))) in
+        rw (groups-are, pi, x′) (groups-more l w C (omega (arith, bundles-length l))) in
         λ j. record { groups = ep j; count = ec j; election = answerOf (eg j) (es j) (et j) }
 
 -- before the first vote

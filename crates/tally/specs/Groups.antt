@@ -1,8 +1,9 @@
 -- Document 01, "Proposals and votes": what a tally holds after each vote, the election's answer and the groups of equal bundles so far. Assumes nothing.
-use mathlib.Core.Bool.{Bool, true, false, not, _&&_, cond}
+use mathlib.Core.Path.{_≡_}
+use mathlib.Core.Bool.{Bool, true, false, cond}
 use mathlib.Core.List.{List, [], _∷_, _++_, map}
 use mathlib.Core.Option.{Option, none, some}
-use Prim.Native.Nat.{ℕ, zero, suc, _*_}
+use Prim.Native.Nat.{ℕ, suc, _*_, _≤_, _<_}
 use lib.Dec.{ltb}
 use lib.ListN.{length, getD}
 use Rattle.record.specs.declared.Record as declared
@@ -10,7 +11,7 @@ use Rattle.record.specs.Lists.{any}
 use Rattle.record.specs.Record.{Record}
 use Rattle.record.specs.Stored.{padded, emptyRecord, stored}
 use Rattle.vote.specs.declared.Election.{Election}
-use Rattle.vote.specs.Tally.{Ballot, sameBundle, weigh, votesFor, total, counted}
+use Rattle.vote.specs.Tally.{Ballot, sameBundle, weigh, votesFor, counted}
 use Rattle.tally.specs.declared.Vote.{Vote}
 use Rattle.tally.specs.declared.Vote.the-variants.{Silent, Bundle}
 use Rattle.tally.specs.declared.Cast.{Cast}
@@ -55,6 +56,11 @@ place B (C ∷ l) = cond (sameBundle B C) 0 (suc (place B l))
 abbrev pub winnerStored : Option Record → declared.Record
 winnerStored none = emptyRecord
 winnerStored (some B) = stored B
+
+-- a place below the groups' number is that of a winning group, and else none wins
+pub record WinningPlace (groups : List Group) (whole i : ℕ) : Type 0 where
+  pub wins : i < length groups → ltb whole (2 * getD groups i fillerGroup .weight) ≡ true
+  pub none : length groups ≤ i → (j : ℕ) → j < length groups → ltb whole (2 * getD groups j fillerGroup .weight) ≡ false
 
 -- the answer from its three weights
 abbrev pub answerOf : ℕ → ℕ → ℕ → Election

@@ -14,7 +14,7 @@ ghost use lib.ListN.{length, take, getD};
 ghost use Rattle.record.specs.Record as theory;
 ghost use Rattle.record.specs.Stored.{stored};
 ghost use Rattle.vote.specs.Tally.{Ballot, sameEdit, sameConstraint, sameList, sameBundle, total, winner};
-ghost use Rattle.tally.specs.Groups.{place, groupIn, castOf, tallyOf, answerOf, winnerStored};
+ghost use Rattle.tally.specs.Groups.{place, groupIn, castOf, tallyOf, answerOf, WinningPlace, winnerStored};
 
 // A vote is silent or a bundle. A bundle's record stands beside it, in Cast.
 pub enum Vote {
@@ -133,15 +133,21 @@ fn higher(a: u32, b: u32) -> u32
     a
 }
 
-// Won when 2 × the greatest group's weight > the total.
+// Won when 2 × the group's weight > the whole roll's weight.
+fn is_won(weight: u32, whole: u32) -> bool
+    ensures { λ r. ⌜ r ≡ ltb whole (2 * weight) ⌝ }
+{
+    let double = 2 * (weight as u64);
+    let total = whole as u64;
+    total < double
+}
+
 fn answer(greatest: u32, silent: u32, total: u32) -> Election
     ensures { λ r. ⌜ r ≡ answerOf greatest silent total ⌝ }
 {
-    let double = 2 * (greatest as u64);
-    let whole = total as u64;
     Election {
         number: 0,
-        won: whole < double,
+        won: is_won(greatest, total),
         greatest: greatest,
         silent: silent,
         total: total,
@@ -237,4 +243,39 @@ pub fn with_vote(tally: Tally, weight: u16, cast: Cast) -> Tally
     };
     let bundle = cast.bundle;
     with_bundle(tally, weight, bundle)
+}
+
+// The place of a group that wins; n where none does.
+fn winning_place(groups: [Group; 8], n: usize, whole: u32) -> usize
+    requires { ⌜ n ≤ 8 ⌝ }
+    ensures { λ r. ⌜ (r ≤ n) × WinningPlace (take n groups) whole r ⌝ }
+{
+    let mut i = 0;
+    while i < n {
+        let group = groups[i];
+        if is_won(group.weight, whole) {
+            return i;
+        }
+        i += 1;
+    }
+    i
+}
+
+// The won bundle; the empty record while the election is open.
+pub fn won_bundle(tally: Tally) -> Record
+    ensures { λ r. ⌜ ((l : List Ballot) → tally ≡ tallyOf l → length l ≤ 8 → r ≡ winnerStored (winner l)) ⌝ }
+{
+    let n = tally.count;
+    if 8 < n {
+        return record::empty();
+    }
+    let e = tally.election;
+    let groups = tally.groups;
+    let i = winning_place(groups, n, e.total);
+    if n <= i {
+        return record::empty();
+    }
+    let group = groups[i];
+    let bundle = group.bundle;
+    bundle
 }

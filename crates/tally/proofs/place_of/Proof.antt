@@ -1,22 +1,18 @@
-use Rattle.tally.proofs.Steps.{none-yet, bundle-at, place-hit, place-miss, place-end}
-use Rattle.tally.specs.Groups.{groupIn, place}
-use Rattle.vote.proofs.Front.{length-mapped}
-use Rattle.vote.specs.Tally.{Ballot}
+-- `tally::place_of` meets its contract. Assumes nothing.
+use mathlib.Core.Path.{_≡_}
+use mathlib.Core.List.{map, List}
+use Prim.Native.Nat.{_+_, _-_, _≤_}
+use native.Mathlib.Omega.{arith}
+use lib.ListN.{length, getD, take, drop}
+use borrow.Author.Needs.{needs}
 use Rattle.record.specs.Stored.{stored}
 use Rattle.record.specs.Record.{Record}
-use mathlib.Core.List.{map}
-use mathlib.Core.Bool.{true, false}
-use Prim.Native.Nat.{ℕ, zero, suc, _+_, _-_, _*_, _≤_, _<_}
-use mathlib.Core.Path.{_≡_, refl, ap, sym, _∙_}
-use mathlib.Core.List.{List, [], _∷_, _++_}
-use lib.ListN.{length, getD, take, drop, set}
-use native.Mathlib.Omega.{arith}
-use borrow.Author.Needs.{needs}
+use Rattle.vote.proofs.Front.{length-mapped}
+use Rattle.vote.specs.Tally.{Ballot}
+use Rattle.tally.specs.Groups.{groupIn, place}
+use Rattle.tally.proofs.Steps.{none-yet, bundle-at, place-hit, place-miss, place-end}
 use Rattle.tally.proofs.place_of.Statement.{statement}
 use Rattle.tally.proofs.place_of.Tie as tie
-use Rattle.tally.proofs.place_of.Reads as reads
-use Rattle.tally.proofs.place_of.Lts as lts
-use Rattle.tally.proofs.same_bundle.Reads as same-bundle-reads
 
 abbrev Inv-loop : tie.InvT-loop
 Inv-loop n bundle groups i₀ i = (i ≤ n) × (n ≤ 8) × ((l : List Ballot) (s : List Record) (C : Record) → take n groups ≡ map (groupIn l) s → bundle ≡ stored C → place C s ≡ i + place C (drop i s))
@@ -24,25 +20,20 @@ Inv-loop n bundle groups i₀ i = (i ≤ n) × (n ≤ 8) × ((l : List Ballot) (
 abbrev μ-loop : tie.MeasureT-loop
 μ-loop n bundle groups i₀ i = n - i
 
--- src/lib.rt:173:5
 loop-holds : tie.Need-loop-holds Inv-loop μ-loop
 loop-holds c = (search needs, search needs, λ l s C g p. omega arith)
 
--- src/lib.rt:174:21
 mul-group : tie.Need-mul-group Inv-loop μ-loop
 mul-group c = search needs
 
--- src/lib.rt:174:21
 array-copy-out-group : tie.Need-array-copy-out-group Inv-loop μ-loop
 array-copy-out-group c = search needs
 
--- src/lib.rt:176:12
 same-bundle-requires : tie.Need-same-bundle-requires Inv-loop μ-loop
 same-bundle-requires c κs = search needs
 
--- src/lib.rt:177:13
 returns : tie.Need-returns Inv-loop μ-loop
-returns c =     let l = c .before .before .before .before .before in
+returns c = let l = c .before .before .before .before .before in
     let s = l .before in
     let z : length (s .args .t1) ≡ 8 = search (needs, length-mapped) in (
       search needs,
@@ -50,17 +41,14 @@ returns c =     let l = c .before .before .before .before .before in
           (c .before .same-bundle .ensures C (getD t (l .loop .i) none-yet) p (bundle-at (s .args .t1) (s .args .n) (omega arith) k t C g (l .loop .i) _ (c .before .before .before .before .loop-test .taken))) (c .if1 .taken),
     )
 
--- src/lib.rt:179:9
 add-i : tie.Need-add-i Inv-loop μ-loop
 add-i c = search needs
 
--- src/lib.rt:173:5
 loop-less : tie.Need-loop-less Inv-loop μ-loop
 loop-less c = search needs
 
--- src/lib.rt:173:5
 loop-again : tie.Need-loop-again Inv-loop μ-loop
-loop-again c =     let l = c .before .before .before .before .before in
+loop-again c = let l = c .before .before .before .before .before in
     let s = l .before in
     let z : length (s .args .t1) ≡ 8 = search (needs, length-mapped) in (
       search needs,
@@ -69,9 +57,8 @@ loop-again c =     let l = c .before .before .before .before .before in
           (c .before .same-bundle .ensures C (getD t (l .loop .i) none-yet) p (bundle-at (s .args .t1) (s .args .n) (omega arith) k t C g (l .loop .i) _ (c .before .before .before .before .loop-test .taken))) (c .if1 .left),
     )
 
--- src/lib.rt:168:1
 returns-2 : tie.Need-returns-2 Inv-loop μ-loop
-returns-2 c =     let l = c .before in
+returns-2 c = let l = c .before in
     let s = l .before in
     let z : length (s .args .t1) ≡ 8 = search (needs, length-mapped) in
     (search needs, λ k t C g p. place-end (s .args .t1) (s .args .n) (omega arith) k t C g (l .loop .i) (c .loop-test .left) (l .loop .inv .2 k t C g p))

@@ -1,56 +1,43 @@
+-- `tally::same_bundle` meets its contract. Assumes nothing.
+use mathlib.Core.Path.{_≡_}
+use native.Mathlib.Omega.{arith}
+use lib.ListN.{length}
+use borrow.Author.Tests.{not-true, not-false}
+use borrow.Author.Needs.{needs}
 use Rattle.vote.proofs.Front.{length-mapped}
 use Rattle.tally.proofs.Equal.{more-edits, more-constraints, edits-differ, constraints-decide, edits-within, constraints-within}
-use borrow.Author.Tests.{not-true, not-false}
-use Prim.Native.Nat.{ℕ, zero, suc, _+_, _-_, _*_, _≤_, _<_}
-use mathlib.Core.Path.{_≡_, refl, ap, sym, _∙_}
-use mathlib.Core.List.{List, [], _∷_, _++_}
-use lib.ListN.{length, getD, take, drop, set}
-use native.Mathlib.Omega.{arith}
-use borrow.Author.Needs.{needs}
 use Rattle.tally.proofs.same_bundle.Statement.{statement}
 use Rattle.tally.proofs.same_bundle.Tie as tie
-use Rattle.tally.proofs.same_bundle.Reads as reads
-use Rattle.tally.proofs.same_bundle.Lts as lts
-use Rattle.tally.proofs.same_constraints.Reads as same-constraints-reads
-use Rattle.tally.proofs.same_edits.Reads as same-edits-reads
 
--- src/lib.rt:96:9
 returns : tie.Need-returns
 returns c = λ P Q p q. let s = c .before .before in more-edits (s .args .a) (s .args .b) P Q p q (c .if1 .taken)
 
--- src/lib.rt:99:9
 returns-2 : tie.Need-returns-2
 returns-2 c = λ P Q p q. let s = c .before .before .before .before in more-constraints (s .args .a) (s .args .b) P Q p q (c .if2 .taken)
 
--- src/lib.rt:102:9
 returns-3 : tie.Need-returns-3
 returns-3 c = λ P Q p q.
     let s = c .before .before .before .before .before in
     let z : length (s .args .a .edits) ≡ 127 = search (needs, length-mapped) in
     absurd (omega (arith, edits-within (s .args .a) P p z))
 
--- src/lib.rt:105:9
 returns-4 : tie.Need-returns-4
 returns-4 c = λ P Q p q.
     let s = c .before .before .before .before .before .before in
     let z : length (s .args .a .constraints) ≡ 512 = search (needs, length-mapped) in
     absurd (omega (arith, constraints-within (s .args .a) P p z))
 
--- src/lib.rt:109:9
 same-edits-requires : tie.Need-same-edits-requires
 same-edits-requires c κs = search needs
 
--- src/lib.rt:110:9
 returns-5 : tie.Need-returns-5
 returns-5 c = λ P Q p q.
     let s = c .before .before .before .before .before .before .before .before .before .before in
     edits-differ (s .args .a) (s .args .b) P Q p q (c .before .before .before .before .before .before .before .before .if1 .left) (c .before .before .before .before .before .before .if2 .left) (c .before .same-edits .result) (c .before .same-edits .ensures) (not-true _ (c .if5 .taken))
 
--- src/lib.rt:114:5
 same-constraints-requires : tie.Need-same-constraints-requires
 same-constraints-requires c κs = search needs
 
--- src/lib.rt:90:1
 returns-6 : tie.Need-returns-6
 returns-6 c = λ P Q p q.
     let s = c .before .before .before .before .before .before .before .before .before .before .before .before .before in

@@ -1,18 +1,15 @@
-use borrow.Author.Tests.{not-true, not-false}
-use Rattle.tally.proofs.Equal.{same-more, same-broken}
-use Rattle.vote.specs.Tally.{sameList, sameEdit}
-use mathlib.Core.Bool.{true, false}
-use Prim.Native.Nat.{ℕ, zero, suc, _+_, _-_, _*_, _≤_, _<_}
-use mathlib.Core.Path.{_≡_, refl, ap, sym, _∙_}
-use mathlib.Core.List.{List, [], _∷_, _++_}
-use lib.ListN.{length, getD, take, drop, set}
+-- `tally::same_edits` meets its contract. Assumes nothing.
+use mathlib.Core.Path.{_≡_, refl, sym, _∙_}
+use mathlib.Core.Bool.{true}
+use Prim.Native.Nat.{_-_, _≤_}
 use native.Mathlib.Omega.{arith}
+use lib.ListN.{length, take}
+use borrow.Author.Tests.{not-true, not-false}
 use borrow.Author.Needs.{needs}
+use Rattle.vote.specs.Tally.{sameList, sameEdit}
+use Rattle.tally.proofs.Equal.{same-more, same-broken}
 use Rattle.tally.proofs.same_edits.Statement.{statement}
 use Rattle.tally.proofs.same_edits.Tie as tie
-use Rattle.tally.proofs.same_edits.Reads as reads
-use Rattle.tally.proofs.same_edits.Lts as lts
-use Rattle.tally.proofs.same_edit.Reads as same-edit-reads
 
 abbrev Inv-loop : tie.InvT-loop
 Inv-loop n a b i₀ i = (i ≤ n) × (n ≤ 127) × (sameList sameEdit (take i a) (take i b) ≡ true)
@@ -20,32 +17,25 @@ Inv-loop n a b i₀ i = (i ≤ n) × (n ≤ 127) × (sameList sameEdit (take i a
 abbrev μ-loop : tie.MeasureT-loop
 μ-loop n a b i₀ i = n - i
 
--- src/lib.rt:65:5
 loop-holds : tie.Need-loop-holds Inv-loop μ-loop
 unfolding sameList
 loop-holds c = (search needs, search needs, refl)
 
--- src/lib.rt:66:23
 mul-same-edit : tie.Need-mul-same-edit Inv-loop μ-loop
 mul-same-edit c = search needs
 
--- src/lib.rt:66:23
 array-copy-out-same-edit : tie.Need-array-copy-out-same-edit Inv-loop μ-loop
 array-copy-out-same-edit c = search needs
 
--- src/lib.rt:66:29
 mul-same-edit-2 : tie.Need-mul-same-edit-2 Inv-loop μ-loop
 mul-same-edit-2 c = search needs
 
--- src/lib.rt:66:29
 array-copy-out-same-edit-2 : tie.Need-array-copy-out-same-edit-2 Inv-loop μ-loop
 array-copy-out-same-edit-2 c = search needs
 
--- src/lib.rt:66:13
 same-edit-requires : tie.Need-same-edit-requires Inv-loop μ-loop
 same-edit-requires c κs = search needs
 
--- src/lib.rt:67:13
 returns : tie.Need-returns Inv-loop μ-loop
 returns c = let l = c .before .before .before .before .before in
     let s = l .before in
@@ -53,15 +43,12 @@ returns c = let l = c .before .before .before .before .before in
     let z : length (s .args .t2) ≡ 127 = search needs in
     sym (same-broken sameEdit (s .args .t1) (s .args .t2) (s .args .n) (l .loop .i) _ _ (omega arith) (omega arith) (omega arith) (sym (c .before .same-edit .ensures) ∙ not-true _ (c .if1 .taken)))
 
--- src/lib.rt:69:9
 add-i : tie.Need-add-i Inv-loop μ-loop
 add-i c = search needs
 
--- src/lib.rt:65:5
 loop-less : tie.Need-loop-less Inv-loop μ-loop
 loop-less c = search needs
 
--- src/lib.rt:65:5
 loop-again : tie.Need-loop-again Inv-loop μ-loop
 loop-again c = let l = c .before .before .before .before .before in
     let s = l .before in
@@ -69,7 +56,6 @@ loop-again c = let l = c .before .before .before .before .before in
     let z : length (s .args .t2) ≡ 127 = search needs in
     (search needs, search needs, same-more sameEdit (s .args .t1) (s .args .t2) (l .loop .i) _ _ (omega arith) (omega arith) (l .loop .inv .2) (sym (c .before .same-edit .ensures) ∙ not-false _ (c .if1 .left)))
 
--- src/lib.rt:60:1
 returns-2 : tie.Need-returns-2 Inv-loop μ-loop
 returns-2 c = let l = c .before in
     let s = l .before in
