@@ -107,3 +107,45 @@ fn link_both(
     left[row + 1] = b as u8;
     links::link_row(row + 1, backward, head, link);
 }
+
+fn at_most(count: usize, limit: usize) -> usize
+    ensures { λ r. ⌜ r ≡ min count limit ⌝ }
+{
+    if count <= limit { count } else { limit }
+}
+
+// The linked rows of what leads to a member; head, link and left are the record's own.
+fn leading_rows(
+    multilog: Record,
+    table: &[u8; 2304],
+    head: &[u16; 384],
+    link: &[u16; 1024],
+    left: &[u8; 1024],
+) -> Rows
+    requires { ⌜ (length (now table) ≡ 2304) × ((x : ℕ) → getD (now table) x 0 < 128) × Safe (now head) (now link) (now left) ⌝ }
+    ensures { λ r. ⌜ Safe (r .head) (r .link) (r .left)
+        × ((R : theory.Record) → multilog ≡ stored R → Fit R → ((x : ℕ) → getD (now (table .entry)) x 0 ≡ placeIn (theory.names R) x)
+        → Resolved R (now (head .entry)) (now (link .entry)) (now (left .entry)) → Leads (leadsIn R) R 0 (r .head) (r .link) (r .left)) ⌝ }
+{
+    let mut heads = [0u16; 384];
+    let mut links = [0u16; 1024];
+    let mut lefts = [0u8; 1024];
+    let count = at_most(multilog.constraintcount, 512);
+    let mut j: usize = 0;
+    while j < count {
+        let constraint = multilog.constraints[j];
+        let a = indexes::index_of(table, links::wide16(constraint.left));
+        let b = indexes::index_of(table, links::wide16(constraint.right));
+        let forward = forward_key(head, link, left, a, constraint.rule, b);
+        let backward = backward_key(head, link, left, a, constraint.rule, b);
+        link_both(
+            j, a, b, forward, backward, &mut heads, &mut links, &mut lefts,
+        );
+        j += 1;
+    }
+    Rows {
+        head: heads,
+        link: links,
+        left: lefts,
+    }
+}
