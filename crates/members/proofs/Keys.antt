@@ -1,10 +1,8 @@
 -- The keys of a constraint's rows by its rule. Assumes nothing.
-use mathlib.Core.Path.{_≡_, refl, sym, ap, _∙_}
-use mathlib.Core.Bool.{Bool, true, false, not, _&&_, _||_, cond}
-use Prim.Native.Nat.{ℕ, zero, suc, _+_, _*_, _≤_, _<_}
-use native.Mathlib.Omega.{arith}
-use lib.Dec.{eqb}
-use borrow.Author.Tests.{eq-eqb, ne-eqb}
+use mathlib.Core.Path.{_≡_, refl}
+use mathlib.Core.Bool.{true, false}
+use Prim.Native.Nat.{ℕ, zero, suc}
+use borrow.Author.Tests.{ne-eqb}
 use Rattle.record.specs.Record.{Record, notafter}
 use Rattle.links.specs.Marks.{nameAt}
 use Rattle.members.specs.Rows.{rivalKey, enabledKey, forwardKey, backwardKey}

@@ -1,30 +1,32 @@
 -- The linked rows of a record's constraints are those of what leads to a member. Assumes nothing.
 use mathlib.Core.Path.{_≡_, refl, sym, ap, _∙_}
-use mathlib.Core.Bool.{Bool, true, false, not, _&&_, _||_, cond}
-use mathlib.Core.Logic.{_⊎_, inl, inr}
+use mathlib.Core.Bool.{true, false, not}
+use mathlib.Core.Logic.{inl, inr}
 use mathlib.Core.List.{List, [], _∷_}
 use Prim.Native.Nat.{ℕ, zero, suc, _+_, _*_, _≤_, _<_, min, max}
 use native.Mathlib.Omega.{arith}
 use lib.Dec.{eqb}
 use lib.ListN.{length, getD, set, replicate, length-set}
 use lib.Seq.{getD-set-same, getD-set-other}
-use borrow.Author.Tests.{eqb-true, eqb-false, eq-eqb, ne-eqb, not-true}
+use borrow.Author.Tests.{eqb-true, eqb-false, eq-eqb, not-true}
 use Rattle.record.specs.declared.Constraint.{Constraint}
 use Rattle.record.specs.Lists.{mem, at, _among_, closure}
-use Rattle.record.specs.Record.{Record, names, written, has, notafter, enables, noncommuting, WellFormed}
-use Rattle.record.specs.Stored.{fillerConstraint}
+use Rattle.record.specs.Record.{Record, names, written, has, notafter, noncommuting, WellFormed}
+use Rattle.record.specs.declared.Record as declared
+use Rattle.record.specs.Stored.{stored, fillerConstraint}
 use Rattle.record.proofs.Lists.{by, clash, is-by, and-l, and-r, mem-at, cons-by, nil-no, closure-holds, closure-least, closure-closed, closure-unique}
 use Rattle.record.proofs.Records.{written-names, init-known, not-init, right-written, pair-by}
-use Rattle.links.specs.Marks.{nameAt, placeIn}
-use Rattle.links.specs.Links.{Linked, Leads, RowOf}
+use Rattle.links.specs.Marks.{nameAt, placeIn, marksOf}
+use Rattle.links.specs.Links.{Leads, RowOf}
+use Rattle.links.proofs.Marks.{marks-same}
 use Rattle.links.proofs.Names.{getD-place, ascending-distinct, place-known}
 use Rattle.links.proofs.Links.{Linking, linking-start, linking-step, linking-end, Growing, growing-step}
-use Rattle.indexes.specs.Fit.{Fit}
-use Rattle.indexes.proofs.Tables.{names-few}
-use Rattle.indexes.proofs.Resolving.{has-at, at-has}
 use Rattle.vote.specs.Bundle.{leads, members}
 use Rattle.vote.proofs.Bundles.{leads-notafter, leads-enables, leads-rival, leads-by, leads-known}
 use Rattle.members.specs.Rows.{rivalKey, enabledKey, forwardKey, backwardKey, leadsIn}
+use Rattle.indexes.specs.Fit.{Fit}
+use Rattle.indexes.proofs.Tables.{names-few, constraint-at}
+use Rattle.indexes.proofs.Resolving.{has-at, at-has, getD-any}
 
 abbrev pub indexIn : Record → ℕ → ℕ
 indexIn R x = placeIn (names R) x
@@ -270,7 +272,7 @@ module _ (R : Record) (f : Fit R) where
 
 -- The closure over these rows is the bundle's: INIT is no member, so that what leads to it leads no further.
 module _ (R : Record) (w : WellFormed R) (e : ℕ) (i : e among written R) where
-  leads-in-known : (a b : ℕ) → leadsIn R a b ≡ true → a among written R
+  pub leads-in-known : (a b : ℕ) → leadsIn R a b ≡ true → a among written R
   unfolding leadsIn
   leads-in-known a b h = leads-known w a b (and-l (leads R a b) (not (eqb b 0)) h)
 
@@ -289,3 +291,37 @@ module _ (R : Record) (w : WellFormed R) (e : ℕ) (i : e among written R) where
       (closure-least (leadsIn R) (written R) (e ∷ []) (λ x. x among closure (leads R) (written R) (e ∷ []))
       (λ a b h m. closure-closed (leads R) (written R) (e ∷ []) (leads-known w) a b (and-l (leads R a b) (not (eqb b 0)) h) m)
       (closure-holds (leads R) (written R) (e ∷ [])))
+
+-- one turn of the loop that links the rows: the indexes and keys as the code finds them
+module _ (r : declared.Record) (table heads links lefts : List ℕ) (j : ℕ) (d : Constraint) (a b f g : ℕ) (R : Record) (q : r ≡ stored R) (fit : Fit R)
+    (t : (x : ℕ) → getD table x 0 ≡ indexIn R x) (h : j < 512) (u : j < length (R .constraints))
+    (ea : a ≡ getD table (getD (r .constraints) j d .left) 0) (eb : b ≡ getD table (getD (r .constraints) j d .right) 0)
+    (ef : a < length (names R) → b < length (names R) → f ≡ forwardKey R a (getD (r .constraints) j d .rule) b)
+    (eg : a < length (names R) → b < length (names R) → g ≡ backwardKey R a (getD (r .constraints) j d .rule) b) (kf : f ≤ 128) (kg : g ≤ 128) where
+  same : getD (r .constraints) j d ≡ getD (R .constraints) j fillerConstraint
+  same = constraint-at r R q j d u ∙ getD-any (R .constraints) j d fillerConstraint u
+
+  pub rowing-turn : length heads ≡ 384 → length links ≡ 1024 → length lefts ≡ 1024 → Rowing R heads links lefts j
+      → Rowing R (headsMore heads j f g) (linksMore heads links j f g) (leftsMore lefts j a b) (j + 1)
+  rowing-turn sh sl sf =
+      let s = has-at (R .constraints) j fillerConstraint u in
+      let pa : a ≡ indexIn R (getD (R .constraints) j fillerConstraint .left) = ea ∙ (t _ ∙ ap (λ c. indexIn R (c .left)) same) in
+      let pb : b ≡ indexIn R (getD (R .constraints) j fillerConstraint .right) = eb ∙ (t _ ∙ ap (λ c. indexIn R (c .right)) same) in
+      let la : a < length (names R) = rw pa (index-low R _ (left-known R fit _ _ _ s)) in
+      let lb : b < length (names R) = rw pb (index-low R _ (right-known R fit _ _ _ s)) in
+      let pf : f ≡ forwardOf R (getD (R .constraints) j fillerConstraint) = ef la lb ∙ (λ i. forwardKey R (pa i) (same i .rule) (pb i)) in
+      let pg : g ≡ backwardOf R (getD (R .constraints) j fillerConstraint) = eg la lb ∙ (λ i. backwardKey R (pa i) (same i .rule) (pb i)) in
+      rowing-step R heads links lefts j a b f g sh sl sf h u pa pb pf pg kf kg
+
+-- the marks of the closure from an edit's index are those of the members
+module _ (R : Record) (f : Fit R) (e : ℕ) (i : e among written R) (x : ℕ) (q : x ≡ indexIn R e) where
+  pub start-low : x < length (names R)
+  start-low = rw q (index-low R e (written-names R e i))
+
+  pub members-marks : marksOf R (λ y. mem y (closure (leadsIn R) (written R) (nameAt R x ∷ []))) ≡ marksOf R (λ y. mem y (members R e))
+  members-marks =
+      let n : nameAt R x ≡ e = ap (nameAt R) q ∙ at-index R e (written-names R e i) in
+      rw n (marks-same R _ _ (names-few R f) (λ y k. members-same R (f .formed) e i y))
+
+pub none-closed : (R : Record) (a b : ℕ) → leadsIn R a b ≡ true → b among [] → a among []
+none-closed R a b h k = nil-no b k

@@ -139,7 +139,14 @@ fn leading_rows(
         let forward = forward_key(head, link, left, a, constraint.rule, b);
         let backward = backward_key(head, link, left, a, constraint.rule, b);
         link_both(
-            j, a, b, forward, backward, &mut heads, &mut links, &mut lefts,
+            j,
+            a,
+            b,
+            forward,
+            backward,
+            &mut heads,
+            &mut links,
+            &mut lefts,
         );
         j += 1;
     }
@@ -148,4 +155,23 @@ fn leading_rows(
         link: links,
         left: lefts,
     }
+}
+
+// The members of the bundle of an edit that the record knows.
+pub fn member_marks(multilog: Record, table: &[u8; 2304], edit: u16) -> [u8; 128]
+    requires { ⌜ (length (now table) ≡ 2304) × ((x : ℕ) → getD (now table) x 0 < 128) ⌝ }
+    ensures { λ r. ⌜ (length r ≡ 128) × ((R : theory.Record) → multilog ≡ stored R → Fit R → ((x : ℕ) → getD (now (table .entry)) x 0 ≡ placeIn (theory.names R) x)
+        → edit among theory.written R → r ≡ marksOf R (λ y. mem y (members R edit))) ⌝ }
+{
+    let own = indexes::resolved(multilog);
+    let head = own.head;
+    let link = own.link;
+    let left = own.left;
+    let rows = leading_rows(multilog, table, &head, &link, &left);
+    let heads = rows.head;
+    let links = rows.link;
+    let lefts = rows.left;
+    let x = indexes::index_of(table, links::wide16(edit));
+    let marks = [0u8; 128];
+    links::closed(0, &heads, &links, &lefts, marks, x)
 }

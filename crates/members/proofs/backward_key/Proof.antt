@@ -1,29 +1,20 @@
-use Rattle.members.proofs.Keys.{backward-notafter, backward-enables, backward-rival}
-use Prim.Native.Nat.{ℕ, zero, suc, _+_, _-_, _*_, _≤_, _<_}
-use mathlib.Core.Path.{_≡_, refl, ap, sym, _∙_}
-use mathlib.Core.List.{List, [], _∷_, _++_}
-use lib.ListN.{length, getD, take, drop, set}
+-- `members::backward_key` meets its contract. Assumes nothing.
+use mathlib.Core.Path.{_∙_}
 use native.Mathlib.Omega.{arith}
 use borrow.Author.Needs.{needs}
+use Rattle.members.proofs.Keys.{backward-notafter, backward-enables, backward-rival}
 use Rattle.members.proofs.backward_key.Statement.{statement}
 use Rattle.members.proofs.backward_key.Tie as tie
-use Rattle.members.proofs.backward_key.Reads as reads
-use Rattle.members.proofs.backward_key.Lts as lts
-use Rattle.members.proofs.rival_key.Reads as rival-key-reads
 
--- src/lib.rt:84:14
 rival-key-requires : tie.Need-rival-key-requires
 rival-key-requires c κs = search needs
 
--- src/lib.rt:69:1
 returns : tie.Need-returns
 returns c = (omega arith, λ R g l m. let s = c .before in backward-notafter R (s .args .a) (s .args .rule) (s .args .b) (c .match .keys1))
 
--- src/lib.rt:69:1
 returns-2 : tie.Need-returns-2
 returns-2 c = (omega arith, λ R g l m. let s = c .before in backward-enables R (s .args .a) (s .args .rule) (s .args .b) (c .match .keys2))
 
--- src/lib.rt:69:1
 returns-3 : tie.Need-returns-3
 returns-3 c = (c .rival-key .ensures .0, λ R g l m. let s = c .before .before in c .rival-key .ensures .1 R g m l ∙ backward-rival R (s .args .a) (s .args .rule) (s .args .b) (c .before .match .rest .0 .1) (c .before .match .rest .1))
 

@@ -1,49 +1,35 @@
-use lib.ListN.{length-set}
-use Prim.Native.Nat.{ℕ, zero, suc, _+_, _-_, _*_, _≤_, _<_}
-use mathlib.Core.Path.{_≡_, refl, ap, sym, _∙_}
-use mathlib.Core.List.{List, [], _∷_, _++_}
-use lib.ListN.{length, getD, take, drop, set}
-use native.Mathlib.Omega.{arith}
+-- `members::link_both` meets its contract. Assumes nothing.
+use mathlib.Core.Path.{refl, ap, _∙_}
+use Prim.Native.Nat.{_+_, _*_}
+use lib.ListN.{length-set, length, getD, set}
 use borrow.Author.Needs.{needs}
 use Rattle.members.proofs.link_both.Statement.{statement}
 use Rattle.members.proofs.link_both.Tie as tie
-use Rattle.members.proofs.link_both.Reads as reads
-use Rattle.members.proofs.link_both.Lts as lts
-use Rattle.links.proofs.link_row.Reads as link-row-reads
 
--- src/lib.rt:104:15
 mul-row : tie.Need-mul-row
 mul-row c = search needs
 
--- src/lib.rt:105:17
 cast-left : tie.Need-cast-left
 cast-left c = search needs
 
--- src/lib.rt:105:5
 element-write-left : tie.Need-element-write-left
 element-write-left c = search needs
 
--- src/lib.rt:106:5
 link-row-requires : tie.Need-link-row-requires
 link-row-requires c κs = search needs
 
--- src/lib.rt:107:21
 cast-left-2 : tie.Need-cast-left-2
 cast-left-2 c = search needs
 
--- src/lib.rt:107:10
 add-left : tie.Need-add-left
 add-left c = search needs
 
--- src/lib.rt:107:5
 element-write-left-2 : tie.Need-element-write-left-2
 element-write-left-2 c = search needs
 
--- src/lib.rt:108:21
 add-link-row : tie.Need-add-link-row
 add-link-row c = search needs
 
--- src/lib.rt:108:5
 link-row-requires-2 : tie.Need-link-row-requires-2
 link-row-requires-2 c κs = let s = c .before .before .before .before .before in
     let e = c .before .before .link-row .ensures in (
@@ -53,7 +39,6 @@ link-row-requires-2 c κs = let s = c .before .before .before .before .before in
       ap length (e .1) ∙ (length-set (s .args .link .now) (2 * s .args .j) (getD (s .args .head .now) (s .args .forward) 0) ∙ s .pre .6),
     )
 
--- src/lib.rt:89:1
 returns : tie.Need-returns
 returns c = let s = c .before .before .before .before .before .before in
     let e = c .before .before .before .link-row .ensures in
