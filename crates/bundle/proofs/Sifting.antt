@@ -40,3 +40,7 @@ module _ {A : Type 0} (size : ℕ) (filler : A) (p : A → Bool) (a : List A) wh
         let q = getD-any a i d filler h in
         let n = sift-left p a i d h (rw q e) in
         record { rows-are = rw n (w .rows-are); count-is = rw n (w .count-is) }
+
+-- below the length the default is not read
+pub getD-swap : {A : Type 0} (P : A → Type 0) (a : List A) (i : ℕ) (d f : A) → i < length a → P (getD a i d) → P (getD a i f)
+getD-swap P a i d f h p = rw (getD-any a i d f h) at p

@@ -52,3 +52,78 @@ fn sift_edits(edits: [Edit; 127], n: usize, marks: &[u8; 128]) -> Edits
         count: count,
     }
 }
+
+// Whether the ends of a constraint are members, or a member and 0.
+fn is_between(table: &[u8; 2304], marks: &[u8; 128], left: u16, right: u16) -> bool
+    requires { ⌜ (length (now table) ≡ 2304) × ((x : ℕ) → getD (now table) x 0 < 128) ⌝ }
+    ensures { λ r. ⌜ ((R : theory.Record) (m : List ℕ) → ((x : ℕ) → getD (now (table .entry)) x 0 ≡ placeIn (theory.names R) x) → now (marks .entry) ≡ marksOf R (λ y. mem y m)
+        → left among theory.names R → right among theory.names R → r ≡ between m left right) ⌝ }
+{
+    let a = indexes::index_of(table, links::wide16(left));
+    if marks[a] != 1 {
+        return false;
+    }
+    if right == 0 {
+        return true;
+    }
+    let b = indexes::index_of(table, links::wide16(right));
+    marks[b] == 1
+}
+
+// The constraints between members.
+fn sift_constraints(
+    constraints: [Constraint; 512],
+    n: usize,
+    table: &[u8; 2304],
+    marks: &[u8; 128],
+) -> Constraints
+    requires { ⌜ (n ≤ 512) × (length (now table) ≡ 2304) × ((x : ℕ) → getD (now table) x 0 < 128) ⌝ }
+    ensures { λ r. ⌜ ((R : theory.Record) (m : List ℕ) → ((x : ℕ) → getD (now (table .entry)) x 0 ≡ placeIn (theory.names R) x) → now (marks .entry) ≡ marksOf R (λ y. mem y m)
+        → ((i : ℕ) → i < n → (getD constraints i fillerConstraint .left among theory.names R) × (getD constraints i fillerConstraint .right among theory.names R))
+        → r ≡ siftedConstraints (sift (λ c. between m (c .left) (c .right)) (take n constraints))) ⌝ }
+{
+    let old = record::empty();
+    let mut rows = old.constraints;
+    let mut count = 0;
+    let mut i = 0;
+    while i < n {
+        let constraint = constraints[i];
+        i += 1;
+        if is_between(table, marks, constraint.left, constraint.right) {
+            rows[count] = constraint;
+            count += 1;
+        }
+    }
+    Constraints {
+        rows: rows,
+        count: count,
+    }
+}
+
+// The bundle of an edit that the record knows. It is safe for any record and edit.
+pub fn bundle(multilog: Record, name: u16) -> Record
+    ensures { λ r. ⌜ ((R : theory.Record) → multilog ≡ stored R → Fit R → name among theory.written R → r ≡ stored (vote.bundle R name)) ⌝ }
+{
+    let n = multilog.editcount;
+    let m = multilog.constraintcount;
+    if 127 < n {
+        return record::empty();
+    }
+    if 512 < m {
+        return record::empty();
+    }
+    let table = indexes::index_table(multilog);
+    let marks = members::member_marks(multilog, &table, name);
+    let edits = multilog.edits;
+    let constraints = multilog.constraints;
+    let kept = sift_edits(edits, n, &marks);
+    let between = sift_constraints(constraints, m, &table, &marks);
+    let rows = kept.rows;
+    let rules = between.rows;
+    Record {
+        edits: rows,
+        editcount: kept.count,
+        constraints: rules,
+        constraintcount: between.count,
+    }
+}

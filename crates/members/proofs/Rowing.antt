@@ -128,10 +128,10 @@ unfolding leadsIn
 leads-in R a b h e = rw (h, e)
 
 module _ (R : Record) (f : Fit R) where
-  left-known : (a k b : ℕ) → has a k b (R .constraints) ≡ true → a among names R
+  pub left-known : (a k b : ℕ) → has a k b (R .constraints) ≡ true → a among names R
   left-known a k b h = written-names R a (f .formed .left a k b h)
 
-  right-known : (a k b : ℕ) → has a k b (R .constraints) ≡ true → b among names R
+  pub right-known : (a k b : ℕ) → has a k b (R .constraints) ≡ true → b among names R
   right-known a k b h = elim (f .formed .right a k b h) [ inl i ↦ written-names R b i | inr z ↦ rw (z .1) (init-known R) ]
 
   right-not-init : (a k b : ℕ) → has a k b (R .constraints) ≡ true → (k ≡ 1 → ⊥) → eqb b 0 ≡ false
