@@ -85,5 +85,8 @@ module _ (r : declared.Record) (R : Record) (q : r ≡ stored R) (f : Fit R) (e 
       let pb = rw tc at eb in
       λ j. record { edits = pa j .rows; editcount = pa j .count; constraints = pb j .rows; constraintcount = pb j .count }
 
-  pub counts-within : (r .editcount ≤ 127) × (r .constraintcount ≤ 512)
-  counts-within = (omega (arith, edit-count r R q, f .edits), omega (arith, constraint-count r R q, f .constraints))
+pub edits-within : (r : declared.Record) (R : Record) → r ≡ stored R → Fit R → r .editcount ≤ 127
+edits-within r R q f = omega (arith, edit-count r R q, f .edits)
+
+pub constraints-within : (r : declared.Record) (R : Record) → r ≡ stored R → Fit R → r .constraintcount ≤ 512
+constraints-within r R q f = omega (arith, constraint-count r R q, f .constraints)
