@@ -1,33 +1,30 @@
 -- A bundle's edits and constraints by the marks of its members. Assumes nothing.
-use mathlib.Core.Path.{_≡_, refl, sym, ap, _∙_}
-use mathlib.Core.Bool.{Bool, true, false, _&&_, _||_, cond, or-false, or-true}
-use mathlib.Core.List.{List, [], _∷_}
+use mathlib.Core.Path.{_≡_, refl, sym, _∙_}
+use mathlib.Core.Bool.{Bool, true, false, cond, or-false, or-true}
+use mathlib.Core.List.{List}
 use Prim.Native.Nat.{ℕ, _+_, _≤_, _<_}
 use native.Mathlib.Omega.{arith}
 use lib.Dec.{eqb}
 use lib.ListN.{length, take, getD}
 use lib.Seq.{take-length}
-use borrow.Author.Tests.{eqb-true, eq-eqb, ne-eqb}
+use borrow.Author.Tests.{eq-eqb, ne-eqb}
 use Rattle.record.specs.declared.Edit.{Edit}
 use Rattle.record.specs.declared.Constraint.{Constraint}
 use Rattle.record.specs.declared.Record as declared
 use Rattle.record.specs.Lists.{mem, at, sift, _among_}
-use Rattle.record.specs.Record.{Record, names, written, has}
-use Rattle.record.specs.Stored.{padded, stored, fillerEdit, fillerConstraint}
-use Rattle.record.proofs.Lists.{by, clash, mem-at}
-use Rattle.record.proofs.Records.{written-names, init-known}
+use Rattle.record.specs.Record.{Record, names, written}
+use Rattle.record.specs.Stored.{stored, fillerEdit, fillerConstraint}
+use Rattle.record.proofs.Lists.{mem-at}
 use Rattle.pages.proofs.Padded.{take-padded}
-use Rattle.links.specs.Marks.{nameAt, marksOf, placeIn}
+use Rattle.links.specs.Marks.{marksOf, placeIn}
 use Rattle.links.proofs.Names.{getD-place, place-known}
 use Rattle.links.proofs.Marks.{marks-at}
+use Rattle.vote.specs.Bundle.{members, between, bundle}
+use Rattle.bundle.specs.Bundles.{siftedEdits, siftedConstraints}
 use Rattle.indexes.specs.Fit.{Fit}
 use Rattle.indexes.proofs.Tables.{name-at, edit-count, constraint-count, constraint-at, length-names}
-use Rattle.indexes.proofs.Resolving.{has-at, getD-any}
+use Rattle.indexes.proofs.Resolving.{has-at}
 use Rattle.members.proofs.Rowing.{left-known, right-known}
-use Rattle.vote.specs.Bundle.{members, between, bundle}
-use Rattle.bundle.specs.declared.Edits.{Edits}
-use Rattle.bundle.specs.declared.Constraints.{Constraints}
-use Rattle.bundle.specs.Bundles.{siftedEdits, siftedConstraints}
 
 bit-is : (b : Bool) → eqb (cond b 1 0) 1 ≡ b
 bit-is true = refl

@@ -1,15 +1,15 @@
 -- What is sifted out of an array, element by element, into another one. Assumes nothing.
-use mathlib.Core.Path.{_≡_, refl, sym, ap, _∙_}
+use mathlib.Core.Path.{_≡_, refl, _∙_}
 use mathlib.Core.Bool.{Bool, true, false}
-use mathlib.Core.List.{List, [], _∷_, _++_}
-use Prim.Native.Nat.{ℕ, _+_, _-_, _≤_, _<_}
+use mathlib.Core.List.{List, [], _∷_}
+use Prim.Native.Nat.{ℕ, _+_, _-_, _<_}
 use native.Mathlib.Omega.{arith}
 use lib.ListN.{length, take, getD, set, replicate, length-append}
 use Rattle.record.specs.Lists.{sift}
 use Rattle.record.specs.Stored.{padded}
 use Rattle.pages.proofs.Padded.{padded-more}
-use Rattle.indexes.proofs.Resolving.{getD-any}
 use Rattle.vote.proofs.Front.{sift-passed, sift-left}
+use Rattle.indexes.proofs.Resolving.{getD-any}
 
 -- the first i elements are sifted
 pub record Sifting {A : Type 0} (size : ℕ) (filler : A) (p : A → Bool) (a : List A) (i : ℕ) (rows : List A) (count : ℕ) : Type 0 where

@@ -17,7 +17,7 @@ ghost use Rattle.links.specs.Marks.{marksOf, placeIn};
 ghost use Rattle.indexes.specs.Fit.{Fit};
 ghost use Rattle.vote.specs.Bundle.{between};
 ghost use Rattle.vote.specs.Bundle as vote;
-ghost use Rattle.bundle.specs.Bundles.{siftedEdits, siftedConstraints};
+ghost use Rattle.bundle.specs.Bundles.{siftedEdits, siftedConstraints, refusedBundle, bundleAnswer};
 
 // Rows past the count hold the filler.
 pub struct Edits {
@@ -125,5 +125,81 @@ pub fn bundle(multilog: Record, name: u16) -> Record
         editcount: kept.count,
         constraints: rules,
         constraintcount: between.count,
+    }
+}
+
+// Whether the edits at indexes 1 to n - 1 are marked.
+fn every_marked(marks: [u8; 128], n: usize) -> bool
+    requires { ⌜ n ≤ 128 ⌝ }
+    ensures { λ r. ⌜ ((R : theory.Record) (test : ℕ → Bool) → n ≡ length (theory.names R) → marks ≡ marksOf R test → r ≡ all test (theory.written R)) ⌝ }
+{
+    let mut i = 0;
+    while i + 1 < n {
+        if marks[i + 1] != 1 {
+            return false;
+        }
+        i += 1;
+    }
+    true
+}
+
+// Whether each edit of a record is settled in it: of a bundle, whether it is eligible.
+pub fn all_settled(multilog: Record) -> bool
+    ensures { λ r. ⌜ ((R : theory.Record) → multilog ≡ stored R → Fit R → r ≡ all (settled R) (theory.written R)) ⌝ }
+{
+    let n = indexes::name_count(multilog);
+    let marks = judge::settleds(multilog);
+    every_marked(marks, n)
+}
+
+// Whether the bundle of an edit that the record knows is eligible.
+pub fn eligible(multilog: Record, name: u16) -> bool
+    ensures { λ r. ⌜ ((R : theory.Record) → multilog ≡ stored R → Fit R → name among theory.written R → r ≡ vote.eligible R name) ⌝ }
+{
+    let small = bundle(multilog, name);
+    all_settled(small)
+}
+
+// On refusal every part but the number is 0, and the bundle the empty record.
+pub struct BundleAnswer {
+    pub number: u32,
+    pub eligible: bool,
+    pub bundle: Record,
+}
+
+fn refused(number: u32) -> BundleAnswer
+    ensures { λ r. ⌜ r ≡ refusedBundle number ⌝ }
+{
+    BundleAnswer {
+        number: number,
+        eligible: false,
+        bundle: record::empty(),
+    }
+}
+
+// THE BUNDLE of an edit in a lent record, and whether it is eligible.
+pub fn lent_bundle(edits: &[[u32; 5]], constraints: &[[u32; 3]], edit: u32) -> BundleAnswer
+    ensures { λ r. ⌜ r ≡ bundleAnswer (now (edits .entry)) (now (constraints .entry)) edit ⌝ }
+{
+    let lent = join::lent(edits, constraints);
+    if lent.number != 0 {
+        return refused(lent.number);
+    }
+    if !row::is_name(edit) {
+        return refused(2);
+    }
+    let name = edit as u16;
+    let multilog = lent.after;
+    if !lookup::knows(multilog, name) {
+        return refused(5);
+    }
+    if !judge::sound(multilog) {
+        return refused(8);
+    }
+    let small = bundle(multilog, name);
+    BundleAnswer {
+        number: 0,
+        eligible: all_settled(small),
+        bundle: small,
     }
 }

@@ -1,54 +1,38 @@
-use Rattle.bundle.proofs.Bundling.{not-from, to-init, to-member}
-use Prim.Native.Nat.{ℕ, zero, suc, _+_, _-_, _*_, _≤_, _<_}
-use mathlib.Core.Path.{_≡_, refl, ap, sym, _∙_}
-use mathlib.Core.List.{List, [], _∷_, _++_}
-use lib.ListN.{length, getD, take, drop, set}
+-- `bundle::is_between` meets its contract. Assumes nothing.
 use native.Mathlib.Omega.{arith}
 use borrow.Author.Needs.{needs}
+use Rattle.bundle.proofs.Bundling.{not-from, to-init, to-member}
 use Rattle.bundle.proofs.is_between.Statement.{statement}
 use Rattle.bundle.proofs.is_between.Tie as tie
-use Rattle.bundle.proofs.is_between.Reads as reads
-use Rattle.bundle.proofs.is_between.Lts as lts
-use Rattle.indexes.proofs.index_of.Reads as index-of-reads
-use Rattle.links.proofs.wide16.Reads as wide16-reads
 
--- src/lib.rt:62:38
 wide16-requires : tie.Need-wide16-requires
 wide16-requires c κs = search needs
 
--- src/lib.rt:62:9
 index-of-requires : tie.Need-index-of-requires
 index-of-requires c κs = search needs
 
--- src/lib.rt:63:8
 element-copy-out-if1 : tie.Need-element-copy-out-if1
 element-copy-out-if1 c = omega (arith, c .index-of .ensures, c .before .before .pre .1 (c .before .wide16 .result))
 
--- src/lib.rt:64:9
 returns : tie.Need-returns
 returns c = λ R m t e k n.
     let s = c .before .before .before .before in
     not-from R m (s .args .table .now) (s .args .marks .now) t e (s .args .left) (c .before .before .index-of .result) k (rw (← c .before .before .before .wide16 .ensures) (c .before .before .index-of .ensures)) (s .args .right) (c .if1 .taken)
 
--- src/lib.rt:67:9
 returns-2 : tie.Need-returns-2
 returns-2 c = λ R m t e k n.
     let s = c .before .before .before .before .before in
     to-init R m (s .args .table .now) (s .args .marks .now) t e (s .args .left) (c .before .before .before .index-of .result) k (rw (← c .before .before .before .before .wide16 .ensures) (c .before .before .before .index-of .ensures)) (s .args .right) (c .before .if1 .left) (c .if2 .taken)
 
--- src/lib.rt:69:38
 wide16-requires-2 : tie.Need-wide16-requires-2
 wide16-requires-2 c κs = search needs
 
--- src/lib.rt:69:9
 index-of-requires-2 : tie.Need-index-of-requires-2
 index-of-requires-2 c κs = search needs
 
--- src/lib.rt:70:5
 element-copy-out-result : tie.Need-element-copy-out-result
 element-copy-out-result c = omega (arith, c .index-of2 .ensures, c .before .before .before .before .before .before .before .pre .1 (c .before .wide162 .result))
 
--- src/lib.rt:57:1
 returns-3 : tie.Need-returns-3
 returns-3 c = λ R m t e k n.
     let s = c .before .before .before .before .before .before .before .before in

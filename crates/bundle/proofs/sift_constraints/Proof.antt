@@ -1,78 +1,62 @@
-use Rattle.bundle.proofs.Sifting.{Sifting, sifting-start, sifting-kept, sifting-skip, getD-swap}
-use Rattle.vote.proofs.Front.{length-mapped}
-use Rattle.vote.specs.Bundle.{between}
-use Rattle.links.specs.Marks.{marksOf, placeIn}
+-- `bundle::sift_constraints` meets its contract. Assumes nothing.
+use mathlib.Core.Path.{_≡_, ap, sym, _∙_}
+use mathlib.Core.List.{List}
+use Prim.Native.Nat.{ℕ, _-_, _≤_, _<_}
+use native.Mathlib.Omega.{arith}
+use lib.ListN.{length-set, length, getD}
+use borrow.Author.Needs.{needs}
 use Rattle.record.specs.Stored.{fillerConstraint}
 use Rattle.record.specs.Record.{Record, names}
 use Rattle.record.specs.Lists.{mem, _among_}
 use Rattle.record.specs.declared.Constraint.{Constraint}
-use lib.ListN.{length-set}
-use mathlib.Core.Bool.{Bool, true, false}
-use Prim.Native.Nat.{ℕ, zero, suc, _+_, _-_, _*_, _≤_, _<_}
-use mathlib.Core.Path.{_≡_, refl, ap, sym, _∙_}
-use mathlib.Core.List.{List, [], _∷_, _++_}
-use lib.ListN.{length, getD, take, drop, set}
-use native.Mathlib.Omega.{arith}
-use borrow.Author.Needs.{needs}
+use Rattle.links.specs.Marks.{marksOf, placeIn}
+use Rattle.vote.proofs.Front.{length-mapped}
+use Rattle.vote.specs.Bundle.{between}
+use Rattle.bundle.proofs.Sifting.{Sifting, sifting-start, sifting-kept, sifting-skip, getD-swap}
 use Rattle.bundle.proofs.sift_constraints.Statement.{statement}
 use Rattle.bundle.proofs.sift_constraints.Tie as tie
-use Rattle.bundle.proofs.sift_constraints.Reads as reads
-use Rattle.bundle.proofs.sift_constraints.Lts as lts
-use Rattle.bundle.proofs.is_between.Reads as is-between-reads
-use Rattle.record.proofs.empty.Reads as empty-reads
 
 abbrev Inv-loop : tie.InvT-loop
-Inv-loop n table marks constraints rows₀ count₀ i₀ rows count i =     (i ≤ n) × (n ≤ 512) × (count ≤ i) × (length rows ≡ 512) × ((R : Record) (m : List ℕ) → ((x : ℕ) → getD table x 0 ≡ placeIn (names R) x) → marks ≡ marksOf R (λ y. mem y m)
+Inv-loop n table marks constraints rows₀ count₀ i₀ rows count i = (i ≤ n) × (n ≤ 512) × (count ≤ i) × (length rows ≡ 512) × ((R : Record) (m : List ℕ) → ((x : ℕ) → getD table x 0 ≡ placeIn (names R) x) → marks ≡ marksOf R (λ y. mem y m)
     → ((k : ℕ) → k < n → (getD constraints k fillerConstraint .left among names R) × (getD constraints k fillerConstraint .right among names R))
     → Sifting 512 fillerConstraint (λ c. between m (c .left) (c .right)) constraints i rows count)
 
 abbrev μ-loop : tie.MeasureT-loop
 μ-loop n table marks constraints rows₀ count₀ i₀ rows count i = n - i
 
--- src/lib.rt:85:9
 empty-requires : tie.Need-empty-requires Inv-loop μ-loop
 empty-requires c κs = search needs
 
--- src/lib.rt:89:5
 loop-holds : tie.Need-loop-holds Inv-loop μ-loop
-loop-holds c =     let e = ap (λ r. r .constraints) (c .before .empty .ensures) in
+loop-holds c = let e = ap (λ r. r .constraints) (c .before .empty .ensures) in
     (search needs, search needs, search needs, ap length e, λ R m t g k. sifting-start 512 fillerConstraint (λ c. between m (c .left) (c .right)) (c .before .before .args .t1) _ e)
 
--- src/lib.rt:90:26
 mul-constraint : tie.Need-mul-constraint Inv-loop μ-loop
 mul-constraint c = search needs
 
--- src/lib.rt:90:26
 array-copy-out-constraint : tie.Need-array-copy-out-constraint Inv-loop μ-loop
 array-copy-out-constraint c = search needs
 
--- src/lib.rt:91:9
 add-i : tie.Need-add-i Inv-loop μ-loop
 add-i c = search needs
 
--- src/lib.rt:92:12
 is-between-requires : tie.Need-is-between-requires Inv-loop μ-loop
 is-between-requires c κs = (c .before .before .before .before .before .pre .1, c .before .before .before .before .before .pre .2)
 
--- src/lib.rt:93:13
 mul-rows : tie.Need-mul-rows Inv-loop μ-loop
 mul-rows c = search needs
 
--- src/lib.rt:93:13
 array-set-from-rows : tie.Need-array-set-from-rows Inv-loop μ-loop
 array-set-from-rows c = search needs
 
--- src/lib.rt:94:13
 add-count : tie.Need-add-count Inv-loop μ-loop
 add-count c = search needs
 
--- src/lib.rt:89:5
 loop-less : tie.Need-loop-less Inv-loop μ-loop
 loop-less c = search needs
 
--- src/lib.rt:89:5
 loop-again : tie.Need-loop-again Inv-loop μ-loop
-loop-again c =     let l = c .before .before .before .before .loop in
+loop-again c = let l = c .before .before .before .before .loop in
     let s = c .before .before .before .before .before .before .before in
     let z : length (s .args .t1) ≡ 512 = search (needs, length-mapped) in
     let lt = c .before .before .before .loop-test .taken in
@@ -88,13 +72,11 @@ loop-again c =     let l = c .before .before .before .before .loop in
           sifting-kept 512 fillerConstraint (λ c. between m (c .left) (c .right)) (s .args .t1) (l .i) (l .rows) (l .count) _ li (l .inv .4 R m t e k) (omega arith) (sym r ∙ c .if1 .taken),
     )
 
--- src/lib.rt:89:5
 loop-less-2 : tie.Need-loop-less-2 Inv-loop μ-loop
 loop-less-2 c = search needs
 
--- src/lib.rt:89:5
 loop-again-2 : tie.Need-loop-again-2 Inv-loop μ-loop
-loop-again-2 c =     let l = c .before .before .before .before .loop in
+loop-again-2 c = let l = c .before .before .before .before .loop in
     let s = c .before .before .before .before .before .before .before in
     let z : length (s .args .t1) ≡ 512 = search (needs, length-mapped) in
     let lt = c .before .before .before .loop-test .taken in
@@ -110,7 +92,6 @@ loop-again-2 c =     let l = c .before .before .before .before .loop in
           sifting-skip 512 fillerConstraint (λ c. between m (c .left) (c .right)) (s .args .t1) (l .i) (l .rows) (l .count) fillerConstraint li (l .inv .4 R m t e k) (sym r ∙ c .if1 .left),
     )
 
--- src/lib.rt:74:1
 returns : tie.Need-returns Inv-loop μ-loop
 returns c = λ R m t e k.
     let l = c .before .loop in

@@ -1,73 +1,58 @@
-use lib.ListN.{length-set}
-use Rattle.bundle.proofs.Sifting.{Sifting, sifting-start, sifting-kept, sifting-skip}
-use Rattle.vote.proofs.Front.{length-mapped}
+-- `bundle::sift_edits` meets its contract. Assumes nothing.
+use mathlib.Core.Path.{_≡_, ap, sym, _∙_}
+use mathlib.Core.Bool.{Bool}
+use Prim.Native.Nat.{ℕ, _+_, _-_, _≤_, _<_}
+use native.Mathlib.Omega.{arith}
+use lib.ListN.{length-set, length, getD}
+use lib.Dec.{eqb}
+use borrow.Author.Tests.{eq-eqb, ne-eqb}
+use borrow.Author.Needs.{needs}
 use Rattle.record.specs.Stored.{fillerEdit}
 use Rattle.record.specs.declared.Edit.{Edit}
-use borrow.Author.Tests.{eq-eqb, ne-eqb}
-use lib.Dec.{eqb}
-use mathlib.Core.Bool.{Bool, true, false}
-use Prim.Native.Nat.{ℕ, zero, suc, _+_, _-_, _*_, _≤_, _<_}
-use mathlib.Core.Path.{_≡_, refl, ap, sym, _∙_}
-use mathlib.Core.List.{List, [], _∷_, _++_}
-use lib.ListN.{length, getD, take, drop, set}
-use native.Mathlib.Omega.{arith}
-use borrow.Author.Needs.{needs}
+use Rattle.vote.proofs.Front.{length-mapped}
+use Rattle.bundle.proofs.Sifting.{Sifting, sifting-start, sifting-kept, sifting-skip}
 use Rattle.bundle.proofs.sift_edits.Statement.{statement}
 use Rattle.bundle.proofs.sift_edits.Tie as tie
-use Rattle.bundle.proofs.sift_edits.Reads as reads
-use Rattle.bundle.proofs.sift_edits.Lts as lts
-use Rattle.record.proofs.empty.Reads as empty-reads
 
 abbrev Inv-loop : tie.InvT-loop
-Inv-loop n marks edits rows₀ count₀ i₀ rows count i =     (i ≤ n) × (n ≤ 127) × (count ≤ i) × (length rows ≡ 127) × ((p : Edit → Bool) → ((k : ℕ) → k < n → eqb (getD marks (k + 1) 0) 1 ≡ p (getD edits k fillerEdit)) → Sifting 127 fillerEdit p edits i rows count)
+Inv-loop n marks edits rows₀ count₀ i₀ rows count i = (i ≤ n) × (n ≤ 127) × (count ≤ i) × (length rows ≡ 127) × ((p : Edit → Bool) → ((k : ℕ) → k < n → eqb (getD marks (k + 1) 0) 1 ≡ p (getD edits k fillerEdit)) → Sifting 127 fillerEdit p edits i rows count)
 
 abbrev μ-loop : tie.MeasureT-loop
 μ-loop n marks edits rows₀ count₀ i₀ rows count i = n - i
 
--- src/lib.rt:38:9
 empty-requires : tie.Need-empty-requires Inv-loop μ-loop
 empty-requires c κs = search needs
 
--- src/lib.rt:42:5
 loop-holds : tie.Need-loop-holds Inv-loop μ-loop
-loop-holds c =     let e = ap (λ r. r .edits) (c .before .empty .ensures) in
+loop-holds c = let e = ap (λ r. r .edits) (c .before .empty .ensures) in
     (search needs, search needs, search needs, ap length e, λ p f. sifting-start 127 fillerEdit p (c .before .before .args .t1) _ e)
 
--- src/lib.rt:43:20
 mul-edit : tie.Need-mul-edit Inv-loop μ-loop
 mul-edit c = search needs
 
--- src/lib.rt:43:20
 array-copy-out-edit : tie.Need-array-copy-out-edit Inv-loop μ-loop
 array-copy-out-edit c = search needs
 
--- src/lib.rt:44:9
 add-i : tie.Need-add-i Inv-loop μ-loop
 add-i c = search needs
 
--- src/lib.rt:45:12
 element-copy-out-if1 : tie.Need-element-copy-out-if1 Inv-loop μ-loop
 element-copy-out-if1 c = search needs
 
--- src/lib.rt:46:13
 mul-rows : tie.Need-mul-rows Inv-loop μ-loop
 mul-rows c = search needs
 
--- src/lib.rt:46:13
 array-set-from-rows : tie.Need-array-set-from-rows Inv-loop μ-loop
 array-set-from-rows c = search needs
 
--- src/lib.rt:47:13
 add-count : tie.Need-add-count Inv-loop μ-loop
 add-count c = search needs
 
--- src/lib.rt:42:5
 loop-less : tie.Need-loop-less Inv-loop μ-loop
 loop-less c = search needs
 
--- src/lib.rt:42:5
 loop-again : tie.Need-loop-again Inv-loop μ-loop
-loop-again c =     let l = c .before .before .before .before .loop in
+loop-again c = let l = c .before .before .before .before .loop in
     let s = c .before .before .before .before .before .before .before in
     let z : length (s .args .t1) ≡ 127 = search (needs, length-mapped) in
     let lt = c .before .before .before .loop-test .taken in (
@@ -78,13 +63,11 @@ loop-again c =     let l = c .before .before .before .before .loop in
       λ p f. sifting-kept 127 fillerEdit p (s .args .t1) (l .i) (l .rows) (l .count) _ (omega arith) (l .inv .4 p f) (omega arith) (sym (f (l .i) lt) ∙ eq-eqb _ _ (c .if1 .taken)),
     )
 
--- src/lib.rt:42:5
 loop-less-2 : tie.Need-loop-less-2 Inv-loop μ-loop
 loop-less-2 c = search needs
 
--- src/lib.rt:42:5
 loop-again-2 : tie.Need-loop-again-2 Inv-loop μ-loop
-loop-again-2 c =     let l = c .before .before .before .before .loop in
+loop-again-2 c = let l = c .before .before .before .before .loop in
     let s = c .before .before .before .before .before .before .before in
     let z : length (s .args .t1) ≡ 127 = search (needs, length-mapped) in
     let lt = c .before .before .before .loop-test .taken in (
@@ -95,7 +78,6 @@ loop-again-2 c =     let l = c .before .before .before .before .loop in
       λ p f. sifting-skip 127 fillerEdit p (s .args .t1) (l .i) (l .rows) (l .count) fillerEdit (omega arith) (l .inv .4 p f) (sym (f (l .i) lt) ∙ ne-eqb _ _ (c .if1 .left)),
     )
 
--- src/lib.rt:34:1
 returns : tie.Need-returns Inv-loop μ-loop
 returns c = λ p f.
     let l = c .before .loop in
