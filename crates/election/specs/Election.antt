@@ -13,7 +13,9 @@ use Rattle.ground.specs.Ground.{Rows, _given_, _orelse_}
 use Rattle.table.specs.Table.{emptyTables, decoded, lentFault}
 use Rattle.vote.specs.declared.RollRow.{RollRow}
 use Rattle.vote.specs.declared.Election.{Election}
-use Rattle.vote.specs.Tally.{Ballot, ballots, total, greatest, silent, won, winner}
+use Rattle.vote.specs.Tally.{Ballot, ballots, winner}
+pub use Rattle.vote.specs.Tally.{counted}
+use Rattle.roll.specs.Roll.{rollFaulty}
 
 -- The eight proposals as they are lent, an empty one for a bench that has none: the edit tables and the constraint tables, by bench.
 pub record Proposals : Type 0 where
@@ -35,11 +37,6 @@ unfoldable pub firstGiven : (ℕ → ℕ) → List ℕ → ℕ
 firstGiven f [] = 0
 firstGiven f (k ∷ l) = f k orelse firstGiven f l
 
--- 14: bench not 1 to 8, bench twice, or 9 rows
-unfoldable pub rollFaulty : List RollRow → Bool
-rollFaulty roll =
-    not (all (λ row. leb 1 (row .bench) && leb (row .bench) 8) roll) || (not (distinct (map (λ row. row .bench) roll)) || ltb 8 (length roll))
-
 -- the number of the refusal: rows of the proposals, the roll, then the faults of the whole call
 unfoldable pub electionFault : ℕ → Proposals → List RollRow → ℕ
 electionFault e P roll =
@@ -51,9 +48,6 @@ electionFault e P roll =
 
 unfoldable pub cast : ℕ → Proposals → List RollRow → List Ballot
 cast e P roll = ballots (held P) e roll
-
-abbrev pub counted : List Ballot → Election
-counted l = record { number = 0; won = won l; greatest = greatest l; silent = silent l; total = total l }
 
 abbrev pub refusedElection : ℕ → Election
 refusedElection n = record { number = n; won = false; greatest = 0; silent = 0; total = 0 }

@@ -44,7 +44,7 @@ has-at [] i d h = absurd (omega arith)
 has-at (c ∷ l) zero d h = records.has-head c l
 has-at (c ∷ l) (suc i) d h = records.has-tail _ _ _ c l (has-at l i d (omega arith))
 
-at-has {ℓ} : {P : Type ℓ} (l : List Constraint) (d : Constraint) (a k b : ℕ) → has a k b l ≡ true
+pub at-has {ℓ} : {P : Type ℓ} (l : List Constraint) (d : Constraint) (a k b : ℕ) → has a k b l ≡ true
     → ((i : ℕ) → i < length l → getD l i d .left ≡ a → getD l i d .rule ≡ k → getD l i d .right ≡ b → P) → P
 unfolding has any
 at-has [] d a k b h f = clash h refl
@@ -127,7 +127,7 @@ module _ (R : Record) (f : Fit R) (heads links lefts : List ℕ) (j : ℕ) (q : 
   pub resolving-end : Resolved R heads links lefts
   resolving-end = record { formed = f .formed; paired = f .paired; notafters = leads-rule 0; enablers = leads-rule 1; pairs = leads-rule 2 }
 
-getD-any : {A : Type 0} (l : List A) (i : ℕ) (d e : A) → i < length l → getD l i d ≡ getD l i e
+pub getD-any : {A : Type 0} (l : List A) (i : ℕ) (d e : A) → i < length l → getD l i d ≡ getD l i e
 getD-any [] i d e h = absurd (omega arith)
 getD-any (x ∷ l) zero d e h = refl
 getD-any (x ∷ l) (suc i) d e h = getD-any l i d e (omega arith)

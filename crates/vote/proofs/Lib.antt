@@ -1,2 +1,3 @@
 pub mod Bundles
 pub mod Elections
+pub mod Front

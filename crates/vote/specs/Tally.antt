@@ -10,6 +10,7 @@ use Rattle.record.specs.declared.Constraint.{Constraint}
 use Rattle.record.specs.Record.{Record}
 use Rattle.row.specs.Row.{same, editRow, constraintRow}
 use Rattle.vote.specs.declared.RollRow.{RollRow}
+use Rattle.vote.specs.declared.Election.{Election}
 use Rattle.vote.specs.Bundle.{vote}
 
 -- Votes are equal when edits, bodies and constraints are.
@@ -84,3 +85,7 @@ winnerOf l (b ∷ m) = let r = winnerOf l m in cond (ltb (total l) (2 * group l 
 
 unfoldable pub winner : List Ballot → Option Record
 winner l = winnerOf l l
+
+-- the answer: the greatest group's weight (0 if all are silent), silent weight and total
+abbrev pub counted : List Ballot → Election
+counted l = record { number = 0; won = won l; greatest = greatest l; silent = silent l; total = total l }

@@ -1,0 +1,3 @@
+pub mod Sifting
+pub mod Bundling
+pub mod Judging

@@ -1,0 +1,4 @@
+pub mod Equal
+pub mod Counts
+pub mod Steps
+pub mod Winners
