@@ -1,5 +1,6 @@
 // Tables of edits and of constraints that join a record (document 01, "What is turned away"): the number of the first faulty row. One walk through the
-// record's table and the lent rows, both in order. The functions are pub for the crates of this workspace that unite records.
+// record's table and the lent rows, both in order. The functions are pub for the crates of this workspace that unite records
+// or read rows one after the other; these hand a row of the table, so the functions require it.
 use ground::Step;
 use record::Constraint;
 use record::Edit;
@@ -22,7 +23,7 @@ ghost use Rattle.table.specs.Table.{editRows, constraintRows, namesOf, p
 ghost use Rattle.table.specs.Checked.{Checked, Ordered, Marked};
 
 // Whether row i is above the row before it.
-fn edit_follows(t: &[[u32; 5]], i: usize) -> bool
+pub fn edit_follows(t: &[[u32; 5]], i: usize) -> bool
     requires { ⌜ i < length (now t) ⌝ }
     ensures { λ r. ⌜ (Ascending (take 1) (take i (now (t .entry))) → not r ≡ misplaced 1 (take i (now (t .entry))) (getD (now (t .entry)) i [])) ⌝ }
 {
@@ -33,7 +34,7 @@ fn edit_follows(t: &[[u32; 5]], i: usize) -> bool
 }
 
 // Whether the name of row i stands above it.
-fn edit_repeated(t: &[[u32; 5]], i: usize) -> bool
+pub fn edit_repeated(t: &[[u32; 5]], i: usize) -> bool
     requires { ⌜ i < length (now t) ⌝ }
     ensures { λ r. ⌜ r ≡ known 1 (getD (now (t .entry)) i []) (take i (now (t .entry))) ⌝ }
 {
@@ -163,7 +164,7 @@ fn is_decision(left: u32, rule: u32, right: u32) -> bool
 }
 
 // The lowest of 5, 6 and 7 that holds of a row.
-fn constraint_further(row: [u32; 3], marks: &[u8], adding: bool) -> u32
+pub fn constraint_further(row: [u32; 3], marks: &[u8], adding: bool) -> u32
     ensures { λ r. ⌜ ((names : List ℕ) → Marked (now (marks .entry)) names → r ≡ constraintFurther names adding row) ⌝ }
 {
     let left = row[0];
@@ -188,7 +189,7 @@ fn constraint_further(row: [u32; 3], marks: &[u8], adding: bool) -> u32
 }
 
 // Whether row i is above the row before it.
-fn constraint_follows(t: &[[u32; 3]], i: usize) -> bool
+pub fn constraint_follows(t: &[[u32; 3]], i: usize) -> bool
     requires { ⌜ i < length (now t) ⌝ }
     ensures { λ r. ⌜ (Ascending (take 3) (take i (now (t .entry))) → not r ≡ misplaced 3 (take i (now (t .entry))) (getD (now (t .entry)) i [])) ⌝ }
 {
@@ -199,7 +200,7 @@ fn constraint_follows(t: &[[u32; 3]], i: usize) -> bool
 }
 
 // Whether row i stands above it already.
-fn constraint_repeated(t: &[[u32; 3]], i: usize) -> bool
+pub fn constraint_repeated(t: &[[u32; 3]], i: usize) -> bool
     requires { ⌜ i < length (now t) ⌝ }
     ensures { λ r. ⌜ r ≡ known 3 (getD (now (t .entry)) i []) (take i (now (t .entry))) ⌝ }
 {
