@@ -7,7 +7,7 @@ use Prim.Native.Nat.{ℕ, zero, suc, _+_, _≤_, _<_}
 use native.Mathlib.Omega.{arith}
 use borrow.Author.Tests.{eqb-true, eq-eqb}
 use lib.Dec.{eqb}
-use lib.ListN.{length, length-append}
+use lib.ListN.{length, length-append, length-map}
 use Rattle.record.specs.declared.Edit.{Edit}
 use Rattle.record.specs.declared.Constraint.{Constraint}
 use Rattle.record.specs.Lists.{all}
@@ -125,10 +125,6 @@ pub record Took (text : List ℕ) (R : Record) : Type 0 where
   pub same : textOf R ≡ text
   pub count : length (R .edits) + length (R .constraints) ≡ length (lines text)
 
-map-length : {A B : Type 0} (f : A → B) (l : List A) → length (map f l) ≡ length l
-map-length f [] = refl
-map-length f (x ∷ l) = ap suc (map-length f l)
-
 took : (text : List ℕ) (R : Record) → Came [] [] (lines text) R → Took text R
 unfolding valuesFit rowsText joinedLines
 took text R c =
@@ -144,7 +140,7 @@ took text R c =
           let b : editRow x ≡ r = ap editRow q ∙ edit-back r (accepted-range editKind [] es (c .given .edit-table) r k) in
           rw b (value-fits r (all-has isEditRow es (c .given .form) r k))));
       same = rw (e, f) (c .text-is ∙ joined-is (lines text) ∙ lines-all text);
-      count = omega (arith, map-length editOf es, map-length constraintOf cs, c .count);
+      count = omega (arith, length-map es editOf, length-map cs constraintOf, c .count);
     })
 
 pub rows-took : (text : List ℕ) (R : Record) → readRows text ≡ Accepted R → Took text R
