@@ -1,13 +1,13 @@
 -- A table without a faulty row: its rows are in range, it ascends without repeats, has a place for each row once it has joined, and has no other body for a known key.
 -- And a table by itself that is so has no faulty row. Assumes nothing.
-use mathlib.Core.Path.{_≡_, refl, ap, sym, _∙_}
-use mathlib.Core.Bool.{Bool, true, false, cond, not, _&&_, _||_}
-use mathlib.Core.Logic.{_⊎_, inl, inr, ⊎-elim}
-use mathlib.Core.List.{List, [], _∷_, _++_, append-assoc, append-nil}
-use Prim.Native.Nat.{ℕ, zero, suc, _+_, _≤_, _<_}
+use mathlib.Core.Path.{_≡_, refl}
+use mathlib.Core.Bool.{Bool, true, false, not, _&&_}
+use mathlib.Core.Logic.{inl, inr}
+use mathlib.Core.List.{[], _∷_, _++_, append-assoc, append-nil}
+use Prim.Native.Nat.{_≤_, _<_}
 use native.Mathlib.Omega.{arith}
-use borrow.Author.Tests.{not-true, not-false, leb-false, lt-leb}
-use lib.Dec.{leb, eqb}
+use borrow.Author.Tests.{not-false, leb-false, lt-leb}
+use lib.Dec.{leb}
 use lib.ListN.{length, take, length-append}
 use Rattle.record.specs.Lists.{any}
 use Rattle.keyed.specs.Keyed.{Below, Ascending, inserted, united}
@@ -15,7 +15,7 @@ use Rattle.keyed.proofs.Logic.{by, Has, any-no, any-by}
 use Rattle.keyed.proofs.Union.{late, ascending-last, ascending-snoc, ascending-united, united-snoc, united-old, united-alone, inserted-known, length-inserted}
 use Rattle.row.specs.Row.{Row, same}
 use Rattle.row.proofs.Compared.{same-eq}
-use Rattle.ground.specs.Ground.{Rows, Kind, alike, known, noPlace, otherBody, misplaced, rowFault, firstFault, tableFault, _given_, _orelse_}
+use Rattle.ground.specs.Ground.{Rows, Kind, alike, known, noPlace, otherBody, misplaced, rowFault, tableFault, _given_, _orelse_}
 use Rattle.ground.proofs.Grounds.{orelse-none, given-none, Clean, clean, clean-is, before-none, clashes}
 
 -- a row without fault

@@ -1,18 +1,17 @@
 -- The elements that the rows of a table without fault are, and their union with those of the record, for tables of any kind. Assumes nothing.
 use mathlib.Core.Path.{_≡_, refl, ap, sym, _∙_}
-use mathlib.Core.Bool.{Bool, true, false}
-use mathlib.Core.Logic.{_⊎_, inl, inr, ⊎-elim}
+use mathlib.Core.Bool.{true}
+use mathlib.Core.Logic.{inl, inr}
 use mathlib.Core.List.{List, [], _∷_, map}
 use Prim.Native.Nat.{ℕ, _≤_}
 use native.Mathlib.Omega.{arith}
 use lib.ListN.{length, take, length-map}
-use lib.Seq.{length-take-le}
-use Rattle.keyed.specs.Keyed.{precedes, Ascending, united}
+use Rattle.keyed.specs.Keyed.{Ascending, united}
 use Rattle.keyed.proofs.Logic.{Has, has-map, has-mapped}
 use Rattle.keyed.proofs.Union.{ascending-map, map-united, Agree, united-comm, length-grown}
 use Rattle.row.specs.Row.{Row, same}
 use Rattle.row.proofs.Compared.{neither-same}
-use Rattle.ground.specs.Ground.{Rows, Kind, tableFault}
+use Rattle.ground.specs.Ground.{Rows, tableFault}
 use Rattle.ground.proofs.Loop.{Elements, key-wide}
 use Rattle.ground.proofs.Accepted.{accepted-range, accepted-further, accepted-ascending, accepted-within, accepted-alike, accepted-alone}
 

@@ -1,24 +1,24 @@
 -- The scans around the walk: the row before, a repeated key, the place of a row out of order, and what a step makes of the first fault. Assumes nothing.
 use mathlib.Core.Path.{_≡_, refl, ap, sym, _∙_}
-use mathlib.Core.Bool.{Bool, true, false, cond, not, _&&_, _||_, and-false}
-use mathlib.Core.Logic.{_⊎_, inl, inr}
+use mathlib.Core.Bool.{Bool, true, false, cond, not, _&&_, and-false}
+use mathlib.Core.Logic.{inl, inr}
 use mathlib.Core.List.{List, [], _∷_, _++_, map}
 use Prim.Native.Nat.{ℕ, zero, suc, _+_, _-_, _≤_, _<_}
 use native.Mathlib.Nat.{add-zero}
 use native.Mathlib.Numerals.{add-one}
 use native.Mathlib.Omega.{arith}
 use borrow.Author.Tests.{ltb-true, ltb-false}
-use lib.Dec.{leb, ltb, eqb}
+use lib.Dec.{leb, ltb}
 use lib.ListN.{length, take, drop, getD, drop-of-length-le, length-map}
 use lib.Seq.{take-suc, drop-cons, length-take-le, getD-take}
 use Rattle.record.specs.Lists.{any}
 use Rattle.keyed.specs.Keyed.{precedes, Ascending}
-use Rattle.keyed.proofs.Logic.{by, clash, Has, has-getD}
+use Rattle.keyed.proofs.Logic.{by, Has, has-getD}
 use Rattle.keyed.proofs.Union.{late, late-snoc, late-is}
-use Rattle.row.specs.Row.{Row, same}
+use Rattle.row.specs.Row.{same}
 use Rattle.row.proofs.Compared.{neither-same}
 use Rattle.ground.specs.declared.Step.{Step}
-use Rattle.ground.specs.Ground.{Rows, alike, known, noPlace, otherBody, misplaced, firstFault, _given_, _orelse_}
+use Rattle.ground.specs.Ground.{Rows, known, noPlace, otherBody, misplaced, firstFault}
 use Rattle.ground.specs.Walk.{stepped, stepAt, asNew, lateNumber, laterNumber, PlaceOf, lateFault}
 use Rattle.ground.proofs.Grounds.{clashes, place-end, place-new, place-known, scan-here, scan-more}
 use Rattle.ground.proofs.Walks.{Walk, Told, passes, stays, joins, lacks, differs}
@@ -60,11 +60,6 @@ pub getD-map : {A : Type 0} (f : A → List ℕ) (l : List A) (p : ℕ) (d : A) 
 getD-map f [] p d h = absurd (omega arith)
 getD-map f (x ∷ l) zero d h = refl
 getD-map f (x ∷ l) (suc p) d h = getD-map f l p d (omega arith)
-
-pub wide-map : {A : Type 0} (f : A → List ℕ) (k w : ℕ) → ((x : A) → length (take k (f x)) ≡ w) → (l : List A) (r : List ℕ) → Has r (map f l) → length (take k r) ≡ w
-wide-map f k w g [] r h = absurd h
-wide-map f k w g (x ∷ l) r (inl e) = rw e (g x)
-wide-map f k w g (x ∷ l) r (inr h) = wide-map f k w g l r h
 
 module _ {A : Type 0} (f : A → List ℕ) (a : List A) (n : ℕ) (l : n ≤ length a) where
   pub table-length : length (map f (take n a)) ≡ n

@@ -1,9 +1,8 @@
 -- The loop that finds the first faulty row of a table, for tables of any kind. Assumes nothing.
 use mathlib.Core.Path.{_≡_, refl, ap, sym, _∙_}
-use mathlib.Core.Bool.{Bool, true, false, cond, not, _&&_, _||_}
-use mathlib.Core.Logic.{_⊎_, inl, inr}
-use mathlib.Core.List.{List, [], _∷_, _++_, map}
-use Prim.Native.Nat.{ℕ, zero, suc, _+_, _-_, _≤_, _<_}
+use mathlib.Core.Bool.{Bool, true, false, cond, not, _&&_}
+use mathlib.Core.List.{List, [], map}
+use Prim.Native.Nat.{ℕ, _+_, _≤_, _<_}
 use native.Mathlib.Omega.{arith}
 use borrow.Author.Tests.{eqb-true, eq-eqb}
 use lib.Dec.{ltb, leb, eqb}
@@ -16,7 +15,7 @@ use Rattle.row.specs.Row.{Row, same}
 use Rattle.ground.specs.declared.Step.{Step}
 use Rattle.ground.specs.Ground.{Rows, Kind, alike, known, noPlace, otherBody, misplaced, rowFault, firstFault, tableFault, _given_, _orelse_}
 use Rattle.ground.specs.Walk.{stepped, stepAt, lateNumber, laterNumber, PlaceOf, lateFault, lateFurther}
-use Rattle.ground.proofs.Grounds.{given-orelse, scan-here, scan-more, scan-end}
+use Rattle.ground.proofs.Grounds.{given-orelse, scan-here, scan-end}
 use Rattle.ground.proofs.Walks.{Walk, Told, told, walk-start}
 use Rattle.ground.proofs.Lates.{table-length, table-at, late-number, walk-goes, walk-stops}
 

@@ -1,5 +1,5 @@
 -- The step of the walk, by its tests. Assumes nothing.
-use mathlib.Core.Path.{_≡_, refl}
+use mathlib.Core.Path.{_≡_}
 use mathlib.Core.Bool.{Bool, true, false}
 use Rattle.ground.specs.declared.Step.{Step}
 use Rattle.ground.specs.Walk.{stepped, passedRow, knownRow, newRow, refused, asNew}

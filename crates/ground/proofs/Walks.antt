@@ -1,23 +1,23 @@
 -- The walk through an ascending table and the lent rows that join it. Assumes nothing.
 use mathlib.Core.Path.{_≡_, refl, ap, sym, _∙_}
-use mathlib.Core.Bool.{Bool, true, false, not, _&&_, _||_}
+use mathlib.Core.Bool.{Bool, true, false}
 use mathlib.Core.Logic.{_⊎_, inl, inr, ⊎-elim}
 use mathlib.Core.List.{List, [], _∷_, _++_}
-use Prim.Native.Nat.{ℕ, zero, suc, _+_, _-_, _≤_, _<_}
+use Prim.Native.Nat.{ℕ, _+_, _-_, _≤_, _<_}
 use native.Mathlib.Numerals.{add-one}
 use native.Mathlib.Omega.{arith}
-use borrow.Author.Tests.{leb-true, leb-false, ltb-true, ltb-false}
+use borrow.Author.Tests.{leb-false, ltb-true, ltb-false}
 use lib.Dec.{leb, ltb}
-use lib.ListN.{length, take, drop, getD}
+use lib.ListN.{length, take, getD}
 use lib.Seq.{take-suc}
 use Rattle.record.specs.Lists.{any}
 use Rattle.keyed.specs.Keyed.{precedes, Ascending, inserted, united}
 use Rattle.keyed.proofs.Logic.{by, clash, Has, has-getD, any-no}
 use Rattle.keyed.proofs.Union.{late, late-snoc, late-last, late-more, late-has, ascending-snoc, ascending-united, united-snoc, united-has, united-old, inserted-known, length-new}
-use Rattle.row.specs.Row.{Row, same}
+use Rattle.row.specs.Row.{same}
 use Rattle.row.proofs.Compared.{same-eq, neither-same}
 use Rattle.ground.specs.declared.Step.{Step}
-use Rattle.ground.specs.Ground.{Rows, alike, known, noPlace, otherBody, misplaced}
+use Rattle.ground.specs.Ground.{Rows, alike, known, noPlace, otherBody}
 use Rattle.ground.specs.Walk.{stepped, stepAt, passedRow, knownRow, newRow, refused, asNew}
 use Rattle.ground.proofs.Grounds.{clashes, before-none, place-end, place-new, place-known}
 

@@ -1,5 +1,5 @@
 -- Document 01, "What is turned away": the grounds that a row of a table meets, one condition each, and the number that is given. For tables of any kind. Assumes nothing.
-use mathlib.Core.Bool.{Bool, true, false, cond, not, _&&_}
+use mathlib.Core.Bool.{Bool, cond, not, _&&_}
 use mathlib.Core.List.{List, [], _∷_, _++_}
 use Prim.Native.Nat.{ℕ}
 use lib.Dec.{leb, eqb}

@@ -1,6 +1,6 @@
 -- The order of keys: it is strict and transitive, and of two keys of one length one precedes the other unless they are equal. Assumes nothing.
 use mathlib.Core.Path.{_≡_, refl, sym, _∙_}
-use mathlib.Core.Bool.{Bool, true, false, cond, _&&_}
+use mathlib.Core.Bool.{true, false}
 use mathlib.Core.Logic.{_⊎_, inl, inr, ⊎-elim}
 use mathlib.Core.List.{List, [], _∷_}
 use Prim.Native.Nat.{ℕ, _≤_, _<_}
@@ -82,10 +82,7 @@ less-total (x ∷ a) (y ∷ b) l p q =
     r)
     (three x y)
 
-pub less-asym : (a b : List ℕ) → precedes a b ≡ true → precedes b a ≡ false
-less-asym a b e = by (precedes b a) (λ f. clash (less-trans a b a e f) (less-irrefl a)) (λ f. f)
-
--- equal keys are compared alike with others
+-- keys of one number
 pub less-one : (x y : ℕ) → precedes (x ∷ []) (y ∷ []) ≡ ltb x y
 unfolding precedes
 less-one x y = by (ltb x y) (λ e. rw e) (λ e. by (ltb y x) (λ f. rw (e, f)) (λ f. rw (e, f)))

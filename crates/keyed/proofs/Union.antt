@@ -1,12 +1,12 @@
 -- Tables in order of a key, insertion and union, for elements of any type. Assumes nothing.
 use mathlib.Core.Path.{_≡_, refl, ap, sym, _∙_}
-use mathlib.Core.Bool.{Bool, true, false, cond, not, _&&_, _||_}
+use mathlib.Core.Bool.{Bool, true, false, not}
 use mathlib.Core.Logic.{_⊎_, inl, inr, ⊎-elim}
 use mathlib.Core.List.{List, [], _∷_, _++_, map}
-use Prim.Native.Nat.{ℕ, zero, suc, _+_, _≤_, _<_}
+use Prim.Native.Nat.{ℕ, suc, _≤_}
 use native.Mathlib.Omega.{arith}
 use lib.ListN.{length}
-use borrow.Author.Tests.{not-true, not-false}
+use borrow.Author.Tests.{not-false}
 use Rattle.record.specs.Lists.{any}
 use Rattle.keyed.specs.Keyed.{precedes, Below, Ascending, inserted, united}
 use Rattle.keyed.proofs.Logic.{by, clash, Has, or-no-l, or-no-r, any-append, any-none, any-no}
@@ -242,9 +242,6 @@ module _ {A : Type 0} (key : A → List ℕ) where
 
   pub late-has : (s : List A) (q : List ℕ) → late s q ≡ false → (r : A) → Has r s → precedes (key r) q ≡ true
   late-has s q h r m = not-false (precedes (key r) q) (any-no (λ r. not (precedes (key r) q)) s h r m)
-
-  pub late-none : (s : List A) (q : List ℕ) → ((r : A) → Has r s → precedes (key r) q ≡ true) → late s q ≡ false
-  late-none s q f = any-none (λ r. not (precedes (key r) q)) s (λ r m. let e : precedes (key r) q ≡ true = f r m in rw e)
 
   pub late-snoc : (s : List A) (r : A) (q : List ℕ) → late s q ≡ false → precedes (key r) q ≡ true → late (s ++ (r ∷ [])) q ≡ false
   unfolding any

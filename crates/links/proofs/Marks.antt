@@ -1,12 +1,13 @@
 -- Values and marks by index: what stands at an index, and that this determines them. Assumes nothing.
 use mathlib.Core.Path.{_≡_, refl, sym, ap, _∙_}
+use mathlib.Core.Logic.{_≢_}
 use mathlib.Core.Bool.{Bool, true, false, cond}
 use mathlib.Core.List.{List, [], _∷_, _++_, map}
 use Prim.Native.Nat.{ℕ, zero, suc, _+_, _-_, _≤_, _<_}
 use native.Mathlib.Omega.{arith}
-use lib.ListN.{length, getD, replicate, length-append, length-replicate, List·getD-append}
-use lib.Seq.{ext-getD, getD-append-add}
-use Rattle.record.specs.Lists.{_among_}
+use lib.ListN.{length, getD, set, replicate, length-append, length-replicate, List·getD-append}
+use lib.Seq.{ext-getD, set-out, getD-set-same, getD-set-other}
+use Rattle.record.specs.Lists.{mem, _among_}
 use Rattle.record.specs.Record.{Record, names}
 use Rattle.record.specs.Stored.{padded}
 use Rattle.record.proofs.Lists.{by, clash, is-by, le-by}
@@ -19,14 +20,21 @@ zeros-get zero y = refl
 zeros-get (suc c) zero = refl
 zeros-get (suc c) (suc y) = zeros-get c y
 
-length-mapped : (f : ℕ → ℕ) (l : List ℕ) → length (map f l) ≡ length l
+-- a bound on all values stays, wherever one below it is set
+pub set-below : (l : List ℕ) (i v b : ℕ) → v < b → ((q : ℕ) → getD l q 0 < b) → (q : ℕ) → getD (set l i v) q 0 < b
+set-below l i v b k f q =
+    is-by q i
+    (λ e. le-by (length l) i (λ h. rw (set-out l i v h) (f q)) (λ h. rw (e, getD-set-same l i v 0 h) k))
+    (λ e. rw (getD-set-other l i q v 0 e) (f q))
+
+pub length-mapped : {A B : Type 0} (f : A → B) (l : List A) → length (map f l) ≡ length l
 length-mapped f [] = refl
 length-mapped f (x ∷ l) = ap suc (length-mapped f l)
 
-getD-mapped : (f : ℕ → ℕ) (l : List ℕ) (i : ℕ) → i < length l → getD (map f l) i 0 ≡ f (getD l i 0)
-getD-mapped f [] i h = absurd (omega arith)
-getD-mapped f (x ∷ l) zero h = refl
-getD-mapped f (x ∷ l) (suc i) h = getD-mapped f l i (omega arith)
+pub getD-mapped : {A B : Type 0} (f : A → B) (l : List A) (i : ℕ) (d : A) (e : B) → i < length l → getD (map f l) i e ≡ f (getD l i d)
+getD-mapped f [] i d e h = absurd (omega arith)
+getD-mapped f (x ∷ l) zero d e h = refl
+getD-mapped f (x ∷ l) (suc i) d e h = getD-mapped f l i d e (omega arith)
 
 past-end : (f : ℕ → ℕ) (l : List ℕ) (c y : ℕ) → length l ≤ y → getD (map f l ++ replicate c 0) y 0 ≡ 0
 past-end f [] c y h = zeros-get c y
@@ -44,7 +52,7 @@ module _ (R : Record) (value : ℕ → ℕ) where
   unfolding valuesOf padded
   values-at y h =
       rw (List·getD-append (map value (names R)) (replicate (128 - length (map value (names R))) 0) 0 y (omega (arith, length-mapped value (names R))))
-      (getD-mapped value (names R) y h)
+      (getD-mapped value (names R) y 0 0 h)
 
   pub values-past : (y : ℕ) → length (names R) ≤ y → getD (valuesOf R value) y 0 ≡ 0
   unfolding valuesOf padded
@@ -56,6 +64,25 @@ module _ (R : Record) (value : ℕ → ℕ) where
   values-are m few size f z =
       ext-getD 0 m (valuesOf R value) (size ∙ sym (values-size few))
       (λ y h. le-by (length (names R)) y (λ k. z y k ∙ sym (values-past y k)) (λ k. f y k ∙ sym (values-at y k)))
+
+-- what a loop that fills in values by index keeps
+pub record Filled (R : Record) (value : ℕ → ℕ) (x : ℕ) (r : List ℕ) : Type 0 where
+  pub done : (y : ℕ) → y < x → getD r y 0 ≡ value (nameAt R y)
+  pub past : (y : ℕ) → x ≤ y → getD r y 0 ≡ 0
+
+pub filled-start : (R : Record) (value : ℕ → ℕ) → Filled R value 0 (replicate 128 0)
+filled-start R value = record { done = λ y h. absurd (omega arith); past = λ y h. zeros-get 128 y }
+
+pub filled-step : (R : Record) (value : ℕ → ℕ) (x : ℕ) (r : List ℕ) (v : ℕ) → x < length r → v ≡ value (nameAt R x) → Filled R value x r
+    → Filled R value (x + 1) (set r x v)
+filled-step R value x r v l e g = record {
+  done = λ y h. is-by y x (λ q. rw (q, getD-set-same r x v 0 l) e) (λ q. rw (getD-set-other r x y v 0 q) (g .done y (omega (arith, q))));
+  past = λ y h. let n : y ≢ x = λ q. omega arith in rw (getD-set-other r x y v 0 n) (g .past y (omega arith));
+}
+
+pub filled-end : (R : Record) (value : ℕ → ℕ) (x : ℕ) (r : List ℕ) → length (names R) ≤ 128 → length r ≡ 128 → x ≡ length (names R) → Filled R value x r
+    → r ≡ valuesOf R value
+filled-end R value x r few size e g = values-are R value r few size (λ y h. g .done y (omega arith)) (λ y h. g .past y (omega arith))
 
 pub values-same : (R : Record) (f g : ℕ → ℕ) → length (names R) ≤ 128 → ((x : ℕ) → x among names R → f x ≡ g x) → valuesOf R f ≡ valuesOf R g
 values-same R f g few h =
@@ -111,3 +138,7 @@ module _ (R : Record) (test : ℕ → Bool) where
 pub marks-same : (R : Record) (p q : ℕ → Bool) → length (names R) ≤ 128 → ((x : ℕ) → x among names R → p x ≡ q x) → marksOf R p ≡ marksOf R q
 unfolding marksOf
 marks-same R p q few h = values-same R _ _ few (λ x i. ap (λ b. cond b 1 0) (h x i))
+
+pub none-marked : (R : Record) → length (names R) ≤ 128 → replicate 128 0 ≡ marksOf R (λ y. mem y [])
+unfolding marksOf mem
+none-marked R few = values-are R _ (replicate 128 0) few refl (λ y h. zeros-get 128 y) (λ y h. zeros-get 128 y)

@@ -67,7 +67,7 @@ pub fn closed(
     x: usize,
 ) -> [u8; 128]
     requires { ⌜ Safe (now head) (now link) (now left) × (base ≤ 256) × (x < 128) × (length marks ≡ 128) ⌝ }
-    ensures { λ r. ⌜ ((leads : ℕ → ℕ → Bool) (R : Record) (known s : List ℕ) → Leads leads R base (now (head .entry)) (now (link .entry)) (now (left .entry))
+    ensures { λ r. ⌜ (length r ≡ 128) × ((leads : ℕ → ℕ → Bool) (R : Record) (known s : List ℕ) → Leads leads R base (now (head .entry)) (now (link .entry)) (now (left .entry))
         → ((a b : ℕ) → leads a b ≡ true → a among known) → ((a b : ℕ) → leads a b ≡ true → b among s → a among s)
         → x < length (names R) → s within names R → marks ≡ marksOf R (λ y. mem y s)
         → r ≡ marksOf R (λ y. mem y (closure leads known (nameAt R x ∷ s)))) ⌝ }

@@ -1,12 +1,12 @@
 -- The place of a number in an ascending list, looked for by halving. Assumes nothing.
 use mathlib.Core.Path.{_≡_, refl, ap, sym, _∙_}
-use mathlib.Core.Bool.{Bool, true, false, cond, _&&_, _||_}
-use mathlib.Core.List.{List, [], _∷_, _++_, map, map-append}
-use Prim.Native.Nat.{ℕ, zero, suc, _+_, _-_, _*_, _≤_, _<_, _/_}
+use mathlib.Core.Bool.{true}
+use mathlib.Core.List.{List, [], _∷_, map, map-append}
+use Prim.Native.Nat.{ℕ, zero, suc, _+_, _-_, _≤_, _<_, _/_}
 use native.Mathlib.Nat.{sub-zero, div-lt-iff-lt-mul}
 use native.Mathlib.Numerals.{add-one}
 use native.Mathlib.Omega.{arith}
-use borrow.Author.Tests.{eqb-true, eqb-false, eq-eqb, ne-eqb, ltb-true, ltb-false, lt-ltb, le-ltb}
+use borrow.Author.Tests.{eq-eqb, ne-eqb, ltb-true, ltb-false, lt-ltb, le-ltb}
 use lib.Dec.{eqb, ltb}
 use lib.ListN.{length, take, getD, set, length-map}
 use lib.Seq.{take-suc, take-suc-set}
@@ -15,7 +15,7 @@ use Rattle.record.specs.declared.Record as declared
 use Rattle.record.specs.Lists.{at, mem, ascending}
 use Rattle.record.specs.Record.{Record, nameOf, written, names}
 use Rattle.record.specs.Stored.{recordOf, stored}
-use Rattle.keyed.proofs.Logic.{by, clash, and-l, and-r}
+use Rattle.keyed.proofs.Logic.{by, and-l, and-r}
 use Rattle.table.specs.Checked.{Checked}
 use Rattle.table.proofs.Records.{checked-ascending}
 use Rattle.table.proofs.Tables.{held}

@@ -1,13 +1,13 @@
 -- Rows in range: their bounds, and that decoding and the row of what is decoded are inverse. Assumes nothing.
 use mathlib.Core.Path.{_≡_, refl, ap, sym, _∙_}
-use mathlib.Core.Bool.{Bool, true, false, cond, not, _&&_, _||_}
-use mathlib.Core.List.{List, [], _∷_}
-use Prim.Native.Nat.{ℕ, zero, suc, _+_, _*_, _≤_, _<_, _/_, _%_}
+use mathlib.Core.Bool.{Bool, true, false, _&&_}
+use mathlib.Core.List.{[], _∷_}
+use Prim.Native.Nat.{ℕ, zero, suc, _≤_, _<_, _/_, _%_}
 use native.Mathlib.Omega.{arith}
 use native.Mathlib.Nat.{div-lt-iff-lt-mul}
-use borrow.Author.Tests.{eqb-true, eqb-false, eq-eqb, ne-eqb, lt-ltb, le-ltb, le-leb, lt-leb, leb-true, ltb-true, not-true, not-false}
+use borrow.Author.Tests.{eqb-true, eq-eqb, ne-eqb, lt-ltb, le-ltb, le-leb, lt-leb, leb-true, ltb-true}
 use lib.Dec.{leb, ltb, eqb}
-use lib.ListN.{length, getD, take}
+use lib.ListN.{length}
 use Rattle.record.specs.declared.Field.{Field}
 use Rattle.record.specs.declared.Field.the-variants.{Id, Size, Erase, Page}
 use Rattle.record.specs.declared.Body.{Body}

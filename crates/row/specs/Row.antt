@@ -1,5 +1,5 @@
 -- Document 01, "The record": edits and constraints as rows of numbers, the range of each cell, and the edit or constraint that a row in range is. Assumes nothing.
-use mathlib.Core.Bool.{Bool, true, false, cond, not, _&&_, _||_}
+use mathlib.Core.Bool.{Bool, true, false, cond, _&&_, _||_}
 use mathlib.Core.List.{List, [], _∷_}
 use Prim.Native.Nat.{ℕ, zero, suc, _/_, _%_}
 use lib.Dec.{leb, ltb, eqb}

@@ -8,16 +8,13 @@ use lib.ListN.{length, take, length-map}
 use Rattle.record.specs.declared.Edit.{Edit}
 use Rattle.record.specs.declared.Constraint.{Constraint}
 use Rattle.record.specs.declared.Record as declared
-use Rattle.record.specs.Stored.{recordOf}
-use Rattle.record.specs.Record.{Record}
 use Rattle.keyed.specs.Keyed.{Ascending}
 use Rattle.keyed.proofs.Union.{ascending-map}
 use Rattle.row.specs.Row.{editRow, constraintRow, editOf, constraintOf}
 use Rattle.row.proofs.Cells.{edit-wide, constraint-wide, edit-back, edit-again, constraint-back, constraint-again}
 use Rattle.ground.proofs.Loop.{Elements}
 use Rattle.ground.proofs.Decoded.{Coding}
-use Rattle.table.specs.Table.{editKind, constraintKind, editRows, constraintRows, editKey, constraintKey}
-use Rattle.table.specs.Checked.{Ordered}
+use Rattle.table.specs.Table.{editKind, constraintKind, editKey, constraintKey}
 
 abbrev pub editElements : Elements
 editElements = record { A = Edit; kind = editKind; rowOf = editRow; width = 5; narrow = omega arith; wide = edit-wide }

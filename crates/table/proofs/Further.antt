@@ -1,16 +1,15 @@
 -- The grounds 5, 6 and 7 of a constraint, by their tests. Assumes nothing.
-use mathlib.Core.Path.{_≡_, refl, ap, sym, _∙_}
-use mathlib.Core.Bool.{Bool, true, false, cond, not, _&&_, _||_, or-false}
+use mathlib.Core.Path.{_≡_, refl, sym, _∙_}
+use mathlib.Core.Bool.{Bool, true, false, cond, not, _&&_, or-false}
 use mathlib.Core.List.{List, [], _∷_}
-use Prim.Native.Nat.{ℕ, zero, suc, _≤_, _<_}
+use Prim.Native.Nat.{ℕ, zero, suc, _≤_}
 use native.Mathlib.Omega.{arith}
 use borrow.Author.Tests.{eqb-true, eq-eqb, ne-eqb}
 use lib.Dec.{ltb, eqb}
 use lib.ListN.{length, getD}
 use Rattle.record.specs.Lists.{mem}
 use Rattle.keyed.proofs.Logic.{by}
-use Rattle.row.specs.Row.{Row, cell}
-use Rattle.ground.specs.Ground.{_given_, _orelse_}
+use Rattle.row.specs.Row.{cell}
 use Rattle.table.specs.Table.{unknown, pairNotAllowed, decision, constraintFurther}
 use Rattle.table.specs.Checked.{Marked}
 

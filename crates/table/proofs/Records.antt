@@ -1,23 +1,23 @@
 -- Checked records: what joins a checked record without fault leaves one, its own rows meet no ground, and it is well formed. Assumes nothing.
 use mathlib.Core.Path.{_≡_, refl, ap, sym, _∙_}
-use mathlib.Core.Bool.{Bool, true, false, cond, not, _&&_, _||_}
-use mathlib.Core.Logic.{_⊎_, inl, inr, ⊎-elim}
+use mathlib.Core.Bool.{Bool, true, false, not, _&&_, _||_}
+use mathlib.Core.Logic.{inl, inr, ⊎-elim}
 use mathlib.Core.List.{List, [], _∷_, map}
 use Prim.Native.Nat.{ℕ, zero, suc, _≤_, _<_}
 use native.Mathlib.Omega.{arith}
-use borrow.Author.Tests.{eqb-true, eqb-false, eq-eqb, ne-eqb, not-true, not-false, lt-ltb}
+use borrow.Author.Tests.{eqb-true, not-true, not-false, lt-ltb}
 use lib.Dec.{ltb, eqb}
 use lib.ListN.{length}
 use Rattle.record.specs.declared.Edit.{Edit}
 use Rattle.record.specs.declared.Constraint.{Constraint}
-use Rattle.record.specs.Lists.{any, all, mem, ascending, _among_}
-use Rattle.record.specs.Record.{Record, written, names, nameOf, is, has, WellFormed, Extends}
-use Rattle.keyed.specs.Keyed.{precedes, Below, Ascending, united}
-use Rattle.keyed.proofs.Logic.{by, clash, and-l, and-r, or-no-l, or-no-r, Has, has-map, has-mapped, any-by, all-has, all-by}
+use Rattle.record.specs.Lists.{all, mem, ascending}
+use Rattle.record.specs.Record.{Record, written, names, nameOf, is, has, WellFormed}
+use Rattle.keyed.specs.Keyed.{Below, Ascending, united}
+use Rattle.keyed.proofs.Logic.{by, and-l, and-r, or-no-l, or-no-r, Has, has-map, any-by, all-has, all-by}
 use Rattle.keyed.proofs.Order.{less-one}
-use Rattle.keyed.proofs.Union.{ascending-united, united-has, united-old, united-new, agree-self}
+use Rattle.keyed.proofs.Union.{ascending-united, united-has, united-new, agree-self}
 use Rattle.row.specs.Row.{Row, cell, isName, editInRange, constraintInRange, editOf, constraintOf, editRow, constraintRow}
-use Rattle.row.proofs.Cells.{edit-in-range, edit-decoded, edit-again, name-not-zero}
+use Rattle.row.proofs.Cells.{edit-in-range, edit-decoded, name-not-zero}
 use Rattle.ground.specs.Ground.{Rows, tableFault, _given_, _orelse_}
 use Rattle.ground.proofs.Grounds.{orelse-none, orelse-second, given-none}
 use Rattle.ground.proofs.Accepted.{accepted-range}
@@ -25,7 +25,7 @@ use Rattle.ground.proofs.Decoded.{decoded-again, elements-accepted, lent-range,
 use Rattle.table.specs.Table.{unknown, pairNotAllowed, decision, constraintFurther, editKind, constraintKind, editRows, constraintRows, decoded, emptyTables, joinFault, namesOf, lentFault, addEditFault, addConstraintFault, recordFault, editKey, constraintKey, unite}
 use Rattle.table.specs.Checked.{Checked}
 use Rattle.table.proofs.Elements.{editElements, constraintElements, editCoding, constraintCoding}
-use Rattle.table.proofs.Unions.{mem-by, mem-has, united-extends, joining-extends, united-empty}
+use Rattle.table.proofs.Unions.{mem-by, united-extends, joining-extends, united-empty}
 
 pub empty-checked : Checked emptyTables
 unfolding all

@@ -1,18 +1,17 @@
 -- The union of two records: it contains both, and of a record with a part of itself it is the record. Assumes nothing.
 use mathlib.Core.Path.{_≡_, refl, ap, sym, _∙_}
-use mathlib.Core.Bool.{Bool, true, false, _&&_}
-use mathlib.Core.Logic.{_⊎_, inl, inr}
+use mathlib.Core.Bool.{true}
+use mathlib.Core.Logic.{inl, inr}
 use mathlib.Core.List.{List, [], _∷_, map}
 use Prim.Native.Nat.{ℕ}
 use borrow.Author.Tests.{eqb-true, eq-eqb}
 use lib.Dec.{eqb}
-use lib.ListN.{length}
 use Rattle.record.specs.declared.Edit.{Edit}
 use Rattle.record.specs.declared.Constraint.{Constraint}
-use Rattle.record.specs.Lists.{any, mem, _among_}
-use Rattle.record.specs.Record.{Record, written, names, nameOf, is, has, Extends}
+use Rattle.record.specs.Lists.{mem}
+use Rattle.record.specs.Record.{Record, written, nameOf, is, has, Extends}
 use Rattle.keyed.specs.Keyed.{Ascending, united}
-use Rattle.keyed.proofs.Logic.{by, clash, and-l, and-r, Has, any-by, any-has}
+use Rattle.keyed.proofs.Logic.{by, clash, Has, any-by, any-has}
 use Rattle.keyed.proofs.Union.{united-old, united-key, united-part, united-alone}
 use Rattle.table.specs.Table.{unite, editKey, constraintKey, emptyTables}
 

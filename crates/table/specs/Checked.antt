@@ -1,7 +1,7 @@
 -- Document 01, "The record": what the tables of every stored record have, for no row with a fault has joined it. Assumes nothing.
 use mathlib.Core.Path.{_≡_}
-use mathlib.Core.Bool.{Bool, true, false, not, _&&_}
-use mathlib.Core.List.{List, [], _∷_}
+use mathlib.Core.Bool.{true, not, _&&_}
+use mathlib.Core.List.{List, _∷_}
 use Prim.Native.Nat.{ℕ, _≤_}
 use lib.Dec.{eqb}
 use lib.ListN.{length, getD}

@@ -1,17 +1,15 @@
 -- The choice of the next element of a union, by its tests, and the comparison of two constraints. Assumes nothing.
-use mathlib.Core.Path.{_≡_, refl, sym, _∙_}
-use mathlib.Core.Bool.{Bool, true, false, cond}
+use mathlib.Core.Path.{_≡_, refl, sym}
+use mathlib.Core.Bool.{Bool, true, false}
 use mathlib.Core.List.{List, [], _∷_}
 use Prim.Native.Nat.{ℕ, _+_, _≤_, _<_}
 use native.Mathlib.Omega.{arith}
 use borrow.Author.Tests.{ltb-true, ltb-false, lt-ltb, le-ltb}
-use lib.Dec.{ltb, eqb}
+use lib.Dec.{ltb}
 use Rattle.record.specs.declared.Edit.{Edit}
-use Rattle.record.specs.declared.Constraint.{Constraint}
 use Rattle.keyed.specs.Keyed.{precedes}
-use Rattle.keyed.proofs.Logic.{by, clash}
 use Rattle.keyed.proofs.Order.{less-one}
-use Rattle.table.specs.Table.{editKey, constraintKey}
+use Rattle.table.specs.Table.{editKey}
 use Rattle.unite.specs.declared.Choice.{Choice}
 use Rattle.unite.specs.Union.{chosen, ownFirst, joiningFirst, bothAtOnce}
 

@@ -1,7 +1,7 @@
 -- Tables as a stored record, and the union of two stored records. Assumes nothing.
 use mathlib.Core.Path.{_≡_, refl, ap, sym, subst, _∙_}
 use mathlib.Core.List.{List, [], _∷_, map}
-use Prim.Native.Nat.{ℕ, _≤_}
+use Prim.Native.Nat.{_≤_}
 use native.Mathlib.Omega.{arith}
 use lib.ListN.{length, set, replicate, length-map}
 use Rattle.record.specs.declared.Edit.{Edit}

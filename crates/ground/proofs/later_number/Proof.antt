@@ -1,24 +1,14 @@
-use Prim.Native.Nat.{ℕ, zero, suc, _+_, _-_, _*_, _≤_, _<_}
-use mathlib.Core.Path.{_≡_, refl, ap, sym, _∙_}
-use mathlib.Core.List.{List, [], _∷_, _++_}
-use lib.ListN.{length, getD, take, drop, set}
-use native.Mathlib.Omega.{arith}
+-- `ground::later_number` meets its contract. Assumes nothing.
 use borrow.Author.Tests.{eq-eqb, ne-eqb}
-use borrow.Author.Needs.{needs}
 use Rattle.ground.proofs.later_number.Statement.{statement}
 use Rattle.ground.proofs.later_number.Tie as tie
-use Rattle.ground.proofs.later_number.Reads as reads
-use Rattle.ground.proofs.later_number.Lts as lts
 
--- src/lib.rt:85:9
 returns : tie.Need-returns
 returns c = rw (ne-eqb _ 0 (c .if1 .taken))
 
--- src/lib.rt:88:9
 returns-2 : tie.Need-returns-2
 returns-2 c = rw (eq-eqb _ 0 (c .before .before .if1 .left), eq-eqb _ 0 (c .if2 .taken))
 
--- src/lib.rt:81:1
 returns-3 : tie.Need-returns-3
 returns-3 c = rw (eq-eqb _ 0 (c .before .before .if1 .left), ne-eqb _ 0 (c .if2 .left))
 

@@ -1,17 +1,13 @@
-use Prim.Native.Nat.{ℕ, zero, suc, _+_, _-_, _*_, _≤_, _<_}
-use mathlib.Core.Path.{_≡_, refl, ap, sym, _∙_}
-use mathlib.Core.List.{List, [], _∷_, _++_}
-use lib.ListN.{length, getD, take, drop, set}
-use native.Mathlib.Omega.{arith}
+-- `join::constraint_rows` meets its contract. Assumes nothing.
+use Prim.Native.Nat.{_-_, _≤_}
+use mathlib.Core.Path.{_≡_, refl}
 use mathlib.Core.List.{map}
+use lib.ListN.{length, take}
 use Rattle.row.specs.Row.{constraintRow}
 use Rattle.join.proofs.Answers.{rows-next, rows-end}
 use borrow.Author.Needs.{needs}
 use Rattle.join.proofs.constraint_rows.Statement.{statement}
 use Rattle.join.proofs.constraint_rows.Tie as tie
-use Rattle.join.proofs.constraint_rows.Reads as reads
-use Rattle.join.proofs.constraint_rows.Lts as lts
-use Rattle.row.proofs.constraint_row.Reads as constraint-row-reads
 
 abbrev Inv-loop : tie.InvT-loop
 Inv-loop n a out₀ i₀ out i = (i ≤ n) × (n ≤ 512) × (length a ≡ 512) × (length out ≡ 512) × (take i out ≡ map constraintRow (take i a))
@@ -19,46 +15,36 @@ Inv-loop n a out₀ i₀ out i = (i ≤ n) × (n ≤ 512) × (length a ≡ 512) 
 abbrev μ-loop : tie.MeasureT-loop
 μ-loop n a out₀ i₀ out i = n - i
 
--- src/lib.rt:116:5
 loop-holds : tie.Need-loop-holds Inv-loop μ-loop
 loop-holds c = (search needs, search needs, search needs, search needs, refl)
 
--- src/lib.rt:117:17
 mul-c : tie.Need-mul-c Inv-loop μ-loop
 mul-c c = search needs
 
--- src/lib.rt:117:17
 array-copy-out-c : tie.Need-array-copy-out-c Inv-loop μ-loop
 array-copy-out-c c = search needs
 
--- src/lib.rt:118:18
 constraint-row-requires : tie.Need-constraint-row-requires Inv-loop μ-loop
 constraint-row-requires c κs = search needs
 
--- src/lib.rt:118:9
 mul-out : tie.Need-mul-out Inv-loop μ-loop
 mul-out c = search needs
 
--- src/lib.rt:118:9
 array-set-from-out : tie.Need-array-set-from-out Inv-loop μ-loop
 array-set-from-out c = search needs
 
--- src/lib.rt:119:9
 add-i : tie.Need-add-i Inv-loop μ-loop
 add-i c = search needs
 
--- src/lib.rt:116:5
 loop-less : tie.Need-loop-less Inv-loop μ-loop
 loop-less c = search needs
 
--- src/lib.rt:116:5
 loop-again : tie.Need-loop-again Inv-loop μ-loop
 loop-again c =
     let l = c .before .before .before in
     let s = l .before in
     (search needs, search needs, search needs, search needs, rows-next constraintRow (s .args .t1) (l .loop .out) (l .loop .i) _ (search needs) (search needs) (l .loop .inv .4) (c .constraint-row .ensures))
 
--- src/lib.rt:110:1
 returns : tie.Need-returns Inv-loop μ-loop
 returns c = let l = c .before in rows-end constraintRow (l .before .args .t1) (l .loop .out) (l .loop .i) (l .before .args .n) (l .loop .inv .0) (c .loop-test .left) (l .loop .inv .4)
 

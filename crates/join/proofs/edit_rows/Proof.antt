@@ -1,17 +1,13 @@
-use Prim.Native.Nat.{ℕ, zero, suc, _+_, _-_, _*_, _≤_, _<_}
-use mathlib.Core.Path.{_≡_, refl, ap, sym, _∙_}
-use mathlib.Core.List.{List, [], _∷_, _++_}
-use lib.ListN.{length, getD, take, drop, set}
-use native.Mathlib.Omega.{arith}
+-- `join::edit_rows` meets its contract. Assumes nothing.
+use Prim.Native.Nat.{_-_, _≤_}
+use mathlib.Core.Path.{_≡_, refl}
 use mathlib.Core.List.{map}
+use lib.ListN.{length, take}
 use Rattle.row.specs.Row.{editRow}
 use Rattle.join.proofs.Answers.{rows-next, rows-end}
 use borrow.Author.Needs.{needs}
 use Rattle.join.proofs.edit_rows.Statement.{statement}
 use Rattle.join.proofs.edit_rows.Tie as tie
-use Rattle.join.proofs.edit_rows.Reads as reads
-use Rattle.join.proofs.edit_rows.Lts as lts
-use Rattle.row.proofs.edit_row.Reads as edit-row-reads
 
 abbrev Inv-loop : tie.InvT-loop
 Inv-loop n a out₀ i₀ out i = (i ≤ n) × (n ≤ 127) × (length a ≡ 127) × (length out ≡ 127) × (take i out ≡ map editRow (take i a))
@@ -19,46 +15,36 @@ Inv-loop n a out₀ i₀ out i = (i ≤ n) × (n ≤ 127) × (length a ≡ 127) 
 abbrev μ-loop : tie.MeasureT-loop
 μ-loop n a out₀ i₀ out i = n - i
 
--- src/lib.rt:101:5
 loop-holds : tie.Need-loop-holds Inv-loop μ-loop
 loop-holds c = (search needs, search needs, search needs, search needs, refl)
 
--- src/lib.rt:102:17
 mul-e : tie.Need-mul-e Inv-loop μ-loop
 mul-e c = search needs
 
--- src/lib.rt:102:17
 array-copy-out-e : tie.Need-array-copy-out-e Inv-loop μ-loop
 array-copy-out-e c = search needs
 
--- src/lib.rt:103:18
 edit-row-requires : tie.Need-edit-row-requires Inv-loop μ-loop
 edit-row-requires c κs = search needs
 
--- src/lib.rt:103:9
 mul-out : tie.Need-mul-out Inv-loop μ-loop
 mul-out c = search needs
 
--- src/lib.rt:103:9
 array-set-from-out : tie.Need-array-set-from-out Inv-loop μ-loop
 array-set-from-out c = search needs
 
--- src/lib.rt:104:9
 add-i : tie.Need-add-i Inv-loop μ-loop
 add-i c = search needs
 
--- src/lib.rt:101:5
 loop-less : tie.Need-loop-less Inv-loop μ-loop
 loop-less c = search needs
 
--- src/lib.rt:101:5
 loop-again : tie.Need-loop-again Inv-loop μ-loop
 loop-again c =
     let l = c .before .before .before in
     let s = l .before in
     (search needs, search needs, search needs, search needs, rows-next editRow (s .args .t1) (l .loop .out) (l .loop .i) _ (search needs) (search needs) (l .loop .inv .4) (c .edit-row .ensures))
 
--- src/lib.rt:95:1
 returns : tie.Need-returns Inv-loop μ-loop
 returns c = let l = c .before in rows-end editRow (l .before .args .t1) (l .loop .out) (l .loop .i) (l .before .args .n) (l .loop .inv .0) (c .loop-test .left) (l .loop .inv .4)
 

@@ -1,16 +1,13 @@
-use Prim.Native.Nat.{ℕ, zero, suc, _+_, _-_, _*_, _≤_, _<_}
-use mathlib.Core.Path.{_≡_, refl, ap, sym, _∙_}
-use mathlib.Core.List.{List, [], _∷_, _++_}
-use lib.ListN.{length, getD, take, drop, set}
-use native.Mathlib.Omega.{arith}
+-- `lookup::names_of` meets its contract. Assumes nothing.
+use Prim.Native.Nat.{_-_, _≤_}
+use mathlib.Core.Path.{_≡_, refl}
 use mathlib.Core.List.{map}
+use lib.ListN.{length, take}
 use Rattle.record.specs.Record.{nameOf}
 use Rattle.lookup.proofs.Places.{names-next, names-end}
 use borrow.Author.Needs.{needs}
 use Rattle.lookup.proofs.names_of.Statement.{statement}
 use Rattle.lookup.proofs.names_of.Tie as tie
-use Rattle.lookup.proofs.names_of.Reads as reads
-use Rattle.lookup.proofs.names_of.Lts as lts
 
 abbrev Inv-loop : tie.InvT-loop
 Inv-loop n edits names₀ i₀ names i = (i ≤ n) × (n ≤ 127) × (length edits ≡ 127) × (length names ≡ 127) × (take i names ≡ map nameOf (take i edits))
@@ -18,42 +15,33 @@ Inv-loop n edits names₀ i₀ names i = (i ≤ n) × (n ≤ 127) × (length edi
 abbrev μ-loop : tie.MeasureT-loop
 μ-loop n edits names₀ i₀ names i = n - i
 
--- src/lib.rt:22:5
 loop-holds : tie.Need-loop-holds Inv-loop μ-loop
 loop-holds c = (search needs, search needs, search needs, search needs, refl)
 
--- src/lib.rt:23:17
 mul-e : tie.Need-mul-e Inv-loop μ-loop
 mul-e c = search needs
 
--- src/lib.rt:23:17
 array-copy-out-e : tie.Need-array-copy-out-e Inv-loop μ-loop
 array-copy-out-e c = search needs
 
--- src/lib.rt:24:9
 mul-names : tie.Need-mul-names Inv-loop μ-loop
 mul-names c = search needs
 
--- src/lib.rt:24:9
 array-write-names : tie.Need-array-write-names Inv-loop μ-loop
 array-write-names c = search needs
 
--- src/lib.rt:25:9
 add-i : tie.Need-add-i Inv-loop μ-loop
 add-i c = search needs
 
--- src/lib.rt:22:5
 loop-less : tie.Need-loop-less Inv-loop μ-loop
 loop-less c = search needs
 
--- src/lib.rt:22:5
 loop-again : tie.Need-loop-again Inv-loop μ-loop
 loop-again c =
     let l = c .before .before in
     let s = l .before in
     (search needs, search needs, search needs, search needs, names-next (s .args .t1) (l .loop .names) (l .loop .i) _ (search needs) (search needs) (l .loop .inv .4))
 
--- src/lib.rt:16:1
 returns : tie.Need-returns Inv-loop μ-loop
 returns c = let l = c .before in names-end (l .before .args .t1) (l .loop .names) (l .loop .i) (l .before .args .n) (l .loop .inv .0) (c .loop-test .left) (l .loop .inv .4)
 

@@ -1,7 +1,7 @@
-use Prim.Native.Nat.{ℕ, zero, suc, _+_, _-_, _*_, _≤_, _<_, _/_}
-use mathlib.Core.Path.{_≡_, refl, ap, sym, _∙_}
-use mathlib.Core.List.{List, [], _∷_, _++_}
-use lib.ListN.{length, getD, take, drop, set}
+-- `lookup::place` meets its contract. Assumes nothing.
+use Prim.Native.Nat.{_-_, _≤_}
+use mathlib.Core.Path.{_≡_}
+use lib.ListN.{length}
 use native.Mathlib.Omega.{arith}
 use mathlib.Core.Bool.{true}
 use Rattle.record.specs.Lists.{ascending}
@@ -9,8 +9,6 @@ use Rattle.lookup.proofs.Places.{Between, between-start, between-low, b
 use borrow.Author.Needs.{needs, scaled-fits}
 use Rattle.lookup.proofs.place.Statement.{statement}
 use Rattle.lookup.proofs.place.Tie as tie
-use Rattle.lookup.proofs.place.Reads as reads
-use Rattle.lookup.proofs.place.Lts as lts
 
 abbrev Inv-loop : tie.InvT-loop
 Inv-loop names name n low₀ high₀ low high = (low ≤ high) × (high ≤ n) × (n ≡ length names) × (ascending names ≡ true → Between name names low high)
@@ -18,15 +16,12 @@ Inv-loop names name n low₀ high₀ low high = (low ≤ high) × (high ≤ n) �
 abbrev μ-loop : tie.MeasureT-loop
 μ-loop names name n low₀ high₀ low high = high - low
 
--- src/lib.rt:37:5
 loop-holds : tie.Need-loop-holds Inv-loop μ-loop
 loop-holds c = (search needs, search needs, search needs, λ a. between-start (c .args .name) (c .args .names .now))
 
--- src/lib.rt:38:29
 sub-middle : tie.Need-sub-middle Inv-loop μ-loop
 sub-middle c = search needs
 
--- src/lib.rt:38:22
 add-middle : tie.Need-add-middle Inv-loop μ-loop
 add-middle c =
     let l = c .before in
@@ -34,7 +29,6 @@ add-middle c =
     let m = middle-below (l .loop .low) (l .loop .high) (c .loop-test .taken) in
     omega arith
 
--- src/lib.rt:39:12
 mul-if1 : tie.Need-mul-if1 Inv-loop μ-loop
 mul-if1 c =
     let l = c .before in
@@ -43,7 +37,6 @@ mul-if1 c =
     let h : l .loop .high ≤ length (s .args .names .now) = l .loop .inv .1 in
     scaled-fits _ (length (s .args .names .now)) 2 (omega arith) (search needs)
 
--- src/lib.rt:39:12
 shared-slice-read-if1 : tie.Need-shared-slice-read-if1 Inv-loop μ-loop
 shared-slice-read-if1 c =
     let l = c .before .before in
@@ -51,7 +44,6 @@ shared-slice-read-if1 c =
     let m = middle-below (l .loop .low) (l .loop .high) (c .before .loop-test .taken) in
     omega arith
 
--- src/lib.rt:40:19
 add-low : tie.Need-add-low Inv-loop μ-loop
 add-low c =
     let l = c .before .before .before in
@@ -59,7 +51,6 @@ add-low c =
     let m = middle-below (l .loop .low) (l .loop .high) (c .before .before .loop-test .taken) in
     omega arith
 
--- src/lib.rt:37:5
 loop-less : tie.Need-loop-less Inv-loop μ-loop
 loop-less c =
     let l = c .before .before .before in
@@ -67,7 +58,6 @@ loop-less c =
     let m = middle-below (l .loop .low) (l .loop .high) (c .before .before .loop-test .taken) in
     omega arith
 
--- src/lib.rt:37:5
 loop-again : tie.Need-loop-again Inv-loop μ-loop
 loop-again c =
     let l = c .before .before .before in
@@ -75,7 +65,6 @@ loop-again c =
     let m = middle-below (l .loop .low) (l .loop .high) (c .before .before .loop-test .taken) in
     (omega arith, search needs, search needs, λ a. between-low (s .args .name) (s .args .names .now) a (l .loop .low) (l .loop .high) _ (l .loop .inv .3 a) (omega arith) (c .if1 .taken))
 
--- src/lib.rt:37:5
 loop-less-2 : tie.Need-loop-less-2 Inv-loop μ-loop
 loop-less-2 c =
     let l = c .before .before .before in
@@ -83,7 +72,6 @@ loop-less-2 c =
     let m = middle-below (l .loop .low) (l .loop .high) (c .before .before .loop-test .taken) in
     omega arith
 
--- src/lib.rt:37:5
 loop-again-2 : tie.Need-loop-again-2 Inv-loop μ-loop
 loop-again-2 c =
     let l = c .before .before .before in
@@ -91,7 +79,6 @@ loop-again-2 c =
     let m = middle-below (l .loop .low) (l .loop .high) (c .before .before .loop-test .taken) in
     (omega arith, omega arith, search needs, λ a. between-high (s .args .name) (s .args .names .now) a (l .loop .low) (l .loop .high) _ (l .loop .inv .3 a) (omega arith) (c .if1 .left))
 
--- src/lib.rt:46:9
 returns : tie.Need-returns Inv-loop μ-loop
 returns c = λ a.
     let l = c .before .before in
@@ -99,15 +86,12 @@ returns c = λ a.
     let e : l .loop .high ≡ l .loop .low = omega arith in
     found-none (s .args .name) (s .args .names .now) a (l .loop .low) (rw e at (l .loop .inv .3 a)) (c .if2 .taken)
 
--- src/lib.rt:48:8
 mul-if3 : tie.Need-mul-if3 Inv-loop μ-loop
 mul-if3 c = search needs
 
--- src/lib.rt:48:8
 shared-slice-read-if3 : tie.Need-shared-slice-read-if3 Inv-loop μ-loop
 shared-slice-read-if3 c = search needs
 
--- src/lib.rt:49:9
 returns-2 : tie.Need-returns-2 Inv-loop μ-loop
 returns-2 c = λ a.
     let l = c .before .before .before .before in
@@ -115,7 +99,6 @@ returns-2 c = λ a.
     let e : l .loop .high ≡ l .loop .low = omega arith in
     found-other (s .args .name) (s .args .names .now) a (l .loop .low) (rw e at (l .loop .inv .3 a)) (c .before .before .if2 .left) (c .if3 .taken)
 
--- src/lib.rt:31:1
 returns-3 : tie.Need-returns-3 Inv-loop μ-loop
 returns-3 c = λ a.
     let l = c .before .before .before .before in

@@ -1,16 +1,12 @@
-use Prim.Native.Nat.{ℕ, zero, suc, _+_, _-_, _*_, _≤_, _<_}
-use mathlib.Core.Path.{_≡_, refl, ap, sym, _∙_}
-use mathlib.Core.List.{List, [], _∷_, _++_}
-use lib.ListN.{length, getD, take, drop, set}
-use native.Mathlib.Omega.{arith}
-use mathlib.Core.Bool.{true, false}
+-- `row::alike` meets its contract. Assumes nothing.
+use Prim.Native.Nat.{_-_, _≤_}
+use mathlib.Core.Path.{_≡_, refl, sym, _∙_}
+use lib.ListN.{length, take, drop}
 use Rattle.row.specs.Row.{same}
 use Rattle.row.proofs.Compared.{same-more, same-not, same-end}
 use borrow.Author.Needs.{needs}
 use Rattle.row.proofs.alike.Statement.{statement}
 use Rattle.row.proofs.alike.Tie as tie
-use Rattle.row.proofs.alike.Reads as reads
-use Rattle.row.proofs.alike.Lts as lts
 
 abbrev Inv-loop : tie.InvT-loop
 Inv-loop a b k j₀ j = (j ≤ k) × (k ≤ length a) × (k ≤ length b) × (same (take k a) (take k b) ≡ same (drop j (take k a)) (drop j (take k b)))
@@ -18,43 +14,33 @@ Inv-loop a b k j₀ j = (j ≤ k) × (k ≤ length a) × (k ≤ length b) × (sa
 abbrev μ-loop : tie.MeasureT-loop
 μ-loop a b k j₀ j = k - j
 
--- src/lib.rt:203:5
 loop-holds : tie.Need-loop-holds Inv-loop μ-loop
 loop-holds c = (search needs, c .pre .0, c .pre .1, refl)
 
--- src/lib.rt:204:12
 mul-if1 : tie.Need-mul-if1 Inv-loop μ-loop
 mul-if1 c = search needs
 
--- src/lib.rt:204:12
 shared-slice-read-if1 : tie.Need-shared-slice-read-if1 Inv-loop μ-loop
 shared-slice-read-if1 c = search needs
 
--- src/lib.rt:204:20
 mul-if1-2 : tie.Need-mul-if1-2 Inv-loop μ-loop
 mul-if1-2 c = search needs
 
--- src/lib.rt:204:20
 shared-slice-read-if1-2 : tie.Need-shared-slice-read-if1-2 Inv-loop μ-loop
 shared-slice-read-if1-2 c = search needs
 
--- src/lib.rt:205:13
 returns : tie.Need-returns Inv-loop μ-loop
 returns c = let l = c .before .before .before .before in let s = l .before in sym (l .loop .inv .3 ∙ same-not (s .args .k) (l .loop .j) (s .args .a .now) (s .args .b .now) (search needs) (search needs) (search needs) (c .if1 .taken))
 
--- src/lib.rt:207:9
 add-j : tie.Need-add-j Inv-loop μ-loop
 add-j c = search needs
 
--- src/lib.rt:203:5
 loop-less : tie.Need-loop-less Inv-loop μ-loop
 loop-less c = search needs
 
--- src/lib.rt:203:5
 loop-again : tie.Need-loop-again Inv-loop μ-loop
 loop-again c = let l = c .before .before .before .before in let s = l .before in (search needs, search needs, search needs, l .loop .inv .3 ∙ same-more (s .args .k) (l .loop .j) (s .args .a .now) (s .args .b .now) (search needs) (search needs) (search needs) (c .if1 .left))
 
--- src/lib.rt:198:1
 returns-2 : tie.Need-returns-2 Inv-loop μ-loop
 returns-2 c = let l = c .before in let s = l .before in sym (l .loop .inv .3 ∙ same-end (s .args .k) (l .loop .j) (s .args .a .now) (s .args .b .now) (c .loop-test .left) (l .loop .inv .1) (l .loop .inv .2))
 

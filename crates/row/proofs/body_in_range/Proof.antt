@@ -1,37 +1,24 @@
-use Prim.Native.Nat.{ℕ, zero, suc, _+_, _-_, _*_, _≤_, _<_}
-use mathlib.Core.Path.{_≡_, refl, ap, sym, _∙_}
-use mathlib.Core.List.{List, [], _∷_, _++_}
-use lib.ListN.{length, getD, take, drop, set}
-use native.Mathlib.Omega.{arith}
+-- `row::body_in_range` meets its contract. Assumes nothing.
 use Rattle.row.proofs.Cells.{body-insert, body-set, body-remove, body-other}
 use borrow.Author.Needs.{needs}
 use Rattle.row.proofs.body_in_range.Statement.{statement}
 use Rattle.row.proofs.body_in_range.Tie as tie
-use Rattle.row.proofs.body_in_range.Reads as reads
-use Rattle.row.proofs.body_in_range.Lts as lts
-use Rattle.row.proofs.unused.Reads as unused-reads
 
--- src/lib.rt:40:14
 unused-requires : tie.Need-unused-requires
 unused-requires c κs = search needs
 
--- src/lib.rt:42:14
 unused-requires-2 : tie.Need-unused-requires-2
 unused-requires-2 c κs = search needs
 
--- src/lib.rt:36:1
 returns : tie.Need-returns
 returns c = let s = c .before .before in body-insert (s .args .kind) (s .args .field) (s .args .value) (c .before .match .keys1) (c .unused .ensures)
 
--- src/lib.rt:36:1
 returns-2 : tie.Need-returns-2
 returns-2 c = let s = c .before in body-set (s .args .kind) (s .args .field) (s .args .value) (c .match .keys2)
 
--- src/lib.rt:36:1
 returns-3 : tie.Need-returns-3
 returns-3 c = let s = c .before .before in body-remove (s .args .kind) (s .args .field) (s .args .value) (c .before .match .keys3) (c .unused2 .ensures)
 
--- src/lib.rt:36:1
 returns-4 : tie.Need-returns-4
 returns-4 c = let s = c .before in body-other (s .args .kind) (s .args .field) (s .args .value) (c .match .rest .0 .0 .1) (c .match .rest .0 .1) (c .match .rest .1)
 

@@ -1,59 +1,41 @@
-use Prim.Native.Nat.{ℕ, zero, suc, _+_, _-_, _*_, _≤_, _<_}
-use mathlib.Core.Path.{_≡_, refl, ap, sym, _∙_}
-use mathlib.Core.List.{List, [], _∷_, _++_}
-use lib.ListN.{length, getD, take, drop, set}
+-- `row::edit_of` meets its contract. Assumes nothing.
 use native.Mathlib.Omega.{arith}
 use Rattle.row.proofs.Cells.{edit-filler, edit-bounds, edit-decoded}
 use borrow.Author.Tests.{not-true, not-false}
 use borrow.Author.Needs.{needs}
 use Rattle.row.proofs.edit_of.Statement.{statement}
 use Rattle.row.proofs.edit_of.Tie as tie
-use Rattle.row.proofs.edit_of.Reads as reads
-use Rattle.row.proofs.edit_of.Lts as lts
-use Rattle.row.proofs.body_of.Reads as body-of-reads
-use Rattle.row.proofs.edit_in_range.Reads as edit-in-range-reads
 
--- src/lib.rt:90:9
 edit-in-range-requires : tie.Need-edit-in-range-requires
 edit-in-range-requires c κs = search needs
 
--- src/lib.rt:91:9
 returns : tie.Need-returns
 returns c = edit-filler (c .before .before .args .t1) (c .before .edit-in-range .ensures .0) (not-true _ (c .if1 .taken))
 
--- src/lib.rt:96:16
 array-read-name : tie.Need-array-read-name
 array-read-name c = search needs
 
--- src/lib.rt:97:17
 array-read-place : tie.Need-array-read-place
 array-read-place c = search needs
 
--- src/lib.rt:98:24
 array-read-body-of : tie.Need-array-read-body-of
 array-read-body-of c = search needs
 
--- src/lib.rt:98:32
 cast-body-of : tie.Need-cast-body-of
 cast-body-of c = let b = edit-bounds (c .before .before .args .t1) (c .before .edit-in-range .ensures .0) (not-false _ (c .if1 .left)) in omega (arith, b .1)
 
--- src/lib.rt:98:45
 array-read-body-of-2 : tie.Need-array-read-body-of-2
 array-read-body-of-2 c = search needs
 
--- src/lib.rt:98:53
 array-read-body-of-3 : tie.Need-array-read-body-of-3
 array-read-body-of-3 c = search needs
 
--- src/lib.rt:98:9
 body-of-requires : tie.Need-body-of-requires
 body-of-requires c κs = search needs
 
--- src/lib.rt:100:15
 cast-t24 : tie.Need-cast-t24
 cast-t24 c = let b = edit-bounds (c .before .before .before .args .t1) (c .before .before .edit-in-range .ensures .0) (not-false _ (c .before .if1 .left)) in omega (arith, b .0)
 
--- src/lib.rt:87:1
 returns-2 : tie.Need-returns-2
 returns-2 c = edit-decoded (c .before .before .before .args .t1) (c .before .before .edit-in-range .ensures .0) (not-false _ (c .before .if1 .left)) (c .body-of .ensures)
 

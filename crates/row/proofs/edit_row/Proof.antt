@@ -1,57 +1,39 @@
-use Prim.Native.Nat.{ℕ, zero, suc, _+_, _-_, _*_, _≤_, _<_}
-use mathlib.Core.Path.{_≡_, refl, ap, sym, _∙_}
-use mathlib.Core.List.{List, [], _∷_, _++_}
-use lib.ListN.{length, getD, take, drop, set}
-use native.Mathlib.Omega.{arith}
+-- `row::edit_row` meets its contract. Assumes nothing.
 use Rattle.row.proofs.Cells.{row-is, row-set-is}
 use borrow.Author.Needs.{needs}
 use Rattle.row.proofs.edit_row.Statement.{statement}
 use Rattle.row.proofs.edit_row.Tie as tie
-use Rattle.row.proofs.edit_row.Reads as reads
-use Rattle.row.proofs.edit_row.Lts as lts
-use Rattle.row.proofs.field_number.Reads as field-number-reads
 
--- src/lib.rt:119:16
 cast-name : tie.Need-cast-name
 cast-name c = search needs
 
--- src/lib.rt:122:22
 enum-known-body : tie.Need-enum-known-body
 enum-known-body c = search needs
 
--- src/lib.rt:122:38
 cast-t10 : tie.Need-cast-t10
 cast-t10 c = search needs
 
--- src/lib.rt:123:19
 enum-known-body-2 : tie.Need-enum-known-body-2
 enum-known-body-2 c = search needs
 
--- src/lib.rt:123:41
 cast-t11 : tie.Need-cast-t11
 cast-t11 c = search needs
 
--- src/lib.rt:123:51
 field-number-requires : tie.Need-field-number-requires
 field-number-requires c κs = search needs
 
--- src/lib.rt:124:22
 enum-known-body-3 : tie.Need-enum-known-body-3
 enum-known-body-3 c = search needs
 
--- src/lib.rt:124:38
 cast-t13 : tie.Need-cast-t13
 cast-t13 c = search needs
 
--- src/lib.rt:116:1
 returns : tie.Need-returns
 returns c = row-is (c .before .before .before .before .args .e) (c .before .body .given .1)
 
--- src/lib.rt:116:1
 returns-2 : tie.Need-returns-2
 returns-2 c = row-set-is (c .before .before .before .before .before .args .e) (c .before .before .body2 .given .1) (c .field-number .ensures)
 
--- src/lib.rt:116:1
 returns-3 : tie.Need-returns-3
 returns-3 c = row-is (c .before .before .before .before .args .e) (c .before .body3 .given .1)
 

@@ -1,7 +1,8 @@
-use Prim.Native.Nat.{ℕ, zero, suc, _+_, _-_, _*_, _≤_, _<_}
-use mathlib.Core.Path.{_≡_, refl, ap, sym, _∙_}
-use mathlib.Core.List.{List, [], _∷_, _++_}
-use lib.ListN.{length, getD, take, drop, set}
+-- `table::constraint_fault` meets its contract. Assumes nothing.
+use Prim.Native.Nat.{ℕ, _+_, _-_, _≤_}
+use mathlib.Core.Path.{_≡_, sym, _∙_}
+use mathlib.Core.List.{List}
+use lib.ListN.{length, take}
 use native.Mathlib.Omega.{arith}
 use borrow.Author.Tests.{not-true, not-false}
 use Rattle.ground.proofs.Walks.{bounds}
@@ -11,16 +12,6 @@ use Rattle.table.proofs.Elements.{constraintElements, constraint-rows-a
 use borrow.Author.Needs.{needs}
 use Rattle.table.proofs.constraint_fault.Statement.{statement}
 use Rattle.table.proofs.constraint_fault.Tie as tie
-use Rattle.table.proofs.constraint_fault.Reads as reads
-use Rattle.table.proofs.constraint_fault.Lts as lts
-use Rattle.ground.proofs.late_further.Reads as late-further-reads
-use Rattle.ground.proofs.later_number.Reads as later-number-reads
-use Rattle.ground.proofs.slot.Reads as slot-reads
-use Rattle.row.proofs.constraint_in_range.Reads as constraint-in-range-reads
-use Rattle.table.proofs.constraint_follows.Reads as constraint-follows-reads
-use Rattle.table.proofs.constraint_further.Reads as constraint-further-reads
-use Rattle.table.proofs.constraint_late.Reads as constraint-late-reads
-use Rattle.table.proofs.constraint_step.Reads as constraint-step-reads
 
 abbrev Inv-loop : tie.InvT-loop
 Inv-loop t marks adding a n at₀ count₀ i₀ at count i = (at ≤ n) × (n ≤ 512) × (count ≤ 512) × (i ≤ length t) × ((names : List ℕ) → Marked marks names → State (constraintElements names adding) a n t at count i)
@@ -28,30 +19,24 @@ Inv-loop t marks adding a n at₀ count₀ i₀ at count i = (at ≤ n) × (n �
 abbrev μ-loop : tie.MeasureT-loop
 μ-loop t marks adding a n at₀ count₀ i₀ at count i = (n - at) + (length t - i)
 
--- src/lib.rt:265:9
 returns : tie.Need-returns Inv-loop μ-loop
 returns c = λ names k o. absurd (omega (arith, o .constraintplaces))
 
--- src/lib.rt:270:5
 loop-holds : tie.Need-loop-holds Inv-loop μ-loop
 loop-holds c =
     let s = c .before .before .before in
     let z : length (s .args .r .constraints) ≡ 512 = search (needs, length-mapped) in
     (search needs, search needs, search needs, search needs, λ names k. state-start (constraintElements names (s .args .adding)) (s .args .r .constraints) (s .args .r .constraintcount) (s .args .t .now) (omega arith))
 
--- src/lib.rt:271:19
 mul-row : tie.Need-mul-row Inv-loop μ-loop
 mul-row c = search needs
 
--- src/lib.rt:271:19
 shared-slice-copy-out-row : tie.Need-shared-slice-copy-out-row Inv-loop μ-loop
 shared-slice-copy-out-row c = search needs
 
--- src/lib.rt:272:13
 constraint-in-range-requires : tie.Need-constraint-in-range-requires Inv-loop μ-loop
 constraint-in-range-requires c κs = search needs
 
--- src/lib.rt:273:13
 returns-2 : tie.Need-returns-2 Inv-loop μ-loop
 returns-2 c = λ names k o.
     let l = c .before .before .before .before in
@@ -62,23 +47,18 @@ returns-2 c = λ names k o.
     let z : length es ≡ 512 = search (needs, length-mapped) in
     state-outside (constraintElements names (s .args .adding)) es n t (omega arith) (l .loop .at) (l .loop .count) (l .loop .i) (l .loop .inv .4 names k) (c .before .before .before .loop-test .taken) (c .before .constraint-in-range .ensures .0) (not-true _ (c .if2 .taken)) (constraint-rows-ascend (take n es) (o .constraintorder))
 
--- src/lib.rt:275:13
 constraint-further-requires : tie.Need-constraint-further-requires Inv-loop μ-loop
 constraint-further-requires c κs = search needs
 
--- src/lib.rt:276:13
 constraint-follows-requires : tie.Need-constraint-follows-requires Inv-loop μ-loop
 constraint-follows-requires c κs = search needs
 
--- src/lib.rt:277:17
 constraint-late-requires : tie.Need-constraint-late-requires Inv-loop μ-loop
 constraint-late-requires c κs = search needs
 
--- src/lib.rt:278:13
 late-further-requires : tie.Need-late-further-requires Inv-loop μ-loop
 late-further-requires c κs = search needs
 
--- src/lib.rt:278:13
 returns-3 : tie.Need-returns-3 Inv-loop μ-loop
 returns-3 c = λ names k o.
     let l = c .before .before .before .before .before .before .before .before .before in
@@ -91,27 +71,21 @@ returns-3 c = λ names k o.
     state-late (constraintElements names (s .args .adding)) es n t (omega arith) (l .loop .at) (l .loop .count) (l .loop .i) (l .loop .inv .4 names k) (c .before .before .before .before .before .before .before .before .loop-test .taken) (c .before .before .before .before .before .before .constraint-in-range .ensures .0) (not-false _ (c .before .before .before .before .before .if2 .left)) (w .result) (w .ensures) (not-true _ (c .before .before .if3 .taken))
     (c .before .constraint-late .ensures) (c .before .before .before .before .constraint-further .ensures names k) (c .late-further .ensures) (constraint-rows-ascend (take n es) (o .constraintorder))
 
--- src/lib.rt:280:13
 slot-requires : tie.Need-slot-requires Inv-loop μ-loop
 slot-requires c κs = search needs
 
--- src/lib.rt:281:17
 mul-e : tie.Need-mul-e Inv-loop μ-loop
 mul-e c = search needs
 
--- src/lib.rt:281:17
 array-copy-out-e : tie.Need-array-copy-out-e Inv-loop μ-loop
 array-copy-out-e c = search needs
 
--- src/lib.rt:282:13
 constraint-step-requires : tie.Need-constraint-step-requires Inv-loop μ-loop
 constraint-step-requires c κs = search needs
 
--- src/lib.rt:283:13
 later-number-requires : tie.Need-later-number-requires Inv-loop μ-loop
 later-number-requires c κs = search needs
 
--- src/lib.rt:285:13
 returns-4 : tie.Need-returns-4 Inv-loop μ-loop
 returns-4 c = λ names k o.
     let l = c .before .before .before .before .before .before .before .before .before .before .before .before in
@@ -127,7 +101,6 @@ returns-4 c = λ names k o.
     state-stops (constraintElements names (s .args .adding)) es n t (omega arith) (l .loop .at) (l .loop .count) (l .loop .i) (l .loop .inv .4 names k) (c .before .before .before .before .before .before .before .before .before .before .before .loop-test .taken) (c .before .before .before .before .before .before .before .before .before .constraint-in-range .ensures .0) (not-false _ (c .before .before .before .before .before .before .before .before .if2 .left)) (w .result) (w .ensures) (m .ensures .1) (not-false _ (c .before .before .before .before .before .if3 .left))
     (p .result) _ (p .ensures .1) (m .result) (m .ensures .0) (o′ .result) (o′ .ensures names k) (λ y. c .if4 .taken (c .before .later-number .ensures ∙ y)) (c .before .later-number .ensures) (constraint-rows-ascend (take n es) (o .constraintorder))
 
--- src/lib.rt:287:9
 add-at : tie.Need-add-at Inv-loop μ-loop
 add-at c =
     let l = c .before .before .before .before .before .before .before .before .before .before .before .before .before in
@@ -142,7 +115,6 @@ add-at c =
     let y = bounds n 512 (length t) (l .loop .at) (l .loop .count) (l .loop .i) _ _ _ (m .result) (m .ensures .0) (later-none (m .result) (o′ .result) none) (l .loop .inv .0) (l .loop .inv .2) (c .before .before .before .before .before .before .before .before .before .before .before .before .loop-test .taken) in
     omega arith
 
--- src/lib.rt:288:9
 add-count : tie.Need-add-count Inv-loop μ-loop
 add-count c =
     let l = c .before .before .before .before .before .before .before .before .before .before .before .before .before .before in
@@ -157,7 +129,6 @@ add-count c =
     let y = bounds n 512 (length t) (l .loop .at) (l .loop .count) (l .loop .i) _ _ _ (m .result) (m .ensures .0) (later-none (m .result) (o′ .result) none) (l .loop .inv .0) (l .loop .inv .2) (c .before .before .before .before .before .before .before .before .before .before .before .before .before .loop-test .taken) in
     omega arith
 
--- src/lib.rt:289:9
 add-i : tie.Need-add-i Inv-loop μ-loop
 add-i c =
     let l = c .before .before .before .before .before .before .before .before .before .before .before .before .before .before .before in
@@ -172,7 +143,6 @@ add-i c =
     let y = bounds n 512 (length t) (l .loop .at) (l .loop .count) (l .loop .i) _ _ _ (m .result) (m .ensures .0) (later-none (m .result) (o′ .result) none) (l .loop .inv .0) (l .loop .inv .2) (c .before .before .before .before .before .before .before .before .before .before .before .before .before .before .loop-test .taken) in
     omega arith
 
--- src/lib.rt:270:5
 loop-less : tie.Need-loop-less Inv-loop μ-loop
 loop-less c =
     let l = c .before .before .before .before .before .before .before .before .before .before .before .before .before .before .before in
@@ -187,7 +157,6 @@ loop-less c =
     let y = bounds n 512 (length t) (l .loop .at) (l .loop .count) (l .loop .i) _ _ _ (m .result) (m .ensures .0) (later-none (m .result) (o′ .result) none) (l .loop .inv .0) (l .loop .inv .2) (c .before .before .before .before .before .before .before .before .before .before .before .before .before .before .loop-test .taken) in
     y .less
 
--- src/lib.rt:270:5
 loop-again : tie.Need-loop-again Inv-loop μ-loop
 loop-again c =
     let l = c .before .before .before .before .before .before .before .before .before .before .before .before .before .before .before in
@@ -210,7 +179,6 @@ loop-again c =
           (p .result) _ (p .ensures .1) (m .result) (m .ensures .0) (o′ .result) (o′ .ensures names k) none,
     )
 
--- src/lib.rt:259:1
 returns-5 : tie.Need-returns-5 Inv-loop μ-loop
 returns-5 c = λ names k o.
     let l = c .before in

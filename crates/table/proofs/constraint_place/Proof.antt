@@ -1,9 +1,9 @@
-use Prim.Native.Nat.{ℕ, zero, suc, _+_, _-_, _*_, _≤_, _<_}
-use mathlib.Core.Path.{_≡_, refl, ap, sym, _∙_}
-use mathlib.Core.List.{List, [], _∷_, _++_, map}
-use lib.ListN.{length, getD, take, drop, set}
-use native.Mathlib.Omega.{arith}
-use mathlib.Core.Bool.{true, false}
+-- `table::constraint_place` meets its contract. Assumes nothing.
+use Prim.Native.Nat.{_-_, _≤_}
+use mathlib.Core.Path.{_≡_}
+use mathlib.Core.List.{map}
+use lib.ListN.{take}
+use mathlib.Core.Bool.{false}
 use borrow.Author.Tests.{not-true, not-false}
 use Rattle.row.specs.Row.{constraintRow}
 use Rattle.ground.specs.Ground.{misplaced}
@@ -12,10 +12,6 @@ use Rattle.ground.proofs.Loop.{compared}
 use borrow.Author.Needs.{needs}
 use Rattle.table.proofs.constraint_place.Statement.{statement}
 use Rattle.table.proofs.constraint_place.Tie as tie
-use Rattle.table.proofs.constraint_place.Reads as reads
-use Rattle.table.proofs.constraint_place.Lts as lts
-use Rattle.row.proofs.below.Reads as below-reads
-use Rattle.row.proofs.constraint_row.Reads as constraint-row-reads
 
 abbrev Inv-loop : tie.InvT-loop
 Inv-loop n a row p₀ p = (p ≤ n) × (n ≤ 512) × (misplaced 3 (take p (map constraintRow (take n a))) row ≡ false)
@@ -23,35 +19,27 @@ Inv-loop n a row p₀ p = (p ≤ n) × (n ≤ 512) × (misplaced 3 (take p (map 
 abbrev μ-loop : tie.MeasureT-loop
 μ-loop n a row p₀ p = n - p
 
--- src/lib.rt:222:5
 loop-holds : tie.Need-loop-holds Inv-loop μ-loop
 loop-holds c = (search needs, search needs, place-first constraintRow (c .args .t1) (c .args .n) (search needs) 3 (c .args .t3))
 
--- src/lib.rt:223:17
 mul-e : tie.Need-mul-e Inv-loop μ-loop
 mul-e c = search needs
 
--- src/lib.rt:223:17
 array-copy-out-e : tie.Need-array-copy-out-e Inv-loop μ-loop
 array-copy-out-e c = search needs
 
--- src/lib.rt:224:17
 constraint-row-requires : tie.Need-constraint-row-requires Inv-loop μ-loop
 constraint-row-requires c κs = search needs
 
--- src/lib.rt:225:24
 slice-aggregate-below : tie.Need-slice-aggregate-below Inv-loop μ-loop
 slice-aggregate-below c = search needs
 
--- src/lib.rt:225:28
 slice-aggregate-below-2 : tie.Need-slice-aggregate-below-2 Inv-loop μ-loop
 slice-aggregate-below-2 c = search needs
 
--- src/lib.rt:225:13
 below-requires : tie.Need-below-requires Inv-loop μ-loop
 below-requires c κs = search needs
 
--- src/lib.rt:226:13
 returns : tie.Need-returns Inv-loop μ-loop
 returns c =
     let l = c .before .before .before .before .before .before .before in
@@ -59,15 +47,12 @@ returns c =
     place-here constraintRow (s .args .t1) (s .args .n) (search needs) 3 (s .args .t3) (l .loop .p) _ (search needs)
     (compared 3 (s .args .t3) (c .before .before .before .before .constraint-row .ensures) (c .before .below .ensures) (not-true _ (c .if1 .taken))) (l .loop .inv .2)
 
--- src/lib.rt:228:9
 add-p : tie.Need-add-p Inv-loop μ-loop
 add-p c = search needs
 
--- src/lib.rt:222:5
 loop-less : tie.Need-loop-less Inv-loop μ-loop
 loop-less c = search needs
 
--- src/lib.rt:222:5
 loop-again : tie.Need-loop-again Inv-loop μ-loop
 loop-again c =
     let l = c .before .before .before .before .before .before .before in
@@ -78,7 +63,6 @@ loop-again c =
           (compared 3 (s .args .t3) (c .before .before .before .before .constraint-row .ensures) (c .before .below .ensures) (not-false _ (c .if1 .left))) (l .loop .inv .2),
     )
 
--- src/lib.rt:217:1
 returns-2 : tie.Need-returns-2 Inv-loop μ-loop
 returns-2 c =
     let l = c .before in

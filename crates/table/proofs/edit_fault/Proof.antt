@@ -1,7 +1,7 @@
-use Prim.Native.Nat.{ℕ, zero, suc, _+_, _-_, _*_, _≤_, _<_}
-use mathlib.Core.Path.{_≡_, refl, ap, sym, _∙_}
-use mathlib.Core.List.{List, [], _∷_, _++_}
-use lib.ListN.{length, getD, take, drop, set}
+-- `table::edit_fault` meets its contract. Assumes nothing.
+use Prim.Native.Nat.{_+_, _-_, _≤_}
+use mathlib.Core.Path.{_≡_, refl, sym, _∙_}
+use lib.ListN.{length, take}
 use native.Mathlib.Omega.{arith}
 use borrow.Author.Tests.{not-true, not-false}
 use Rattle.ground.proofs.Walks.{bounds}
@@ -10,13 +10,6 @@ use Rattle.table.proofs.Elements.{editElements, edit-rows-ascend, lengt
 use borrow.Author.Needs.{needs}
 use Rattle.table.proofs.edit_fault.Statement.{statement}
 use Rattle.table.proofs.edit_fault.Tie as tie
-use Rattle.table.proofs.edit_fault.Reads as reads
-use Rattle.table.proofs.edit_fault.Lts as lts
-use Rattle.ground.proofs.slot.Reads as slot-reads
-use Rattle.row.proofs.edit_in_range.Reads as edit-in-range-reads
-use Rattle.table.proofs.edit_follows.Reads as edit-follows-reads
-use Rattle.table.proofs.edit_late.Reads as edit-late-reads
-use Rattle.table.proofs.edit_step.Reads as edit-step-reads
 
 abbrev Inv-loop : tie.InvT-loop
 Inv-loop t a n at₀ count₀ i₀ at count i = (at ≤ n) × (n ≤ 127) × (count ≤ 127) × (i ≤ length t) × State editElements a n t at count i
@@ -24,30 +17,24 @@ Inv-loop t a n at₀ count₀ i₀ at count i = (at ≤ n) × (n ≤ 127) × (co
 abbrev μ-loop : tie.MeasureT-loop
 μ-loop t a n at₀ count₀ i₀ at count i = (n - at) + (length t - i)
 
--- src/lib.rt:99:9
 returns : tie.Need-returns Inv-loop μ-loop
 returns c = λ o. absurd (omega (arith, o .editplaces))
 
--- src/lib.rt:104:5
 loop-holds : tie.Need-loop-holds Inv-loop μ-loop
 loop-holds c =
     let s = c .before .before in
     let z : length (s .args .r .edits) ≡ 127 = search (needs, length-mapped) in
     (search needs, search needs, search needs, search needs, state-start editElements (s .args .r .edits) (s .args .r .editcount) (s .args .t .now) (omega arith))
 
--- src/lib.rt:105:19
 mul-row : tie.Need-mul-row Inv-loop μ-loop
 mul-row c = search needs
 
--- src/lib.rt:105:19
 shared-slice-copy-out-row : tie.Need-shared-slice-copy-out-row Inv-loop μ-loop
 shared-slice-copy-out-row c = search needs
 
--- src/lib.rt:106:13
 edit-in-range-requires : tie.Need-edit-in-range-requires Inv-loop μ-loop
 edit-in-range-requires c κs = search needs
 
--- src/lib.rt:107:13
 returns-2 : tie.Need-returns-2 Inv-loop μ-loop
 returns-2 c = λ o.
     let l = c .before .before .before .before in
@@ -58,15 +45,12 @@ returns-2 c = λ o.
     let z : length es ≡ 127 = search (needs, length-mapped) in
     state-outside editElements es n t (omega arith) (l .loop .at) (l .loop .count) (l .loop .i) (l .loop .inv .4) (c .before .before .before .loop-test .taken) (c .before .edit-in-range .ensures .0) (not-true _ (c .if2 .taken)) (edit-rows-ascend (take n es) (o .editorder))
 
--- src/lib.rt:109:13
 edit-follows-requires : tie.Need-edit-follows-requires Inv-loop μ-loop
 edit-follows-requires c κs = search needs
 
--- src/lib.rt:110:13
 edit-late-requires : tie.Need-edit-late-requires Inv-loop μ-loop
 edit-late-requires c κs = search needs
 
--- src/lib.rt:110:13
 returns-3 : tie.Need-returns-3 Inv-loop μ-loop
 returns-3 c = λ o.
     let l = c .before .before .before .before .before .before .before in
@@ -79,23 +63,18 @@ returns-3 c = λ o.
     state-late editElements es n t (omega arith) (l .loop .at) (l .loop .count) (l .loop .i) (l .loop .inv .4) (c .before .before .before .before .before .before .loop-test .taken) (c .before .before .before .before .edit-in-range .ensures .0) (not-false _ (c .before .before .before .if2 .left)) (w .result) (w .ensures) (not-true _ (c .before .if3 .taken))
     (c .edit-late .ensures) refl (sym (late-zero (c .edit-late .result))) (edit-rows-ascend (take n es) (o .editorder))
 
--- src/lib.rt:112:13
 slot-requires : tie.Need-slot-requires Inv-loop μ-loop
 slot-requires c κs = search needs
 
--- src/lib.rt:113:17
 mul-e : tie.Need-mul-e Inv-loop μ-loop
 mul-e c = search needs
 
--- src/lib.rt:113:17
 array-copy-out-e : tie.Need-array-copy-out-e Inv-loop μ-loop
 array-copy-out-e c = search needs
 
--- src/lib.rt:114:13
 edit-step-requires : tie.Need-edit-step-requires Inv-loop μ-loop
 edit-step-requires c κs = search needs
 
--- src/lib.rt:116:13
 returns-4 : tie.Need-returns-4 Inv-loop μ-loop
 returns-4 c = λ o.
     let l = c .before .before .before .before .before .before .before .before .before .before .before in
@@ -110,7 +89,6 @@ returns-4 c = λ o.
     state-stops editElements es n t (omega arith) (l .loop .at) (l .loop .count) (l .loop .i) (l .loop .inv .4) (c .before .before .before .before .before .before .before .before .before .before .loop-test .taken) (c .before .before .before .before .before .before .before .before .edit-in-range .ensures .0) (not-false _ (c .before .before .before .before .before .before .before .if2 .left)) (w .result) (w .ensures) (m .ensures .1) (not-false _ (c .before .before .before .before .before .if3 .left))
     (p .result) _ (p .ensures .1) (m .result) (m .ensures .0) 0 refl (λ y. c .if4 .taken (sym (later-zero (m .result)) ∙ y)) (sym (later-zero (m .result))) (edit-rows-ascend (take n es) (o .editorder))
 
--- src/lib.rt:118:9
 add-at : tie.Need-add-at Inv-loop μ-loop
 add-at c =
     let l = c .before .before .before .before .before .before .before .before .before .before .before .before in
@@ -123,7 +101,6 @@ add-at c =
     let y = bounds n 127 (length t) (l .loop .at) (l .loop .count) (l .loop .i) _ _ _ (m .result) (m .ensures .0) (c .before .if4 .left) (l .loop .inv .0) (l .loop .inv .2) (c .before .before .before .before .before .before .before .before .before .before .before .loop-test .taken) in
     omega arith
 
--- src/lib.rt:119:9
 add-count : tie.Need-add-count Inv-loop μ-loop
 add-count c =
     let l = c .before .before .before .before .before .before .before .before .before .before .before .before .before in
@@ -136,7 +113,6 @@ add-count c =
     let y = bounds n 127 (length t) (l .loop .at) (l .loop .count) (l .loop .i) _ _ _ (m .result) (m .ensures .0) (c .before .before .if4 .left) (l .loop .inv .0) (l .loop .inv .2) (c .before .before .before .before .before .before .before .before .before .before .before .before .loop-test .taken) in
     omega arith
 
--- src/lib.rt:120:9
 add-i : tie.Need-add-i Inv-loop μ-loop
 add-i c =
     let l = c .before .before .before .before .before .before .before .before .before .before .before .before .before .before in
@@ -149,7 +125,6 @@ add-i c =
     let y = bounds n 127 (length t) (l .loop .at) (l .loop .count) (l .loop .i) _ _ _ (m .result) (m .ensures .0) (c .before .before .before .if4 .left) (l .loop .inv .0) (l .loop .inv .2) (c .before .before .before .before .before .before .before .before .before .before .before .before .before .loop-test .taken) in
     omega arith
 
--- src/lib.rt:104:5
 loop-less : tie.Need-loop-less Inv-loop μ-loop
 loop-less c =
     let l = c .before .before .before .before .before .before .before .before .before .before .before .before .before .before in
@@ -162,7 +137,6 @@ loop-less c =
     let y = bounds n 127 (length t) (l .loop .at) (l .loop .count) (l .loop .i) _ _ _ (m .result) (m .ensures .0) (c .before .before .before .if4 .left) (l .loop .inv .0) (l .loop .inv .2) (c .before .before .before .before .before .before .before .before .before .before .before .before .before .loop-test .taken) in
     y .less
 
--- src/lib.rt:104:5
 loop-again : tie.Need-loop-again Inv-loop μ-loop
 loop-again c =
     let l = c .before .before .before .before .before .before .before .before .before .before .before .before .before .before in
@@ -183,7 +157,6 @@ loop-again c =
           (p .result) _ (p .ensures .1) (m .result) (m .ensures .0) 0 refl (later-zero (m .result) ∙ c .before .before .before .if4 .left),
     )
 
--- src/lib.rt:93:1
 returns-5 : tie.Need-returns-5 Inv-loop μ-loop
 returns-5 c = λ o.
     let l = c .before in

@@ -1,10 +1,10 @@
-use Prim.Native.Nat.{ℕ, zero, suc, _+_, _-_, _*_, _≤_, _<_}
-use mathlib.Core.Path.{_≡_, refl, ap, sym, _∙_}
-use mathlib.Core.List.{List, [], _∷_, _++_}
-use lib.ListN.{length, getD, take, drop, set}
+-- `table::mark_edits` meets its contract. Assumes nothing.
+use Prim.Native.Nat.{_-_, _≤_}
+use mathlib.Core.Path.{_≡_}
+use mathlib.Core.List.{map}
+use lib.ListN.{length, take}
 use native.Mathlib.Omega.{arith}
 use mathlib.Core.Bool.{true}
-use mathlib.Core.List.{map}
 use lib.Seq.{length-take-le}
 use Rattle.record.specs.Lists.{all}
 use Rattle.record.specs.Record.{nameOf}
@@ -14,9 +14,6 @@ use Rattle.table.proofs.Marks.{marks-start, marks-front, marks-end, edi
 use borrow.Author.Needs.{needs}
 use Rattle.table.proofs.mark_edits.Statement.{statement}
 use Rattle.table.proofs.mark_edits.Tie as tie
-use Rattle.table.proofs.mark_edits.Reads as reads
-use Rattle.table.proofs.mark_edits.Lts as lts
-use Rattle.ground.proofs.slot.Reads as slot-reads
 
 abbrev Inv-loop : tie.InvT-loop
 Inv-loop n a marks₀ i₀ marks i = (i ≤ n) × (n ≤ 127) × (length marks ≡ 2304) × (all (λ e. editInRange (editRow e)) (take n a) ≡ true → Marked marks (map nameOf (take i (take n a))))
@@ -24,43 +21,33 @@ Inv-loop n a marks₀ i₀ marks i = (i ≤ n) × (n ≤ 127) × (length marks �
 abbrev μ-loop : tie.MeasureT-loop
 μ-loop n a marks₀ i₀ marks i = n - i
 
--- src/lib.rt:322:5
 array-write-marks : tie.Need-array-write-marks Inv-loop μ-loop
 array-write-marks c = search needs
 
--- src/lib.rt:324:5
 loop-holds : tie.Need-loop-holds Inv-loop μ-loop
 loop-holds c = (search needs, search needs, search needs, λ f. marks-start 2304 (omega arith))
 
--- src/lib.rt:325:17
 mul-e : tie.Need-mul-e Inv-loop μ-loop
 mul-e c = search needs
 
--- src/lib.rt:325:17
 array-copy-out-e : tie.Need-array-copy-out-e Inv-loop μ-loop
 array-copy-out-e c = search needs
 
--- src/lib.rt:326:20
 cast-name : tie.Need-cast-name Inv-loop μ-loop
 cast-name c = search needs
 
--- src/lib.rt:327:13
 slot-requires : tie.Need-slot-requires Inv-loop μ-loop
 slot-requires c κs = search needs
 
--- src/lib.rt:328:9
 array-write-marks-2 : tie.Need-array-write-marks-2 Inv-loop μ-loop
 array-write-marks-2 c = search needs
 
--- src/lib.rt:329:9
 add-i : tie.Need-add-i Inv-loop μ-loop
 add-i c = search needs
 
--- src/lib.rt:324:5
 loop-less : tie.Need-loop-less Inv-loop μ-loop
 loop-less c = search needs
 
--- src/lib.rt:324:5
 loop-again : tie.Need-loop-again Inv-loop μ-loop
 loop-again c =
     let l = c .before .before .before .before in
@@ -73,7 +60,6 @@ loop-again c =
           (c .slot .ensures .1) (l .loop .inv .3),
     )
 
--- src/lib.rt:317:1
 returns : tie.Need-returns Inv-loop μ-loop
 returns c = λ f.
     let l = c .before in

@@ -1,7 +1,8 @@
-use Prim.Native.Nat.{ℕ, zero, suc, _+_, _-_, _*_, _≤_, _<_}
-use mathlib.Core.Path.{_≡_, refl, ap, sym, _∙_}
-use mathlib.Core.List.{List, [], _∷_, _++_}
-use lib.ListN.{length, getD, take, drop, set}
+-- `table::mark_rows` meets its contract. Assumes nothing.
+use Prim.Native.Nat.{_-_, _≤_}
+use mathlib.Core.Path.{_≡_, _∙_}
+use mathlib.Core.List.{[]}
+use lib.ListN.{length, take}
 use native.Mathlib.Omega.{arith}
 use mathlib.Core.Bool.{true}
 use Rattle.record.specs.Lists.{all}
@@ -12,10 +13,6 @@ use Rattle.table.proofs.Marks.{marks-start, marks-next, marks-end, row-
 use borrow.Author.Needs.{needs}
 use Rattle.table.proofs.mark_rows.Statement.{statement}
 use Rattle.table.proofs.mark_rows.Tie as tie
-use Rattle.table.proofs.mark_rows.Reads as reads
-use Rattle.table.proofs.mark_rows.Lts as lts
-use Rattle.ground.proofs.slot.Reads as slot-reads
-use Rattle.table.proofs.wide.Reads as wide-reads
 
 abbrev Inv-loop : tie.InvT-loop
 Inv-loop t marks₀ i₀ marks i = (i ≤ length t) × (length marks ≡ 2304) × (all editInRange t ≡ true → Marked marks (namesOf (take i t)))
@@ -23,47 +20,36 @@ Inv-loop t marks₀ i₀ marks i = (i ≤ length t) × (length marks ≡ 2304) �
 abbrev μ-loop : tie.MeasureT-loop
 μ-loop t marks₀ i₀ marks i = length t - i
 
--- src/lib.rt:305:5
 array-write-marks : tie.Need-array-write-marks Inv-loop μ-loop
 array-write-marks c = search needs
 
--- src/lib.rt:307:5
 loop-holds : tie.Need-loop-holds Inv-loop μ-loop
 loop-holds c = (search needs, search needs, λ f. marks-start 2304 (omega arith))
 
--- src/lib.rt:308:22
 mul-wide : tie.Need-mul-wide Inv-loop μ-loop
 mul-wide c = search needs
 
--- src/lib.rt:308:22
 index-1-wide : tie.Need-index-1-wide Inv-loop μ-loop
 index-1-wide c = search needs
 
--- src/lib.rt:308:22
 index-2-wide : tie.Need-index-2-wide Inv-loop μ-loop
 index-2-wide c = search needs
 
--- src/lib.rt:308:13
 wide-requires : tie.Need-wide-requires Inv-loop μ-loop
 wide-requires c κs = search needs
 
--- src/lib.rt:309:13
 slot-requires : tie.Need-slot-requires Inv-loop μ-loop
 slot-requires c κs = search needs
 
--- src/lib.rt:310:9
 array-write-marks-2 : tie.Need-array-write-marks-2 Inv-loop μ-loop
 array-write-marks-2 c = search needs
 
--- src/lib.rt:311:9
 add-i : tie.Need-add-i Inv-loop μ-loop
 add-i c = search needs
 
--- src/lib.rt:307:5
 loop-less : tie.Need-loop-less Inv-loop μ-loop
 loop-less c = search needs
 
--- src/lib.rt:307:5
 loop-again : tie.Need-loop-again Inv-loop μ-loop
 loop-again c =
     let l = c .before .before .before .before in
@@ -74,7 +60,6 @@ loop-again c =
           (λ h. c .slot .ensures .1 (search needs) ∙ c .before .wide .ensures) (l .loop .inv .2),
     )
 
--- src/lib.rt:301:1
 returns : tie.Need-returns Inv-loop μ-loop
 returns c = λ f. let l = c .before in marks-end (λ row. cell row 0) editInRange 2304 row-small (l .before .args .t .now) (l .loop .marks) (l .loop .i) (c .loop-test .left) (l .loop .inv .2 f)
 

@@ -1,34 +1,22 @@
-use Prim.Native.Nat.{ℕ, zero, suc, _+_, _-_, _*_, _≤_, _<_}
-use mathlib.Core.Path.{_≡_, refl, ap, sym, _∙_}
-use mathlib.Core.List.{List, [], _∷_, _++_}
-use lib.ListN.{length, getD, take, drop, set}
-use native.Mathlib.Omega.{arith}
+-- `table::pair_not_allowed` meets its contract. Assumes nothing.
 use Rattle.table.proofs.Further.{pair-none, pair-right, pair-itself, pair-higher, pair-good}
-use borrow.Author.Needs.{needs}
 use Rattle.table.proofs.pair_not_allowed.Statement.{statement}
 use Rattle.table.proofs.pair_not_allowed.Tie as tie
-use Rattle.table.proofs.pair_not_allowed.Reads as reads
-use Rattle.table.proofs.pair_not_allowed.Lts as lts
 
--- src/lib.rt:139:9
 returns : tie.Need-returns
 returns c = let s = c .before .args in pair-none (s .left) (s .rule) (s .right) (c .if1 .taken)
 
--- src/lib.rt:142:9
 returns-2 : tie.Need-returns-2
 returns-2 c = let s = c .before .before .args in pair-right (s .left) (s .rule) (s .right) (c .before .if1 .left) (c .if2 .taken)
 
--- src/lib.rt:145:9
 returns-3 : tie.Need-returns-3
 returns-3 c = let s = c .before .before .before .args in pair-itself (s .left) (s .rule) (s .right) (c .before .before .if1 .left) (c .before .if2 .left) (c .if3 .taken)
 
--- src/lib.rt:148:9
 returns-4 : tie.Need-returns-4
 returns-4 c =
     let s = c .before .before .before .before .args in
     pair-higher (s .left) (s .rule) (s .right) (c .before .before .before .if1 .left) (c .before .before .if2 .left) (c .before .if3 .left) (c .if4 .taken)
 
--- src/lib.rt:135:1
 returns-5 : tie.Need-returns-5
 returns-5 c =
     let s = c .before .before .before .before .args in

@@ -1,32 +1,20 @@
-use Prim.Native.Nat.{ℕ, zero, suc, _+_, _-_, _*_, _≤_, _<_}
-use mathlib.Core.Path.{_≡_, refl, ap, sym, _∙_}
-use mathlib.Core.List.{List, [], _∷_, _++_}
-use lib.ListN.{length, getD, take, drop, set}
-use native.Mathlib.Omega.{arith}
+-- `unite::constraint_below` meets its contract. Assumes nothing.
 use Rattle.unite.proofs.Choices.{key-less, key-more, key-same, key-last}
-use borrow.Author.Needs.{needs}
 use Rattle.unite.proofs.constraint_below.Statement.{statement}
 use Rattle.unite.proofs.constraint_below.Tie as tie
-use Rattle.unite.proofs.constraint_below.Reads as reads
-use Rattle.unite.proofs.constraint_below.Lts as lts
 
--- src/lib.rt:172:9
 returns : tie.Need-returns
 returns c = key-less _ _ _ _ (c .if1 .taken)
 
--- src/lib.rt:175:9
 returns-2 : tie.Need-returns-2
 returns-2 c = key-more _ _ _ _ (c .before .before .before .if1 .left) (c .if2 .taken)
 
--- src/lib.rt:178:9
 returns-3 : tie.Need-returns-3
 returns-3 c = key-same _ _ _ _ (c .before .before .before .before .before .before .if1 .left) (c .before .before .before .if2 .left) (key-less _ _ _ _ (c .if3 .taken))
 
--- src/lib.rt:181:9
 returns-4 : tie.Need-returns-4
 returns-4 c = key-same _ _ _ _ (c .before .before .before .before .before .before .before .before .before .if1 .left) (c .before .before .before .before .before .before .if2 .left) (key-more _ _ _ _ (c .before .before .before .if3 .left) (c .if4 .taken))
 
--- src/lib.rt:168:1
 returns-5 : tie.Need-returns-5
 returns-5 c = key-same _ _ _ _ (c .before .before .before .before .before .before .before .before .before .before .before .if1 .left) (c .before .before .before .before .before .before .before .before .if2 .left) (key-same _ _ _ _ (c .before .before .before .before .before .if3 .left) (c .before .before .if4 .left) (key-last _ _))
 

@@ -1,19 +1,14 @@
-use Prim.Native.Nat.{ℕ, zero, suc, _+_, _-_, _*_, _≤_, _<_}
-use mathlib.Core.Path.{_≡_, refl, ap, sym, _∙_}
-use mathlib.Core.List.{List, [], _∷_, _++_}
-use lib.ListN.{length, getD, take, drop, set}
-use native.Mathlib.Omega.{arith}
-use mathlib.Core.List.{map}
+-- `unite::decode_constraints` meets its contract. Assumes nothing.
+use Prim.Native.Nat.{_-_, _≤_}
+use mathlib.Core.Path.{_≡_}
+use mathlib.Core.List.{[], map}
+use lib.ListN.{length, take}
 use Rattle.record.specs.Stored.{padded, fillerConstraint}
 use Rattle.row.specs.Row.{constraintOf}
 use Rattle.unite.proofs.Joining.{padded-begin, decode-next, decode-end}
 use borrow.Author.Needs.{needs}
 use Rattle.unite.proofs.decode_constraints.Statement.{statement}
 use Rattle.unite.proofs.decode_constraints.Tie as tie
-use Rattle.unite.proofs.decode_constraints.Reads as reads
-use Rattle.unite.proofs.decode_constraints.Lts as lts
-use Rattle.row.proofs.constraint_of.Reads as constraint-of-reads
-use Rattle.unite.proofs.constraint_filler.Reads as constraint-filler-reads
 
 abbrev Inv-loop : tie.InvT-loop
 Inv-loop t out₀ i₀ out i = (i ≤ length t) × (length t ≤ 512) × (length out ≡ 512) × (out ≡ padded 512 fillerConstraint (map constraintOf (take i t)))
@@ -21,50 +16,39 @@ Inv-loop t out₀ i₀ out i = (i ≤ length t) × (length t ≤ 512) × (length
 abbrev μ-loop : tie.MeasureT-loop
 μ-loop t out₀ i₀ out i = length t - i
 
--- src/lib.rt:58:9
 constraint-filler-requires : tie.Need-constraint-filler-requires Inv-loop μ-loop
 constraint-filler-requires c κs = search needs
 
--- src/lib.rt:61:5
 loop-holds : tie.Need-loop-holds Inv-loop μ-loop
 loop-holds c = (search needs, search needs, search needs, padded-begin 512 fillerConstraint (c .constraint-filler .ensures))
 
--- src/lib.rt:62:19
 mul-row : tie.Need-mul-row Inv-loop μ-loop
 mul-row c = search needs
 
--- src/lib.rt:62:19
 shared-slice-copy-out-row : tie.Need-shared-slice-copy-out-row Inv-loop μ-loop
 shared-slice-copy-out-row c = search needs
 
--- src/lib.rt:63:18
 constraint-of-requires : tie.Need-constraint-of-requires Inv-loop μ-loop
 constraint-of-requires c κs = search needs
 
--- src/lib.rt:63:9
 mul-out : tie.Need-mul-out Inv-loop μ-loop
 mul-out c = search needs
 
--- src/lib.rt:63:9
 array-set-from-out : tie.Need-array-set-from-out Inv-loop μ-loop
 array-set-from-out c = search needs
 
--- src/lib.rt:64:9
 add-i : tie.Need-add-i Inv-loop μ-loop
 add-i c = search needs
 
--- src/lib.rt:61:5
 loop-less : tie.Need-loop-less Inv-loop μ-loop
 loop-less c = search needs
 
--- src/lib.rt:61:5
 loop-again : tie.Need-loop-again Inv-loop μ-loop
 loop-again c =
     let l = c .before .before .before in
     let s = l .before .before in
     (search needs, search needs, search needs, decode-next 512 fillerConstraint constraintOf (s .args .t .now) (l .loop .out) (l .loop .i) [] (c .before .before .loop-test .taken) (l .loop .inv .1) (l .loop .inv .3) (c .constraint-of .ensures))
 
--- src/lib.rt:54:1
 returns : tie.Need-returns Inv-loop μ-loop
 returns c = let l = c .before in let s = l .before .before in decode-end 512 fillerConstraint constraintOf (s .args .t .now) (l .loop .out) (l .loop .i) (c .loop-test .left) (l .loop .inv .3)
 

@@ -1,7 +1,7 @@
-use Prim.Native.Nat.{ℕ, zero, suc, _+_, _-_, _*_, _≤_, _<_}
-use mathlib.Core.Path.{_≡_, refl, ap, sym, _∙_}
-use mathlib.Core.List.{List, [], _∷_, _++_}
-use lib.ListN.{length, getD, take, drop, set}
+-- `unite::unite_edits` meets its contract. Assumes nothing.
+use Prim.Native.Nat.{_+_, _-_, _≤_}
+use mathlib.Core.Path.{_≡_, refl}
+use lib.ListN.{length, take}
 use native.Mathlib.Omega.{arith}
 use lib.Seq.{length-take-le}
 use Rattle.record.specs.Stored.{fillerEdit}
@@ -9,19 +9,12 @@ use Rattle.table.specs.Table.{editKey}
 use Rattle.table.proofs.Elements.{length-mapped}
 use Rattle.unite.specs.Union.{Unites}
 use Rattle.unite.proofs.Choices.{chosen-by, onwards}
-use Rattle.unite.proofs.Joining.{Joining, joining-start, joining-next, joining-end, united-edits-is, united-constraints-is}
+use Rattle.unite.proofs.Joining.{Joining, joining-start, joining-next, joining-end, united-edits-is}
 use lib.Dec.{ltb}
 use Rattle.keyed.specs.Keyed.{united}
 use borrow.Author.Needs.{needs}
 use Rattle.unite.proofs.unite_edits.Statement.{statement}
 use Rattle.unite.proofs.unite_edits.Tie as tie
-use Rattle.unite.proofs.unite_edits.Reads as reads
-use Rattle.unite.proofs.unite_edits.Lts as lts
-use Rattle.ground.proofs.slot.Reads as slot-reads
-use Rattle.unite.proofs.choose.Reads as choose-reads
-use Rattle.unite.proofs.edit_below.Reads as edit-below-reads
-use Rattle.unite.proofs.edit_either.Reads as edit-either-reads
-use Rattle.unite.proofs.edit_filler.Reads as edit-filler-reads
 
 abbrev Inv-loop : tie.InvT-loop
 Inv-loop joined a n b m out₀ p₀ j₀ q₀ out p j q =
@@ -31,71 +24,54 @@ Inv-loop joined a n b m out₀ p₀ j₀ q₀ out p j q =
 abbrev μ-loop : tie.MeasureT-loop
 μ-loop joined a n b m out₀ p₀ j₀ q₀ out p j q = (n + m) - (p + j)
 
--- src/lib.rt:139:9
 returns : tie.Need-returns Inv-loop μ-loop
 returns c = λ x y u. absurd (omega arith)
 
--- src/lib.rt:142:9
 returns-2 : tie.Need-returns-2 Inv-loop μ-loop
 returns-2 c = λ x y u. absurd (omega arith)
 
--- src/lib.rt:144:9
 edit-filler-requires : tie.Need-edit-filler-requires Inv-loop μ-loop
 edit-filler-requires c κs = search needs
 
--- src/lib.rt:149:5
 loop-holds : tie.Need-loop-holds Inv-loop μ-loop
 loop-holds c = (search needs, search needs, search needs, search needs, search needs, search needs, search (needs, length-mapped), search (needs, length-mapped), λ u. joining-start editKey (λ x y. refl) 127 fillerEdit _ _ (c .edit-filler .ensures))
 
--- src/lib.rt:149:11
 add-loop : tie.Need-add-loop Inv-loop μ-loop
 add-loop c = search needs
 
--- src/lib.rt:149:19
 add-loop-2 : tie.Need-add-loop-2 Inv-loop μ-loop
 add-loop-2 c = search needs
 
--- src/lib.rt:150:19
 slot-requires : tie.Need-slot-requires Inv-loop μ-loop
 slot-requires c κs = search needs
 
--- src/lib.rt:150:17
 mul-x : tie.Need-mul-x Inv-loop μ-loop
 mul-x c = search needs
 
--- src/lib.rt:150:17
 array-copy-out-x : tie.Need-array-copy-out-x Inv-loop μ-loop
 array-copy-out-x c = search needs
 
--- src/lib.rt:151:19
 slot-requires-2 : tie.Need-slot-requires-2 Inv-loop μ-loop
 slot-requires-2 c κs = search needs
 
--- src/lib.rt:151:17
 mul-y : tie.Need-mul-y Inv-loop μ-loop
 mul-y c = search needs
 
--- src/lib.rt:151:17
 array-copy-out-y : tie.Need-array-copy-out-y Inv-loop μ-loop
 array-copy-out-y c = search needs
 
--- src/lib.rt:152:43
 edit-below-requires : tie.Need-edit-below-requires Inv-loop μ-loop
 edit-below-requires c κs = search needs
 
--- src/lib.rt:152:61
 edit-below-requires-2 : tie.Need-edit-below-requires-2 Inv-loop μ-loop
 edit-below-requires-2 c κs = search needs
 
--- src/lib.rt:152:13
 choose-requires : tie.Need-choose-requires Inv-loop μ-loop
 choose-requires c κs = search needs
 
--- src/lib.rt:153:13
 edit-either-requires : tie.Need-edit-either-requires Inv-loop μ-loop
 edit-either-requires c κs = search needs
 
--- src/lib.rt:155:13
 returns-3 : tie.Need-returns-3 Inv-loop μ-loop
 returns-3 c = λ x y u.
     let l = c .before .before .before .before .before .before .before .before .before .before in
@@ -110,15 +86,12 @@ returns-3 c = λ x y u.
     (c .before .before .before .before .before .before .before .before .before .loop-test .taken) (c .before .before .before .before .before .before .before .before .slot .result) (c .before .before .before .before .before .before .slot2 .result) _ _ (c .before .before .before .before .before .before .before .before .slot .ensures .1) (c .before .before .before .before .before .before .slot2 .ensures .1) (c .before .before .choose .result)
     (chosen-by (ltb (l .loop .p) n) (ltb (l .loop .j) m) (c .before .before .choose .ensures) (c .before .before .before .before .edit-below .ensures) (c .before .before .before .edit-below2 .ensures)) (c .before .edit-either .result) (c .before .edit-either .ensures) in omega (arith, w .1))
 
--- src/lib.rt:157:9
 mul-out : tie.Need-mul-out Inv-loop μ-loop
 mul-out c = search needs
 
--- src/lib.rt:157:9
 array-set-from-out : tie.Need-array-set-from-out Inv-loop μ-loop
 array-set-from-out c = search needs
 
--- src/lib.rt:158:9
 add-p : tie.Need-add-p Inv-loop μ-loop
 add-p c =
     let l = c .before .before .before .before .before .before .before .before .before .before .before in
@@ -132,7 +105,6 @@ add-p c =
     let o = onwards n m (l .loop .p) (l .loop .j) _ _ (c .before .before .before .choose .result) (c .before .before .before .choose .ensures) (l .loop .inv .0) (l .loop .inv .2) (c .before .before .before .before .before .before .before .before .before .before .loop-test .taken) in
     omega arith
 
--- src/lib.rt:159:9
 add-j : tie.Need-add-j Inv-loop μ-loop
 add-j c =
     let l = c .before .before .before .before .before .before .before .before .before .before .before .before in
@@ -146,11 +118,9 @@ add-j c =
     let o = onwards n m (l .loop .p) (l .loop .j) _ _ (c .before .before .before .before .choose .result) (c .before .before .before .before .choose .ensures) (l .loop .inv .0) (l .loop .inv .2) (c .before .before .before .before .before .before .before .before .before .before .before .loop-test .taken) in
     omega arith
 
--- src/lib.rt:160:9
 add-q : tie.Need-add-q Inv-loop μ-loop
 add-q c = search needs
 
--- src/lib.rt:149:5
 loop-less : tie.Need-loop-less Inv-loop μ-loop
 loop-less c =
     let l = c .before .before .before .before .before .before .before .before .before .before .before .before in
@@ -164,7 +134,6 @@ loop-less c =
     let o = onwards n m (l .loop .p) (l .loop .j) _ _ (c .before .before .before .before .choose .result) (c .before .before .before .before .choose .ensures) (l .loop .inv .0) (l .loop .inv .2) (c .before .before .before .before .before .before .before .before .before .before .before .loop-test .taken) in
     omega arith
 
--- src/lib.rt:149:5
 loop-again : tie.Need-loop-again Inv-loop μ-loop
 loop-again c =
     let l = c .before .before .before .before .before .before .before .before .before .before .before .before in
@@ -189,7 +158,6 @@ loop-again c =
           (chosen-by (ltb (l .loop .p) n) (ltb (l .loop .j) m) (c .before .before .before .before .choose .ensures) (c .before .before .before .before .before .before .edit-below .ensures) (c .before .before .before .before .before .edit-below2 .ensures)) (c .before .before .before .edit-either .result) (c .before .before .before .edit-either .ensures) .0,
     )
 
--- src/lib.rt:131:1
 returns-4 : tie.Need-returns-4 Inv-loop μ-loop
 returns-4 c = λ x y u.
     let l = c .before in

@@ -1,0 +1,119 @@
+// A record by index: its names resolved once, its constraints as linked rows. Functions are pub for the crates that judge records. They are safe
+// for any counts and names; what they give is said of a record that is stored with checked tables.
+use record::Record;
+ghost use mathlib.Core.Path.{_≡_};
+ghost use Prim.Native.Nat.{ℕ, min, _+_, _*_, _<_, _≤_};
+ghost use lib.ListN.{length, getD, set};
+ghost use Rattle.record.specs.Record as theory;
+ghost use Rattle.record.specs.Stored.{stored};
+ghost use Rattle.links.specs.Marks.{placeIn};
+ghost use Rattle.links.specs.Links.{Safe};
+ghost use Rattle.marks.specs.Resolved.{Resolved};
+ghost use Rattle.indexes.specs.Fit.{Fit};
+
+// The constraints by index: a row counted from 1 leads by link[row - 1] to the one before it of the same rule and right edit.
+pub struct Rows {
+    pub head: [u16; 384],
+    pub link: [u16; 1024],
+    pub left: [u8; 1024],
+}
+
+fn within(count: usize, limit: usize) -> usize
+    ensures { λ r. ⌜ r ≡ min count limit ⌝ }
+{
+    if count <= limit { count } else { limit }
+}
+
+// How many indexes there are, INIT's included.
+pub fn name_count(multilog: Record) -> usize
+    ensures { λ r. ⌜ (r ≤ 128) × ((R : theory.Record) → multilog ≡ stored R → Fit R → r ≡ length (theory.names R)) ⌝ }
+{
+    within(multilog.editcount, 127) + 1
+}
+
+// How many constraints there are.
+pub fn row_count(multilog: Record) -> usize
+    ensures { λ r. ⌜ (r ≤ 512) × ((R : theory.Record) → multilog ≡ stored R → Fit R → r ≡ length (R .constraints)) ⌝ }
+{
+    within(multilog.constraintcount, 512)
+}
+
+fn put_index(table: &mut [u8; 2304], name: u16, index: u8)
+    requires { ⌜ length (now table) ≡ 2304 ⌝ }
+    ensures { λ _. ⌜ now (table .exit) ≡ set (now (table .entry)) name index ⌝ }
+{
+    let at = links::wide16(name);
+    if at < 2304 {
+        table[at] = index;
+    }
+}
+
+// The index of each name below 2304; 0 for INIT and for a name that the record does not know.
+pub fn index_table(multilog: Record) -> [u8; 2304]
+    ensures { λ r. ⌜ (length r ≡ 2304) × ((x : ℕ) → getD r x 0 < 128)
+        × ((R : theory.Record) → multilog ≡ stored R → Fit R → (x : ℕ) → getD r x 0 ≡ placeIn (theory.names R) x) ⌝ }
+{
+    let mut table = [0u8; 2304];
+    let count = within(multilog.editcount, 127);
+    let mut i: usize = 0;
+    while i < count {
+        let edit = multilog.edits[i];
+        i += 1;
+        put_index(&mut table, edit.name, i as u8);
+    }
+    table
+}
+
+pub fn index_of(table: &[u8; 2304], name: usize) -> usize
+    requires { ⌜ length (now table) ≡ 2304 ⌝ }
+    ensures { λ r. ⌜ r ≡ getD (now (table .entry)) name 0 ⌝ }
+{
+    if name < 2304 {
+        return links::wide8(table[name]);
+    }
+    0
+}
+
+// Rows of notafter have the keys from 0, of enables from 128, of noncommuting from 256.
+fn key_of(rule: u8, right: usize) -> usize
+    requires { ⌜ right < 128 ⌝ }
+    ensures { λ r. ⌜ (r < 384) × (rule < 3 → r ≡ rule * 128 + right) ⌝ }
+{
+    match rule {
+        0 => right,
+        1 => 128 + right,
+        _ => 256 + right,
+    }
+}
+
+fn rows_of(multilog: Record, table: &[u8; 2304]) -> Rows
+    requires { ⌜ (length (now table) ≡ 2304) × ((x : ℕ) → getD (now table) x 0 < 128) ⌝ }
+    ensures { λ r. ⌜ Safe (r .head) (r .link) (r .left)
+        × ((R : theory.Record) → multilog ≡ stored R → Fit R → ((x : ℕ) → getD (now (table .entry)) x 0 ≡ placeIn (theory.names R) x) → Resolved R (r .head) (r .link) (r .left)) ⌝ }
+{
+    let mut head = [0u16; 384];
+    let mut link = [0u16; 1024];
+    let mut left = [0u8; 1024];
+    let count = within(multilog.constraintcount, 512);
+    let mut j: usize = 0;
+    while j < count {
+        let constraint = multilog.constraints[j];
+        let right = index_of(table, links::wide16(constraint.right));
+        left[j] = index_of(table, links::wide16(constraint.left)) as u8;
+        links::link_row(j, key_of(constraint.rule, right), &mut head, &mut link);
+        j += 1;
+    }
+    Rows {
+        head: head,
+        link: link,
+        left: left,
+    }
+}
+
+// The linked rows of a record.
+pub fn resolved(multilog: Record) -> Rows
+    ensures { λ r. ⌜ Safe (r .head) (r .link) (r .left) × ((R : theory.Record) → multilog ≡ stored R → Fit R → Resolved R (r .head) (r .link) (r .left)) ⌝ }
+{
+    let table = index_table(multilog);
+    rows_of(multilog, &table)
+}

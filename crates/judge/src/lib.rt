@@ -1,0 +1,166 @@
+// The judgement of a record in memory: sound, must, never, settled, needs and the bench schedule. Each function is safe for any record; its
+// promise is for one that is stored with checked tables.
+use record::Body;
+use record::Edit;
+use record::Record;
+use record::Schedule;
+ghost use mathlib.Core.Path.{_≡_};
+ghost use mathlib.Core.List.{List, [], _∷_};
+ghost use Prim.Native.Nat.{ℕ, _≤_, _<_};
+ghost use lib.ListN.{length, getD};
+ghost use Rattle.record.specs.Record as theory;
+ghost use Rattle.record.specs.Lists.{mem};
+ghost use Rattle.record.specs.Stored.{stored, fillerEdit};
+ghost use Rattle.record.specs.Schedule as theory_schedule;
+ghost use Rattle.record.specs.Judgement as judgement;
+ghost use Rattle.links.specs.Marks.{nameAt, marksOf};
+ghost use Rattle.schedules.specs.Rows.{RowIs};
+ghost use Rattle.indexes.specs.Fit.{Fit};
+ghost use Rattle.judge.specs.Judged.{markedEdits, scheduleOf, judgedOf};
+
+// Marks by index, 0 for INIT and i for the i-th edit; the page of each edit with nothing hidden, 0 where it is not in the schedule.
+pub struct Judged {
+    pub must: [u8; 128],
+    pub never: [u8; 128],
+    pub settled: [u8; 128],
+    pub place: [u8; 128],
+}
+
+// Whether the record has a sound schedule.
+pub fn sound(multilog: Record) -> bool
+    ensures { λ r. ⌜ ((R : theory.Record) → multilog ≡ stored R → Fit R → r ≡ judgement.sound R) ⌝ }
+{
+    let n = indexes::name_count(multilog);
+    let rows = indexes::resolved(multilog);
+    let head = rows.head;
+    let link = rows.link;
+    let left = rows.left;
+    let mustmarks = marks::must_marks(&head, &link, &left);
+    !links::has_ring(n, &head, &link, &left, mustmarks)
+}
+
+// The edits that must stand.
+pub fn musts(multilog: Record) -> [u8; 128]
+    ensures { λ r. ⌜ ((R : theory.Record) → multilog ≡ stored R → Fit R → r ≡ marksOf R (judgement.must R)) ⌝ }
+{
+    let rows = indexes::resolved(multilog);
+    let head = rows.head;
+    let link = rows.link;
+    let left = rows.left;
+    marks::must_marks(&head, &link, &left)
+}
+
+// The edits that can never stand.
+pub fn nevers(multilog: Record) -> [u8; 128]
+    ensures { λ r. ⌜ ((R : theory.Record) → multilog ≡ stored R → Fit R → r ≡ marksOf R (judgement.never R)) ⌝ }
+{
+    let n = indexes::name_count(multilog);
+    let rows = indexes::resolved(multilog);
+    let head = rows.head;
+    let link = rows.link;
+    let left = rows.left;
+    let mustmarks = marks::must_marks(&head, &link, &left);
+    marks::never_marks(n, &head, &link, &left, mustmarks)
+}
+
+// The edits that are settled.
+pub fn settleds(multilog: Record) -> [u8; 128]
+    ensures { λ r. ⌜ ((R : theory.Record) → multilog ≡ stored R → Fit R → r ≡ marksOf R (judgement.settled R)) ⌝ }
+{
+    let n = indexes::name_count(multilog);
+    let rows = indexes::resolved(multilog);
+    let head = rows.head;
+    let link = rows.link;
+    let left = rows.left;
+    let mustmarks = marks::must_marks(&head, &link, &left);
+    let nevermarks = marks::never_marks(n, &head, &link, &left, mustmarks);
+    marks::settled_marks(n, &head, &link, &left, mustmarks, nevermarks)
+}
+
+// The needs of the edit at an index; past the edits those of INIT.
+pub fn needs(multilog: Record, index: usize) -> [u8; 128]
+    ensures { λ r. ⌜ ((R : theory.Record) → multilog ≡ stored R → Fit R → r ≡ marksOf R (λ y. mem y (theory_schedule.needs R (0 ∷ nameAt R index ∷ [])))) ⌝ }
+{
+    let n = indexes::name_count(multilog);
+    let rows = indexes::resolved(multilog);
+    let head = rows.head;
+    let link = rows.link;
+    let left = rows.left;
+    let mustmarks = marks::must_marks(&head, &link, &left);
+    if index >= n {
+        return marks::needs_marks(&head, &link, &left, mustmarks, 0);
+    }
+    marks::needs_marks(&head, &link, &left, mustmarks, index)
+}
+
+fn filler() -> Edit
+    ensures { λ r. ⌜ r ≡ fillerEdit ⌝ }
+{
+    Edit {
+        name: 0,
+        body: Body::Insert(0),
+    }
+}
+
+// A row of indexes as edits, without INIT, which comes first in every schedule.
+fn edits_of(multilog: Record, row: schedules::Row) -> Schedule
+    requires { ⌜ (length (row .indexes) ≡ 128) × (row .count ≤ 128) × ((q : ℕ) → getD (row .indexes) q 0 < 128) ⌝ }
+    ensures { λ r. ⌜ ((R : theory.Record) (hidden : List ℕ) → multilog ≡ stored R → Fit R → RowIs R row (theory_schedule.schedule R hidden) → r ≡ scheduleOf R hidden) ⌝ }
+{
+    let edit = filler();
+    let mut edits = [edit; 127];
+    let mut q: usize = 1;
+    while q < row.count {
+        let index = links::wide8(row.indexes[q]);
+        if index == 0 {
+            return Schedule {
+                edits: edits,
+                count: q - 1,
+            };
+        }
+        let next = multilog.edits[index - 1];
+        edits[q - 1] = next;
+        q += 1;
+    }
+    Schedule {
+        edits: edits,
+        count: q - 1,
+    }
+}
+
+// The bench schedule with these edits hidden.
+pub fn schedule(multilog: Record, hidden: [u8; 128]) -> Schedule
+    ensures { λ r. ⌜ ((R : theory.Record) → multilog ≡ stored R → Fit R → r ≡ scheduleOf R (markedEdits R hidden)) ⌝ }
+{
+    let n = indexes::name_count(multilog);
+    let rows = indexes::resolved(multilog);
+    let head = rows.head;
+    let link = rows.link;
+    let left = rows.left;
+    let mustmarks = marks::must_marks(&head, &link, &left);
+    let row = schedules::schedule_row(n, &head, &link, &left, mustmarks, &hidden);
+    edits_of(multilog, row)
+}
+
+// Must, never, settled and page of each edit.
+pub fn judge(multilog: Record) -> Judged
+    ensures { λ r. ⌜ ((R : theory.Record) → multilog ≡ stored R → Fit R → r ≡ judgedOf R) ⌝ }
+{
+    let n = indexes::name_count(multilog);
+    let rows = indexes::resolved(multilog);
+    let head = rows.head;
+    let link = rows.link;
+    let left = rows.left;
+    let mustmarks = marks::must_marks(&head, &link, &left);
+    let nevermarks = marks::never_marks(n, &head, &link, &left, mustmarks);
+    let settledmarks = marks::settled_marks(n, &head, &link, &left, mustmarks, nevermarks);
+    let hidden = [0u8; 128];
+    let row = schedules::schedule_row(n, &head, &link, &left, mustmarks, &hidden);
+    let pages = schedules::page_values(row);
+    Judged {
+        must: mustmarks,
+        never: nevermarks,
+        settled: settledmarks,
+        place: pages,
+    }
+}

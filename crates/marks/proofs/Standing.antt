@@ -1,0 +1,109 @@
+-- Must and never by closures that start from what must stand. Assumes nothing.
+use mathlib.Core.Path.{_≡_, refl, sym, _∙_}
+use mathlib.Core.Bool.{Bool, true, false, not, _&&_, _||_, cond}
+use mathlib.Core.List.{List, [], _∷_}
+use Prim.Native.Nat.{ℕ, _≤_, _<_}
+use native.Mathlib.Omega.{arith}
+use lib.Dec.{eqb}
+use lib.ListN.{length, getD}
+use borrow.Author.Tests.{eq-eqb, ne-eqb}
+use Rattle.record.specs.Lists.{mem, _among_, _within_, closure}
+use Rattle.record.specs.Record.{Record, names, enables, WellFormed}
+use Rattle.record.specs.Schedule.{needs, musts, order, ring}
+use Rattle.record.specs.Judgement.{must, never, serialised, settled}
+use Rattle.record.proofs.Lists.{by, is-by, same-by, mem-head, mem-tail, nil-no, nil-within, cons-within, one-within, any-same}
+use Rattle.record.proofs.Records.{init-known, enabler-known}
+use Rattle.record.proofs.Order.{Closed, needs-holds, needs-closed, needs-known, needs-within, order-same}
+use Rattle.record.proofs.Judged.{init-must}
+use Rattle.record.proofs.Scheduled.{musts-known}
+use Rattle.links.specs.Marks.{nameAt, valuesOf, marksOf}
+use Rattle.links.specs.Reach.{On, Off}
+use Rattle.links.proofs.Marks.{marks-same, marks-on, on-marks}
+
+pub ring-same : (R : Record) (s t : List ℕ) → ((x : ℕ) → mem x s ≡ mem x t) → ring R s ≡ ring R t
+unfolding ring
+ring-same R s t h = rw (order-same R s t h) (any-same (λ x. not (mem x (order R t))) s t h)
+
+pub none-closed : (R : Record) → Closed R []
+none-closed R a b e h = nil-no b h
+
+pub must-closure : (R : Record) → marksOf R (λ y. mem y (closure (enables R) (names R) (nameAt R 0 ∷ []))) ≡ marksOf R (must R)
+unfolding must musts needs names
+must-closure R = refl
+
+module _ {R : Record} (w : WellFormed R) where
+  pub musts-closed : Closed R (musts R)
+  unfolding musts
+  musts-closed = needs-closed R w (0 ∷ [])
+
+  needs-two : (e y : ℕ) → mem y (needs R (e ∷ musts R)) ≡ mem y (needs R (0 ∷ e ∷ []))
+  unfolding musts
+  needs-two e y =
+      let into : musts R within needs R (0 ∷ e ∷ []) = needs-within R w (0 ∷ []) (0 ∷ e ∷ []) (one-within 0 _ (needs-holds R (0 ∷ e ∷ []) 0 (mem-head 0 (e ∷ [])))) in
+      same-by _ _
+      (needs-within R w (e ∷ musts R) (0 ∷ e ∷ []) (cons-within e (musts R) _ (needs-holds R (0 ∷ e ∷ []) e (mem-tail e 0 (e ∷ []) (mem-head e []))) into) y)
+      (needs-within R w (0 ∷ e ∷ []) (e ∷ musts R)
+      (cons-within 0 (e ∷ []) _ (needs-holds R (e ∷ musts R) 0 (mem-tail 0 e (musts R) (init-must R))) (one-within e _ (needs-holds R (e ∷ musts R) e (mem-head e (musts R))))) y)
+
+  -- the closure over enables of x and what must stand is the needs of x
+  pub needs-closure : (x : ℕ) → length (names R) ≤ 128
+      → marksOf R (λ y. mem y (closure (enables R) (names R) (x ∷ musts R))) ≡ marksOf R (λ y. mem y (needs R (0 ∷ x ∷ [])))
+  unfolding needs
+  needs-closure x few = marks-same R _ _ few (λ y i. needs-two x y)
+
+  -- of one that must stand nothing more is needed
+  pub never-must : (e : ℕ) → e among musts R → ring R (musts R) ≡ never R e
+  unfolding never musts
+  never-must e i =
+      ring-same R _ _ (λ y. same-by _ _
+      (needs-within R w (0 ∷ []) (0 ∷ e ∷ []) (one-within 0 _ (needs-holds R (0 ∷ e ∷ []) 0 (mem-head 0 (e ∷ [])))) y)
+      (needs-within R w (0 ∷ e ∷ []) (0 ∷ []) (cons-within 0 (e ∷ []) _ (init-must R) (one-within e _ i)) y))
+
+  -- the needs of a known edit are known
+  pub two-known : (e : ℕ) → e among names R → needs R (0 ∷ e ∷ []) within names R
+  two-known e i = needs-known R w (0 ∷ e ∷ []) (cons-within 0 (e ∷ []) (names R) (init-known R) (one-within e (names R) i))
+
+pub never-ring : (R : Record) (e : ℕ) → ring R (needs R (0 ∷ e ∷ [])) ≡ never R e
+unfolding never
+never-ring R e = refl
+
+-- must is to be among the musts
+pub must-musts : (R : Record) → marksOf R (must R) ≡ marksOf R (λ y. mem y (musts R))
+unfolding must
+must-musts R = refl
+
+pub names-some : (R : Record) → 0 < length (names R)
+unfolding names
+names-some R = omega arith
+
+pub marks-values : (R : Record) (test : ℕ → Bool) → valuesOf R (λ x. cond (test x) 1 0) ≡ marksOf R test
+unfolding marksOf
+marks-values R test = refl
+
+-- the marks m of a test, where they stand and where not
+pub marked-on : (R : Record) (test : ℕ → Bool) (m : List ℕ) (y : ℕ) → m ≡ marksOf R test → On m y → test (nameAt R y) ≡ true
+marked-on R test m y e o = marks-on R test y (rw (← e) o) .1
+
+pub marked-off : (R : Record) (test : ℕ → Bool) (m : List ℕ) (y : ℕ) → m ≡ marksOf R test → y < length (names R) → Off m y → test (nameAt R y) ≡ false
+marked-off R test m y e l f = by (test (nameAt R y)) (λ q. absurd (f (rw e (on-marks R test y l q)))) (λ q. q)
+
+pub must-on : (R : Record) (m : List ℕ) (y : ℕ) → m ≡ marksOf R (must R) → On m y → nameAt R y among musts R
+unfolding must
+must-on R m y e o = marked-on R (must R) m y e o
+
+pub marked-is : (R : Record) (test : ℕ → Bool) (m : List ℕ) (y : ℕ) → m ≡ marksOf R test → y < length (names R) → eqb (getD m y 0) 1 ≡ test (nameAt R y)
+marked-is R test m y e l =
+    is-by (getD m y 0) 1 (λ o. rw (eq-eqb (getD m y 0) 1 o) (sym (marked-on R test m y e o)))
+    (λ f. rw (ne-eqb (getD m y 0) 1 f) (sym (marked-off R test m y e l f)))
+
+-- settled is never, or must and serialised, by marks
+pub settled-is-by : (R : Record) (musts nevers opens : List ℕ) (y : ℕ) → musts ≡ marksOf R (must R) → nevers ≡ marksOf R (never R)
+    → opens ≡ marksOf R (λ x. not (serialised R x)) → y < length (names R)
+    → (eqb (getD nevers y 0) 1 || eqb (getD musts y 0) 1 && not (eqb (getD opens y 0) 1)) ≡ settled R (nameAt R y)
+unfolding settled
+settled-is-by R ms ns os y a b c l =
+    rw (marked-is R (never R) ns y b l, marked-is R (must R) ms y a l, marked-is R (λ x. not (serialised R x)) os y c l, not-not (serialised R (nameAt R y)))
+  where
+    not-not : (b : Bool) → not (not b) ≡ b
+    not-not true = refl
+    not-not false = refl

@@ -1,0 +1,163 @@
+-- One edit of the bench schedule, and the loop over all, by marks. Assumes nothing.
+use mathlib.Core.Path.{_≡_, refl, sym, ap, _∙_}
+use mathlib.Core.Bool.{Bool, true, false, not, _&&_, _||_, cond, or-true, and-false}
+use mathlib.Core.List.{List, [], _∷_}
+use Prim.Native.Nat.{ℕ, suc, _+_, _-_, _≤_, _<_}
+use native.Mathlib.Omega.{arith}
+use native.Mathlib.Numerals.{add-one}
+use lib.Dec.{eqb}
+use lib.ListN.{length, getD, drop, drop-of-length-le}
+use lib.Seq.{drop-cons}
+use borrow.Author.Tests.{eq-eqb, ne-eqb}
+use Rattle.record.specs.Lists.{any, mem, at, _among_, _within_, closure}
+use Rattle.record.specs.Record.{Record, names, written, enables, WellFormed}
+use Rattle.record.specs.Schedule.{needs, musts, order, ring, barred, admit, admits, scheduled, schedule}
+use Rattle.record.specs.Judgement.{must}
+use Rattle.record.proofs.Lists.{by, clash, and-l, and-r, or-by, same-by, mem-head, mem-tail, cons-by, cons-within, one-within, any-by, any-in, no-any, any-no, mem-at, closure-least}
+use Rattle.record.proofs.Order.{needs-holds, needs-closed, needs-known, needs-within}
+use Rattle.record.proofs.Records.{written-names}
+use Rattle.record.proofs.Judged.{init-must}
+use Rattle.record.proofs.Scheduled.{musts-known}
+use Rattle.links.specs.Marks.{nameAt, marksOf}
+use Rattle.links.specs.Reach.{On, Off}
+use Rattle.links.proofs.Names.{getD-among, getD-place}
+use Rattle.marks.specs.Resolved.{Resolved}
+use Rattle.marks.proofs.Standing.{musts-closed, must-musts, marked-is}
+use Rattle.schedules.specs.Rows.{Hides, bars, Clear}
+
+-- barred, by marks
+module _ (R : Record) (hiddens t marks hidden mustmarks : List ℕ) (x : ℕ) (l : x < length (names R)) (e : marks ≡ marksOf R (λ y. mem y t))
+    (m : mustmarks ≡ marksOf R (must R)) (h : Hides R hidden hiddens) where
+  pub bar-unmarked : Off marks x → false ≡ (mem (nameAt R x) t && bars R hiddens (nameAt R x))
+  bar-unmarked f = rw (sym (marked-is R (λ y. mem y t) marks x e l) ∙ ne-eqb (getD marks x 0) 1 f)
+
+  pub bar-shown : Off hidden x → false ≡ (mem (nameAt R x) t && bars R hiddens (nameAt R x))
+  unfolding bars
+  bar-shown f = rw (sym (h x l) ∙ ne-eqb (getD hidden x 0) 1 f) (sym (and-false (mem (nameAt R x) t)))
+
+  pub bar-must : On marks x → On hidden x → not (eqb (getD mustmarks x 0) 1) ≡ (mem (nameAt R x) t && bars R hiddens (nameAt R x))
+  unfolding bars must
+  bar-must o u =
+      rw (sym (marked-is R (λ y. mem y t) marks x e l) ∙ eq-eqb (getD marks x 0) 1 o, sym (h x l) ∙ eq-eqb (getD hidden x 0) 1 u, marked-is R (must R) mustmarks x m l)
+
+module _ (R : Record) (hiddens t : List ℕ) (n : ℕ) (q : n ≡ length (names R)) where
+  pub any-bars : (x : ℕ) → x < n → true ≡ (mem (nameAt R x) t && bars R hiddens (nameAt R x)) → true ≡ any (bars R hiddens) t
+  any-bars x l e = sym (any-in (bars R hiddens) t (nameAt R x) (and-l _ _ (sym e)) (and-r (mem (nameAt R x) t) _ (sym e)))
+
+  pub none-bars : t within names R → ((x : ℕ) → x < n → (mem (nameAt R x) t && bars R hiddens (nameAt R x)) ≡ false) → false ≡ any (bars R hiddens) t
+  none-bars sub f =
+      sym (no-any (bars R hiddens) t
+      (λ y i. let z = f (at y (names R)) (omega (arith, mem-at y (names R) (sub y i))) in rw i at (rw (getD-place y (names R) (sub y i)) at z)))
+
+-- one step of the schedule
+module _ (R : Record) (w : WellFormed R) (hiddens t : List ℕ) (g : Clear R hiddens t) (x : ℕ) where
+  -- what is needed of x and the set is in the set or needed of x alone
+  needs-split : (y : ℕ) → y among needs R (x ∷ t) → (mem y t || mem y (needs R (0 ∷ x ∷ []))) ≡ true
+  unfolding needs
+  needs-split =
+      closure-least (enables R) (names R) (x ∷ t) (λ z. (mem z t || mem z (needs R (0 ∷ x ∷ []))) ≡ true)
+      (λ a b e h. or-by (mem b t) _ h (λ i. rw (g .closed a b e i)) (λ i. rw (needs-closed R w (0 ∷ x ∷ []) a b e i) (or-true (mem a t))))
+      (λ z i. cons-by z x t i
+      (λ e. rw (e, needs-holds R (0 ∷ x ∷ []) x (mem-tail x 0 (x ∷ []) (mem-head x []))) (or-true (mem x t)))
+      (λ e. rw e))
+
+  needs-part : needs R (0 ∷ x ∷ []) within needs R (x ∷ t)
+  needs-part =
+      needs-within R w (0 ∷ x ∷ []) (x ∷ t)
+      (cons-within 0 (x ∷ []) _ (needs-holds R (x ∷ t) 0 (mem-tail 0 x t (g .init-in))) (one-within x _ (needs-holds R (x ∷ t) x (mem-head x t))))
+
+  -- nothing of the set is barred, so that of both together just the needs of x can be
+  bars-barred : any (bars R hiddens) (needs R (x ∷ t)) ≡ barred R hiddens x
+  unfolding barred bars
+  bars-barred =
+      same-by _ _
+      (λ h. any-by (bars R hiddens) (needs R (x ∷ t)) h
+      (λ y i e. or-by (mem y t) _ (needs-split y i) (λ j. clash e (g .clear y j)) (λ j. any-in (bars R hiddens) (needs R (0 ∷ x ∷ [])) y j e)))
+      (λ h. any-by (bars R hiddens) (needs R (0 ∷ x ∷ [])) h (λ y i e. any-in (bars R hiddens) (needs R (x ∷ t)) y (needs-part y i) e))
+
+  pub admit-had : x among t → admit R hiddens t x ≡ t
+  unfolding admit
+  admit-had h = rw h
+
+  pub admit-barred : any (bars R hiddens) (needs R (x ∷ t)) ≡ true → admit R hiddens t x ≡ t
+  unfolding admit
+  admit-barred h = rw (sym bars-barred ∙ h, or-true (mem x t))
+
+  pub admit-ring : ring R (needs R (x ∷ t)) ≡ true → admit R hiddens t x ≡ t
+  unfolding admit
+  admit-ring h = rw (h, or-true (mem x t || barred R hiddens x))
+
+  pub admit-new : mem x t ≡ false → any (bars R hiddens) (needs R (x ∷ t)) ≡ false → ring R (needs R (x ∷ t)) ≡ false → admit R hiddens t x ≡ needs R (x ∷ t)
+  unfolding admit
+  admit-new a b c = rw (a, sym bars-barred ∙ b, c)
+
+  clear-new : x among names R → any (bars R hiddens) (needs R (x ∷ t)) ≡ false → Clear R hiddens (needs R (x ∷ t))
+  clear-new i b = record {
+    closed = needs-closed R w (x ∷ t);
+    init-in = needs-holds R (x ∷ t) 0 (mem-tail 0 x t (g .init-in));
+    known = needs-known R w (x ∷ t) (cons-within x t (names R) i (g .known));
+    clear = any-no (bars R hiddens) (needs R (x ∷ t)) b;
+  }
+
+  pub clear-admit : x among names R → Clear R hiddens (admit R hiddens t x)
+  clear-admit i =
+      by (mem x t) (λ h. rw (admit-had h) g)
+      (λ h. by (any (bars R hiddens) (needs R (x ∷ t))) (λ b. rw (admit-barred b) g)
+      (λ b. by (ring R (needs R (x ∷ t))) (λ r. rw (admit-ring r) g) (λ r. rw (admit-new h b r) (clear-new i b))))
+
+pub clear-musts : (R : Record) → WellFormed R → (hiddens : List ℕ) → Clear R hiddens (musts R)
+unfolding bars
+clear-musts R w hiddens = record {
+  closed = musts-closed w;
+  init-in = init-must R;
+  known = musts-known R w;
+  clear = λ y i. rw i (and-false (mem y hiddens));
+}
+
+pub needs-names : (R : Record) (t : List ℕ) (x : ℕ) → marksOf R (λ y. mem y (closure (enables R) (names R) (x ∷ t))) ≡ marksOf R (λ y. mem y (needs R (x ∷ t)))
+unfolding needs
+needs-names R t x = refl
+
+-- what the loop over all edits keeps
+pub record Admitting (R : Record) (hiddens marks : List ℕ) (x : ℕ) : Type 0 where
+  pub set : List ℕ
+  pub clear : Clear R hiddens set
+  pub marked : marks ≡ marksOf R (λ y. mem y set)
+  pub rest : scheduled R hiddens ≡ admits R hiddens set (drop x (names R))
+
+pub admitting-start : (R : Record) → WellFormed R → (hiddens marks : List ℕ) → marks ≡ marksOf R (must R) → Admitting R hiddens marks 1
+unfolding scheduled names
+admitting-start R w hiddens marks e = record { set = musts R; clear = clear-musts R w hiddens; marked = e ∙ must-musts R; rest = refl }
+
+pub admitting-step : (R : Record) → WellFormed R → (hiddens marks more : List ℕ) (x : ℕ) → x < length (names R)
+    → ((t : List ℕ) → Clear R hiddens t → marks ≡ marksOf R (λ y. mem y t) → more ≡ marksOf R (λ y. mem y (admit R hiddens t (nameAt R x))))
+    → Admitting R hiddens marks x → Admitting R hiddens more (x + 1)
+unfolding admits
+admitting-step R w hiddens marks more x l f g = record {
+  set = admit R hiddens (g .set) (nameAt R x);
+  clear = clear-admit R w hiddens (g .set) (g .clear) (nameAt R x) (getD-among (names R) x l);
+  marked = f (g .set) (g .clear) (g .marked);
+  rest = g .rest ∙ rw (drop-cons (names R) x 0 l, add-one x);
+}
+
+pub admitting-end : (R : Record) (hiddens marks : List ℕ) (x : ℕ) → length (names R) ≤ x → Admitting R hiddens marks x → marks ≡ marksOf R (λ y. mem y (scheduled R hiddens))
+unfolding admits
+admitting-end R hiddens marks x l g = rw (g .rest, drop-of-length-le (names R) l) (g .marked)
+
+pub schedule-order : (R : Record) (hiddens : List ℕ) → order R (scheduled R hiddens) ≡ schedule R hiddens
+unfolding schedule
+schedule-order R hiddens = refl
+
+pub needs-cons : (R : Record) → WellFormed R → (t : List ℕ) (x : ℕ) → x among names R → t within names R → needs R (x ∷ t) within names R
+needs-cons R w t x i k = needs-known R w (x ∷ t) (cons-within x t (names R) i k)
+
+admits-clear : (R : Record) → WellFormed R → (hiddens t l : List ℕ) → l within names R → Clear R hiddens t → Clear R hiddens (admits R hiddens t l)
+unfolding admits
+admits-clear R w hiddens t [] k g = g
+admits-clear R w hiddens t (x ∷ l) k g =
+    admits-clear R w hiddens (admit R hiddens t x) l (λ y i. k y (mem-tail y x l i)) (clear-admit R w hiddens t g x (k x (mem-head x l)))
+
+-- the set of the schedule is known, sound record or not
+pub scheduled-known : (R : Record) → WellFormed R → (hiddens : List ℕ) → scheduled R hiddens within names R
+unfolding scheduled
+scheduled-known R w hiddens = admits-clear R w hiddens (musts R) (written R) (written-names R) (clear-musts R w hiddens) .known

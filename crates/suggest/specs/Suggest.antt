@@ -1,0 +1,60 @@
+-- Document 01, "Suggested constraints" (002, tables 2 and 3). Assumes nothing.
+use Prim.Native.Nat.{ℕ, zero, suc, min, max}
+use mathlib.Core.Bool.{Bool, cond, not, _&&_}
+use mathlib.Core.List.{List, [], _∷_}
+use lib.Dec.{ltb, eqb}
+use lib.ListN.{length, getD, replicate}
+use Rattle.row.specs.Row.{Row, cell, editInRange}
+use Rattle.suggest.specs.declared.Advice.{Advice}
+use Rattle.suggest.specs.declared.Advice.the-variants.{Nothing, Notafter, NotafterEnables, Noncommuting}
+use Rattle.suggest.specs.declared.Suggested.{Suggested}
+
+-- The rules as tables: kind of A, kind of B (0 insert, 1 set, 2 remove), and whether both name one field.
+-- B after A by one author
+unfoldable pub afterTable : ℕ → ℕ → Bool → Advice
+afterTable zero zero oneField = Nothing
+afterTable zero (suc kind) oneField = NotafterEnables
+afterTable (suc zero) zero oneField = Nothing
+afterTable (suc zero) (suc zero) oneField = cond oneField Notafter Nothing
+afterTable (suc zero) (suc (suc kind)) oneField = Nothing
+afterTable (suc (suc n)) zero oneField = Notafter
+afterTable (suc (suc n)) (suc kind) oneField = Nothing
+
+-- concurrent
+unfoldable pub concurrentTable : ℕ → ℕ → Bool → Advice
+concurrentTable zero zero oneField = Noncommuting
+concurrentTable zero (suc kind) oneField = Nothing
+concurrentTable (suc zero) zero oneField = Nothing
+concurrentTable (suc zero) (suc zero) oneField = cond oneField Noncommuting Nothing
+concurrentTable (suc zero) (suc (suc kind)) oneField = Nothing
+concurrentTable (suc (suc n)) kind oneField = Nothing
+
+-- the rows for the names a and b, in table order; a noncommuting pair has the lower name on the left
+abbrev pub rowsOf : Advice → ℕ → ℕ → List Row
+rowsOf Nothing a b = []
+rowsOf Notafter a b = (a ∷ 0 ∷ b ∷ []) ∷ []
+rowsOf NotafterEnables a b = (a ∷ 0 ∷ b ∷ []) ∷ (a ∷ 1 ∷ b ∷ []) ∷ []
+rowsOf Noncommuting a b = (min a b ∷ 2 ∷ max a b ∷ []) ∷ []
+
+-- case 0: B after A; 1: concurrent
+unfoldable pub adviceOf : ℕ → Row → Row → Advice
+adviceOf zero a b = afterTable (cell a 1) (cell b 1) (eqb (cell a 3) (cell b 3))
+adviceOf (suc n) a b = concurrentTable (cell a 1) (cell b 1) (eqb (cell a 3) (cell b 3))
+
+-- two edits of one place and different names
+unfoldable pub advised : ℕ → Row → Row → Advice
+advised kind a b = cond (not (eqb (cell a 0) (cell b 0)) && eqb (cell a 2) (cell b 2)) (adviceOf kind a b) Nothing
+
+abbrev pub noRow : Row
+noRow = replicate 3 0
+
+abbrev pub given : List Row → Suggested
+given rows = record { number = 0; count = length rows; first = getD rows 0 noRow; second = getD rows 1 noRow }
+
+-- 2: a number outside its range
+abbrev pub refused : Suggested
+refused = record { number = 2; count = 0; first = noRow; second = noRow }
+
+unfoldable pub suggested : Row → Row → ℕ → Suggested
+suggested a b kind =
+    cond (editInRange a && (editInRange b && ltb kind 2)) (given (rowsOf (advised kind a b) (cell a 0) (cell b 0))) refused
