@@ -5,7 +5,7 @@ use mathlib.Core.List.{List, [], _∷_, _++_, map, append-assoc, append-nil}
 use mathlib.Core.Logic.{inl, inr}
 use Prim.Native.Nat.{ℕ, zero, suc, _+_, _≤_, _<_}
 use native.Mathlib.Omega.{arith}
-use borrow.Author.Tests.{eqb-true, eq-eqb}
+use borrow.Author.Tests.{eqb-true, eqb-false, eq-eqb}
 use lib.Dec.{eqb}
 use lib.ListN.{length, length-append, length-map}
 use Rattle.record.specs.declared.Edit.{Edit}
@@ -100,6 +100,20 @@ came (l ∷ ls) n edits constraints R g h =
 pub rows-came : (text : List ℕ) (R : Record) → readRows text ≡ Accepted R → Came [] [] (lines text) R
 unfolding readRows
 rows-came text R h = came (lines text) 0 [] [] R given-none-yet h
+
+-- a refusal has a number
+refused-from : (ls : List (List ℕ)) (n : ℕ) (edits constraints : Rows) (k l : ℕ) → readFrom n edits constraints ls ≡ Refused k l → k ≡ 0 → ⊥
+unfolding readFrom
+refused-from [] n edits constraints k l h z = let y : _≡_ {A = ℕ} 0 1 = cc in omega arith
+refused-from (x ∷ ls) n edits constraints k l h z =
+    let number = lineFault edits constraints (lineRead x) in
+    by (eqb number 0)
+    (λ (e : eqb number 0 ≡ true). refused-from ls (suc n) (editsWith (lineRead x) edits) (constraintsWith (lineRead x) constraints) k l (rw e at h) z)
+    (λ (e : eqb number 0 ≡ false). let q : Refused number (suc n) ≡ Refused k l = rw e at h in let m : number ≡ k = cc in eqb-false number 0 e (m ∙ z))
+
+pub refused-number : (text : List ℕ) (k l : ℕ) → readRows text ≡ Refused k l → k ≡ 0 → ⊥
+unfolding readRows
+refused-number text k l h = refused-from (lines text) 0 [] [] k l h
 
 -- the rows of a record that rows were decoded to are those rows
 rows-back : {A : Type 0} (of : Row → A) (to : A → Row) (t : Rows) → ((x : Row) → Has x t → to (of x) ≡ x) → map to (map of t) ≡ t
