@@ -10,6 +10,8 @@ use lib.Dec.{eqb}
 use lib.ListN.{length, take, drop, getD, set, replicate, length-set, length-replicate, length-append}
 use lib.Seq.{length-take-le}
 use Rattle.record.specs.declared.Record as declared
+use Rattle.record.specs.Record.{Record}
+use Rattle.record.specs.Judgement.{sound}
 use Rattle.record.specs.Stored.{emptyRecord, stored}
 use Rattle.keyed.proofs.Logic.{by, clash}
 use Rattle.ground.specs.Ground.{Rows}
@@ -19,7 +21,10 @@ use Rattle.line.specs.declared.Line.{Line}
 use Rattle.line.specs.Line.{lineRead}
 use Rattle.line.specs.Lines.{lines, firstLine}
 use Rattle.line.proofs.Ends.{NextLine, next-line, no-lines}
-use Rattle.text.specs.Text.{lineFault, editsWith, constraintsWith, Answer, Accepted, Refused, readFrom, readRows}
+use Rattle.text.specs.Text.{lineFault, editsWith, constraintsWith, Answer, Accepted, Refused, readFrom, readRows, judged, readText}
+use Rattle.text.proofs.RoundTrip.{rows-took, refused-number}
+use Rattle.indexes.specs.Fit.{Fit}
+use Rattle.fit.proofs.Fit.{checked-fit}
 use Rattle.reader.specs.declared.Reading.{Reading}
 use Rattle.reader.specs.Reading.{readingOf}
 use Rattle.reader.specs.Held.{EditsHeld, ConstraintsHeld, LineTaken, rowCount}
@@ -103,3 +108,35 @@ module _ (text : List ℕ) {edits constraints : Rows} {marks : List ℕ} {n m at
       let c : n + m ≡ length (lines text) = omega (arith, u .count, ap length e) in
       let g : r ≡ stored (decoded (take n edits) (take m constraints)) = let y : n - 0 ≡ n = omega arith in let z : m - 0 ≡ m = omega arith in (rw (y, z) at f) few-edits few-constraints in
       rw (a, c, g)
+
+-- after the rows
+module _ (text : List ℕ) {reading : Reading} (e : reading ≡ readingOf (length (lines text)) (readRows text)) where
+  pub text-refused : (reading .number ≡ 0 → ⊥) → reading ≡ readingOf (length (lines text)) (readText text)
+  unfolding readText
+  text-refused z = go (readRows text) refl
+    where
+      go : (a : Answer) → readRows text ≡ a → reading ≡ readingOf (length (lines text)) (judged (length (lines text)) (readRows text))
+      go (Accepted R) q = absurd (z (ap (λ (x : Reading). x .number) (e ∙ ap (readingOf (length (lines text))) q)))
+      go (Refused k l) q = rw q (e ∙ ap (readingOf (length (lines text))) q)
+
+  module _ (z : reading .number ≡ 0) {s : Bool} (f : (R : Record) → reading .content ≡ stored R → Fit R → s ≡ sound R) where
+    accepted : {P : Type 0} → ((R : Record) → readRows text ≡ Accepted R → s ≡ sound R → P) → P
+    accepted {P} k = go (readRows text) refl
+      where
+        go : (a : Answer) → readRows text ≡ a → P
+        go (Accepted R) q =
+            let c : reading .content ≡ stored R = ap (λ (x : Reading). x .content) (e ∙ ap (readingOf (length (lines text))) q) in
+            k R q (f R c (checked-fit R (rows-took text R q .checked)))
+        go (Refused n l) q = absurd (refused-number text n l q (sym (ap (λ (x : Reading). x .number) (e ∙ ap (readingOf (length (lines text))) q)) ∙ z))
+
+    pub text-sound : s ≡ true → reading ≡ readingOf (length (lines text)) (readText text)
+    unfolding readText
+    text-sound t = accepted (λ R q w. let u : sound R ≡ true = sym w ∙ t in let v : reading ≡ readingOf (length (lines text)) (Accepted R) = e ∙ ap (readingOf (length (lines text))) q in v ∙ rw (q, u))
+
+    pub text-unsound : s ≡ false → {a : Reading} → a ≡ record { number = 8; line = reading .line; content = emptyRecord } → a ≡ readingOf (length (lines text)) (readText text)
+    unfolding readText
+    text-unsound t g =
+        accepted (λ R q w.
+        let u : sound R ≡ false = sym w ∙ t in
+        let l : reading .line ≡ length (lines text) = ap (λ (x : Reading). x .line) (e ∙ ap (readingOf (length (lines text))) q) in
+        g ∙ rw (q, u, l))

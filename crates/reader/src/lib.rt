@@ -13,7 +13,7 @@ ghost use Rattle.ground.specs.Ground.{known, rowFault};
 ghost use Rattle.table.specs.Table.{editKind, constraintKind};
 ghost use Rattle.table.specs.Checked.{Marked};
 ghost use Rattle.line.specs.Lines.{lines};
-ghost use Rattle.text.specs.Text.{readRows};
+ghost use Rattle.text.specs.Text.{readRows, readText};
 ghost use Rattle.reader.specs.Reading.{readingOf};
 ghost use Rattle.reader.specs.Held.{EditsHeld, ConstraintsHeld, EditTaken, ConstraintTaken, LineTaken, rowCount};
 
@@ -188,4 +188,19 @@ pub fn read_rows(text: &[u8]) -> Reading
         line: n + m,
         content: unite::decode(&edits[0..n], &constraints[0..m]),
     }
+}
+
+// Reads a text: its rows, and then whether the record is sound.
+pub fn read_text(text: &[u8]) -> Reading
+    ensures { λ r. ⌜ r ≡ readingOf (length (lines (now (text .entry)))) (readText (now (text .entry))) ⌝ }
+{
+    let reading = read_rows(text);
+    if reading.number != 0 {
+        return reading;
+    }
+    let content = reading.content;
+    if judge::sound(content) {
+        return reading;
+    }
+    refusal(8, reading.line)
 }
