@@ -38,7 +38,7 @@ unfolding mem
 mem-snoc n x [] = or-false (eqb n x)
 mem-snoc n x (y ∷ l) = by (eqb n y) (λ e. rw e) (λ e. rw e (mem-snoc n x l))
 
-marks-more : (marks names : List ℕ) (x : ℕ) → x < length marks → Marked marks names → Marked (set marks x 1) (names ++ (x ∷ []))
+pub marks-more : (marks names : List ℕ) (x : ℕ) → x < length marks → Marked marks names → Marked (set marks x 1) (names ++ (x ∷ []))
 unfolding mem
 marks-more marks names x h k n =
     by (eqb n x)

@@ -1,0 +1,3 @@
+pub mod Faults
+pub mod Taking
+pub mod Lines

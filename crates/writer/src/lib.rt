@@ -1,0 +1,159 @@
+// A record is written as a text (document 01, "Text").
+use record::Constraint;
+use record::Edit;
+use record::Record;
+ghost use mathlib.Core.Path.{_≡_};
+ghost use mathlib.Core.List.{map};
+ghost use Prim.Native.Nat.{_≤_, min};
+ghost use lib.ListN.{length, take};
+ghost use Rattle.record.specs.Stored.{recordOf};
+ghost use Rattle.decimal.specs.Written as part;
+ghost use Rattle.text.specs.Text.{joinedLines, textOf};
+ghost use Rattle.writer.specs.Placed.{placed, placing, fitOf, editText, constraintText};
+
+// Number 0: the place after the text. 12: it does not fit.
+pub struct Written {
+    pub number: u32,
+    pub end: usize,
+}
+
+// Whether a text fits some room, and how much of it is then left.
+pub struct Fit {
+    pub fits: bool,
+    pub left: usize,
+}
+
+// The room that the lines of the first n edits leave.
+fn edits_fit(a: [Edit; 127], n: usize, room: usize) -> Fit
+    requires { ⌜ n ≤ 127 ⌝ }
+    ensures { λ r. ⌜ r ≡ fitOf (joinedLines (map editText (take n a))) room ⌝ }
+{
+    let mut left = room;
+    let mut i = 0;
+    while i < n {
+        let e = a[i];
+        let size = line::edit_line_length(row::edit_row(e));
+        if left < size {
+            return Fit {
+                fits: false,
+                left: 0,
+            };
+        }
+        left -= size;
+        i += 1;
+    }
+    Fit {
+        fits: true,
+        left: left,
+    }
+}
+
+// The room that the lines of the first n constraints leave.
+fn constraints_fit(a: [Constraint; 512], n: usize, room: usize) -> Fit
+    requires { ⌜ n ≤ 512 ⌝ }
+    ensures { λ r. ⌜ r ≡ fitOf (joinedLines (map constraintText (take n a))) room ⌝ }
+{
+    let mut left = room;
+    let mut i = 0;
+    while i < n {
+        let c = a[i];
+        let size = line::constraint_line_length(row::constraint_row(c));
+        if left < size {
+            return Fit {
+                fits: false,
+                left: 0,
+            };
+        }
+        left -= size;
+        i += 1;
+    }
+    Fit {
+        fits: true,
+        left: left,
+    }
+}
+
+fn least(n: usize, limit: usize) -> usize
+    ensures { λ r. ⌜ r ≡ min n limit ⌝ }
+{
+    if limit < n {
+        return limit;
+    }
+    n
+}
+
+// The room that the text of a record leaves.
+fn text_fit(content: Record, room: usize) -> Fit
+    ensures { λ r. ⌜ r ≡ fitOf (textOf (recordOf content)) room ⌝ }
+{
+    let a = content.edits;
+    let b = content.constraints;
+    let n = least(content.editcount, 127);
+    let m = least(content.constraintcount, 512);
+    let edits = edits_fit(a, n, room);
+    if !edits.fits {
+        return edits;
+    }
+    constraints_fit(b, m, edits.left)
+}
+
+// Writes the lines of the first n edits to the start of out, and answers how many bytes that took.
+fn write_edits(out: &mut [u8], a: [Edit; 127], n: usize) -> usize
+    requires { ⌜ (n ≤ 127) × (length (joinedLines (map editText (take n a))) ≤ length (now out)) ⌝ }
+    ensures { λ r. ⌜ part.Written (joinedLines (map editText (take n a))) (now (out .entry)) r (now (out .exit)) ⌝ }
+{
+    let mut at = 0;
+    let mut i = 0;
+    while i < n {
+        let e = a[i];
+        at += line::write_edit_line(&mut out[at..], row::edit_row(e));
+        i += 1;
+    }
+    at
+}
+
+// Writes the lines of the first n constraints to the start of out, and answers how many bytes that took.
+fn write_constraints(out: &mut [u8], a: [Constraint; 512], n: usize) -> usize
+    requires { ⌜ (n ≤ 512) × (length (joinedLines (map constraintText (take n a))) ≤ length (now out)) ⌝ }
+    ensures { λ r. ⌜ part.Written (joinedLines (map constraintText (take n a))) (now (out .entry)) r (now (out .exit)) ⌝ }
+{
+    let mut at = 0;
+    let mut i = 0;
+    while i < n {
+        let c = a[i];
+        at += line::write_constraint_line(&mut out[at..], row::constraint_row(c));
+        i += 1;
+    }
+    at
+}
+
+// Writes the text of a record to the start of out, and answers how many bytes that took.
+fn write_rows(out: &mut [u8], content: Record) -> usize
+    requires { ⌜ length (textOf (recordOf content)) ≤ length (now out) ⌝ }
+    ensures { λ r. ⌜ part.Written (textOf (recordOf content)) (now (out .entry)) r (now (out .exit)) ⌝ }
+{
+    let a = content.edits;
+    let b = content.constraints;
+    let n = least(content.editcount, 127);
+    let m = least(content.constraintcount, 512);
+    let k = write_edits(&mut out[..], a, n);
+    k + write_constraints(&mut out[k..], b, m)
+}
+
+// Writes the text of a record at a place of out, after the bytes that stand there. Refused, out stays as it was.
+pub fn write_text(content: Record, out: &mut [u8], at: usize) -> Written
+    ensures { λ r. ⌜ (r ≡ placing (textOf (recordOf content)) at (now (out .entry))) × (now (out .exit) ≡ placed (textOf (recordOf content)) at (now (out .entry))) ⌝ }
+{
+    if out.len() < at {
+        return Written { number: 12, end: 0 };
+    }
+    let fit = text_fit(content, out.len() - at);
+    if !fit.fits {
+        return Written { number: 12, end: 0 };
+    }
+    let size = write_rows(&mut out[at..], content);
+    Written {
+        number: 0,
+        end: at + size,
+    }
+}
