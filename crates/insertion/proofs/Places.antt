@@ -10,7 +10,7 @@ use lib.ListN.{length, take, drop, getD, drop-of-length-le}
 use lib.Seq.{take-suc, drop-cons, length-take-le, getD-take}
 use Rattle.keyed.specs.Keyed.{precedes, Below, Ascending, inserted}
 use Rattle.keyed.proofs.Logic.{by, clash, Has, has-getD}
-use Rattle.keyed.proofs.Order.{less-irrefl, less-trans, less-asym, less-total}
+use Rattle.keyed.proofs.Order.{less-irrefl, less-trans}
 use Rattle.keyed.proofs.Union.{below-has}
 use Rattle.insertion.specs.Insertion.{Place}
 
@@ -19,6 +19,9 @@ has-snoc r x [] (inl e) = inr e
 has-snoc r x [] (inr h) = absurd h
 has-snoc r x (y ∷ l) (inl e) = inl (inl e)
 has-snoc r x (y ∷ l) (inr h) = ⊎-elim (λ (i : Has r l). inl (inr i)) (λ (e : r ≡ x). inr e) (has-snoc r x l h)
+
+less-asym : (a b : List ℕ) → precedes a b ≡ true → precedes b a ≡ false
+less-asym a b e = by (precedes b a) (λ f. clash (less-trans a b a e f) (less-irrefl a)) (λ f. f)
 
 module _ {A : Type 0} (key : A → List ℕ) where
   -- the elements before and after one of an ascending table
