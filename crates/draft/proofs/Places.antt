@@ -11,10 +11,10 @@ use Rattle.record.proofs.Lists.{by, clash, is-by, mem-head}
 use Rattle.links.specs.Marks.{placeIn}
 
 module _ (l : List ℕ) (x : ℕ) where
-  pub place-none : mem 0 l ≡ false → placeIn (0 ∷ l) x ≡ 0 → mem x l ≡ false
+  pub place-none : (x ≡ 0 → mem x l ≡ false) → placeIn (0 ∷ l) x ≡ 0 → mem x l ≡ false
   unfolding placeIn mem at
   place-none n h =
-      is-by x 0 (λ e. rw e n)
+      is-by x 0 n
       (λ e. by (mem x l) (λ m. absurd (let z = rw (ne-eqb x 0 e, m) at h in omega arith)) (λ m. m))
 
   pub place-some : (placeIn (0 ∷ l) x ≡ 0 → ⊥) → mem x l ≡ true

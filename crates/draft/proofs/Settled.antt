@@ -34,7 +34,7 @@ module _ (Q : Record) (index marks : List ℕ) (s : Settles Q index marks) (x i 
 
   pub unknown-is : i ≡ 0 → false ≡ settledIn Q x
   unfolding settledIn
-  unknown-is z = rw (place-none (written Q) x (s .formed .unwritten) (sym at-place ∙ z))
+  unknown-is z = rw (place-none (written Q) x (λ q. rw q (s .formed .unwritten)) (sym at-place ∙ z))
 
   pub known-is : (i ≡ 0 → ⊥) → eqb (getD marks i 0) 1 ≡ settledIn Q x
   unfolding settledIn
