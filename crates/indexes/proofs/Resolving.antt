@@ -39,7 +39,7 @@ unfolding keysOf
 keys-at R i d h = getD-mapped (keyOf R) (R .constraints) i d 0 h
 
 -- what stands at a place is a constraint of the list, and each constraint stands at a place
-has-at : (l : List Constraint) (i : ℕ) (d : Constraint) → i < length l → has (getD l i d .left) (getD l i d .rule) (getD l i d .right) l ≡ true
+pub has-at : (l : List Constraint) (i : ℕ) (d : Constraint) → i < length l → has (getD l i d .left) (getD l i d .rule) (getD l i d .right) l ≡ true
 has-at [] i d h = absurd (omega arith)
 has-at (c ∷ l) zero d h = records.has-head c l
 has-at (c ∷ l) (suc i) d h = records.has-tail _ _ _ c l (has-at l i d (omega arith))
@@ -52,6 +52,14 @@ at-has (c ∷ l) d a k b h f =
     or-by (is a k b c) (has a k b l) h
     (λ e. records.is-by a k b c e (λ x y z. f 0 (omega arith) x y z))
     (λ e. at-has l d a k b e (λ i u. f (suc i) (omega arith)))
+
+-- both ends of a constraint are known
+module _ {R : Record} (w : WellFormed R) where
+  pub left-known : (a k b : ℕ) → has a k b (R .constraints) ≡ true → a among names R
+  left-known a k b h = records.written-names R a (w .left a k b h)
+
+  pub right-known : (a k b : ℕ) → has a k b (R .constraints) ≡ true → b among names R
+  right-known a k b h = elim (w .right a k b h) [ inl i ↦ records.written-names R b i | inr z ↦ rw (z .1) (records.init-known R) ]
 
 -- the rows below j have their left index
 pub record Resolving (R : Record) (heads links lefts : List ℕ) (j : ℕ) : Type 0 where
@@ -72,13 +80,6 @@ resolving-step R heads links lefts j key v a b c l u k e q g = record {
 }
 
 module _ (R : Record) (f : Fit R) (heads links lefts : List ℕ) (j : ℕ) (q : j ≡ length (R .constraints)) (g : Resolving R heads links lefts j) where
-  -- both ends of a constraint are known
-  left-known : (a k b : ℕ) → has a k b (R .constraints) ≡ true → a among names R
-  left-known a k b h = records.written-names R a (f .formed .left a k b h)
-
-  right-known : (a k b : ℕ) → has a k b (R .constraints) ≡ true → b among names R
-  right-known a k b h = elim (f .formed .right a k b h) [ inl i ↦ records.written-names R b i | inr z ↦ rw (z .1) (records.init-known R) ]
-
   -- the row of a key: its rule, its right edit, its left edit
   record Row (i k y : ℕ) : Type 0 where
     pub left : getD lefts i 0 < length (names R)
@@ -90,8 +91,8 @@ module _ (R : Record) (f : Fit R) (heads links lefts : List ℕ) (j : ℕ) (q : 
       let u : i < length (R .constraints) = omega (arith, keys-length R) in
       let c = getD (R .constraints) i fillerConstraint in
       let s = has-at (R .constraints) i fillerConstraint u in
-      let a = left-known _ _ _ s in
-      let b = right-known _ _ _ s in
+      let a = left-known (f .formed) _ _ _ s in
+      let b = right-known (f .formed) _ _ _ s in
       let p : c .rule * 128 + at (c .right) (names R) ≡ k * 128 + y =
       ap (λ v. c .rule * 128 + v) (sym (place-known (c .right) (names R) b)) ∙ sym (keys-at R i fillerConstraint u) ∙ e in
       let m : at (c .right) (names R) < 128 = omega (arith, mem-at (c .right) (names R) b, names-few R f) in
@@ -116,10 +117,10 @@ module _ (R : Record) (f : Fit R) (heads links lefts : List ℕ) (j : ℕ) (q : 
     row-of = λ a b h. at-has (R .constraints) fillerConstraint a k b h (λ i u x y z. record {
       row = i;
       low = omega (arith, keys-length R);
-      left-known = left-known a k b h;
-      right-known = right-known a k b h;
-      left = g .lefts-at i (omega arith) ∙ ap (placeIn (names R)) x ∙ place-known a (names R) (left-known a k b h);
-      key = keys-at R i fillerConstraint u ∙ rw (y, z, place-known b (names R) (right-known a k b h));
+      left-known = left-known (f .formed) a k b h;
+      right-known = right-known (f .formed) a k b h;
+      left = g .lefts-at i (omega arith) ∙ ap (placeIn (names R)) x ∙ place-known a (names R) (left-known (f .formed) a k b h);
+      key = keys-at R i fillerConstraint u ∙ rw (y, z, place-known b (names R) (right-known (f .formed) a k b h));
     });
   }
 

@@ -31,6 +31,13 @@ pub fn name_count(multilog: Record) -> usize
     within(multilog.editcount, 127) + 1
 }
 
+// How many constraints there are.
+pub fn row_count(multilog: Record) -> usize
+    ensures { λ r. ⌜ (r ≤ 512) × ((R : theory.Record) → multilog ≡ stored R → Fit R → r ≡ length (R .constraints)) ⌝ }
+{
+    within(multilog.constraintcount, 512)
+}
+
 fn put_index(table: &mut [u8; 2304], name: u16, index: u8)
     requires { ⌜ length (now table) ≡ 2304 ⌝ }
     ensures { λ _. ⌜ now (table .exit) ≡ set (now (table .entry)) name index ⌝ }

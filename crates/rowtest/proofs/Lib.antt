@@ -1,0 +1,2 @@
+pub mod Seating
+pub mod Fitting
