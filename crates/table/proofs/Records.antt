@@ -7,7 +7,7 @@ use Prim.Native.Nat.{ℕ, zero, suc, _≤_, _<_}
 use native.Mathlib.Omega.{arith}
 use borrow.Author.Tests.{eqb-true, not-true, not-false, lt-ltb}
 use lib.Dec.{ltb, eqb}
-use lib.ListN.{length}
+use lib.ListN.{length, length-map}
 use Rattle.record.specs.declared.Edit.{Edit}
 use Rattle.record.specs.declared.Constraint.{Constraint}
 use Rattle.record.specs.Lists.{all, mem, ascending}
@@ -162,6 +162,25 @@ module _ (R : Record) (es cs : Rows) (k : Checked R) (h : lentFault R es cs ≡ 
 
   pub joined-checked : Checked (unite R (decoded es cs))
   joined-checked = union-checked R (namesOf es) false es cs k h own-names
+
+  -- and is checked by itself
+  pub joining-checked : Checked (decoded es cs)
+  unfolding names written
+  joining-checked =
+      let f = both R (namesOf es) false es cs k h in
+      let known : namesOf es ≡ written (decoded es cs) = row-names R es (f .0) in
+      let z : (c : Constraint) → Has c (map constraintOf cs) → Sides (written (decoded es cs)) c =
+      λ c m. rw known at (further-none (namesOf es) false c (lent-further (constraintElements (namesOf es) false) (constraintCoding (namesOf es) false) (R .constraints) cs (f .1) c m)) in
+      record {
+        editplaces = rw (length-map es editOf) (lent-places editElements editCoding (R .edits) es (f .0) (k .editorder) (all-has (λ e. editInRange (editRow e)) (R .edits) (k .editrange)) (k .editplaces));
+        constraintplaces = rw (length-map cs constraintOf) (lent-places (constraintElements (namesOf es) false) (constraintCoding (namesOf es) false) (R .constraints) cs (f .1) (k .constraintorder) (all-has (λ c. constraintInRange (constraintRow c)) (R .constraints) (k .constraintrange)) (k .constraintplaces));
+        editorder = joining-edits R (namesOf es) false es cs k h;
+        constraintorder = joining-constraints R (namesOf es) false es cs k h;
+        editrange = all-by (λ e. editInRange (editRow e)) (map editOf es) (lent-range editElements editCoding (R .edits) es (f .0));
+        constraintrange = all-by (λ c. constraintInRange (constraintRow c)) (map constraintOf cs) (lent-range (constraintElements (namesOf es) false) (constraintCoding (namesOf es) false) (R .constraints) cs (f .1));
+        sides = all-by (λ c. mem (c .left) (names (decoded es cs)) && mem (c .right) (names (decoded es cs))) (map constraintOf cs) (λ c m. rw (z c m .left, z c m .right));
+        pairs = all-by (λ c. not (pairNotAllowed (c .left) (c .rule) (c .right))) (map constraintOf cs) (λ c m. rw (z c m .pair));
+      }
 
 -- a lent record without fault by itself
 pub lent-checked : (es cs : Rows) → lentFault emptyTables es cs ≡ 0 → Checked (decoded es cs)
