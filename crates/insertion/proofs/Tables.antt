@@ -157,3 +157,10 @@ none-stands p n h b = rw (le-ltb p n h)
 
 pub row-stands : (p n : ℕ) → p < n → {b below : Bool} → below ≡ b → not below ≡ (ltb p n && not b)
 row-stands p n h e = rw (lt-ltb p n h, e)
+
+-- a record with the constraints of a table
+pub with-table-is : (r : declared.Record) (R : Record) (table : Constraints) (l : List Constraint) → r ≡ stored R → table ≡ tableOf l → table .full ≡ false
+    → record { edits = r .edits; editcount = r .editcount; constraints = table .rows; constraintcount = table .count } ≡ stored (record { edits = R .edits; constraints = l })
+with-table-is r R table l e f g =
+    let h : table ≡ held l = f ∙ table-held l (ltb-false 512 (length l) (sym (full-is l) ∙ ap (λ (t : Constraints). t .full) (sym f) ∙ g)) in
+    rw (e, h)

@@ -3,7 +3,7 @@
 use record::Constraint;
 use record::Record;
 ghost use mathlib.Core.Path.{_≡_};
-ghost use mathlib.Core.Bool.{not, _&&_};
+ghost use mathlib.Core.Bool.{false, not, _&&_};
 ghost use mathlib.Core.List.{List};
 ghost use Prim.Native.Nat.{ℕ, _≤_, _<_};
 ghost use lib.Dec.{ltb};
@@ -121,4 +121,15 @@ pub fn insert(table: Constraints, c: Constraint) -> Constraints
         count: n + 1,
         full: false,
     }
+}
+
+// The record with the constraints of a table that is not full.
+pub fn with_table(multilog: Record, table: Constraints) -> Record
+    ensures { λ r. ⌜ ((R : theory.Record) (l : List Constraint) → multilog ≡ stored R → table ≡ tableOf l → table .full ≡ false → r ≡ stored (record { edits = R .edits; constraints = l })) ⌝ }
+{
+    let rows = table.rows;
+    let mut r = multilog;
+    r.constraints = rows;
+    r.constraintcount = table.count;
+    r
 }
