@@ -24,7 +24,7 @@ pub struct Joined {
 pub fn lent(edits: &[[u32; 5]], constraints: &[[u32; 3]]) -> Joined
     ensures { λ r. ⌜ r ≡ outcome (lentFault emptyTables (now (edits .entry)) (now (constraints .entry))) emptyTables (decoded (now (edits .entry)) (now (constraints .entry))) ⌝ }
 {
-    let number = table::lent_fault(edits, constraints);
+    let number = refusal::lent_fault(edits, constraints);
     if number != 0 {
         return Joined {
             number: number,
@@ -41,7 +41,7 @@ pub fn lent(edits: &[[u32; 5]], constraints: &[[u32; 3]]) -> Joined
 pub fn merge(joined: Record, edits: &[[u32; 5]], constraints: &[[u32; 3]]) -> Joined
     ensures { λ r. ⌜ ((R : theory.Record) → joined ≡ stored R → Checked R → r ≡ outcome (lentFault R (now (edits .entry)) (now (constraints .entry))) R (unite R (decoded (now (edits .entry)) (now (constraints .entry))))) ⌝ }
 {
-    let number = table::fault(joined, edits, constraints);
+    let number = refusal::fault(joined, edits, constraints);
     if number != 0 {
         return Joined {
             number: number,
@@ -59,7 +59,7 @@ pub fn merge(joined: Record, edits: &[[u32; 5]], constraints: &[[u32; 3]]) -> Jo
 pub fn add_edit(joined: Record, row: [u32; 5]) -> Joined
     ensures { λ r. ⌜ ((R : theory.Record) → joined ≡ stored R → Checked R → r ≡ outcome (addEditFault R row) R (unite R (decoded (row ∷ []) []))) ⌝ }
 {
-    let number = table::edit_add_fault(joined, row);
+    let number = refusal::edit_add_fault(joined, row);
     if number != 0 {
         return Joined {
             number: number,
@@ -77,7 +77,7 @@ pub fn add_edit(joined: Record, row: [u32; 5]) -> Joined
 pub fn add_constraint(joined: Record, row: [u32; 3]) -> Joined
     ensures { λ r. ⌜ ((R : theory.Record) → joined ≡ stored R → Checked R → r ≡ outcome (addConstraintFault R row) R (unite R (decoded [] (row ∷ [])))) ⌝ }
 {
-    let number = table::constraint_add_fault(joined, row);
+    let number = refusal::constraint_add_fault(joined, row);
     if number != 0 {
         return Joined {
             number: number,

@@ -154,8 +154,8 @@ pub fn judge(multilog: Record) -> Judged
     let mustmarks = marks::must_marks(&head, &link, &left);
     let nevermarks = marks::never_marks(n, &head, &link, &left, mustmarks);
     let settledmarks = marks::settled_marks(n, &head, &link, &left, mustmarks, nevermarks);
-    let hidden = [0u8; 128];
-    let row = schedules::schedule_row(n, &head, &link, &left, mustmarks, &hidden);
+    let nothing = [0u8; 128];
+    let row = schedules::schedule_row(n, &head, &link, &left, mustmarks, &nothing);
     let pages = schedules::page_values(row);
     Judged {
         must: mustmarks,

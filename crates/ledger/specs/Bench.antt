@@ -1,14 +1,12 @@
 -- Document 01, "Entries and pages": what the bench in memory is for a ledger, what is promised of a call, and the undo rule. Assumes nothing.
 use mathlib.Core.Path.{_≡_}
-use mathlib.Core.Bool.{cond}
 use mathlib.Core.List.{List, [], _∷_, map}
 use Prim.Native.Nat.{ℕ}
-use lib.Dec.{eqb}
 use lib.ListN.{take}
 use Rattle.record.specs.declared.Edit.{Edit}
 use Rattle.record.specs.Lists.{mem}
 use Rattle.record.specs.Record.{Record}
-use Rattle.record.specs.Stored.{stored, fillerEdit}
+use Rattle.record.specs.Stored.{stored, editNamed}
 use Rattle.links.specs.Marks.{marksOf}
 use Rattle.pages.specs.Pages.{run, emptyCatalogue}
 use Rattle.catalogue.specs.Chips.{chips, places, viewOf, scheduleOf}
@@ -16,11 +14,6 @@ use Rattle.ledger.specs.declared.Answer.{Answer}
 use Rattle.ledger.specs.declared.Bench.{Bench}
 use Rattle.ledger.specs.declared.Outcome.{Outcome}
 use Rattle.ledger.specs.Ledger.{Ledger, Call, Reply, start, pages, last, step, fed}
-
--- the edit of a name
-unfoldable pub editNamed : List Edit → ℕ → Edit
-editNamed [] x = fillerEdit
-editNamed (e ∷ l) x = cond (eqb x (e .name)) e (editNamed l x)
 
 -- the edits of the pages, with their bodies
 unfoldable pub pageEdits : Ledger → List Edit

@@ -1,0 +1,170 @@
+-- A refusal, a turn and a change as the code makes them are the ledger's. Assumes nothing.
+use mathlib.Core.Path.{_≡_, refl, sym, ap, _∙_}
+use mathlib.Core.Bool.{true, false}
+use mathlib.Core.List.{List, [], _∷_, map}
+use Prim.Native.Nat.{ℕ, zero, suc, _-_, _≤_, _<_}
+use native.Mathlib.Omega.{arith}
+use lib.IntN.{ℤ}
+use mir.Syntax.{w32}
+use mir.Val.{SFits, toZ, ofZ}
+use mir.Facts.{toZ-ofZ}
+use lib.ListN.{length, take, drop, length-map}
+use lib.Seq.{take-length}
+use Rattle.record.specs.declared.Edit.{Edit}
+use Rattle.record.specs.declared.Record as declared
+use Rattle.record.specs.declared.Schedule.{Schedule}
+use Rattle.record.specs.Lists.{mem}
+use Rattle.record.specs.Record.{Record, nameOf, written}
+use Rattle.record.specs.Stored.{stored, editNamed}
+use Rattle.record.specs.Schedule.{schedule}
+use Rattle.record.specs.Judgement.{sound}
+use Rattle.links.specs.Marks.{marksOf}
+use Rattle.table.specs.Checked.{Checked}
+use Rattle.vote.specs.declared.Election.{Election}
+use Rattle.turner.specs.declared.Turned.{Turned}
+use Rattle.turner.specs.declared.Turned.the-variants.{To, Refused}
+use Rattle.turner.specs.declared.TurnAnswer.{TurnAnswer}
+use Rattle.turner.specs.Turn.{turned, turnOf, answerOf}
+use Rattle.turner.proofs.Signed.{turn-is}
+use Rattle.turner.proofs.Landed.{turned-lands}
+use Rattle.pages.specs.Steps.{commonBeginning, Agree}
+use Rattle.catalogue.specs.declared.View.{View}
+use Rattle.catalogue.specs.declared.Changed.{Changed}
+use Rattle.catalogue.specs.Chips.{rows, viewOf, scheduleOf}
+use Rattle.catalogue.specs.Changes as moves
+use Rattle.ledger.specs.declared.Bench.{Bench}
+use Rattle.ledger.specs.declared.Outcome.{Outcome}
+use Rattle.ledger.specs.Ledger.{Ledger, Call, turn, Reply, start, pages, last, judge, act, refusal, change, step, fed}
+use Rattle.ledger.specs.Bench.{pageEdits, openEdits, benchOf, outcome, Answers}
+use Rattle.ledger.proofs.Valid.{Valid, start-valid, fed-valid}
+use Rattle.ledger.proofs.Undone.{from-valid, step-refused, step-accepted}
+use Rattle.bench.specs.Changes.{refusedWith, turnedTo, Keeps, pagesOf, Reschedules}
+use Rattle.bench.proofs.Pages.{names-named, named-agree, take-map, pages-written, pages-room, ledger-written, open-written, last-room}
+
+-- a call that the ledger refuses with this number
+pub refused-is : (L : Ledger) (bench : Bench) (call : Call) (n : ℕ) → bench ≡ benchOf L → judge L call ≡ n → (n ≡ 0 → ⊥) → refusedWith bench n ≡ outcome (step L call)
+unfolding outcome refusal
+refused-is L bench call n e j z =
+    let s = step-refused L call (λ q. z (sym j ∙ q)) in
+    (λ i. refusedWith (e i) (sym j i)) ∙ ap outcome (sym s)
+
+pub accepted-is : (L : Ledger) (call : Call) (r : Outcome) → judge L call ≡ 0 → r ≡ outcome (act L call) → r ≡ outcome (step L call)
+accepted-is L call r j e = e ∙ ap outcome (sym (step-accepted L call j))
+
+length-pages : (L : Ledger) → length (pageEdits L) ≡ last L
+unfolding pageEdits last
+length-pages L = length-map (pages L) (editNamed (L .multilog .edits))
+
+-- what the turner answers, of the number as the code holds it
+pub answer-of : (opened last : ℕ) (by : ℤ) → SFits w32 by → (t : Turned) (answer : TurnAnswer) → t ≡ turnOf opened last (toZ w32 (ofZ w32 by)) → answer ≡ answerOf opened t
+    → answer ≡ answerOf opened (turnOf opened last by)
+answer-of opened last by f t answer h a = a ∙ ap (answerOf opened) (h ∙ ap (turnOf opened last) (toZ-ofZ f))
+
+-- a turn
+module _ (L : Ledger) (v : Valid L) (bench : Bench) (e : bench ≡ benchOf L) (by : ℤ) (answer : TurnAnswer)
+    (h : answer ≡ answerOf (bench .turner .opened) (turnOf (bench .turner .opened) (bench .turner .last) by)) where
+  opened-is : bench .turner .opened ≡ L .opened
+  unfolding benchOf
+  opened-is = ap (λ (b : Bench). b .turner .opened) e
+
+  last-is : bench .turner .last ≡ last L
+  unfolding benchOf
+  last-is = ap (λ (b : Bench). b .turner .last) e
+
+  answer-is : answer ≡ answerOf (L .opened) (turned (L .opened) (last L) by)
+  answer-is =
+      h ∙ (λ i. answerOf (opened-is i) (turnOf (opened-is i) (last-is i) by))
+      ∙ ap (answerOf (L .opened)) (turn-is (L .opened) (last L) by (omega (arith, v .opened-within, last-room L v)))
+
+  pub turn-refused : (answer .number ≡ 0 → ⊥) → refusedWith bench 10 ≡ outcome (step L (turn by))
+  unfolding judge
+  turn-refused z = go (turned (L .opened) (last L) by) refl
+    where
+      go : (t : Turned) → turned (L .opened) (last L) by ≡ t → refusedWith bench 10 ≡ outcome (step L (turn by))
+      go (To page) q = absurd (z (ap (λ (a : TurnAnswer). a .number) (answer-is ∙ ap (answerOf (L .opened)) q)))
+      go Refused q = refused-is L bench (turn by) 10 e (ap (λ (t : Turned). answerOf (L .opened) t .number) q) (λ x. omega arith)
+
+  landed-within : answer .opened ≤ last L
+  landed-within = go (turned (L .opened) (last L) by) refl
+    where
+      go : (t : Turned) → turned (L .opened) (last L) by ≡ t → answer .opened ≤ last L
+      go (To page) q =
+          omega (arith, ap (λ (a : TurnAnswer). a .opened) (answer-is ∙ ap (answerOf (L .opened)) q), turned-lands (last L) page (L .opened) by q .within)
+      go Refused q = omega (arith, ap (λ (a : TurnAnswer). a .opened) (answer-is ∙ ap (answerOf (L .opened)) q), v .opened-within)
+
+  pub turn-accepted : (w : View) → answer .number ≡ 0 → moves.Turns (bench .schedule) (bench .turner .opened) (answer .opened) (bench .view) w
+      → turnedTo bench (answer .opened) w ≡ outcome (step L (turn by))
+  unfolding judge act outcome benchOf moves.Turns openEdits pageEdits last pages
+  turn-accepted w z m =
+      let p : answer .opened ≡ answerOf (L .opened) (turned (L .opened) (last L) by) .opened = ap (λ (a : TurnAnswer). a .opened) answer-is in
+      let n = length-pages L in
+      let x : w ≡ viewOf (take (answer .opened) (pageEdits L)) =
+      m (pageEdits L) (omega (arith, last-room L v)) (ap (λ (b : Bench). b .schedule) e) (omega (arith, opened-is, v .opened-within)) (omega (arith, landed-within))
+      (ap (λ (b : Bench). b .view) e ∙ ap (λ (k : ℕ). viewOf (take k (pageEdits L))) (sym opened-is)) in
+      accepted-is L (turn by) _ (sym (ap (λ (a : TurnAnswer). a .number) answer-is) ∙ z)
+      ((λ i. turnedTo (e i) (p i) (x i)) ∙ ap (λ (k : ℕ). turnedTo (benchOf L) (answerOf (L .opened) (turned (L .opened) (last L) by) .opened) (viewOf (take k (pageEdits L)))) p)
+
+-- a change
+module _ (L : Ledger) (v : Valid L) (bench : Bench) (e : bench ≡ benchOf L) (R : Record) (h : List ℕ) (k : Checked R) (s : sound R ≡ true)
+    (keeps : Keeps (L .multilog) R) where
+  news : List Edit
+  news = map (editNamed (R .edits)) (drop 1 (schedule R h))
+
+  open-named : take (L .opened) (pageEdits L) ≡ map (editNamed (L .multilog .edits)) (take (L .opened) (pages L))
+  unfolding pageEdits
+  open-named = take-map (editNamed (L .multilog .edits)) (L .opened) (pages L)
+
+  agree : Agree nameOf (take (L .opened) (pageEdits L)) news
+  unfolding written news
+  agree =
+      rw open-named
+      (named-agree (L .multilog .edits) (R .edits) (take (L .opened) (pages L)) (drop 1 (schedule R h)) keeps (open-written L v) (pages-written R k s h))
+
+  common-is : moves.common (take (L .opened) (pageEdits L)) news ≡ commonBeginning (take (L .opened) (pages L)) (drop 1 (schedule R h))
+  unfolding moves.common written news
+  common-is =
+      let a = ap (map nameOf) open-named ∙ names-named (L .multilog .edits) (take (L .opened) (pages L)) (open-written L v) in
+      let b = names-named (R .edits) (drop 1 (schedule R h)) (pages-written R k s h) in
+      λ i. commonBeginning (a i) (b i)
+
+  length-news : length news ≡ length (drop 1 (schedule R h))
+  unfolding news
+  length-news = length-map (drop 1 (schedule R h)) (editNamed (R .edits))
+
+  pub change-is : (E : Election) (multilog : declared.Record) (hidden : List ℕ) (new : Schedule) (moved : Changed)
+      → multilog ≡ stored R → hidden ≡ marksOf R (λ x. mem x h) → new ≡ pagesOf R h
+      → moves.Changes (bench .schedule) (bench .turner .opened) new (bench .view) moved
+      → record {
+        answer = record { number = 0; undone = moved .undone; redone = moved .redone; won = E .won; greatest = E .greatest; silent = E .silent; total = E .total };
+        bench = record { multilog = multilog; hidden = hidden; schedule = new; turner = record { opened = new .count; last = new .count }; view = moved .view };
+      } ≡ outcome (change L R h E)
+  unfolding change outcome benchOf pagesOf moves.Changes pageEdits openEdits pages last news scheduleOf
+  change-is E multilog hidden new moved hm hh hn m =
+      let row = drop 1 (schedule R h) in
+      let old = take (L .opened) (pageEdits L) in
+      let n = length-pages L in
+      let o = ap (λ (b : Bench). b .turner .opened) e in
+      let told : moved ≡ record { view = viewOf news; undone = L .opened - moves.common old news; redone = length news - moves.common old news } =
+      rw o at (m (pageEdits L) news (omega (arith, last-room L v)) (omega (arith, pages-room R k s h, length-news)) (ap (λ (b : Bench). b .schedule) e) hn
+      (omega (arith, o, v .opened-within)) (rw o agree) (ap (λ (b : Bench). b .view) e ∙ ap (λ (q : ℕ). viewOf (take q (pageEdits L))) (sym o))) in
+      let c = common-is in
+      let whole : news ≡ take (length row) news = sym (ap (λ (q : ℕ). take q news) (sym length-news) ∙ take-length news) in
+      (λ i. record {
+        answer = record { number = 0; undone = told i .undone; redone = told i .redone; won = E .won; greatest = E .greatest; silent = E .silent; total = E .total };
+        bench = record { multilog = hm i; hidden = hh i; schedule = hn i; turner = record { opened = hn i .count; last = hn i .count }; view = told i .view };
+      })
+      ∙ (λ i. record {
+        answer = record { number = 0; undone = L .opened - c i; redone = length-news i - c i; won = E .won; greatest = E .greatest; silent = E .silent; total = E .total };
+        bench = record { multilog = stored R; hidden = marksOf R (λ x. mem x h); schedule = scheduleOf news; turner = record { opened = length-news i; last = length-news i }; view = viewOf (whole i) };
+      })
+
+-- the same of every list of calls
+pub change-from : (bench : Bench) (multilog : declared.Record) (hidden : List ℕ) (new : Schedule) (E : Election) (moved : Changed)
+    → moves.Changes (bench .schedule) (bench .turner .opened) new (bench .view) moved
+    → Reschedules bench multilog hidden new E (record {
+      answer = record { number = 0; undone = moved .undone; redone = moved .redone; won = E .won; greatest = E .greatest; silent = E .silent; total = E .total };
+      bench = record { multilog = multilog; hidden = hidden; schedule = new; turner = record { opened = new .count; last = new .count }; view = moved .view };
+    })
+unfolding Reschedules
+change-from bench multilog hidden new E moved m = λ calls R h e hm hh hn k s keeps.
+    change-is (fed start calls) (fed-valid start calls start-valid) bench e R h k s keeps E multilog hidden new moved hm hh hn m

@@ -1,0 +1,127 @@
+// The empty bench, a turn, and what the other calls share: a refusal and a change (document 01, "Entries and pages").
+use catalogue::View;
+use ledger::Answer;
+use ledger::Bench;
+use ledger::Outcome;
+use record::Record;
+use record::Schedule;
+use turner::Turner;
+use vote::Election;
+ghost use mathlib.Core.Path.{_≡_};
+ghost use Rattle.ledger.specs.Ledger.{Call, noElection, start};
+ghost use Rattle.ledger.specs.Bench.{Answers, benchOf};
+ghost use Rattle.bench.specs.Changes.{Reschedules, refusedWith, turnedTo};
+
+// A bench with no edit and no page.
+pub fn empty_bench() -> Bench
+    ensures { λ r. ⌜ r ≡ benchOf start ⌝ }
+{
+    let multilog = record::empty();
+    let edits = multilog.edits;
+    Bench {
+        multilog: multilog,
+        hidden: [0u8; 128],
+        schedule: Schedule {
+            edits: edits,
+            count: 0,
+        },
+        turner: Turner { opened: 0, last: 0 },
+        view: catalogue::empty_view(),
+    }
+}
+
+// The bench that came in, with the number. Pub for the crates of the other calls.
+pub fn refused(bench: Bench, number: u32) -> Outcome
+    ensures { λ r. ⌜ r ≡ refusedWith bench number ⌝ }
+{
+    Outcome {
+        answer: Answer {
+            number: number,
+            undone: 0,
+            redone: 0,
+            won: false,
+            greatest: 0,
+            silent: 0,
+            total: 0,
+        },
+        bench: bench,
+    }
+}
+
+fn opened_at(bench: Bench, page: usize, view: View) -> Outcome
+    ensures { λ r. ⌜ r ≡ turnedTo bench page view ⌝ }
+{
+    let mut turned = bench;
+    turned.turner.opened = page;
+    turned.view = view;
+    refused(turned, 0)
+}
+
+pub fn turn(bench: Bench, by: i32) -> Outcome
+    ensures { λ r. ⌜ Answers bench (Call.turn by) r ⌝ }
+{
+    let turner = bench.turner;
+    let opened = turner.opened;
+    let turned = turner::turn_step(opened, turner.last, by);
+    let answer = turner::turn_answer(opened, turned);
+    if answer.number != 0 {
+        return refused(bench, 10);
+    }
+    let page = answer.opened;
+    let schedule = bench.schedule;
+    let view = bench.view;
+    let moved = catalogue::turn_to(view, schedule, opened, page);
+    opened_at(bench, page, moved)
+}
+
+// What a call without an election tells of one. Pub for the crates of the other calls.
+pub fn no_election() -> Election
+    ensures { λ r. ⌜ r ≡ noElection ⌝ }
+{
+    Election {
+        number: 0,
+        won: false,
+        greatest: 0,
+        silent: 0,
+        total: 0,
+    }
+}
+
+// To the last page of a new schedule, with the record and the hidden edits that it is made from. Pub for the crates of the calls that change.
+pub fn reschedule(
+    bench: Bench,
+    multilog: Record,
+    hidden: [u8; 128],
+    schedule: Schedule,
+    election: Election,
+) -> Outcome
+    ensures { λ r. ⌜ Reschedules bench multilog hidden schedule election r ⌝ }
+{
+    let turner = bench.turner;
+    let old = bench.schedule;
+    let view = bench.view;
+    let last = schedule.count;
+    let moved = catalogue::change(view, old, turner.opened, schedule);
+    let new = moved.view;
+    Outcome {
+        answer: Answer {
+            number: 0,
+            undone: moved.undone,
+            redone: moved.redone,
+            won: election.won,
+            greatest: election.greatest,
+            silent: election.silent,
+            total: election.total,
+        },
+        bench: Bench {
+            multilog: multilog,
+            hidden: hidden,
+            schedule: schedule,
+            turner: Turner {
+                opened: last,
+                last: last,
+            },
+            view: new,
+        },
+    }
+}

@@ -1,0 +1,61 @@
+-- The schedule that is made from the marks of hidden edits is that of the hidden edits. Assumes nothing.
+use mathlib.Core.Path.{_≡_, refl, sym, ap, _∙_}
+use mathlib.Core.Bool.{Bool, true, false, cond}
+use mathlib.Core.List.{List, map}
+use Prim.Native.Nat.{ℕ}
+use lib.Dec.{eqb}
+use lib.ListN.{getD, drop}
+use Rattle.record.specs.declared.Record as declared
+use Rattle.record.specs.declared.Schedule.{Schedule}
+use Rattle.record.specs.Lists.{sift, mem, at, _among_, _within_}
+use Rattle.record.specs.Record.{Record, names, written}
+use Rattle.record.specs.Stored.{stored, editNamed}
+use Rattle.record.specs.Schedule.{schedule}
+use Rattle.record.proofs.Lists.{same-by, mem-at, sift-mem, mem-sift}
+use Rattle.record.proofs.Records.{written-names}
+use Rattle.record.proofs.Scheduled.{schedule-same}
+use Rattle.links.specs.Marks.{nameAt, marksOf}
+use Rattle.links.proofs.Names.{getD-place}
+use Rattle.links.proofs.Marks.{marks-at}
+use Rattle.table.specs.Checked.{Checked}
+use Rattle.judge.specs.Judged as judge
+use Rattle.judge.specs.Judged.{markedEdits}
+use Rattle.indexes.specs.Fit.{Fit}
+use Rattle.fit.proofs.Fit.{checked-fit}
+use Rattle.catalogue.specs.Chips.{scheduleOf}
+use Rattle.vote.specs.declared.Election.{Election}
+use Rattle.ledger.specs.declared.Bench.{Bench}
+use Rattle.ledger.specs.declared.Outcome.{Outcome}
+use Rattle.bench.specs.Changes.{pagesOf, Changes, Reschedules}
+
+-- a mark is 1 just where the test holds
+marked-is : (R : Record) (test : ℕ → Bool) (x : ℕ) → x among names R → eqb (getD (marksOf R test) (at x (names R)) 0) 1 ≡ test x
+marked-is R test x i =
+    ap (λ (n : ℕ). eqb n 1) (marks-at R test (at x (names R)) (mem-at x (names R) i) ∙ ap (λ (y : ℕ). cond (test y) 1 0) (getD-place x (names R) i))
+    ∙ bit (test x)
+  where
+    bit : (b : Bool) → eqb (cond b 1 0) 1 ≡ b
+    bit true = refl
+    bit false = refl
+
+marked-hidden : (R : Record) (h : List ℕ) → h within written R → (x : ℕ) → mem x (markedEdits R (marksOf R (λ y. mem y h))) ≡ mem x h
+unfolding markedEdits
+marked-hidden R h w x =
+    let marks = marksOf R (λ y. mem y h) in
+    let test : ℕ → Bool = λ x. eqb (getD marks (at x (names R)) 0) 1 in
+    same-by (mem x (sift test (names R))) (mem x h)
+    (λ i. let p = sift-mem test (names R) x i in sym (marked-is R (λ y. mem y h) x (p .0)) ∙ p .1)
+    (λ i. let k = written-names R x (w x i) in mem-sift test (names R) x k (marked-is R (λ y. mem y h) x k ∙ i))
+
+pages-made : (R : Record) (h : List ℕ) → h within written R → judge.scheduleOf R (markedEdits R (marksOf R (λ x. mem x h))) ≡ pagesOf R h
+unfolding judge.scheduleOf judge.pageEdits pagesOf scheduleOf
+pages-made R h w =
+    let e = schedule-same R (markedEdits R (marksOf R (λ x. mem x h))) h (marked-hidden R h w) in
+    ap (λ (row : List ℕ). scheduleOf (map (editNamed (R .edits)) (drop 1 row))) e
+
+pub change-made : (bench : Bench) (multilog : declared.Record) (hidden : List ℕ) (new : Schedule) (E : Election) (r : Outcome)
+    → ((R : Record) → multilog ≡ stored R → Fit R → new ≡ judge.scheduleOf R (markedEdits R hidden))
+    → Reschedules bench multilog hidden new E r → Changes bench multilog hidden E r
+unfolding Changes Reschedules
+change-made bench multilog hidden new E r s f = λ calls R h e m w hh k snd keeps.
+    f calls R h e m hh (s R m (checked-fit R k) ∙ ap (λ (t : List ℕ). judge.scheduleOf R (markedEdits R t)) hh ∙ pages-made R h w) k snd keeps

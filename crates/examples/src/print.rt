@@ -1,0 +1,105 @@
+// Printing of answers.
+use lent::Judgement;
+use libc::STDOUT_FILENO;
+ghost use Prim.Native.Nat.{_≤_};
+
+pub fn text(bytes: &[u8]) {
+    io::write_all(STDOUT_FILENO, bytes);
+}
+
+pub fn number(label: &[u8], n: u64) {
+    io::write_all(STDOUT_FILENO, label);
+    io::print_decimal(STDOUT_FILENO, n);
+}
+
+pub fn wide(n: u32) -> u64 {
+    n as u64
+}
+
+pub fn mark(n: u8) -> u64 {
+    n as u64
+}
+
+pub fn bit(b: bool) -> u64 {
+    if b { 1 } else { 0 }
+}
+
+// Must, never, settled and page of the edit at an index.
+fn edit(judgement: Judgement, index: usize) {
+    if 128 <= index {
+        return;
+    }
+    number(b"  edit ", index as u64);
+    number(b": must=", mark(judgement.must[index]));
+    number(b" never=", mark(judgement.never[index]));
+    number(b" settled=", mark(judgement.settled[index]));
+    number(b" place=", mark(judgement.place[index]));
+    text(b"\n");
+}
+
+// The judgement of a lent record: its number, and some of its edits.
+pub fn judgement(label: &[u8], edits: &[[u32; 5]], constraints: &[[u32; 3]]) {
+    let answer = lent::judge_lent(edits, constraints);
+    let count = answer.count;
+    text(label);
+    number(b": number=", wide(answer.number));
+    number(b" edits=", count as u64);
+    text(b"\n");
+    if 0 < count {
+        edit(answer, 1);
+    }
+    if 1 < count {
+        edit(answer, 2);
+    }
+    if 2 < count {
+        edit(answer, 3);
+    }
+    if 3 < count {
+        edit(answer, count);
+    }
+}
+
+// The number of a lent record.
+pub fn refusal(label: &[u8], edits: &[[u32; 5]], constraints: &[[u32; 3]]) {
+    let answer = lent::judge_lent(edits, constraints);
+    text(label);
+    number(b": number=", wide(answer.number));
+    text(b"\n");
+}
+
+fn least(a: usize, b: usize) -> usize
+    ensures { λ r. ⌜ r ≤ b ⌝ }
+{
+    if a < b { a } else { b }
+}
+
+// The same of the first n edits and m constraints.
+pub fn judged(label: &[u8], edits: [[u32; 5]; 3], n: usize, constraints: [[u32; 3]; 6], m: usize) {
+    let few = least(n, 3);
+    let rules = least(m, 6);
+    judgement(label, &edits[0..few], &constraints[0..rules]);
+}
+
+pub fn refused(label: &[u8], edits: [[u32; 5]; 3], n: usize, constraints: [[u32; 3]; 6], m: usize) {
+    let few = least(n, 3);
+    let rules = least(m, 6);
+    refusal(label, &edits[0..few], &constraints[0..rules]);
+}
+
+// Whether the first k names are a sound schedule of a lent record.
+pub fn row(
+    label: &[u8],
+    edits: [[u32; 5]; 3],
+    constraints: [[u32; 3]; 6],
+    m: usize,
+    names: [u32; 4],
+    k: usize,
+) {
+    let rules = least(m, 6);
+    let long = least(k, 4);
+    let answer = lent::test_row(&edits[0..3], &constraints[0..rules], &names[0..long]);
+    text(label);
+    number(b": number=", wide(answer.number));
+    number(b" sound=", bit(answer.sound));
+    text(b"\n");
+}

@@ -1,0 +1,85 @@
+use Prim.Native.Nat.{ℕ, _-_, _≤_}
+use mathlib.Core.Path.{_≡_}
+use mathlib.Core.Bool.{Bool}
+use lib.ListN.{length, take}
+use native.Mathlib.Omega.{arith}
+use borrow.Author.Needs.{needs}
+use Rattle.record.specs.Record.{Record, written}
+use Rattle.links.specs.Marks.{marksOf}
+use Rattle.hidden.specs.Marks.{ByName}
+use Rattle.hidden.proofs.Index.{Holds, holds, count-room}
+use Rattle.hidden.proofs.Named.{named-none, named-next, named-end}
+use Rattle.hidden.proofs.by_name.Statement.{statement}
+use Rattle.hidden.proofs.by_name.Tie as tie
+
+abbrev Inv-loop : tie.InvT-loop
+Inv-loop hidden edits count marks₀ i₀ marks i =
+    (i ≤ count) × (count ≤ 127) × (length marks ≡ 2304)
+    × ((R : Record) (test : ℕ → Bool) → Holds R edits count → hidden ≡ marksOf R test → ByName (take i (written R)) test marks)
+
+abbrev μ-loop : tie.MeasureT-loop
+μ-loop hidden edits count marks₀ i₀ marks i = count - i
+
+returns : tie.Need-returns Inv-loop μ-loop
+returns c =
+    let s = c .before .before in
+    (search needs, λ R test e k. absurd (omega (arith, c .if1 .taken, count-room R _ _ (holds R (s .args .multilog) e k))))
+
+loop-holds : tie.Need-loop-holds Inv-loop μ-loop
+loop-holds c = (search needs, search needs, search needs, λ R test h e. named-none test 2304)
+
+mul-place-of : tie.Need-mul-place-of Inv-loop μ-loop
+mul-place-of c = search needs
+
+element-copy-out-place-of : tie.Need-element-copy-out-place-of Inv-loop μ-loop
+element-copy-out-place-of c = search needs
+
+place-of-requires : tie.Need-place-of-requires Inv-loop μ-loop
+place-of-requires c κs = search needs
+
+add-i : tie.Need-add-i Inv-loop μ-loop
+add-i c = search needs
+
+array-read-marks : tie.Need-array-read-marks Inv-loop μ-loop
+array-read-marks c = search needs
+
+array-write-marks : tie.Need-array-write-marks Inv-loop μ-loop
+array-write-marks c = search needs
+
+loop-less : tie.Need-loop-less Inv-loop μ-loop
+loop-less c = search needs
+
+loop-again : tie.Need-loop-again Inv-loop μ-loop
+loop-again c =
+    let l = c .before .before in (
+      search needs,
+      search needs,
+      search needs,
+      λ R test h e. named-next R _ _ test h _ (l .loop .marks) (l .loop .i) (c .place-of .result) e (c .before .loop-test .taken) (l .loop .inv .2) (c .place-of .ensures .1) (l .loop .inv .3 R test h e),
+    )
+
+returns-2 : tie.Need-returns-2 Inv-loop μ-loop
+returns-2 c =
+    let l = c .before in
+    let s = l .before .before .before in (
+      l .loop .inv .2,
+      λ R test e k m. let h = holds R (s .args .multilog) e k in named-end R _ _ test h (l .loop .marks) (l .loop .i) (c .loop-test .left) (l .loop .inv .3 R test h m),
+    )
+
+pub by-name-spec : {M : Type 1} → statement M
+by-name-spec =
+    tie.close
+    (tie.spec
+    Inv-loop
+    μ-loop
+    returns
+    loop-holds
+    mul-place-of
+    element-copy-out-place-of
+    place-of-requires
+    add-i
+    array-read-marks
+    array-write-marks
+    loop-less
+    loop-again
+    returns-2)

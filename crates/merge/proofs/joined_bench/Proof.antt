@@ -1,0 +1,75 @@
+use mathlib.Core.Path.{_≡_, sym, _∙_}
+use mathlib.Core.Bool.{true, false}
+use borrow.Author.Tests.{not-true, not-false}
+use borrow.Author.Needs.{needs}
+use Rattle.record.specs.Judgement.{sound}
+use Rattle.fit.proofs.Fit.{checked-fit}
+use Rattle.ledger.specs.Ledger.{start, fed}
+use Rattle.ledger.proofs.Valid.{start-valid, fed-valid}
+use Rattle.merge.specs.Joins.{Joins}
+use Rattle.merge.proofs.Rows.{bench-record, bench-hidden, keeps-within, none, rows-refused, union-is, unsound-refused, joined-changes}
+use Rattle.merge.proofs.joined_bench.Statement.{statement}
+use Rattle.merge.proofs.joined_bench.Tie as tie
+
+refused-requires : tie.Need-refused-requires
+refused-requires c κs = search needs
+
+returns : tie.Need-returns
+unfolding Joins
+returns c =
+    let s = c .before .before in
+    λ calls n U e j k keeps. c .refused .ensures ∙ rows-refused calls (s .args .bench) (s .args .joined) (s .args .election) n U e j (c .before .if1 .taken)
+
+sound-requires : tie.Need-sound-requires
+sound-requires c κs = search needs
+
+refused-requires-2 : tie.Need-refused-requires-2
+refused-requires-2 c κs = search needs
+
+returns-2 : tie.Need-returns-2
+unfolding Joins
+returns-2 c =
+    let p = c .before .before in
+    let s = p .before .before .before .before in
+    λ calls n U e j k keeps.
+    let z = p .before .before .before .if1 .left in
+    let o = none calls (s .args .bench) (s .args .joined) (s .args .election) n U e j z in
+    let u = union-is calls (s .args .bench) (s .args .joined) (s .args .election) n U e j z in
+    let t : sound U ≡ false = sym (p .sound .ensures U u (checked-fit U (k o))) ∙ not-true _ (c .before .if2 .taken) in
+    c .refused2 .ensures ∙ unsound-refused calls (s .args .bench) (s .args .joined) (s .args .election) n U e j z t
+
+carried-requires : tie.Need-carried-requires
+carried-requires c κs = search needs
+
+change-requires : tie.Need-change-requires
+change-requires c κs = search needs
+
+returns-3 : tie.Need-returns-3
+unfolding Joins
+returns-3 c =
+    let p = c .before .before .before .before in
+    let s = p .before .before .before .before in
+    λ calls n U e j k keeps.
+    let L = fed start calls in
+    let v = fed-valid start calls start-valid in
+    let z = p .before .before .before .if1 .left in
+    let o = none calls (s .args .bench) (s .args .joined) (s .args .election) n U e j z in
+    let u = union-is calls (s .args .bench) (s .args .joined) (s .args .election) n U e j z in
+    let t : sound U ≡ true = sym (p .sound .ensures U u (checked-fit U (k o))) ∙ not-false _ (c .before .before .before .if2 .left) in
+    joined-changes calls (s .args .bench) (s .args .joined) (s .args .election) n U e j z (c .before .carried .result) _ t (k o) (keeps o)
+    (keeps-within L v U (keeps o))
+    (c .before .carried .ensures (L .multilog) U (L .hidden) (bench-record L (s .args .bench) e) u (v .checked) (k o) (v .hidden-written) (bench-hidden L (s .args .bench) e))
+    (c .change .ensures)
+
+pub joined-bench-spec : {M : Type 1} → statement M
+joined-bench-spec =
+    tie.close
+    (tie.spec
+    refused-requires
+    returns
+    sound-requires
+    refused-requires-2
+    returns-2
+    carried-requires
+    change-requires
+    returns-3)

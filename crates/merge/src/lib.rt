@@ -1,0 +1,51 @@
+// Add and merge (document 01, "The record", "Entries and pages" and "What is turned away").
+use join::Joined;
+use ledger::Bench;
+use ledger::Outcome;
+use vote::Election;
+ghost use mathlib.Core.List.{[]};
+ghost use Rattle.ledger.specs.Ledger.{Call};
+ghost use Rattle.ledger.specs.Bench.{Answers};
+ghost use Rattle.merge.specs.Joins.{Joins};
+
+// The number of the rows, then 8 by one test of the union, then the change. Pub for the crate of adoption.
+pub fn joined_bench(bench: Bench, joined: Joined, election: Election) -> Outcome
+    ensures { λ r. ⌜ Joins bench joined election r ⌝ }
+{
+    let number = joined.number;
+    if number != 0 {
+        return bench::refused(bench, number);
+    }
+    let old = bench.multilog;
+    let union = joined.after;
+    if !judge::sound(union) {
+        return bench::refused(bench, 8);
+    }
+    let marks = bench.hidden;
+    let hidden = hidden::carried(old, marks, union);
+    change::change(bench, union, hidden, election)
+}
+
+pub fn add_edit(bench: Bench, row: [u32; 5]) -> Outcome
+    ensures { λ r. ⌜ Answers bench (Call.addEdit row) r ⌝ }
+{
+    let multilog = bench.multilog;
+    let joined = join::add_edit(multilog, row);
+    joined_bench(bench, joined, bench::no_election())
+}
+
+pub fn add_constraint(bench: Bench, row: [u32; 3]) -> Outcome
+    ensures { λ r. ⌜ Answers bench (Call.addConstraint row) r ⌝ }
+{
+    let multilog = bench.multilog;
+    let joined = join::add_constraint(multilog, row);
+    joined_bench(bench, joined, bench::no_election())
+}
+
+pub fn merge(bench: Bench, edits: &[[u32; 5]], constraints: &[[u32; 3]]) -> Outcome
+    ensures { λ r. ⌜ Answers bench (Call.merge (now (edits .entry)) (now (constraints .entry))) r ⌝ }
+{
+    let multilog = bench.multilog;
+    let joined = join::merge(multilog, edits, constraints);
+    joined_bench(bench, joined, bench::no_election())
+}

@@ -1,0 +1,59 @@
+-- `refusal::constraint_late` meets its contract. Assumes nothing.
+use mathlib.Core.List.{[]}
+use mathlib.Core.Bool.{false}
+use Rattle.ground.proofs.Loop.{late-is}
+use Rattle.table.proofs.Elements.{constraintElements}
+use borrow.Author.Needs.{needs}
+use Rattle.refusal.proofs.constraint_late.Statement.{statement}
+use Rattle.refusal.proofs.constraint_late.Tie as tie
+
+mul-row : tie.Need-mul-row
+mul-row c = search needs
+
+shared-slice-copy-out-row : tie.Need-shared-slice-copy-out-row
+shared-slice-copy-out-row c = search needs
+
+constraint-repeated-requires : tie.Need-constraint-repeated-requires
+constraint-repeated-requires c κs = search needs
+
+constraint-place-requires : tie.Need-constraint-place-requires
+constraint-place-requires c κs = search needs
+
+slot-requires : tie.Need-slot-requires
+slot-requires c κs = search needs
+
+mul-e : tie.Need-mul-e
+mul-e c = search needs
+
+array-copy-out-e : tie.Need-array-copy-out-e
+array-copy-out-e c = search needs
+
+constraint-step-requires : tie.Need-constraint-step-requires
+constraint-step-requires c κs = search needs
+
+late-number-requires : tie.Need-late-number-requires
+late-number-requires c κs = search needs
+
+returns : tie.Need-returns
+returns c = λ a.
+    let s = c .before .before .before .before .before .before .before in
+    let p = c .before .before .before .before .constraint-place in
+    let m = c .before .constraint-step in
+    let g = c .before .before .before .before .before .constraint-repeated in
+    late-is (constraintElements [] false) (s .args .t1) (s .args .n) (s .args .t .now) (search needs) (s .args .count) (s .args .i) (m .ensures .1) a (p .result) (p .ensures) (c .before .before .before .slot .result) _ (c .before .before .before .slot .ensures .1)
+    (m .result) (m .ensures .0) (g .result) (g .ensures) (c .late-number .ensures)
+
+pub constraint-late-spec : {M : Type 1} → statement M
+constraint-late-spec =
+    tie.close
+    (tie.spec
+    mul-row
+    shared-slice-copy-out-row
+    constraint-repeated-requires
+    constraint-place-requires
+    slot-requires
+    mul-e
+    array-copy-out-e
+    constraint-step-requires
+    late-number-requires
+    returns)
