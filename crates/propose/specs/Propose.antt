@@ -16,15 +16,18 @@ use Rattle.propose.specs.declared.Proposed.{Proposed}
 unfoldable pub overfull : Record → Bool
 overfull R = ltb 512 (length (R .constraints))
 
--- The union and the rows "b notafter a": lack of place ahead of 8. An unsound Q is 8 at once, since settled is said of a sound record; an unsound M
--- shows as 8 of the union. Then decisions and orders, and whether the new proposal keeps the old one.
-unfoldable pub makingFault : Record → Record → ℕ
-makingFault M Q =
+-- The union with the rows "b notafter a": lack of place ahead of 8. An unsound Q is 8 at once, since settled is said of a sound record; an unsound M
+-- shows as 8 of the union. Then the decisions and orders, which come after the scheduling.
+unfoldable pub draftFault : Record → Record → ℕ
+draftFault M Q =
     8 given not (sound Q)
     orelse 3 given overfull (started M Q)
     orelse 8 given not (sound (started M Q))
     orelse 3 given overfull (proposed M Q)
-    orelse 11 given not (keeps Q (proposed M Q))
+
+-- 11: the new proposal doesn't keep the old one
+unfoldable pub unkept : Record → Record → Bool
+unkept M Q = not (keeps Q (proposed M Q))
 
 -- 12: the lent output is too short; exactly enough is enough
 unfoldable pub tooShort : ℕ → ℕ → Record → Bool
@@ -50,7 +53,8 @@ unfoldable pub proposalFault : Lent → ℕ
 proposalFault t =
     lentFault emptyTables (t .edits) (t .constraints)
     orelse lentFault (recordM t) (t .oldedits) (t .oldconstraints)
-    orelse makingFault (recordM t) (proposalQ t)
+    orelse draftFault (recordM t) (proposalQ t)
+    orelse 11 given unkept (recordM t) (proposalQ t)
     orelse 12 given tooShort (length (t .newedits)) (length (t .newconstraints)) (proposed (recordM t) (proposalQ t))
 
 -- what is given: the new proposal, and nothing where it is refused

@@ -10,16 +10,51 @@ ghost use Rattle.record.specs.Stored.{stored};
 ghost use Rattle.row.specs.Row.{editRow, constraintRow};
 ghost use Rattle.table.specs.Table.{emptyTables, decoded, lentFault, unite};
 ghost use Rattle.table.specs.Checked.{Checked};
-ghost use Rattle.ground.specs.Ground.{_orelse_};
+ghost use Rattle.ground.specs.Ground.{_given_, _orelse_};
 ghost use Rattle.join.specs.Join.{outcome};
 ghost use Rattle.proposal.specs.Proposal.{proposed};
-ghost use Rattle.propose.specs.Propose.{makingFault, answerOf, editsAfter, constraintsAfter, over};
+ghost use Rattle.propose.specs.Propose.{draftFault, unkept, answerOf, editsAfter, constraintsAfter, over};
 
 // number: 0, or that of the refusal; how many rows of each table are written.
 pub struct Proposed {
     pub number: u32,
     pub editcount: usize,
     pub constraintcount: usize,
+}
+
+// A refusal before anything is written.
+fn stopped(number: u32) -> Joined
+    ensures { λ r. ⌜ r ≡ record { number = number; after = stored emptyTables } ⌝ }
+{
+    Joined {
+        number: number,
+        after: record::empty(),
+    }
+}
+
+// The finished proposal, not yet compared with the old one. both: the union of the record and the old proposal.
+fn drafted(both: Record, old: Record) -> Joined
+    ensures { λ r. ⌜ ((M Q : theory.Record) → both ≡ stored (unite M Q) → Checked (unite M Q) → old ≡ stored Q → Checked Q → r ≡ outcome (draftFault M Q) emptyTables (proposed M Q)) ⌝ }
+{
+    if !judge::sound(old) {
+        return stopped(8);
+    }
+    let first = draft::started(both, old);
+    if first.full {
+        return stopped(3);
+    }
+    let started = insertion::with_table(both, first);
+    if !judge::sound(started) {
+        return stopped(8);
+    }
+    let last = decisions::finished(started);
+    if last.full {
+        return stopped(3);
+    }
+    Joined {
+        number: 0,
+        after: insertion::with_table(started, last),
+    }
 }
 
 fn refused(number: u32) -> Proposed
