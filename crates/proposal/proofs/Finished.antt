@@ -37,7 +37,7 @@ at-same a b (x ∷ row) i j e =
     (λ q. at-same a b row (rw p at i) (rw q at j) (let z = rw (p, q) at e in omega arith)))
 
 -- the decisions of a row
-abbrev Decides : List ℕ → ℕ → ℕ → ℕ → Type 0
+abbrev pub Decides : List ℕ → ℕ → ℕ → ℕ → Type 0
 Decides row a k b = ((a among row) × (k ≡ 1) × (b ≡ 0)) ⊎ ((mem a row ≡ false) × (k ≡ 0) × (b ≡ a))
 
 decision-by : (row : List ℕ) (x a k b : ℕ) → is a k b (cond (mem x row) (con x 1 0) (before x x)) ≡ true → (a ≡ x) × Decides row a k b
@@ -46,7 +46,7 @@ decision-by row x a k b h =
     (λ m. records.is-by a k b (con x 1 0) (rw m at h) (λ p q r. (sym p, inl (rw (← p) m, sym q, sym r))))
     (λ m. records.is-by a k b (before x x) (rw m at h) (λ p q r. (sym p, inr (rw (← p) m, sym q, sym r ∙ p))))
 
-decisions-by : (row l : List ℕ) (a k b : ℕ) → has a k b (decisions row l) ≡ true → (a among l) × Decides row a k b
+pub decisions-by : (row l : List ℕ) (a k b : ℕ) → has a k b (decisions row l) ≡ true → (a among l) × Decides row a k b
 unfolding decisions has any
 decisions-by row [] a k b h = clash h refl
 decisions-by row (x ∷ l) a k b h =
@@ -133,7 +133,7 @@ order-by known row c l i j a k b h =
     records.is-by a k b (before (c .right) (c .left)) (rw e at h)
     (λ p q r. record { rule = sym q; left = rw (← p) j; right = rw (← r) i; left-known = rw (← p) (l .right); right-known = rw (← r) (l .left); earlier = rw (← p, ← r) t }))
 
-orders-by : (known row : List ℕ) (l : List Constraint) → ((c : Constraint) → Has c l → Pair known c) → (a k b : ℕ) → has a k b (orders row l) ≡ true → Earlier known row a k b
+pub orders-by : (known row : List ℕ) (l : List Constraint) → ((c : Constraint) → Has c l → Pair known c) → (a k b : ℕ) → has a k b (orders row l) ≡ true → Earlier known row a k b
 unfolding orders has any
 orders-by known row [] f a k b h = clash h refl
 orders-by known row (c ∷ l) f a k b h =

@@ -38,12 +38,12 @@ first-by false true l r c (inl e) = inr e
 first-by false true l r c (inr h) = absurd h
 first-by false false l r c h = absurd h
 
-has-append-by {ℓ} : {A : Type 0} {P : Type ℓ} (x : A) (s t : List A) → Has x (s ++ t) → (Has x s → P) → (Has x t → P) → P
+pub has-append-by {ℓ} : {A : Type 0} {P : Type ℓ} (x : A) (s t : List A) → Has x (s ++ t) → (Has x s → P) → (Has x t → P) → P
 has-append-by x [] t h f g = g h
 has-append-by x (y ∷ s) t (inl e) f g = f (inl e)
 has-append-by x (y ∷ s) t (inr h) f g = has-append-by x s t h (λ m. f (inr m)) g
 
-firsts-by {ℓ} : {P : Type ℓ} (Q : Record) (l : List Constraint) (c : Constraint) → Has c (firsts Q l)
+pub firsts-by {ℓ} : {P : Type ℓ} (Q : Record) (l : List Constraint) (c : Constraint) → Has c (firsts Q l)
     → ((d : Constraint) → Has d l → (c ≡ before (d .left) (d .right)) ⊎ (c ≡ before (d .right) (d .left)) → P) → P
 unfolding firsts
 firsts-by Q [] c h f = absurd h

@@ -190,7 +190,7 @@ fn unite_edits(joined: Record, joining: Record) -> Record
     r
 }
 
-fn constraint_below(x: Constraint, y: Constraint) -> bool
+pub fn constraint_below(x: Constraint, y: Constraint) -> bool
     ensures { λ r. ⌜ r ≡ precedes (constraintKey x) (constraintKey y) ⌝ }
 {
     if x.left < y.left {

@@ -1,0 +1,73 @@
+use Prim.Native.Nat.{ℕ, zero, suc, _+_, _-_, _*_, _≤_, _<_}
+use mathlib.Core.Path.{_≡_, refl, ap, sym, _∙_}
+use mathlib.Core.List.{List, [], _∷_, _++_}
+use lib.ListN.{length, getD, take, drop, set}
+use native.Mathlib.Omega.{arith}
+use Rattle.record.specs.Record.{written}
+use Rattle.keyed.proofs.Union.{ascending-united}
+use Rattle.table.specs.Table.{constraintKey}
+use Rattle.proposal.specs.Proposal.{decisions}
+use Rattle.links.specs.Marks.{valuesOf, placeIn}
+use Rattle.insertion.specs.Insertion.{tableOf}
+use Rattle.fit.proofs.Fit.{checked-fit}
+use Rattle.decisions.specs.Decisions.{Paged}
+use Rattle.decisions.proofs.Paging.{scheduled-rest, finished-is}
+use borrow.Author.Needs.{needs}
+use Rattle.decisions.proofs.finished.Statement.{statement}
+use Rattle.decisions.proofs.finished.Tie as tie
+use Rattle.decisions.proofs.finished.Reads as reads
+use Rattle.decisions.proofs.finished.Lts as lts
+use Rattle.decisions.proofs.pages.Reads as pages-reads
+use Rattle.decisions.proofs.with_decisions.Reads as with-decisions-reads
+use Rattle.decisions.proofs.with_orders.Reads as with-orders-reads
+use Rattle.indexes.proofs.index_table.Reads as index-table-reads
+use Rattle.insertion.proofs.table_of.Reads as table-of-reads
+use Rattle.pairs.proofs.unordered_pairs.Reads as unordered-pairs-reads
+
+-- src/lib.rt:133:9
+unordered-pairs-requires : tie.Need-unordered-pairs-requires
+unordered-pairs-requires c κs = search needs
+
+-- src/lib.rt:134:17
+index-table-requires : tie.Need-index-table-requires
+index-table-requires c κs = search needs
+
+-- src/lib.rt:135:17
+pages-requires : tie.Need-pages-requires
+pages-requires c κs = search needs
+
+-- src/lib.rt:136:9
+table-of-requires : tie.Need-table-of-requires
+table-of-requires c κs = search needs
+
+-- src/lib.rt:137:9
+with-decisions-requires : tie.Need-with-decisions-requires
+with-decisions-requires c κs = search needs
+
+-- src/lib.rt:138:5
+with-orders-requires : tie.Need-with-orders-requires
+with-orders-requires c κs = search needs
+
+-- src/lib.rt:130:1
+returns : tie.Need-returns
+returns c =
+    λ R e k h.
+    let o = c .before .before .before .before .before .before in
+    let i = checked-fit R k in
+    let w = scheduled-rest R (i .formed) h in
+    let g : Paged R (w .0) (o .before .index-table .result) (o .pages .result) = record { formed = i .formed; indexed = o .before .index-table .ensures .2 R e i; paged = o .pages .ensures .1 R e i ∙ ap (λ (row : List ℕ). valuesOf R (placeIn row)) (w .1) } in
+    let d = c .before .before .before .with-decisions .ensures R (w .0) _ (R .constraints) e i g (c .before .before .before .before .before .table-of .ensures R e (k .constraintplaces)) (k .constraintorder) in
+    c .with-orders .ensures R (w .0) _ g d (ascending-united constraintKey (R .constraints) (decisions (0 ∷ w .0) (written R)) (k .constraintorder)) (o .before .before .unordered-pairs .ensures .2 R e i)
+    ∙ ap tableOf (finished-is R (w .0) (w .1))
+
+pub finished-spec : {M : Type 1} → statement M
+finished-spec =
+    tie.close
+    (tie.spec
+    unordered-pairs-requires
+    index-table-requires
+    pages-requires
+    table-of-requires
+    with-decisions-requires
+    with-orders-requires
+    returns)

@@ -1,0 +1,135 @@
+// A table of constraints in order that single rows join (document 01, "The record"): the rows that making a proposal adds come in no order of
+// their own. Functions are pub for the crates of this workspace that make proposals.
+use record::Constraint;
+use record::Record;
+ghost use mathlib.Core.Path.{_≡_};
+ghost use mathlib.Core.Bool.{false, not, _&&_};
+ghost use mathlib.Core.List.{List};
+ghost use Prim.Native.Nat.{ℕ, _≤_, _<_};
+ghost use lib.Dec.{ltb};
+ghost use lib.ListN.{getD, take, length};
+ghost use Rattle.record.specs.declared.Constraint.{Constraint};
+ghost use Rattle.record.specs.Record as theory;
+ghost use Rattle.record.specs.Stored.{stored, fillerConstraint};
+ghost use Rattle.keyed.specs.Keyed.{precedes, Ascending, inserted};
+ghost use Rattle.table.specs.Table.{constraintKey};
+ghost use Rattle.insertion.specs.Insertion.{fullTable, tableOf, Place, putAt};
+
+// Rows past the count hold a filler. A row that had no place left has made it full, and then nothing else is kept.
+pub struct Constraints {
+    pub rows: [Constraint; 512],
+    pub count: usize,
+    pub full: bool,
+}
+
+fn full_table() -> Constraints
+    ensures { λ r. ⌜ r ≡ fullTable ⌝ }
+{
+    let filler = Constraint {
+        left: 0,
+        rule: 0,
+        right: 0,
+    };
+    let rows = [filler; 512];
+    Constraints {
+        rows: rows,
+        count: 0,
+        full: true,
+    }
+}
+
+// The table of a record.
+pub fn table_of(multilog: Record) -> Constraints
+    ensures { λ r. ⌜ ((R : theory.Record) → multilog ≡ stored R → length (R .constraints) ≤ 512 → r ≡ tableOf (R .constraints)) ⌝ }
+{
+    let rows = multilog.constraints;
+    Constraints {
+        rows: rows,
+        count: multilog.constraintcount,
+        full: false,
+    }
+}
+
+// How many of the first n rows precede c, by halving.
+fn place(rows: [Constraint; 512], n: usize, c: Constraint) -> usize
+    requires { ⌜ n ≤ 512 ⌝ }
+    ensures { λ r. ⌜ (Ascending constraintKey (take n rows) → Place constraintKey c (take n rows) r) × (r ≤ n) ⌝ }
+{
+    let mut low = 0;
+    let mut high = n;
+    while low < high {
+        let middle = low + (high - low) / 2;
+        let y = rows[middle];
+        if unite::constraint_below(y, c) {
+            low = middle + 1;
+        } else {
+            high = middle;
+        }
+    }
+    low
+}
+
+// Whether c stands at its place p.
+fn stands(rows: [Constraint; 512], n: usize, p: usize, c: Constraint) -> bool
+    requires { ⌜ n ≤ 512 ⌝ }
+    ensures { λ r. ⌜ r ≡ (ltb p n && not (precedes (constraintKey c) (constraintKey (getD rows p fillerConstraint)))) ⌝ }
+{
+    if n <= p {
+        return false;
+    }
+    let y = rows[p];
+    !unite::constraint_below(c, y)
+}
+
+fn put_at(rows: [Constraint; 512], n: usize, p: usize, c: Constraint) -> [Constraint; 512]
+    requires { ⌜ (p ≤ n) × (n < 512) ⌝ }
+    ensures { λ r. ⌜ r ≡ putAt n p c rows ⌝ }
+{
+    let mut out = rows;
+    let mut j = n;
+    while p < j {
+        let y = out[j - 1];
+        out[j] = y;
+        j -= 1;
+    }
+    out[p] = c;
+    out
+}
+
+// The table joined by one row.
+pub fn insert(table: Constraints, c: Constraint) -> Constraints
+    ensures { λ r. ⌜ ((l : List Constraint) → table ≡ tableOf l → Ascending constraintKey l → r ≡ tableOf (inserted constraintKey c l)) ⌝ }
+{
+    if table.full {
+        return table;
+    }
+    let n = table.count;
+    if 512 < n {
+        return table;
+    }
+    let rows = table.rows;
+    let p = place(rows, n, c);
+    if stands(rows, n, p, c) {
+        return table;
+    }
+    if 512 <= n {
+        return full_table();
+    }
+    let more = put_at(rows, n, p, c);
+    Constraints {
+        rows: more,
+        count: n + 1,
+        full: false,
+    }
+}
+
+// The record with the constraints of a table that is not full.
+pub fn with_table(multilog: Record, table: Constraints) -> Record
+    ensures { λ r. ⌜ ((R : theory.Record) (l : List Constraint) → multilog ≡ stored R → table ≡ tableOf l → table .full ≡ false → r ≡ stored (record { edits = R .edits; constraints = l })) ⌝ }
+{
+    let rows = table.rows;
+    let mut r = multilog;
+    r.constraints = rows;
+    r.constraintcount = table.count;
+    r
+}

@@ -1,0 +1,81 @@
+// The noncommuting pairs of a record with no order between them (document 01, "Proposals and votes", last paragraph). Functions are pub for the
+// crates of this workspace that make proposals.
+use record::Constraint;
+use record::Record;
+ghost use mathlib.Core.Path.{_≡_};
+ghost use mathlib.Core.Bool.{not, _&&_, _||_};
+ghost use Prim.Native.Nat.{ℕ, _≤_, _<_};
+ghost use lib.Dec.{eqb};
+ghost use lib.ListN.{length, getD, take};
+ghost use Rattle.record.specs.Lists.{_among_};
+ghost use Rattle.record.specs.Record as theory;
+ghost use Rattle.record.specs.Record.{names, notafter};
+ghost use Rattle.record.specs.Stored.{stored};
+ghost use Rattle.links.specs.Marks.{placeIn};
+ghost use Rattle.links.specs.Links.{Safe};
+ghost use Rattle.marks.specs.Resolved.{Resolved};
+ghost use Rattle.indexes.specs.Fit.{Fit};
+ghost use Rattle.proposal.specs.Proposal.{unordered};
+
+// Nothing is said of the rows past the count.
+pub struct Pairs {
+    pub rows: [Constraint; 512],
+    pub count: usize,
+}
+
+// Whether a constraint is a noncommuting pair with no order; an order is a direct row.
+fn is_unordered(
+    c: Constraint,
+    index: &[u8; 2304],
+    head: &[u16; 384],
+    link: &[u16; 1024],
+    left: &[u8; 1024],
+) -> bool
+    requires { ⌜ Safe (now head) (now link) (now left) × (length (now index) ≡ 2304) × ((x : ℕ) → getD (now index) x 0 < 128) ⌝ }
+    ensures { λ r. ⌜ ((R : theory.Record) → Resolved R (now (head .entry)) (now (link .entry)) (now (left .entry))
+        → ((x : ℕ) → getD (now (index .entry)) x 0 ≡ placeIn (names R) x) → c .left among names R → c .right among names R
+        → r ≡ (eqb (c .rule) 2 && not (notafter R (c .left) (c .right) || notafter R (c .right) (c .left)))) ⌝ }
+{
+    if c.rule != 2 {
+        return false;
+    }
+    let a = indexes::index_of(index, links::wide16(c.left));
+    let b = indexes::index_of(index, links::wide16(c.right));
+    if links::leads_to(0, head, link, left, a, b) {
+        return false;
+    }
+    !links::leads_to(0, head, link, left, b, a)
+}
+
+// The pairs with no order, in the table's order.
+pub fn unordered_pairs(multilog: Record) -> Pairs
+    ensures { λ r. ⌜ (length (r .rows) ≡ 512) × (r .count ≤ 512) × ((R : theory.Record) → multilog ≡ stored R → Fit R → take (r .count) (r .rows) ≡ unordered R) ⌝ }
+{
+    let constraints = multilog.constraints;
+    let n = multilog.constraintcount;
+    if 512 < n {
+        return Pairs {
+            rows: constraints,
+            count: 0,
+        };
+    }
+    let index = indexes::index_table(multilog);
+    let resolved = indexes::resolved(multilog);
+    let head = resolved.head;
+    let link = resolved.link;
+    let left = resolved.left;
+    let mut rows = constraints;
+    let mut count: usize = 0;
+    let mut i: usize = 0;
+    while i < n {
+        let c = constraints[i];
+        let keep = is_unordered(c, &index, &head, &link, &left);
+        rows[count] = c;
+        count += links::wide8(marks::bit(keep));
+        i += 1;
+    }
+    Pairs {
+        rows: rows,
+        count: count,
+    }
+}

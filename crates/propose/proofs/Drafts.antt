@@ -1,0 +1,113 @@
+-- The number of a draft, ground by ground, and the draft as it is stored. Assumes nothing.
+use mathlib.Core.Path.{_≡_, refl, ap, sym, _∙_}
+use mathlib.Core.Bool.{Bool, true, false, not, cond}
+use mathlib.Core.List.{List, []}
+use Prim.Native.Nat.{ℕ, _≤_, _<_}
+use native.Mathlib.Omega.{arith}
+use borrow.Author.Tests.{not-true, not-false, ltb-false, ne-eqb}
+use lib.Dec.{eqb, ltb}
+use lib.ListN.{length}
+use Rattle.record.specs.declared.Constraint.{Constraint}
+use Rattle.record.specs.declared.Record as declared
+use Rattle.record.specs.Record.{Record}
+use Rattle.record.specs.Stored.{stored}
+use Rattle.record.specs.Judgement.{sound}
+use Rattle.keyed.specs.Keyed.{united}
+use Rattle.ground.specs.Ground.{_given_, _orelse_}
+use Rattle.ground.proofs.Grounds.{orelse-none, given-none}
+use Rattle.table.specs.Table.{emptyTables, constraintKey, unite}
+use Rattle.table.specs.Checked.{Checked}
+use Rattle.join.specs.declared.Joined.{Joined}
+use Rattle.join.specs.Join.{outcome}
+use Rattle.insertion.specs.declared.Constraints.{Constraints}
+use Rattle.insertion.specs.Insertion.{tableOf}
+use Rattle.insertion.proofs.Tables.{full-is}
+use Rattle.proposal.specs.Proposal.{withConstraints, unordered, firsts, started, finished, proposed}
+use Rattle.propose.specs.Propose.{overfull, draftFault}
+use Rattle.propose.proofs.Added.{started-checked, finished-checked}
+
+-- a refusal with a number that is given
+pub stopped-is : (n m : ℕ) (P : Record) → m ≡ n → (n ≡ 0 → ⊥) → {r : Joined} → r ≡ record { number = n; after = stored emptyTables } → r ≡ outcome m emptyTables P
+stopped-is n m P e z f = f ∙ sym (rw (e, ne-eqb n 0 z))
+
+pub made-is : (m : ℕ) (P : Record) → m ≡ 0 → {r : declared.Record} → r ≡ stored P → record { number = 0; after = r } ≡ outcome m emptyTables P
+made-is m P e f = rw (e, f)
+
+-- whether a table is full tells whether the rows have places
+full-tells : (table : Constraints) (l : List Constraint) → table ≡ tableOf l → table .full ≡ ltb 512 (length l)
+full-tells table l e = ap (λ (t : Constraints). t .full) e ∙ full-is l
+
+module _ (M Q : Record) where
+  -- the number by the outcomes of its tests
+  abbrev number : Bool → Bool → Bool → Bool → ℕ
+  number a b c d = 8 given not a orelse 3 given b orelse 8 given not c orelse 3 given d
+
+  tested : draftFault M Q ≡ number (sound Q) (overfull (started M Q)) (sound (started M Q)) (overfull (proposed M Q))
+  unfolding draftFault
+  tested = refl
+
+  pub unsound-old : sound Q ≡ false → draftFault M Q ≡ 8
+  unsound-old e = tested ∙ rw e
+
+  module _ (p : sound Q ≡ true) (first : Constraints) (t : first ≡ tableOf (united constraintKey (unite M Q .constraints) (firsts Q (unordered (unite M Q))))) where
+    first-tells : first .full ≡ overfull (started M Q)
+    unfolding overfull started withConstraints
+    first-tells = full-tells first _ t
+
+    pub no-place-before : first .full ≡ true → draftFault M Q ≡ 3
+    no-place-before e = let q : overfull (started M Q) ≡ true = sym first-tells ∙ e in tested ∙ rw (p, q)
+
+    module _ (q : first .full ≡ false) where
+      placed : overfull (started M Q) ≡ false
+      placed = sym first-tells ∙ q
+
+      pub start-checked : Checked (unite M Q) → Checked (started M Q)
+      unfolding overfull
+      start-checked k = started-checked M Q k (ltb-false 512 (length (started M Q .constraints)) placed)
+
+      -- the start as it is stored
+      pub start-is : (both start : declared.Record)
+          → ((R : Record) (l : List Constraint) → both ≡ stored R → first ≡ tableOf l → first .full ≡ false → start ≡ stored (record { edits = R .edits; constraints = l }))
+          → both ≡ stored (unite M Q) → start ≡ stored (started M Q)
+      unfolding started withConstraints
+      start-is both start f e = f (unite M Q) _ e t q
+
+      pub unsound-start : sound (started M Q) ≡ false → draftFault M Q ≡ 8
+      unsound-start e = tested ∙ rw (p, placed, e)
+
+      module _ (s : sound (started M Q) ≡ true) (last : Constraints) (u : last ≡ tableOf (finished (started M Q) .constraints)) where
+        last-tells : last .full ≡ overfull (proposed M Q)
+        unfolding overfull proposed
+        last-tells = full-tells last _ u
+
+        pub no-place-after : last .full ≡ true → draftFault M Q ≡ 3
+        no-place-after e = let z : overfull (proposed M Q) ≡ true = sym last-tells ∙ e in tested ∙ rw (p, placed, s, z)
+
+        module _ (v : last .full ≡ false) where
+          pub no-fault : draftFault M Q ≡ 0
+          no-fault = let z : overfull (proposed M Q) ≡ false = sym last-tells ∙ v in tested ∙ rw (p, placed, s, z)
+
+          pub last-is : (start new : declared.Record)
+              → ((R : Record) (l : List Constraint) → start ≡ stored R → last ≡ tableOf l → last .full ≡ false → new ≡ stored (record { edits = R .edits; constraints = l }))
+              → start ≡ stored (started M Q) → new ≡ stored (proposed M Q)
+          unfolding proposed finished withConstraints
+          last-is start new f e = f (started M Q) _ e u v
+
+-- a draft without fault is checked
+pub drafted-checked : (M Q : Record) → Checked (unite M Q) → draftFault M Q ≡ 0 → Checked (proposed M Q)
+unfolding draftFault overfull proposed
+drafted-checked M Q k h =
+    let a = orelse-none (8 given not (sound Q)) _ h in
+    let b = orelse-none (3 given ltb 512 (length (started M Q .constraints))) _ (a .1) in
+    let c = orelse-none (8 given not (sound (started M Q))) _ (b .1) in
+    let s : Checked (started M Q) = started-checked M Q k (ltb-false 512 (length (started M Q .constraints)) (given-none 2 (ltb 512 (length (started M Q .constraints))) (b .0))) in
+    finished-checked (started M Q) s (ltb-false 512 (length (finished (started M Q) .constraints)) (given-none 2 (ltb 512 (length (finished (started M Q) .constraints))) (c .1)))
+
+-- and its soundness and the old proposal's are known
+pub drafted-sound : (M Q : Record) → draftFault M Q ≡ 0 → (sound Q ≡ true) × (sound (started M Q) ≡ true)
+unfolding draftFault
+drafted-sound M Q h =
+    let a = orelse-none (8 given not (sound Q)) _ h in
+    let b = orelse-none (3 given overfull (started M Q)) _ (a .1) in
+    let c = orelse-none (8 given not (sound (started M Q))) _ (b .1) in
+    (not-false (sound Q) (given-none 7 (not (sound Q)) (a .0)), not-false (sound (started M Q)) (given-none 7 (not (sound (started M Q))) (c .0)))

@@ -1,0 +1,3 @@
+pub mod Added
+pub mod Written
+pub mod Drafts

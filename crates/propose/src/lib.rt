@@ -1,0 +1,100 @@
+// Making a proposal from a lent record and the bench's old proposal (document 01, "Proposals and votes", last paragraph).
+use join::Joined;
+use record::Record;
+ghost use mathlib.Core.Path.{_≡_};
+ghost use mathlib.Core.List.{List, map};
+ghost use Prim.Native.Nat.{ℕ, _≤_, _<_};
+ghost use lib.ListN.{length, take};
+ghost use Rattle.record.specs.Record as theory;
+ghost use Rattle.record.specs.Stored.{stored};
+ghost use Rattle.row.specs.Row.{editRow, constraintRow};
+ghost use Rattle.table.specs.Table.{emptyTables, decoded, lentFault, unite};
+ghost use Rattle.table.specs.Checked.{Checked};
+ghost use Rattle.ground.specs.Ground.{_given_, _orelse_};
+ghost use Rattle.join.specs.Join.{outcome};
+ghost use Rattle.proposal.specs.Proposal.{proposed};
+ghost use Rattle.propose.specs.Propose.{draftFault, unkept, answerOf, editsAfter, constraintsAfter, over};
+
+// number: 0, or that of the refusal; how many rows of each table are written.
+pub struct Proposed {
+    pub number: u32,
+    pub editcount: usize,
+    pub constraintcount: usize,
+}
+
+// A refusal before anything is written.
+fn stopped(number: u32) -> Joined
+    ensures { λ r. ⌜ r ≡ record { number = number; after = stored emptyTables } ⌝ }
+{
+    Joined {
+        number: number,
+        after: record::empty(),
+    }
+}
+
+// The finished proposal, not yet compared with the old one. both: the union of the record and the old proposal.
+fn drafted(both: Record, old: Record) -> Joined
+    ensures { λ r. ⌜ ((M Q : theory.Record) → both ≡ stored (unite M Q) → Checked (unite M Q) → old ≡ stored Q → Checked Q → r ≡ outcome (draftFault M Q) emptyTables (proposed M Q)) ⌝ }
+{
+    if !judge::sound(old) {
+        return stopped(8);
+    }
+    let first = draft::started(both, old);
+    if first.full {
+        return stopped(3);
+    }
+    let started = insertion::with_table(both, first);
+    if !judge::sound(started) {
+        return stopped(8);
+    }
+    let last = decisions::finished(started);
+    if last.full {
+        return stopped(3);
+    }
+    Joined {
+        number: 0,
+        after: insertion::with_table(started, last),
+    }
+}
+
+fn refused(number: u32) -> Proposed
+    ensures { λ r. ⌜ r ≡ record { number = number; editcount = 0; constraintcount = 0 } ⌝ }
+{
+    Proposed {
+        number: number,
+        editcount: 0,
+        constraintcount: 0,
+    }
+}
+
+// The rows of a record's edits, written over the first of a table.
+fn write_edits(multilog: Record, table: &mut [[u32; 5]])
+    requires { ⌜ (multilog .editcount ≤ 127) × (multilog .editcount ≤ length (now table)) ⌝ }
+    ensures { λ _. ⌜ now (table .exit) ≡ over (map editRow (take (multilog .editcount) (multilog .edits))) (now (table .entry)) ⌝ }
+{
+    let edits = multilog.edits;
+    let n = multilog.editcount;
+    let mut i: usize = 0;
+    while i < n {
+        let e = edits[i];
+        let row = row::edit_row(e);
+        table[i] = row;
+        i += 1;
+    }
+}
+
+// The rows of a record's constraints, written over the first of a table.
+fn write_constraints(multilog: Record, table: &mut [[u32; 3]])
+    requires { ⌜ (multilog .constraintcount ≤ 512) × (multilog .constraintcount ≤ length (now table)) ⌝ }
+    ensures { λ _. ⌜ now (table .exit) ≡ over (map constraintRow (take (multilog .constraintcount) (multilog .constraints))) (now (table .entry)) ⌝ }
+{
+    let constraints = multilog.constraints;
+    let n = multilog.constraintcount;
+    let mut i: usize = 0;
+    while i < n {
+        let c = constraints[i];
+        let row = row::constraint_row(c);
+        table[i] = row;
+        i += 1;
+    }
+}
