@@ -177,6 +177,17 @@ pub accepted-text : (text : List ℕ) (R : Record) → readText text ≡ Accepte
 unfolding readText
 accepted-text text R h = judged-accepted (length (lines text)) (readRows text) R h (λ q s. (rows-took text R q, s))
 
+pub refused-text-number : (text : List ℕ) (k l : ℕ) → readText text ≡ Refused k l → k ≡ 0 → ⊥
+unfolding readText
+refused-text-number text k l h z = go (readRows text) refl h
+  where
+    go : (a : Answer) → readRows text ≡ a → judged (length (lines text)) a ≡ Refused k l → ⊥
+    go (Accepted S) q w =
+        by (sound S)
+        (λ (e : sound S ≡ true). refused-not k l S (sym (rw e at w)))
+        (λ (e : sound S ≡ false). let u : Refused 8 (length (lines text)) ≡ Refused k l = rw e at w in let m : 8 ≡ k = cc in omega arith)
+    go (Refused n m) q w = let u : n ≡ k = cc in refused-number text n m q (u ∙ z)
+
 -- one line of a record's text is read
 step-edit : (n : ℕ) (edits : Rows) (row : Row) (rest : List (List ℕ)) → isEditRow row ≡ true → rowFault editKind [] edits row ≡ 0 → readFrom n edits [] (editLine row ∷ rest) ≡ readFrom (suc n) (edits ++ (row ∷ [])) [] rest
 unfolding readFrom lineFault editFault

@@ -1,0 +1,255 @@
+// The report of a text (document 01, "Text"), and the line of a refusal.
+use judge::Judged;
+use record::Edit;
+use record::Record;
+use writer::Fit;
+use writer::Written;
+ghost use mathlib.Core.Path.{_≡_};
+ghost use mathlib.Core.List.{List, [], _∷_, _++_, map};
+ghost use Prim.Native.Nat.{ℕ, _+_, _-_, _<_, _≤_};
+ghost use lib.Dec.{leb};
+ghost use lib.ListN.{length, take};
+ghost use Rattle.record.specs.Record as theory;
+ghost use Rattle.record.specs.Stored.{stored};
+ghost use Rattle.table.specs.Checked.{Checked};
+ghost use Rattle.decimal.specs.Written as part;
+ghost use Rattle.form.specs.Form.{fill};
+ghost use Rattle.text.specs.Text.{joinedLines, readText};
+ghost use Rattle.writer.specs.Placed.{placed, placing, fitOf};
+ghost use Rattle.report.specs.Report.{countsForm, reportForm, refusalForm, reportOf, refusalLine, printed, reported, reportedOut};
+ghost use Rattle.report.specs.Rows.{numbersAt, numbered};
+
+// Number 0: the report's size. 12: it does not fit. Any other: the text is refused, at this line.
+pub struct Reported {
+    pub number: u32,
+    pub line: usize,
+    pub size: usize,
+}
+
+fn wide(n: u8) -> u64
+    ensures { λ r. ⌜ r ≡ n ⌝ }
+{
+    n as u64
+}
+
+// The numbers of the line of the edit at an index.
+fn edit_numbers(name: u16, judged: Judged, index: usize) -> [u64; 5]
+    requires { ⌜ index < 128 ⌝ }
+    ensures { λ r. ⌜ r ≡ numbersAt name judged index ⌝ }
+{
+    let must = wide(judged.must[index]);
+    let never = wide(judged.never[index]);
+    let settled = wide(judged.settled[index]);
+    let place = wide(judged.place[index]);
+    [name as u64, must, never, settled, place]
+}
+
+// The numbers of the lines of the first n edits.
+fn report_rows(edits: [Edit; 127], n: usize, judged: Judged) -> [[u64; 5]; 127]
+    requires { ⌜ n ≤ 127 ⌝ }
+    ensures { λ r. ⌜ (take n r ≡ numbered judged 1 (take n edits)) × (length r ≡ 127) ⌝ }
+{
+    let mut rows = [[0u64; 5]; 127];
+    let mut i = 0;
+    while i < n {
+        let e = edits[i];
+        rows[i] = edit_numbers(e.name, judged, i + 1);
+        i += 1;
+    }
+    rows
+}
+
+fn line_length(numbers: &[u64]) -> usize
+    ensures { λ r. ⌜ r ≡ length (fill reportForm (now (numbers .entry))) ⌝ }
+{
+    form::form_length(b"edit=@ must=? never=? settled=? place=#\n", numbers)
+}
+
+fn write_line(out: &mut [u8], numbers: &[u64]) -> usize
+    requires { ⌜ length (fill reportForm (now numbers)) ≤ length (now out) ⌝ }
+    ensures { λ r. ⌜ part.Written (fill reportForm (now (numbers .entry))) (now (out .entry)) r (now (out .exit)) ⌝ }
+{
+    form::write_form(
+        &mut out[..],
+        b"edit=@ must=? never=? settled=? place=#\n",
+        numbers,
+    )
+}
+
+// The room that the lines leave.
+fn lines_fit(rows: &[[u64; 5]], room: usize) -> Fit
+    ensures { λ r. ⌜ r ≡ fitOf (joinedLines (map (fill reportForm) (now (rows .entry)))) room ⌝ }
+{
+    let mut left = room;
+    let mut i = 0;
+    while i < rows.len() {
+        let size = line_length(&rows[i][..]);
+        if left < size {
+            return Fit {
+                fits: false,
+                left: 0,
+            };
+        }
+        left -= size;
+        i += 1;
+    }
+    Fit {
+        fits: true,
+        left: left,
+    }
+}
+
+fn write_lines(out: &mut [u8], rows: &[[u64; 5]]) -> usize
+    requires { ⌜ length (joinedLines (map (fill reportForm) (now rows))) ≤ length (now out) ⌝ }
+    ensures { λ r. ⌜ part.Written (joinedLines (map (fill reportForm) (now (rows .entry)))) (now (out .entry)) r (now (out .exit)) ⌝ }
+{
+    let mut at = 0;
+    let mut i = 0;
+    while i < rows.len() {
+        at += write_line(&mut out[at..], &rows[i][..]);
+        i += 1;
+    }
+    at
+}
+
+// The room that a text of this size leaves.
+fn size_fit(size: usize, room: usize) -> Fit
+    ensures { λ r. ⌜ r ≡ record { fits = leb size room; left = room - size } ⌝ }
+{
+    if room < size {
+        return Fit {
+            fits: false,
+            left: 0,
+        };
+    }
+    Fit {
+        fits: true,
+        left: room - size,
+    }
+}
+
+fn counts_length(counts: &[u64]) -> usize
+    ensures { λ r. ⌜ r ≡ length (fill countsForm (now (counts .entry))) ⌝ }
+{
+    form::form_length(b"edits=# rules=#\n", counts)
+}
+
+fn write_counts(out: &mut [u8], counts: &[u64]) -> usize
+    requires { ⌜ length (fill countsForm (now counts)) ≤ length (now out) ⌝ }
+    ensures { λ r. ⌜ part.Written (fill countsForm (now (counts .entry))) (now (out .entry)) r (now (out .exit)) ⌝ }
+{
+    form::write_form(&mut out[..], b"edits=# rules=#\n", counts)
+}
+
+// The room that a report leaves.
+fn report_fit(counts: &[u64], rows: &[[u64; 5]], room: usize) -> Fit
+    ensures { λ r. ⌜ r ≡ fitOf (fill countsForm (now (counts .entry)) ++ joinedLines (map (fill reportForm) (now (rows .entry)))) room ⌝ }
+{
+    let first = size_fit(counts_length(counts), room);
+    if !first.fits {
+        return first;
+    }
+    lines_fit(rows, first.left)
+}
+
+fn write_report(out: &mut [u8], counts: &[u64], rows: &[[u64; 5]]) -> usize
+    requires { ⌜ length (fill countsForm (now counts) ++ joinedLines (map (fill reportForm) (now rows))) ≤ length (now out) ⌝ }
+    ensures { λ r. ⌜ part.Written (fill countsForm (now (counts .entry)) ++ joinedLines (map (fill reportForm) (now (rows .entry)))) (now (out .entry)) r (now (out .exit)) ⌝ }
+{
+    let at = write_counts(&mut out[..], counts);
+    at + write_lines(&mut out[at..], rows)
+}
+
+// Writes a report to the start of out where it fits. Refused, out stays as it was.
+fn place_report(out: &mut [u8], counts: &[u64], rows: &[[u64; 5]]) -> Written
+    ensures { λ r. ⌜ (r ≡ placing (fill countsForm (now (counts .entry)) ++ joinedLines (map (fill reportForm) (now (rows .entry)))) 0 (now (out .entry)))
+        × (now (out .exit) ≡ placed (fill countsForm (now (counts .entry)) ++ joinedLines (map (fill reportForm) (now (rows .entry)))) 0 (now (out .entry))) ⌝ }
+{
+    let fit = report_fit(counts, rows, out.len());
+    if !fit.fits {
+        return Written { number: 12, end: 0 };
+    }
+    let size = write_report(&mut out[..], counts, rows);
+    Written {
+        number: 0,
+        end: size,
+    }
+}
+
+// Writes the report of a sound record in memory to the start of out.
+pub fn report_record(content: Record, out: &mut [u8]) -> Written
+    ensures { λ r. ⌜ ((R : theory.Record) → content ≡ stored R → Checked R → (r ≡ placing (reportOf R) 0 (now (out .entry))) × (now (out .exit) ≡ placed (reportOf R) 0 (now (out .entry)))) ⌝ }
+{
+    let n = content.editcount;
+    let m = content.constraintcount;
+    if 127 < n {
+        return Written { number: 12, end: 0 };
+    }
+    let edits = content.edits;
+    let judged = judge::judge(content);
+    let rows = report_rows(edits, n, judged);
+    let counts = [n as u64, m as u64];
+    place_report(&mut out[..], &counts, &rows[0..n])
+}
+
+// Writes the report of a text to the start of out. Refused, out stays as it was.
+pub fn report_text(text: &[u8], out: &mut [u8]) -> Reported
+    ensures { λ r. ⌜ (r ≡ reported (readText (now (text .entry))) (now (out .entry))) × (now (out .exit) ≡ reportedOut (readText (now (text .entry))) (now (out .entry))) ⌝ }
+{
+    let reading = reader::read_text(text);
+    if reading.number != 0 {
+        return Reported {
+            number: reading.number,
+            line: reading.line,
+            size: 0,
+        };
+    }
+    let content = reading.content;
+    let written = report_record(content, &mut out[..]);
+    Reported {
+        number: written.number,
+        line: 0,
+        size: written.end,
+    }
+}
+
+fn refusal_length(numbers: &[u64]) -> usize
+    ensures { λ r. ⌜ r ≡ length (fill refusalForm (now (numbers .entry))) ⌝ }
+{
+    form::form_length(b"refused=# line=#\n", numbers)
+}
+
+fn write_refusal(out: &mut [u8], numbers: &[u64]) -> usize
+    requires { ⌜ length (fill refusalForm (now numbers)) ≤ length (now out) ⌝ }
+    ensures { λ r. ⌜ part.Written (fill refusalForm (now (numbers .entry))) (now (out .entry)) r (now (out .exit)) ⌝ }
+{
+    form::write_form(&mut out[..], b"refused=# line=#\n", numbers)
+}
+
+// Writes the line of a refusal to the start of out where it fits.
+pub fn refusal_line(number: u32, line: usize, out: &mut [u8]) -> Written
+    ensures { λ r. ⌜ (r ≡ placing (refusalLine number line) 0 (now (out .entry))) × (now (out .exit) ≡ placed (refusalLine number line) 0 (now (out .entry))) ⌝ }
+{
+    let numbers = [number as u64, line as u64];
+    let fit = size_fit(refusal_length(&numbers), out.len());
+    if !fit.fits {
+        return Written { number: 12, end: 0 };
+    }
+    let size = write_refusal(&mut out[..], &numbers);
+    Written {
+        number: 0,
+        end: size,
+    }
+}
+
+// Writes what is printed of a text, its report or its refusal, to the start of out where it fits.
+pub fn print_text(text: &[u8], out: &mut [u8]) -> Written
+    ensures { λ r. ⌜ (r ≡ placing (printed (readText (now (text .entry)))) 0 (now (out .entry))) × (now (out .exit) ≡ placed (printed (readText (now (text .entry)))) 0 (now (out .entry))) ⌝ }
+{
+    let reading = reader::read_text(text);
+    if reading.number != 0 {
+        return refusal_line(reading.number, reading.line, &mut out[..]);
+    }
+    let content = reading.content;
+    report_record(content, &mut out[..])
+}
