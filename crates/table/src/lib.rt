@@ -1,6 +1,6 @@
-// Tables of edits and of constraints that join a record (document 01, "What is turned away"): the number of the first faulty row. One walk through the
-// record's table and the lent rows, both in order. The functions are pub for the crates of this workspace that unite records
-// or read rows one after the other; these hand a row of the table, so the functions require it.
+// Tables of edits and of constraints that join a record (document 01, "What is turned away"): their definitions and theorems, and the tests of one row
+// below the rows above it. The functions are pub for the crates of this workspace that walk tables or read rows one after the other; these hand a row
+// of the table, so the functions require it.
 use record::Edit;
 ghost use mathlib.Core.Path.{_≡_};
 ghost use mathlib.Core.Bool.{true, false, not};
