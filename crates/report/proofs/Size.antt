@@ -1,12 +1,11 @@
 -- What is printed of a text takes at most 16,384 bytes, so that an output of this size is never too short. Assumes nothing.
-use mathlib.Core.Path.{_≡_, refl, ap, sym, _∙_}
+use mathlib.Core.Path.{_≡_, refl, _∙_}
 use mathlib.Core.Bool.{Bool, true, false, cond}
 use mathlib.Core.Logic.{inl, inr}
 use mathlib.Core.List.{List, [], _∷_, _++_, map}
-use Prim.Native.Nat.{ℕ, zero, suc, _+_, _*_, _≤_, _<_}
+use Prim.Native.Nat.{ℕ, _+_, _*_, _≤_, _<_}
 use native.Mathlib.Omega.{arith}
 use borrow.Author.Tests.{le-leb}
-use lib.Dec.{leb}
 use lib.ListN.{length, length-append, length-map}
 use Rattle.record.specs.declared.Edit.{Edit}
 use Rattle.record.specs.Lists.{mem}
@@ -27,7 +26,6 @@ use Rattle.form.proofs.Forms.{room, fill-room}
 use Rattle.text.specs.Text.{joinedLines, Answer, Accepted, Refused, readText}
 use Rattle.text.proofs.RoundTrip.{accepted-text}
 use Rattle.text.proofs.Limit.{refusal-small}
-use Rattle.writer.specs.declared.Written.{Written}
 use Rattle.writer.specs.Placed.{placing}
 use Rattle.report.specs.Report.{countsForm, reportForm, refusalForm, reportNumbers, reportOf, refusalLine, printed}
 

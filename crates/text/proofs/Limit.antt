@@ -1,21 +1,20 @@
 -- The first 64,641 bytes of a text decide: a text without fault has at most 639 lines of at most 101 bytes, so a longer one has its fault before the end of
 -- its line 640, and what follows changes nothing. Assumes nothing.
 use mathlib.Core.Path.{_≡_, refl, ap, sym, _∙_}
-use mathlib.Core.Bool.{Bool, true, false, cond, not, _||_}
+use mathlib.Core.Bool.{Bool, true, false, not}
 use mathlib.Core.Logic.{_⊎_, inl, inr, ⊎-elim, _≢_}
 use mathlib.Core.List.{List, [], _∷_, _++_, append-assoc, append-nil}
 use Prim.Native.Nat.{ℕ, zero, suc, _+_, _*_, _≤_, _<_}
 use native.Mathlib.Omega.{arith}
-use borrow.Author.Tests.{eqb-true, eqb-false, eq-eqb, ne-eqb, lt-ltb, ltb-false}
+use borrow.Author.Tests.{eqb-true, eqb-false, ne-eqb, lt-ltb, ltb-false}
 use lib.Dec.{eqb, ltb}
 use lib.ListN.{length, length-append}
 use Rattle.record.specs.Lists.{mem}
 use Rattle.record.specs.Judgement.{sound}
-use Rattle.keyed.proofs.Logic.{by, clash, or-no-l, or-no-r}
+use Rattle.keyed.proofs.Logic.{by, or-no-l, or-no-r}
 use Rattle.row.specs.Row.{Row, cell}
 use Rattle.ground.specs.Ground.{Rows, Kind, noPlace, otherBody, misplaced, rowFault, _given_, _orelse_}
 use Rattle.table.specs.Table.{emptyTables, namesOf, unknown, pairNotAllowed, constraintFurther, editKind, constraintKind}
-use Rattle.table.specs.Checked.{Checked}
 use Rattle.table.proofs.Records.{empty-checked, joining-editplaces, joining-constraintplaces}
 use Rattle.line.specs.declared.Line.{Line}
 use Rattle.line.specs.Line.{lineRead}
@@ -24,7 +23,7 @@ use Rattle.line.proofs.Ends.{ended-line}
 use Rattle.line.proofs.RoundTrip.{line-back, Saying, fault-one, fault-two, an-edit, a-constraint, line-saying}
 use Rattle.text.specs.Text.{editFault, constraintFault, lineFault, editsWith, constraintsWith, Answer, Accepted, Refused, readFrom, readRows, judged, readText}
 use Rattle.text.proofs.Rows.{line-fault-none, Given, given-none-yet, given-edit, given-constraint, given-faultless}
-use Rattle.text.proofs.RoundTrip.{Took, rows-took}
+use Rattle.text.proofs.RoundTrip.{rows-took}
 
 -- the rows of a text without fault are at most 639
 given-few : (edits constraints : Rows) → Given edits constraints → length edits + length constraints ≤ 639

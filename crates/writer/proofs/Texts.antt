@@ -1,8 +1,8 @@
 -- The text of a record by its stored tables, whatever their counts, and at a place. Assumes nothing.
-use mathlib.Core.Path.{_≡_, refl, ap, sym, _∙_}
-use mathlib.Core.Bool.{Bool, true, false, cond}
-use mathlib.Core.List.{List, [], _∷_, _++_, map, map-map}
-use Prim.Native.Nat.{ℕ, zero, suc, _+_, _-_, _≤_, _<_, min}
+use mathlib.Core.Path.{_≡_, ap, sym, _∙_}
+use mathlib.Core.Bool.{true, false}
+use mathlib.Core.List.{List, _++_, map, map-map}
+use Prim.Native.Nat.{ℕ, _+_, _-_, _≤_, _<_, min}
 use native.Mathlib.Omega.{arith}
 use borrow.Author.Tests.{le-leb, lt-leb, leb-true, leb-false}
 use lib.Dec.{leb}
