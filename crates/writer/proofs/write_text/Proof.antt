@@ -11,8 +11,8 @@ use Rattle.writer.proofs.write_text.Tie as tie
 returns : tie.Need-returns
 returns c = let s = c .before .before .args in let text = textOf (recordOf (s .content)) in past-end text (s .out .now) (s .at) (c .if1 .taken)
 
-sub-text-fit : tie.Need-sub-text-fit
-sub-text-fit c = search needs
+sub-room : tie.Need-sub-room
+sub-room c = search needs
 
 text-fit-requires : tie.Need-text-fit-requires
 text-fit-requires c κs = search needs
@@ -32,8 +32,8 @@ part-write-rows-end c = search needs
 write-rows-requires : tie.Need-write-rows-requires
 write-rows-requires c κs = let s = c .before .before .before .before .before .before .args in let text = textOf (recordOf (s .content)) in has-room text (s .out .now) (s .at) (c .before .before .before .before .if1 .left) (c .before .before .before .text-fit .ensures) (not-false _ (c .before .if2 .left))
 
-add-t6 : tie.Need-add-t6
-add-t6 c = let s = c .before .before .before .before .before .before .before .before .before .args in let text = textOf (recordOf (s .content)) in omega (arith, end-fits text (s .out .now) (s .at) (c .before .before .before .before .before .before .before .if1 .left) (c .before .before .before .before .before .before .text-fit .ensures) (not-false _ (c .before .before .before .before .if2 .left)) (c .before .before .write-rows .ensures))
+add-t7 : tie.Need-add-t7
+add-t7 c = let s = c .before .before .before .before .before .before .before .before .before .args in let text = textOf (recordOf (s .content)) in omega (arith, end-fits text (s .out .now) (s .at) (c .before .before .before .before .before .before .before .if1 .left) (c .before .before .before .before .before .before .text-fit .ensures) (not-false _ (c .before .before .before .before .if2 .left)) (c .before .before .write-rows .ensures))
 
 same-length : tie.Need-same-length
 same-length c = search needs
@@ -46,13 +46,13 @@ write-text-spec =
     tie.close
     (tie.spec
     returns
-    sub-text-fit
+    sub-room
     text-fit-requires
     returns-2
     sub-write-rows
     part-write-rows-start
     part-write-rows-end
     write-rows-requires
-    add-t6
+    add-t7
     same-length
     returns-3)
