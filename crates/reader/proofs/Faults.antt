@@ -1,16 +1,15 @@
 -- The number of a row that joins the rows above it and no record, as the code looks for it. Assumes nothing.
 use mathlib.Core.Path.{_≡_, refl, ap, sym, _∙_}
-use mathlib.Core.Bool.{Bool, true, false, cond, not, _&&_, and-false}
-use mathlib.Core.List.{List, [], _∷_, _++_}
-use Prim.Native.Nat.{ℕ, zero, suc, _+_, _≤_, _<_}
+use mathlib.Core.Bool.{Bool, true, false, not, _&&_, and-false}
+use mathlib.Core.List.{[]}
+use Prim.Native.Nat.{ℕ, _≤_, _<_}
 use native.Mathlib.Omega.{arith}
-use borrow.Author.Tests.{lt-leb, le-leb, leb-false, not-true, not-false}
+use borrow.Author.Tests.{lt-leb, le-leb, leb-false}
 use lib.Dec.{leb}
 use lib.ListN.{length, take, getD}
 use lib.Seq.{length-take-le}
 use Rattle.record.specs.Lists.{any}
 use Rattle.keyed.specs.Keyed.{Ascending}
-use Rattle.keyed.proofs.Logic.{by, clash}
 use Rattle.keyed.proofs.Union.{united-alone}
 use Rattle.row.specs.Row.{Row}
 use Rattle.ground.specs.Ground.{Rows, Kind, known, noPlace, otherBody, misplaced, rowFault, _given_, _orelse_}

@@ -1,19 +1,17 @@
 -- The laws of the loop over the lines of a text. Assumes nothing.
 use mathlib.Core.Path.{_≡_, refl, ap, sym, _∙_}
-use mathlib.Core.Bool.{Bool, true, false, cond, not, _&&_}
-use mathlib.Core.List.{List, [], _∷_, _++_, map}
-use Prim.Native.Nat.{ℕ, zero, suc, _+_, _-_, _≤_, _<_}
+use mathlib.Core.Bool.{Bool, true, false, not}
+use mathlib.Core.List.{List, [], _∷_}
+use Prim.Native.Nat.{ℕ, suc, _+_, _-_, _≤_, _<_}
 use native.Mathlib.Omega.{arith}
 use native.Mathlib.Numerals.{add-one}
-use borrow.Author.Tests.{eq-eqb, ne-eqb}
-use lib.Dec.{eqb}
-use lib.ListN.{length, take, drop, getD, set, replicate, length-set, length-replicate, length-append}
+use borrow.Author.Tests.{ne-eqb}
+use lib.ListN.{length, take, drop, set, replicate, length-set, length-replicate}
 use lib.Seq.{length-take-le}
 use Rattle.record.specs.declared.Record as declared
 use Rattle.record.specs.Record.{Record}
 use Rattle.record.specs.Judgement.{sound}
 use Rattle.record.specs.Stored.{emptyRecord, stored}
-use Rattle.keyed.proofs.Logic.{by, clash}
 use Rattle.ground.specs.Ground.{Rows}
 use Rattle.table.specs.Table.{decoded}
 use Rattle.table.proofs.Marks.{marks-start}

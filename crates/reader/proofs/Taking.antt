@@ -1,27 +1,25 @@
 -- A row that is judged and held. Assumes nothing.
-use mathlib.Core.Path.{_≡_, refl, ap, sym, _∙_}
-use mathlib.Core.Bool.{Bool, true, false, cond, not, _&&_}
-use mathlib.Core.List.{List, [], _∷_, _++_, map, map-append}
-use Prim.Native.Nat.{ℕ, zero, suc, _+_, _≤_, _<_}
+use mathlib.Core.Path.{_≡_, refl, sym, _∙_}
+use mathlib.Core.Bool.{true, false}
+use mathlib.Core.List.{List, [], _∷_, _++_, map-append}
+use Prim.Native.Nat.{ℕ, _+_, _≤_, _<_}
 use native.Mathlib.Omega.{arith}
 use native.Mathlib.Numerals.{add-one}
-use borrow.Author.Tests.{lt-ltb, le-ltb, ne-eqb}
-use lib.Dec.{ltb, eqb}
+use borrow.Author.Tests.{lt-ltb, le-ltb}
+use lib.Dec.{ltb}
 use lib.ListN.{length, take, getD, set, length-set}
 use lib.Seq.{length-take-le, take-set-le, take-suc-set, getD-set-same}
 use Rattle.keyed.specs.Keyed.{Ascending}
-use Rattle.keyed.proofs.Logic.{by}
 use Rattle.keyed.proofs.Union.{ascending-snoc}
 use Rattle.row.specs.Row.{Row, cell}
 use Rattle.ground.specs.Ground.{Rows, Kind, misplaced, rowFault, _given_, _orelse_}
 use Rattle.ground.proofs.Grounds.{orelse-first, orelse-second}
 use Rattle.ground.proofs.Accepted.{row-clean}
 use Rattle.table.specs.Table.{namesOf, editKind, constraintKind}
-use Rattle.table.specs.Checked.{Marked}
 use Rattle.table.proofs.Marks.{marks-more, row-small}
 use Rattle.line.specs.declared.Line.{Line}
-use Rattle.text.specs.Text.{editFault, constraintFault, lineFault, editsWith, constraintsWith}
-use Rattle.reader.specs.Held.{EditsHeld, ConstraintsHeld, EditTaken, ConstraintTaken, LineTaken, rowCount}
+use Rattle.text.specs.Text.{editFault, constraintFault, lineFault}
+use Rattle.reader.specs.Held.{EditsHeld, ConstraintsHeld, EditTaken, ConstraintTaken, LineTaken}
 use Rattle.reader.proofs.Faults.{alone-room}
 
 -- the row stands at n, below the rows that stood there

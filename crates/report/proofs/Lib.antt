@@ -1,3 +1,4 @@
 pub mod Numbers
 pub mod Starting
 pub mod Reports
+pub mod Size

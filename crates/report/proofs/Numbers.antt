@@ -1,11 +1,10 @@
 -- The numbers of the report's lines, out of the judgement of a record. Assumes nothing.
-use mathlib.Core.Path.{_≡_, refl, ap, sym, _∙_}
-use mathlib.Core.Bool.{cond}
+use mathlib.Core.Path.{_≡_, refl, ap, _∙_}
 use mathlib.Core.List.{List, [], _∷_, _++_, map}
-use Prim.Native.Nat.{ℕ, zero, suc, _+_, _≤_, _<_}
+use Prim.Native.Nat.{ℕ, suc, _+_, _≤_, _<_}
 use native.Mathlib.Numerals.{add-one}
 use native.Mathlib.Omega.{arith}
-use lib.ListN.{length, getD, take, set, length-map, length-set, length-append}
+use lib.ListN.{length, getD, take, set, length-map}
 use lib.Seq.{take-suc, take-suc-set, length-take-le}
 use Rattle.record.specs.declared.Edit.{Edit}
 use Rattle.record.specs.Record.{Record, nameOf, written, names}

@@ -1,8 +1,7 @@
 -- What the report and the refusal of a text come to. Assumes nothing.
 use mathlib.Core.Path.{_≡_, refl, ap, sym, _∙_}
-use mathlib.Core.Bool.{Bool, true, false, cond}
 use mathlib.Core.List.{List, [], _∷_, _++_, map}
-use Prim.Native.Nat.{ℕ, zero, suc, _+_, _-_, _≤_, _<_}
+use Prim.Native.Nat.{ℕ, _+_, _-_, _<_}
 use native.Mathlib.Omega.{arith}
 use lib.ListN.{length, take}
 use lib.Seq.{take-at}
@@ -22,7 +21,6 @@ use Rattle.reader.specs.declared.Reading.{Reading}
 use Rattle.reader.specs.Reading.{readingOf}
 use Rattle.writer.specs.declared.Written.{Written}
 use Rattle.writer.specs.Placed.{placed, placing}
-use Rattle.report.specs.declared.Reported.{Reported}
 use Rattle.report.specs.Report.{countsForm, reportForm, reportNumbers, reportOf, refusalLine, printed, reported, reportedOut}
 use Rattle.report.specs.Rows.{numbered}
 use Rattle.report.proofs.Numbers.{numbers-are}

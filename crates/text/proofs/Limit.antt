@@ -1,26 +1,29 @@
 -- The first 64,641 bytes of a text decide: a text without fault has at most 639 lines of at most 101 bytes, so a longer one has its fault before the end of
 -- its line 640, and what follows changes nothing. Assumes nothing.
 use mathlib.Core.Path.{_≡_, refl, ap, sym, _∙_}
-use mathlib.Core.Bool.{Bool, true, false, cond, _||_}
+use mathlib.Core.Bool.{Bool, true, false, not}
 use mathlib.Core.Logic.{_⊎_, inl, inr, ⊎-elim, _≢_}
 use mathlib.Core.List.{List, [], _∷_, _++_, append-assoc, append-nil}
 use Prim.Native.Nat.{ℕ, zero, suc, _+_, _*_, _≤_, _<_}
 use native.Mathlib.Omega.{arith}
-use borrow.Author.Tests.{eqb-true, eqb-false, eq-eqb, ne-eqb, lt-ltb, ltb-false}
+use borrow.Author.Tests.{eqb-true, eqb-false, ne-eqb, lt-ltb, ltb-false}
 use lib.Dec.{eqb, ltb}
 use lib.ListN.{length, length-append}
 use Rattle.record.specs.Lists.{mem}
-use Rattle.keyed.proofs.Logic.{by, clash, or-no-l, or-no-r}
-use Rattle.ground.specs.Ground.{Rows}
-use Rattle.table.specs.Table.{emptyTables, namesOf}
+use Rattle.record.specs.Judgement.{sound}
+use Rattle.keyed.proofs.Logic.{by, or-no-l, or-no-r}
+use Rattle.row.specs.Row.{Row, cell}
+use Rattle.ground.specs.Ground.{Rows, Kind, noPlace, otherBody, misplaced, rowFault, _given_, _orelse_}
+use Rattle.table.specs.Table.{emptyTables, namesOf, unknown, pairNotAllowed, constraintFurther, editKind, constraintKind}
 use Rattle.table.proofs.Records.{empty-checked, joining-editplaces, joining-constraintplaces}
 use Rattle.line.specs.declared.Line.{Line}
 use Rattle.line.specs.Line.{lineRead}
 use Rattle.line.specs.Lines.{lines, joined}
 use Rattle.line.proofs.Ends.{ended-line}
-use Rattle.line.proofs.RoundTrip.{line-back}
+use Rattle.line.proofs.RoundTrip.{line-back, Saying, fault-one, fault-two, an-edit, a-constraint, line-saying}
 use Rattle.text.specs.Text.{editFault, constraintFault, lineFault, editsWith, constraintsWith, Answer, Accepted, Refused, readFrom, readRows, judged, readText}
 use Rattle.text.proofs.Rows.{line-fault-none, Given, given-none-yet, given-edit, given-constraint, given-faultless}
+use Rattle.text.proofs.RoundTrip.{rows-took}
 
 -- the rows of a text without fault are at most 639
 given-few : (edits constraints : Rows) → Given edits constraints → length edits + length constraints ≤ 639
@@ -168,3 +171,74 @@ unfolding readText readRows
 first-bytes-decide first rest h =
     let d = decide rest (length first) first 0 [] [] (omega arith) given-none-yet (omega arith) (omega arith) in
     rw (d .first, d .second)
+
+-- The number of a refusal is at most 13, and its line at most 640.
+orelse-small : (m a b : ℕ) → a ≤ m → b ≤ m → (a orelse b) ≤ m
+orelse-small m a b p q = by (eqb a 0) (λ (e : eqb a 0 ≡ true). rw e q) (λ (e : eqb a 0 ≡ false). rw e p)
+
+given-small : (m n : ℕ) (b : Bool) → n ≤ m → (n given b) ≤ m
+given-small m n true h = h
+given-small m n false h = omega arith
+
+-- a number that is given, or a later one
+first-small : (m n : ℕ) (b : Bool) (later : ℕ) → n ≤ m → later ≤ m → (n given b orelse later) ≤ m
+first-small m n b later p q = orelse-small m (n given b) later (given-small m n b p) q
+
+row-small : (K : Kind) (joined above : Rows) (row : Row) → K .further row ≤ 13 → rowFault K joined above row ≤ 13
+unfolding rowFault
+row-small K joined above row h =
+    first-small 13 2 (not (K .inRange row)) _ (omega arith)
+    (first-small 13 3 (noPlace (K .key) (K .limit) joined above row) _ (omega arith)
+    (first-small 13 4 (otherBody (K .key) joined above row) _ (omega arith)
+    (orelse-small 13 (K .further row) (13 given misplaced (K .key) above row) h (given-small 13 13 (misplaced (K .key) above row) (omega arith)))))
+
+further-small : (names : List ℕ) (row : Row) → constraintFurther names false row ≤ 13
+unfolding constraintFurther
+further-small names row =
+    first-small 13 5 (unknown names (cell row 0) (cell row 2)) _ (omega arith)
+    (first-small 13 6 (pairNotAllowed (cell row 0) (cell row 1) (cell row 2)) _ (omega arith) (omega arith))
+
+number-small : (l : Line) → Saying l → l .number ≤ 13
+number-small l (fault-one e) = rw e (omega arith)
+number-small l (fault-two e) = rw e (omega arith)
+number-small l (an-edit row e) = rw e (omega arith)
+number-small l (a-constraint row e) = rw e (omega arith)
+
+fault-small : (edits constraints : Rows) (l : List ℕ) → lineFault edits constraints (lineRead l) ≤ 13
+unfolding lineFault editFault constraintFault
+fault-small edits constraints l =
+    let said = lineRead l in
+    orelse-small 13 (said .number) _ (number-small said (line-saying l))
+    (by (said .isedit)
+    (λ (i : said .isedit ≡ true). rw i (orelse-small 13 (rowFault editKind [] edits (said .edit)) (13 given ltb 0 (length constraints)) (row-small editKind [] edits (said .edit) (omega arith)) (given-small 13 13 (ltb 0 (length constraints)) (omega arith))))
+    (λ (i : said .isedit ≡ false). rw i (row-small (constraintKind (namesOf edits) false) [] constraints (said .constraint) (further-small (namesOf edits) (said .constraint)))))
+
+refused-small : (ls : List (List ℕ)) (n : ℕ) (edits constraints : Rows) (k m : ℕ) → Given edits constraints → n ≡ length edits + length constraints → readFrom n edits constraints ls ≡ Refused k m → (k ≤ 13) × (m ≤ 640)
+unfolding readFrom
+refused-small [] n edits constraints k m g c h = let z : _≡_ {A = ℕ} 0 1 = cc in absurd (omega arith)
+refused-small (l ∷ ls) n edits constraints k m g c h =
+    let number = lineFault edits constraints (lineRead l) in
+    by (eqb number 0)
+    (λ (e : eqb number 0 ≡ true).
+    refused-small ls (suc n) (editsWith (lineRead l) edits) (constraintsWith (lineRead l) constraints) k m (given-more edits constraints l g (eqb-true number 0 e)) (ap suc c ∙ sym (count-more edits constraints (lineRead l))) (rw e at h))
+    (λ (e : eqb number 0 ≡ false).
+    let q : Refused number (suc n) ≡ Refused k m = rw e at h in
+    let a : number ≡ k = cc in
+    let b : suc n ≡ m = cc in
+    (omega (arith, fault-small edits constraints l), omega (arith, given-few edits constraints g)))
+
+pub refusal-small : (text : List ℕ) (k m : ℕ) → readText text ≡ Refused k m → (k ≤ 13) × (m ≤ 640)
+unfolding readText readRows
+refusal-small text k m h = go (readRows text) refl h
+  where
+    go : (a : Answer) → readRows text ≡ a → judged (length (lines text)) a ≡ Refused k m → (k ≤ 13) × (m ≤ 640)
+    go (Accepted S) q w =
+        by (sound S)
+        (λ (e : sound S ≡ true). let u : Accepted S ≡ Refused k m = rw e at w in let z : _≡_ {A = ℕ} 0 1 = cc in absurd (omega arith))
+        (λ (e : sound S ≡ false).
+        let u : Refused 8 (length (lines text)) ≡ Refused k m = rw e at w in
+        let a : 8 ≡ k = cc in
+        let b : length (lines text) ≡ m = cc in
+        let t = rows-took text S q in
+        (omega arith, omega (arith, t .count, t .checked .editplaces, t .checked .constraintplaces)))
+    go (Refused n l) q w = let u : Refused n l ≡ Refused k m = w in refused-small (lines text) 0 [] [] k m given-none-yet (omega arith) (q ∙ u)

@@ -1,33 +1,29 @@
 -- The round trip of texts: a record's text is read as that record, and a text that is read as a record is that record's text. Assumes nothing.
 use mathlib.Core.Path.{_≡_, refl, ap, sym, _∙_}
-use mathlib.Core.Bool.{Bool, true, false, cond, not, _&&_, _||_}
+use mathlib.Core.Bool.{true, false}
 use mathlib.Core.List.{List, [], _∷_, _++_, map, append-assoc, append-nil}
 use mathlib.Core.Logic.{inl, inr}
-use Prim.Native.Nat.{ℕ, zero, suc, _+_, _≤_, _<_}
+use Prim.Native.Nat.{ℕ, suc, _+_}
 use native.Mathlib.Omega.{arith}
-use borrow.Author.Tests.{eqb-true, eqb-false, eq-eqb}
+use borrow.Author.Tests.{eqb-true, eqb-false}
 use lib.Dec.{eqb}
 use lib.ListN.{length, length-append, length-map}
-use Rattle.record.specs.declared.Edit.{Edit}
-use Rattle.record.specs.declared.Constraint.{Constraint}
-use Rattle.record.specs.Lists.{all}
 use Rattle.record.specs.Record.{Record}
 use Rattle.record.specs.Judgement.{sound}
-use Rattle.keyed.proofs.Logic.{by, clash, and-l, and-r, Has, has-map, has-mapped, all-has, all-by}
+use Rattle.keyed.proofs.Logic.{by, Has, has-mapped, all-has, all-by}
 use Rattle.row.specs.Row.{Row, cell, editInRange, constraintInRange, editOf, constraintOf, editRow, constraintRow}
 use Rattle.row.proofs.Cells.{edit-back, constraint-back}
-use Rattle.ground.specs.Ground.{Rows, Kind, rowFault, firstFault, tableFault}
-use Rattle.ground.proofs.Grounds.{orelse-none, orelse-second, Clean, clean}
+use Rattle.ground.specs.Ground.{Rows, rowFault}
+use Rattle.ground.proofs.Grounds.{Clean, clean}
 use Rattle.ground.proofs.Accepted.{accepted-range}
-use Rattle.table.specs.Table.{editRows, constraintRows, decoded, emptyTables, namesOf, editKind, constraintKind, lentFault}
+use Rattle.table.specs.Table.{editRows, constraintRows, decoded, emptyTables, namesOf, editKind, constraintKind}
 use Rattle.table.specs.Checked.{Checked}
 use Rattle.table.proofs.Records.{both, empty-checked, lent-checked, checked-faultless, checked-decoded}
-use Rattle.line.specs.declared.Line.{Line}
-use Rattle.line.specs.Line.{editLine, constraintLine, lineRead, editSaid, constraintSaid, fitsWord}
+use Rattle.line.specs.Line.{editLine, constraintLine, lineRead, fitsWord}
 use Rattle.line.specs.Lines.{lines}
 use Rattle.line.specs.Row.{isEditRow, isConstraintRow}
 use Rattle.line.proofs.Ends.{concat, lines-all}
-use Rattle.line.proofs.RoundTrip.{lineText, rowInForm, line-back, edit-line-read, constraint-line-read, edit-line-first, constraint-line-first}
+use Rattle.line.proofs.RoundTrip.{line-back, edit-line-read, constraint-line-read, edit-line-first, constraint-line-first}
 use Rattle.text.specs.Text.{joinedLines, rowsText, textOf, editFault, constraintFault, lineFault, editsWith, constraintsWith, Answer, Accepted, Refused, readFrom, readRows, judged, readText, valuesFit}
 use Rattle.text.proofs.Rows.{edit-in-form, constraint-in-form, value-fits, edit-fault-none, line-fault-none, Given, given-none-yet, given-edit, given-constraint, given-faultless, text-edit, text-constraint}
 

@@ -1,6 +1,6 @@
 -- The rows that a text has given so far: they are a lent record without fault, and each is in form. Assumes nothing.
 use mathlib.Core.Path.{_≡_, refl, ap, sym, _∙_}
-use mathlib.Core.Bool.{Bool, true, false, cond, not, _&&_, _||_}
+use mathlib.Core.Bool.{Bool, true, false, cond, _&&_, _||_}
 use mathlib.Core.List.{List, [], _∷_, _++_, map, append-assoc, append-nil, map-append}
 use Prim.Native.Nat.{ℕ, zero, suc, _+_, _≤_, _<_}
 use native.Mathlib.Omega.{arith}
@@ -8,16 +8,16 @@ use borrow.Author.Tests.{eqb-true, eq-eqb, ltb-true, ltb-false, lt-ltb}
 use lib.Dec.{eqb, ltb}
 use lib.ListN.{length, getD}
 use Rattle.record.specs.Lists.{all}
-use Rattle.keyed.proofs.Logic.{by, clash, and-l, and-r}
+use Rattle.keyed.proofs.Logic.{clash, and-l, and-r}
 use Rattle.row.specs.Row.{Row, cell, bodyInRange, editInRange, constraintInRange}
-use Rattle.row.proofs.Cells.{EditInRange, edit-in-range, ConstraintInRange, constraint-in-range, name-small, constraint-bounds}
-use Rattle.ground.specs.Ground.{Rows, Kind, rowFault, firstFault, tableFault, _given_, _orelse_}
+use Rattle.row.proofs.Cells.{edit-in-range, constraint-in-range, name-small, constraint-bounds}
+use Rattle.ground.specs.Ground.{Rows, Kind, rowFault, firstFault, tableFault, _given_}
 use Rattle.ground.proofs.Grounds.{orelse-none, orelse-second, given-none, Clean, clean, clean-is}
 use Rattle.table.specs.Table.{emptyTables, namesOf, editKind, constraintKind, joinFault, lentFault}
 use Rattle.line.specs.declared.Line.{Line}
 use Rattle.line.specs.Line.{fitsWord, editLine, constraintLine}
 use Rattle.line.specs.Row.{isEditRow, isConstraintRow}
-use Rattle.text.specs.Text.{editFault, constraintFault, lineFault, editsWith, constraintsWith, joinedLines, rowsText}
+use Rattle.text.specs.Text.{editFault, constraintFault, lineFault, joinedLines, rowsText}
 
 -- a row in range whose value fits 32 bits has a line of its own
 small : (n m : ℕ) → n < m → m ≤ 4294967296 → fitsWord n ≡ true

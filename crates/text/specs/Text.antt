@@ -1,5 +1,5 @@
 -- Document 01, "Text" and "What is turned away": a whole text, written and read line by line. Assumes nothing.
-use mathlib.Core.Bool.{Bool, true, false, cond}
+use mathlib.Core.Bool.{Bool, false, cond}
 use mathlib.Core.List.{List, [], _∷_, _++_, map}
 use Prim.Native.Nat.{ℕ, suc}
 use lib.Dec.{ltb, eqb}

@@ -1,12 +1,12 @@
 -- The text of a record by its stored tables, whatever their counts, and at a place. Assumes nothing.
-use mathlib.Core.Path.{_≡_, refl, ap, sym, _∙_}
-use mathlib.Core.Bool.{Bool, true, false, cond}
-use mathlib.Core.List.{List, [], _∷_, _++_, map, map-map}
-use Prim.Native.Nat.{ℕ, zero, suc, _+_, _-_, _≤_, _<_, min}
+use mathlib.Core.Path.{_≡_, ap, sym, _∙_}
+use mathlib.Core.Bool.{true, false}
+use mathlib.Core.List.{List, _++_, map, map-map}
+use Prim.Native.Nat.{ℕ, _+_, _-_, _≤_, _<_, min}
 use native.Mathlib.Omega.{arith}
 use borrow.Author.Tests.{le-leb, lt-leb, leb-true, leb-false}
 use lib.Dec.{leb}
-use lib.ListN.{length, take, drop, length-drop, length-append}
+use lib.ListN.{length, take, drop, length-take, length-drop, length-append}
 use lib.Seq.{take-all}
 use Rattle.record.specs.declared.Record as declared
 use Rattle.record.specs.Stored.{recordOf}
@@ -17,6 +17,7 @@ use Rattle.decimal.proofs.Parts.{part-written, part-to-end}
 use Rattle.line.specs.Line.{editLine, constraintLine}
 use Rattle.text.specs.Text.{joinedLines, rowsText, textOf}
 use Rattle.writer.specs.declared.Fit.{Fit}
+use Rattle.writer.specs.declared.Written as declared-written
 use Rattle.writer.specs.Placed.{fitOf, placed, placing, editText, constraintText}
 use Rattle.writer.proofs.Writing.{fit-first, fit-both, inside, second-room, written-both}
 
@@ -97,3 +98,17 @@ module _ (text out : List ℕ) (at : ℕ) where
           let n : at + length text ≤ length out = omega (arith, enough) in
           let f : leb (at + length text) (length out) ≡ true = le-leb (at + length text) (length out) n in
           (rw (f, w .0), part-written at out after text n (w .1) ∙ rw f)
+
+-- what is written ends inside the output
+pub placed-inside : (text out : List ℕ) (at : ℕ) {w : declared-written.Written} {after : List ℕ} → (w ≡ placing text at out) × (after ≡ placed text at out) → w .end ≤ length after
+unfolding placing placed
+placed-inside text out at {w} {after} p =
+    by (leb (at + length text) (length out))
+    (λ (h : leb (at + length text) (length out) ≡ true).
+    let e : w .end ≡ at + length text = ap (λ (x : declared-written.Written). x .end) (rw h at (p .0)) in
+    let n : at + length text ≤ length out = leb-true (at + length text) (length out) h in
+    let q : length after ≡ length (take at out) + length (text ++ drop (at + length text) out) = ap length (rw h at (p .1)) ∙ length-append (take at out) (text ++ drop (at + length text) out) in
+    omega (arith, length-take at out, length-append text (drop (at + length text) out)))
+    (λ (h : leb (at + length text) (length out) ≡ false).
+    let e : w .end ≡ 0 = ap (λ (x : declared-written.Written). x .end) (rw h at (p .0)) in
+    omega arith)

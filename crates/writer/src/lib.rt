@@ -147,7 +147,8 @@ pub fn write_text(content: Record, out: &mut [u8], at: usize) -> Written
     if out.len() < at {
         return Written { number: 12, end: 0 };
     }
-    let fit = text_fit(content, out.len() - at);
+    let room = out.len() - at;
+    let fit = text_fit(content, room);
     if !fit.fits {
         return Written { number: 12, end: 0 };
     }

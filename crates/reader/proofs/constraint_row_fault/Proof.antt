@@ -1,63 +1,43 @@
+-- `reader::constraint_row_fault` meets its contract. Assumes nothing.
 use Rattle.reader.proofs.Faults.{alone-range, alone-place, alone-further, alone-follows, alone-late}
 use borrow.Author.Tests.{not-true, not-false}
 use mathlib.Core.Bool.{false}
 use Rattle.table.specs.Table.{constraintKind}
-use Prim.Native.Nat.{ℕ, zero, suc, _+_, _-_, _*_, _≤_, _<_}
-use mathlib.Core.Path.{_≡_, refl, ap, sym, _∙_}
-use mathlib.Core.List.{List, [], _∷_, _++_}
-use lib.ListN.{length, getD, take, drop, set}
-use native.Mathlib.Omega.{arith}
+use mathlib.Core.Path.{sym, _∙_}
 use borrow.Author.Needs.{needs}
 use Rattle.reader.proofs.constraint_row_fault.Statement.{statement}
 use Rattle.reader.proofs.constraint_row_fault.Tie as tie
-use Rattle.reader.proofs.constraint_row_fault.Reads as reads
-use Rattle.reader.proofs.constraint_row_fault.Lts as lts
-use Rattle.row.proofs.constraint_in_range.Reads as constraint-in-range-reads
-use Rattle.table.proofs.constraint_follows.Reads as constraint-follows-reads
-use Rattle.table.proofs.constraint_further.Reads as constraint-further-reads
-use Rattle.reader.proofs.constraint_no_place.Reads as constraint-no-place-reads
 
--- src/lib.rt:114:15
 mul-row : tie.Need-mul-row
 mul-row c = search needs
 
--- src/lib.rt:114:15
 shared-slice-copy-out-row : tie.Need-shared-slice-copy-out-row
 shared-slice-copy-out-row c = search needs
 
--- src/lib.rt:115:9
 constraint-in-range-requires : tie.Need-constraint-in-range-requires
 constraint-in-range-requires c κs = search needs
 
--- src/lib.rt:116:9
 returns : tie.Need-returns
 returns c = λ names k a. let s = c .before .before .before .before in alone-range (constraintKind names false) (s .args .t .now) (s .args .m) (s .pre) (c .before .constraint-in-range .ensures .0) (not-true _ (c .if1 .taken))
 
--- src/lib.rt:118:8
 constraint-no-place-requires : tie.Need-constraint-no-place-requires
 constraint-no-place-requires c κs = search needs
 
--- src/lib.rt:119:9
 returns-2 : tie.Need-returns-2
 returns-2 c = λ names k a. let s = c .before .before .before .before .before .before in alone-place (constraintKind names false) (s .args .t .now) (s .args .m) (s .pre) a (c .before .before .before .constraint-in-range .ensures .0) (not-false _ (c .before .before .if1 .left)) (c .before .constraint-no-place .ensures) (c .if2 .taken)
 
--- src/lib.rt:121:9
 constraint-further-requires : tie.Need-constraint-further-requires
 constraint-further-requires c κs = search needs
 
--- src/lib.rt:123:9
 returns-3 : tie.Need-returns-3
 returns-3 c = λ names k a. let s = c .before .before .before .before .before .before .before .before in alone-further (constraintKind names false) (s .args .t .now) (s .args .m) (s .pre) a (c .before .before .before .before .before .constraint-in-range .ensures .0) (not-false _ (c .before .before .before .before .if1 .left)) (c .before .before .before .constraint-no-place .ensures) (c .before .before .if2 .left) (c .before .constraint-further .ensures names k) (c .if3 .taken)
 
--- src/lib.rt:125:8
 constraint-follows-requires : tie.Need-constraint-follows-requires
 constraint-follows-requires c κs = search needs
 
--- src/lib.rt:126:9
 returns-4 : tie.Need-returns-4
 returns-4 c = λ names k a. let s = c .before .before .before .before .before .before .before .before .before .before in alone-follows (constraintKind names false) (s .args .t .now) (s .args .m) (s .pre) a (c .before .before .before .before .before .before .before .constraint-in-range .ensures .0) (not-false _ (c .before .before .before .before .before .before .if1 .left)) (c .before .before .before .before .before .constraint-no-place .ensures) (c .before .before .before .before .if2 .left) (sym (c .before .before .before .constraint-further .ensures names k) ∙ c .before .before .if3 .left) (c .before .constraint-follows .ensures a) (c .if4 .taken)
 
--- src/lib.rt:110:1
 returns-5 : tie.Need-returns-5
 returns-5 c = λ names k a. let s = c .before .before .before .before .before .before .before .before .before .before in alone-late (constraintKind names false) (s .args .t .now) (s .args .m) (s .pre) a (c .before .before .before .before .before .before .before .constraint-in-range .ensures .0) (not-false _ (c .before .before .before .before .before .before .if1 .left)) (c .before .before .before .before .before .constraint-no-place .ensures) (c .before .before .before .before .if2 .left) (sym (c .before .before .before .constraint-further .ensures names k) ∙ c .before .before .if3 .left) (c .before .constraint-follows .ensures a) (c .if4 .left)
 

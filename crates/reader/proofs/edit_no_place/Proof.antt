@@ -1,26 +1,18 @@
+-- `reader::edit_no_place` meets its contract. Assumes nothing.
 use Rattle.reader.proofs.Faults.{place-left, place-none}
 use Rattle.ground.specs.Ground.{known}
-use Prim.Native.Nat.{ℕ, zero, suc, _+_, _-_, _*_, _≤_, _<_}
-use mathlib.Core.Path.{_≡_, refl, ap, sym, _∙_}
-use mathlib.Core.List.{List, [], _∷_, _++_}
-use lib.ListN.{length, getD, take, drop, set}
-use native.Mathlib.Omega.{arith}
+use mathlib.Core.List.{[]}
+use lib.ListN.{getD, take}
 use borrow.Author.Needs.{needs}
 use Rattle.reader.proofs.edit_no_place.Statement.{statement}
 use Rattle.reader.proofs.edit_no_place.Tie as tie
-use Rattle.reader.proofs.edit_no_place.Reads as reads
-use Rattle.reader.proofs.edit_no_place.Lts as lts
-use Rattle.table.proofs.edit_repeated.Reads as edit-repeated-reads
 
--- src/lib.rt:51:9
 returns : tie.Need-returns
 returns c = let s = c .before in place-left 127 (s .args .n) (known 1 (getD (s .args .t .now) (s .args .n) []) (take (s .args .n) (s .args .t .now))) (c .if1 .taken)
 
--- src/lib.rt:53:6
 edit-repeated-requires : tie.Need-edit-repeated-requires
 edit-repeated-requires c κs = search needs
 
--- src/lib.rt:46:1
 returns-2 : tie.Need-returns-2
 returns-2 c = let s = c .before .before in place-none 127 (s .args .n) (c .before .if1 .left) (c .edit-repeated .ensures)
 

@@ -1,22 +1,13 @@
+-- `reader::read_rows` meets its contract. Assumes nothing.
 use mathlib.Core.Bool.{not}
 use Rattle.reader.proofs.Lines.{Upto, upto-start, upto-refused, upto-next, upto-end, row-least}
 use Rattle.line.proofs.Ends.{next-line}
-use Prim.Native.Nat.{ℕ, zero, suc, _+_, _-_, _*_, _≤_, _<_}
-use mathlib.Core.Path.{_≡_, refl, ap, sym, _∙_}
-use mathlib.Core.List.{List, [], _∷_, _++_}
-use lib.ListN.{length, getD, take, drop, set}
+use Prim.Native.Nat.{_-_}
+use lib.ListN.{length}
 use native.Mathlib.Omega.{arith}
 use borrow.Author.Needs.{needs}
 use Rattle.reader.proofs.read_rows.Statement.{statement}
 use Rattle.reader.proofs.read_rows.Tie as tie
-use Rattle.reader.proofs.read_rows.Reads as reads
-use Rattle.reader.proofs.read_rows.Lts as lts
-use Rattle.line.proofs.line_end.Reads as line-end-reads
-use Rattle.line.proofs.read_line.Reads as read-line-reads
-use Rattle.reader.proofs.refusal.Reads as refusal-reads
-use Rattle.reader.proofs.row_count.Reads as row-count-reads
-use Rattle.reader.proofs.take_line.Reads as take-line-reads
-use Rattle.unite.proofs.decode.Reads as decode-reads
 
 abbrev Inv-loop : tie.InvT-loop
 Inv-loop text edits₀ constraints₀ marks₀ n₀ m₀ at₀ edits constraints marks n m at = Upto text edits constraints marks n m at
@@ -24,123 +15,93 @@ Inv-loop text edits₀ constraints₀ marks₀ n₀ m₀ at₀ edits constraints
 abbrev μ-loop : tie.MeasureT-loop
 μ-loop text edits₀ constraints₀ marks₀ n₀ m₀ at₀ edits constraints marks n m at = length text - at
 
--- src/lib.rt:189:5
 array-write-marks : tie.Need-array-write-marks Inv-loop μ-loop
 array-write-marks c = search needs
 
--- src/lib.rt:193:5
 loop-holds : tie.Need-loop-holds Inv-loop μ-loop
 loop-holds c = upto-start (c .before .args .text .now)
 
--- src/lib.rt:194:13
 line-end-requires : tie.Need-line-end-requires Inv-loop μ-loop
 line-end-requires c κs = search needs
 
--- src/lib.rt:195:36
 sub-read-line : tie.Need-sub-read-line Inv-loop μ-loop
 sub-read-line c = let l = c .before .before .loop in let x = next-line (c .before .before .before .before .args .text .now) (l .at) (c .before .loop-test .taken) (c .line-end .ensures) in omega (arith, x .forward)
 
--- src/lib.rt:195:36
 part-read-line-start : tie.Need-part-read-line-start Inv-loop μ-loop
 part-read-line-start c = let l = c .before .before .loop in let x = next-line (c .before .before .before .before .args .text .now) (l .at) (c .before .loop-test .taken) (c .line-end .ensures) in omega (arith, x .forward, x .inside)
 
--- src/lib.rt:195:36
 part-read-line-end : tie.Need-part-read-line-end Inv-loop μ-loop
 part-read-line-end c = let l = c .before .before .loop in let x = next-line (c .before .before .before .before .args .text .now) (l .at) (c .before .loop-test .taken) (c .line-end .ensures) in omega (arith, x .inside)
 
--- src/lib.rt:195:13
 read-line-requires : tie.Need-read-line-requires Inv-loop μ-loop
 read-line-requires c κs = search needs
 
--- src/lib.rt:196:32
 slice-aggregate-take-line : tie.Need-slice-aggregate-take-line Inv-loop μ-loop
 slice-aggregate-take-line c = search needs
 
--- src/lib.rt:196:44
 slice-aggregate-take-line-2 : tie.Need-slice-aggregate-take-line-2 Inv-loop μ-loop
 slice-aggregate-take-line-2 c = search needs
 
--- src/lib.rt:196:56
 slice-aggregate-take-line-3 : tie.Need-slice-aggregate-take-line-3 Inv-loop μ-loop
 slice-aggregate-take-line-3 c = search needs
 
--- src/lib.rt:196:13
 take-line-requires : tie.Need-take-line-requires Inv-loop μ-loop
 take-line-requires c κs = (c .before .before .before .before .before .before .before .loop .inv .edits-held, c .before .before .before .before .before .before .before .loop .inv .constraints-held)
 
--- src/lib.rt:198:36
 add-refusal : tie.Need-add-refusal Inv-loop μ-loop
 add-refusal c = let u = c .before .before .before .before .before .before .before .before .before .before .before .before .loop .inv in omega (arith, u .edits-held .few, u .constraints-held .few)
 
--- src/lib.rt:198:36
 add-refusal-2 : tie.Need-add-refusal-2 Inv-loop μ-loop
 add-refusal-2 c = let u = c .before .before .before .before .before .before .before .before .before .before .before .before .loop .inv in omega (arith, u .edits-held .few, u .constraints-held .few)
 
--- src/lib.rt:198:13
 refusal-requires : tie.Need-refusal-requires Inv-loop μ-loop
 refusal-requires c κs = search needs
 
--- src/lib.rt:198:13
 returns : tie.Need-returns Inv-loop μ-loop
 returns c = upto-refused (c .before .before .before .before .before .before .before .before .before .before .before .before .before .before .before .args .text .now) (c .before .before .before .before .before .before .before .before .before .before .before .before .before .loop .inv) (c .before .before .before .before .before .before .before .before .before .before .before .before .loop-test .taken) (c .before .before .before .before .before .before .before .before .before .before .before .line-end .ensures) (c .before .before .before .before .before .before .before .before .before .read-line .ensures) (c .before .before .before .before .before .take-line .ensures) (c .before .if1 .taken) (c .refusal .ensures)
 
--- src/lib.rt:200:14
 row-count-requires : tie.Need-row-count-requires Inv-loop μ-loop
 row-count-requires c κs = search needs
 
--- src/lib.rt:200:9
 add-n : tie.Need-add-n Inv-loop μ-loop
 add-n c = let u = c .before .before .before .before .before .before .before .before .before .before .before .before .before .loop .inv in omega (arith, u .edits-held .few, row-least (c .before .before .before .before .before .before .before .before .before .read-line .result .isedit) (c .row-count .ensures))
 
--- src/lib.rt:201:14
 row-count-requires-2 : tie.Need-row-count-requires-2 Inv-loop μ-loop
 row-count-requires-2 c κs = search needs
 
--- src/lib.rt:201:9
 add-m : tie.Need-add-m Inv-loop μ-loop
 add-m c = let u = c .before .before .before .before .before .before .before .before .before .before .before .before .before .before .before .loop .inv in omega (arith, u .constraints-held .few, row-least (not (c .before .before .before .before .before .before .before .before .before .before .before .read-line .result .isedit)) (c .row-count2 .ensures))
 
--- src/lib.rt:193:5
 loop-less : tie.Need-loop-less Inv-loop μ-loop
 loop-less c = let l = c .before .before .before .before .before .before .before .before .before .before .before .before .before .before .before .loop in let x = next-line (c .before .before .before .before .before .before .before .before .before .before .before .before .before .before .before .before .before .args .text .now) (l .at) (c .before .before .before .before .before .before .before .before .before .before .before .before .before .before .loop-test .taken) (c .before .before .before .before .before .before .before .before .before .before .before .before .before .line-end .ensures) in omega (arith, x .forward, x .inside)
 
--- src/lib.rt:193:5
 loop-again : tie.Need-loop-again Inv-loop μ-loop
 loop-again c = upto-next (c .before .before .before .before .before .before .before .before .before .before .before .before .before .before .before .before .before .args .text .now) (c .before .before .before .before .before .before .before .before .before .before .before .before .before .before .before .loop .inv) (c .before .before .before .before .before .before .before .before .before .before .before .before .before .before .loop-test .taken) (c .before .before .before .before .before .before .before .before .before .before .before .before .before .line-end .ensures) (c .before .before .before .before .before .before .before .before .before .before .before .read-line .ensures) (c .before .before .before .before .before .before .before .take-line .ensures) (c .before .before .before .if1 .left) (c .before .before .row-count .ensures) (c .row-count2 .ensures)
 
--- src/lib.rt:206:15
 add-t28 : tie.Need-add-t28 Inv-loop μ-loop
 add-t28 c = let u = c .before .loop .inv in omega (arith, u .edits-held .few, u .constraints-held .few)
 
--- src/lib.rt:207:32
 sub-decode : tie.Need-sub-decode Inv-loop μ-loop
 sub-decode c = search needs
 
--- src/lib.rt:207:32
 part-decode-start : tie.Need-part-decode-start Inv-loop μ-loop
 part-decode-start c = search needs
 
--- src/lib.rt:207:32
 part-decode-end : tie.Need-part-decode-end Inv-loop μ-loop
 part-decode-end c = let u = c .before .before .loop .inv in omega (arith, u .edits-held .few, u .edits-held .size)
 
--- src/lib.rt:207:46
 sub-decode-2 : tie.Need-sub-decode-2 Inv-loop μ-loop
 sub-decode-2 c = search needs
 
--- src/lib.rt:207:46
 part-decode-start-2 : tie.Need-part-decode-start-2 Inv-loop μ-loop
 part-decode-start-2 c = search needs
 
--- src/lib.rt:207:46
 part-decode-end-2 : tie.Need-part-decode-end-2 Inv-loop μ-loop
 part-decode-end-2 c = let u = c .before .before .before .before .loop .inv in omega (arith, u .constraints-held .few, u .constraints-held .size)
 
--- src/lib.rt:207:18
 decode-requires : tie.Need-decode-requires Inv-loop μ-loop
 decode-requires c κs = search needs
 
--- src/lib.rt:183:1
 returns-2 : tie.Need-returns-2 Inv-loop μ-loop
 returns-2 c = upto-end (c .before .before .before .before .before .before .before .before .args .text .now) (c .before .before .before .before .before .before .loop .inv) (c .before .before .before .before .before .loop-test .left) (c .decode .ensures)
 

@@ -1,67 +1,47 @@
+-- `reader::take_edit` meets its contract. Assumes nothing.
 use Rattle.reader.proofs.Taking.{edit-faulty, edit-after, name-inside, edit-taken}
 use lib.ListN.{length-set}
-use Prim.Native.Nat.{ℕ, zero, suc, _+_, _-_, _*_, _≤_, _<_}
-use mathlib.Core.Path.{_≡_, refl, ap, sym, _∙_}
-use mathlib.Core.List.{List, [], _∷_, _++_}
-use lib.ListN.{length, getD, take, drop, set}
 use native.Mathlib.Omega.{arith}
 use borrow.Author.Needs.{needs}
 use Rattle.reader.proofs.take_edit.Statement.{statement}
 use Rattle.reader.proofs.take_edit.Tie as tie
-use Rattle.reader.proofs.take_edit.Reads as reads
-use Rattle.reader.proofs.take_edit.Lts as lts
-use Rattle.reader.proofs.edit_row_fault.Reads as edit-row-fault-reads
-use Rattle.reader.proofs.wide.Reads as wide-reads
 
--- src/lib.rt:85:5
 mul-t10 : tie.Need-mul-t10
 mul-t10 c = search needs
 
--- src/lib.rt:85:5
 slice-set-from-edits : tie.Need-slice-set-from-edits
 slice-set-from-edits c = search needs
 
--- src/lib.rt:86:9
 edit-row-fault-requires : tie.Need-edit-row-fault-requires
 edit-row-fault-requires c κs = let s = c .before .before in omega (arith, length-set (s .args .edits .now) (s .args .n) (s .args .t5), s .pre .size, s .pre .few)
 
--- src/lib.rt:88:9
 same-length : tie.Need-same-length
 same-length c = search needs
 
--- src/lib.rt:88:9
 returns : tie.Need-returns
 returns c = let s = c .before .before .before .before in edit-faulty (s .args .edits .now) (s .args .marks .now) (s .args .n) (s .args .m) (s .args .t5) (s .pre) (c .before .edit-row-fault .ensures) (c .if1 .taken)
 
--- src/lib.rt:91:9
 same-length-2 : tie.Need-same-length-2
 same-length-2 c = search needs
 
--- src/lib.rt:91:9
 returns-2 : tie.Need-returns-2
 returns-2 c = let s = c .before .before .before .before .before in edit-after (s .args .edits .now) (s .args .marks .now) (s .args .n) (s .args .m) (s .args .t5) (s .pre) (c .before .before .edit-row-fault .ensures) (c .before .if1 .left) (c .if2 .taken)
 
--- src/lib.rt:93:21
 array-read-wide : tie.Need-array-read-wide
 array-read-wide c = search needs
 
--- src/lib.rt:93:9
 wide-requires : tie.Need-wide-requires
 wide-requires c κs = search needs
 
--- src/lib.rt:94:5
 slice-write-marks : tie.Need-slice-write-marks
 slice-write-marks c = let s = c .before .before .before .before .before .before in name-inside (s .args .edits .now) (s .args .marks .now) (s .args .n) (s .args .m) (s .args .t5) (s .pre) (c .before .before .before .edit-row-fault .ensures) (c .before .before .if1 .left) (c .wide .ensures)
 
--- src/lib.rt:81:1
 same-length-3 : tie.Need-same-length-3
 same-length-3 c = search needs
 
--- src/lib.rt:81:1
 same-length-4 : tie.Need-same-length-4
 same-length-4 c = search needs
 
--- src/lib.rt:81:1
 returns-3 : tie.Need-returns-3
 returns-3 c = let s = c .before .before .before .before .before .before in edit-taken (s .args .edits .now) (s .args .marks .now) (s .args .n) (s .args .m) (s .args .t5) (s .pre) (c .before .before .before .edit-row-fault .ensures) (c .before .before .if1 .left) (c .before .if2 .left) (c .wide .ensures)
 

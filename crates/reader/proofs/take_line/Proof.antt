@@ -1,51 +1,35 @@
+-- `reader::take_line` meets its contract. Assumes nothing.
 use Rattle.reader.proofs.Taking.{line-refused, line-edit-taken, line-constraint-taken}
 use Rattle.table.specs.Table.{namesOf}
-use Prim.Native.Nat.{ℕ, zero, suc, _+_, _-_, _*_, _≤_, _<_}
-use mathlib.Core.Path.{_≡_, refl, ap, sym, _∙_}
-use mathlib.Core.List.{List, [], _∷_, _++_}
-use lib.ListN.{length, getD, take, drop, set}
-use native.Mathlib.Omega.{arith}
+use lib.ListN.{take}
 use borrow.Author.Needs.{needs}
 use Rattle.reader.proofs.take_line.Statement.{statement}
 use Rattle.reader.proofs.take_line.Tie as tie
-use Rattle.reader.proofs.take_line.Reads as reads
-use Rattle.reader.proofs.take_line.Lts as lts
-use Rattle.reader.proofs.take_constraint.Reads as take-constraint-reads
-use Rattle.reader.proofs.take_edit.Reads as take-edit-reads
 
--- src/lib.rt:153:9
 returns : tie.Need-returns
 returns c = let s = c .before .before .before in line-refused (s .args .edits .now) (s .args .marks .now) (s .args .constraints .now) (s .args .n) (s .args .m) (s .args .said) (s .pre .0) (s .pre .1) (c .if1 .taken)
 
--- src/lib.rt:157:9
 take-edit-requires : tie.Need-take-edit-requires
 take-edit-requires c κs = search needs
 
--- src/lib.rt:157:9
 same-length : tie.Need-same-length
 same-length c = search needs
 
--- src/lib.rt:157:9
 same-length-2 : tie.Need-same-length-2
 same-length-2 c = search needs
 
--- src/lib.rt:157:9
 returns-2 : tie.Need-returns-2
 returns-2 c = let s = c .before .before .before .before .before .before .before .before .before .before .before in line-edit-taken (s .args .edits .now) (s .args .marks .now) (s .args .constraints .now) (s .args .n) (s .args .m) (s .args .said) (s .pre .0) (s .pre .1) (c .before .before .before .before .before .before .before .before .if1 .left) (c .before .before .before .before .before .before .before .if2 .taken) (c .before .before .before .take-edit .ensures)
 
--- src/lib.rt:160:5
 take-constraint-requires : tie.Need-take-constraint-requires
 take-constraint-requires c κs = search needs
 
--- src/lib.rt:141:1
 same-length-3 : tie.Need-same-length-3
 same-length-3 c = search needs
 
--- src/lib.rt:141:1
 same-length-4 : tie.Need-same-length-4
 same-length-4 c = search needs
 
--- src/lib.rt:141:1
 returns-3 : tie.Need-returns-3
 returns-3 c = let s = c .before .before .before .before .before .before .before .before .before in line-constraint-taken (s .args .edits .now) (s .args .marks .now) (s .args .constraints .now) (s .args .n) (s .args .m) (s .args .said) (s .pre .0) (s .pre .1) (c .before .before .before .before .before .before .if1 .left) (c .before .before .before .before .before .if2 .left) (c .before .take-constraint .ensures (namesOf (take (s .args .n) (s .args .edits .now))) (s .pre .0 .marked))
 

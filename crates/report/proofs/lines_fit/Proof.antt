@@ -1,19 +1,17 @@
+-- `report::lines_fit` meets its contract. Assumes nothing.
 use Rattle.report.proofs.Starting.{all-lines}
 use Rattle.writer.proofs.Writing.{Leaves, leaves-all, leaves-none, leaves-next, leaves-end}
 use Rattle.writer.specs.Placed.{fitOf}
 use Rattle.form.specs.Form.{fill}
 use Rattle.report.specs.Report.{reportForm}
-use Prim.Native.Nat.{ℕ, zero, suc, _+_, _-_, _*_, _≤_, _<_}
-use mathlib.Core.Path.{_≡_, refl, ap, sym, _∙_}
-use mathlib.Core.List.{List, [], _∷_, _++_}
-use lib.ListN.{length, getD, take, drop, set}
+use Prim.Native.Nat.{ℕ, _-_}
+use mathlib.Core.Path.{ap, _∙_}
+use mathlib.Core.List.{List, []}
+use lib.ListN.{length}
 use native.Mathlib.Omega.{arith}
 use borrow.Author.Needs.{needs}
 use Rattle.report.proofs.lines_fit.Statement.{statement}
 use Rattle.report.proofs.lines_fit.Tie as tie
-use Rattle.report.proofs.lines_fit.Reads as reads
-use Rattle.report.proofs.lines_fit.Lts as lts
-use Rattle.report.proofs.line_length.Reads as line-length-reads
 
 abbrev Inv-loop : tie.InvT-loop
 Inv-loop rows room left₀ i₀ left i = Leaves (fill reportForm) rows (length rows) room left i
@@ -21,39 +19,30 @@ Inv-loop rows room left₀ i₀ left i = Leaves (fill reportForm) rows (length r
 abbrev μ-loop : tie.MeasureT-loop
 μ-loop rows room left₀ i₀ left i = length rows - i
 
--- src/lib.rt:85:5
 loop-holds : tie.Need-loop-holds Inv-loop μ-loop
 loop-holds c = let s = c .args in leaves-all (fill reportForm) (s .rows .now) (length (s .rows .now)) (s .room) (omega arith)
 
--- src/lib.rt:86:32
 mul-line-length : tie.Need-mul-line-length Inv-loop μ-loop
 mul-line-length c = search needs
 
--- src/lib.rt:86:32
 shared-slice-element-line-length : tie.Need-shared-slice-element-line-length Inv-loop μ-loop
 shared-slice-element-line-length c = search needs
 
--- src/lib.rt:86:13
 line-length-requires : tie.Need-line-length-requires Inv-loop μ-loop
 line-length-requires c κs = search needs
 
--- src/lib.rt:88:13
 returns : tie.Need-returns Inv-loop μ-loop
 returns c = let s = c .before .before .before .before .before .before .args in leaves-none (fill reportForm) (s .rows .now) (length (s .rows .now)) (s .room) (c .before .before .before .before .before .loop .inv) [] (c .before .before .before .before .loop-test .taken) (c .before .line-length .ensures) (c .if1 .taken) ∙ ap (λ (t : List ℕ). fitOf t (s .room)) (all-lines (fill reportForm) (s .rows .now))
 
--- src/lib.rt:94:9
 add-i : tie.Need-add-i Inv-loop μ-loop
 add-i c = search needs
 
--- src/lib.rt:85:5
 loop-less : tie.Need-loop-less Inv-loop μ-loop
 loop-less c = search needs
 
--- src/lib.rt:85:5
 loop-again : tie.Need-loop-again Inv-loop μ-loop
 loop-again c = let s = c .before .before .before .before .before .before .args in leaves-next (fill reportForm) (s .rows .now) (length (s .rows .now)) (s .room) (c .before .before .before .before .before .loop .inv) [] (c .before .before .before .before .loop-test .taken) (c .before .line-length .ensures) (c .if1 .left)
 
--- src/lib.rt:80:1
 returns-2 : tie.Need-returns-2 Inv-loop μ-loop
 returns-2 c = let s = c .before .before .args in leaves-end (fill reportForm) (s .rows .now) (length (s .rows .now)) (s .room) (c .before .loop .inv) (c .loop-test .left) ∙ ap (λ (t : List ℕ). fitOf t (s .room)) (all-lines (fill reportForm) (s .rows .now))
 

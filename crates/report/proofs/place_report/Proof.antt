@@ -1,39 +1,27 @@
+-- `report::place_report` meets its contract. Assumes nothing.
 use Rattle.report.proofs.Starting.{start-none, start-room, start-written}
 use borrow.Author.Tests.{not-true, not-false}
-use mathlib.Core.List.{map}
+use mathlib.Core.List.{map, _++_}
 use Rattle.form.specs.Form.{fill}
 use Rattle.text.specs.Text.{joinedLines}
 use Rattle.report.specs.Report.{countsForm, reportForm}
-use Prim.Native.Nat.{ℕ, zero, suc, _+_, _-_, _*_, _≤_, _<_}
-use mathlib.Core.Path.{_≡_, refl, ap, sym, _∙_}
-use mathlib.Core.List.{List, [], _∷_, _++_}
-use lib.ListN.{length, getD, take, drop, set}
-use native.Mathlib.Omega.{arith}
+use Prim.Native.Nat.{_+_}
 use borrow.Author.Needs.{needs}
 use Rattle.report.proofs.place_report.Statement.{statement}
 use Rattle.report.proofs.place_report.Tie as tie
-use Rattle.report.proofs.place_report.Reads as reads
-use Rattle.report.proofs.place_report.Lts as lts
-use Rattle.report.proofs.report_fit.Reads as report-fit-reads
-use Rattle.report.proofs.write_report.Reads as write-report-reads
 
--- src/lib.rt:168:9
 report-fit-requires : tie.Need-report-fit-requires
 report-fit-requires c κs = search needs
 
--- src/lib.rt:170:9
 returns : tie.Need-returns
 returns c = let x = fill countsForm (c .before .before .before .before .before .args .counts .now) ++ joinedLines (map (fill reportForm) (c .before .before .before .before .before .args .rows .now)) in start-none x (c .before .before .before .before .before .args .out .now) (c .before .before .report-fit .ensures) (not-true _ (c .if1 .taken))
 
--- src/lib.rt:172:9
 write-report-requires : tie.Need-write-report-requires
 write-report-requires c κs = let x = fill countsForm (c .before .before .before .before .before .before .args .counts .now) ++ joinedLines (map (fill reportForm) (c .before .before .before .before .before .before .args .rows .now)) in start-room x (c .before .before .before .before .before .before .args .out .now) (c .before .before .before .report-fit .ensures) (not-false _ (c .before .if1 .left))
 
--- src/lib.rt:164:1
 same-length : tie.Need-same-length
 same-length c = search needs
 
--- src/lib.rt:164:1
 returns-2 : tie.Need-returns-2
 returns-2 c = let x = fill countsForm (c .before .before .before .before .before .before .before .before .before .args .counts .now) ++ joinedLines (map (fill reportForm) (c .before .before .before .before .before .before .before .before .before .args .rows .now)) in start-written x (c .before .before .before .before .before .before .before .before .before .args .out .now) (c .before .before .before .before .before .before .report-fit .ensures) (not-false _ (c .before .before .before .before .if1 .left)) (c .before .before .write-report .ensures)
 

@@ -1,26 +1,16 @@
+-- `report::refusal_length` meets its contract. Assumes nothing.
 use Rattle.form.specs.Spelling.{bytes}
 use Rattle.report.specs.Report.{refusalForm}
-use Prim.Native.Nat.{ℕ, zero, suc, _+_, _-_, _*_, _≤_, _<_}
-use mathlib.Core.Path.{_≡_, refl, ap, sym, _∙_}
-use mathlib.Core.List.{List, [], _∷_, _++_}
-use lib.ListN.{length, getD, take, drop, set}
-use native.Mathlib.Omega.{arith}
 use borrow.Author.Needs.{needs}
 use Rattle.report.proofs.refusal_length.Statement.{statement}
 use Rattle.report.proofs.refusal_length.Tie as tie
-use Rattle.report.proofs.refusal_length.Reads as reads
-use Rattle.report.proofs.refusal_length.Lts as lts
-use Rattle.form.proofs.form_length.Reads as form-length-reads
 
--- src/lib.rt:219:23
 slice-aggregate-form-length : tie.Need-slice-aggregate-form-length
 slice-aggregate-form-length c = search needs
 
--- src/lib.rt:219:5
 form-length-requires : tie.Need-form-length-requires
 form-length-requires c κs = search needs
 
--- src/lib.rt:216:1
 returns : tie.Need-returns
 unfolding refusalForm bytes
 returns c = c .form-length .ensures

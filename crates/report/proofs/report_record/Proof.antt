@@ -1,55 +1,36 @@
+-- `report::report_record` meets its contract. Assumes nothing.
 use Rattle.report.proofs.Reports.{count-small, report-placed}
-use Prim.Native.Nat.{ℕ, zero, suc, _+_, _-_, _*_, _≤_, _<_}
-use mathlib.Core.Path.{_≡_, refl, ap, sym, _∙_}
-use mathlib.Core.List.{List, [], _∷_, _++_}
-use lib.ListN.{length, getD, take, drop, set}
-use native.Mathlib.Omega.{arith}
 use borrow.Author.Needs.{needs}
 use Rattle.report.proofs.report_record.Statement.{statement}
 use Rattle.report.proofs.report_record.Tie as tie
-use Rattle.report.proofs.report_record.Reads as reads
-use Rattle.report.proofs.report_record.Lts as lts
-use Rattle.judge.proofs.judge.Reads as judge-reads
-use Rattle.report.proofs.place_report.Reads as place-report-reads
-use Rattle.report.proofs.report_rows.Reads as report-rows-reads
 
--- src/lib.rt:186:9
 returns : tie.Need-returns
 returns c = λ R e k. count-small (c .before .before .args .content) R e k (c .if1 .taken)
 
--- src/lib.rt:189:9
 judge-requires : tie.Need-judge-requires
 judge-requires c κs = search needs
 
--- src/lib.rt:190:16
 report-rows-requires : tie.Need-report-rows-requires
 report-rows-requires c κs = search needs
 
--- src/lib.rt:192:32
 slice-aggregate-place-report : tie.Need-slice-aggregate-place-report
 slice-aggregate-place-report c = search needs
 
--- src/lib.rt:192:41
 sub-place-report : tie.Need-sub-place-report
 sub-place-report c = search needs
 
--- src/lib.rt:192:41
 part-place-report-start : tie.Need-part-place-report-start
 part-place-report-start c = search needs
 
--- src/lib.rt:192:41
 part-place-report-end : tie.Need-part-place-report-end
 part-place-report-end c = search needs
 
--- src/lib.rt:192:5
 place-report-requires : tie.Need-place-report-requires
 place-report-requires c κs = search needs
 
--- src/lib.rt:180:1
 same-length : tie.Need-same-length
 same-length c = search needs
 
--- src/lib.rt:180:1
 returns-2 : tie.Need-returns-2
 returns-2 c = λ R e k. report-placed (c .before .before .before .before .before .before .before .before .before .before .before .before .args .content) R e k (c .before .before .before .before .before .before .before .before .judge .ensures) (c .before .before .before .before .before .before .before .report-rows .result) (c .before .before .before .before .before .before .before .before .before .before .before .before .args .out .now) (c .before .before .before .before .before .before .before .report-rows .ensures .0) (c .before .before .place-report .ensures)
 

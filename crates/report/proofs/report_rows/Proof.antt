@@ -1,17 +1,13 @@
+-- `report::report_rows` meets its contract. Assumes nothing.
 use Rattle.report.proofs.Numbers.{rows-none, rows-next}
-use lib.ListN.{length-set}
+use lib.ListN.{length-set, length, take}
 use Rattle.report.specs.Rows.{numbered}
-use Prim.Native.Nat.{ℕ, zero, suc, _+_, _-_, _*_, _≤_, _<_}
-use mathlib.Core.Path.{_≡_, refl, ap, sym, _∙_}
-use mathlib.Core.List.{List, [], _∷_, _++_}
-use lib.ListN.{length, getD, take, drop, set}
+use Prim.Native.Nat.{_-_, _≤_}
+use mathlib.Core.Path.{_≡_, _∙_}
 use native.Mathlib.Omega.{arith}
 use borrow.Author.Needs.{needs}
 use Rattle.report.proofs.report_rows.Statement.{statement}
 use Rattle.report.proofs.report_rows.Tie as tie
-use Rattle.report.proofs.report_rows.Reads as reads
-use Rattle.report.proofs.report_rows.Lts as lts
-use Rattle.report.proofs.edit_numbers.Reads as edit-numbers-reads
 
 abbrev Inv-loop : tie.InvT-loop
 Inv-loop n judged edits rows₀ i₀ rows i = (i ≤ n) × (n ≤ 127) × (length edits ≡ 127) × (length rows ≡ 127) × (take i rows ≡ numbered judged 1 (take i edits))
@@ -19,47 +15,36 @@ Inv-loop n judged edits rows₀ i₀ rows i = (i ≤ n) × (n ≤ 127) × (lengt
 abbrev μ-loop : tie.MeasureT-loop
 μ-loop n judged edits rows₀ i₀ rows i = n - i
 
--- src/lib.rt:54:5
 loop-holds : tie.Need-loop-holds Inv-loop μ-loop
 loop-holds c = (search needs, search needs, search needs, search needs, rows-none (c .args .judged))
 
--- src/lib.rt:55:17
 mul-e : tie.Need-mul-e Inv-loop μ-loop
 mul-e c = search needs
 
--- src/lib.rt:55:17
 array-copy-out-e : tie.Need-array-copy-out-e Inv-loop μ-loop
 array-copy-out-e c = search needs
 
--- src/lib.rt:56:48
 add-edit-numbers : tie.Need-add-edit-numbers Inv-loop μ-loop
 add-edit-numbers c = search needs
 
--- src/lib.rt:56:19
 edit-numbers-requires : tie.Need-edit-numbers-requires Inv-loop μ-loop
 edit-numbers-requires c κs = search needs
 
--- src/lib.rt:56:9
 mul-rows : tie.Need-mul-rows Inv-loop μ-loop
 mul-rows c = search needs
 
--- src/lib.rt:56:9
 array-set-from-rows : tie.Need-array-set-from-rows Inv-loop μ-loop
 array-set-from-rows c = search needs
 
--- src/lib.rt:57:9
 add-i : tie.Need-add-i Inv-loop μ-loop
 add-i c = search needs
 
--- src/lib.rt:54:5
 loop-less : tie.Need-loop-less Inv-loop μ-loop
 loop-less c = search needs
 
--- src/lib.rt:54:5
 loop-again : tie.Need-loop-again Inv-loop μ-loop
 loop-again c = let l = c .before .before .before .loop in let s = c .before .before .before .before .args in (search needs, search needs, search needs, length-set (l .rows) (l .i) (c .edit-numbers .result) ∙ l .inv .3, rows-next (s .t1) (s .judged) (l .rows) (l .i) _ (search needs) (search needs) (l .inv .4) (c .edit-numbers .ensures))
 
--- src/lib.rt:48:1
 returns : tie.Need-returns Inv-loop μ-loop
 returns c = let l = c .before .loop in let s = c .before .before .args in let e : l .i ≡ s .n = omega (arith, l .inv .0, c .loop-test .left) in (rw e at (l .inv .4), l .inv .3)
 

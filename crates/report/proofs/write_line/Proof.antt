@@ -1,31 +1,20 @@
+-- `report::write_line` meets its contract. Assumes nothing.
 use Rattle.form.specs.Spelling.{bytes}
 use Rattle.report.specs.Report.{reportForm}
-use Prim.Native.Nat.{ℕ, zero, suc, _+_, _-_, _*_, _≤_, _<_}
-use mathlib.Core.Path.{_≡_, refl, ap, sym, _∙_}
-use mathlib.Core.List.{List, [], _∷_, _++_}
-use lib.ListN.{length, getD, take, drop, set}
-use native.Mathlib.Omega.{arith}
 use borrow.Author.Needs.{needs}
 use Rattle.report.proofs.write_line.Statement.{statement}
 use Rattle.report.proofs.write_line.Tie as tie
-use Rattle.report.proofs.write_line.Reads as reads
-use Rattle.report.proofs.write_line.Lts as lts
-use Rattle.form.proofs.write_form.Reads as write-form-reads
 
--- src/lib.rt:74:9
 slice-aggregate-write-form : tie.Need-slice-aggregate-write-form
 slice-aggregate-write-form c = search needs
 
--- src/lib.rt:72:5
 write-form-requires : tie.Need-write-form-requires
 unfolding reportForm bytes
 write-form-requires c κs = c .before .before .before .before .pre
 
--- src/lib.rt:68:1
 same-length : tie.Need-same-length
 same-length c = search needs
 
--- src/lib.rt:68:1
 returns : tie.Need-returns
 unfolding reportForm bytes
 returns c = c .before .before .write-form .ensures

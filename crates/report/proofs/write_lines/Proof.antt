@@ -1,18 +1,15 @@
+-- `report::write_lines` meets its contract. Assumes nothing.
 use Rattle.report.proofs.Starting.{all-lines}
 use Rattle.writer.proofs.Writing.{Writes, writes-none, writes-inside, writes-room, writes-next, writes-at, writes-same, writes-end}
 use Rattle.form.specs.Form.{fill}
 use Rattle.report.specs.Report.{reportForm}
-use Prim.Native.Nat.{ℕ, zero, suc, _+_, _-_, _*_, _≤_, _<_}
-use mathlib.Core.Path.{_≡_, refl, ap, sym, _∙_}
-use mathlib.Core.List.{List, [], _∷_, _++_}
-use lib.ListN.{length, getD, take, drop, set}
+use Prim.Native.Nat.{_-_}
+use mathlib.Core.List.{[]}
+use lib.ListN.{length}
 use native.Mathlib.Omega.{arith}
 use borrow.Author.Needs.{needs}
 use Rattle.report.proofs.write_lines.Statement.{statement}
 use Rattle.report.proofs.write_lines.Tie as tie
-use Rattle.report.proofs.write_lines.Reads as reads
-use Rattle.report.proofs.write_lines.Lts as lts
-use Rattle.report.proofs.write_line.Reads as write-line-reads
 
 abbrev Inv-loop : tie.InvT-loop
 Inv-loop out₀ rows at₀ i₀ out at i = Writes (fill reportForm) rows (length rows) out₀ out at i
@@ -20,55 +17,42 @@ Inv-loop out₀ rows at₀ i₀ out at i = Writes (fill reportForm) rows (length
 abbrev μ-loop : tie.MeasureT-loop
 μ-loop out₀ rows at₀ i₀ out at i = length rows - i
 
--- src/lib.rt:108:5
 loop-holds : tie.Need-loop-holds Inv-loop μ-loop
 loop-holds c = let s = c .before .args in writes-none (fill reportForm) (s .rows .now) (length (s .rows .now)) (s .out .now) (omega arith) (rw (all-lines (fill reportForm) (s .rows .now)) (c .before .pre))
 
--- src/lib.rt:109:26
 sub-write-line : tie.Need-sub-write-line Inv-loop μ-loop
 sub-write-line c = omega (arith, writes-inside (fill reportForm) (c .before .before .before .args .rows .now) (length (c .before .before .before .args .rows .now)) (c .before .before .before .args .out .now) (c .before .loop .inv))
 
--- src/lib.rt:109:26
 part-write-line-start : tie.Need-part-write-line-start Inv-loop μ-loop
 part-write-line-start c = omega (arith, writes-inside (fill reportForm) (c .before .before .before .args .rows .now) (length (c .before .before .before .args .rows .now)) (c .before .before .before .args .out .now) (c .before .loop .inv))
 
--- src/lib.rt:109:26
 part-write-line-end : tie.Need-part-write-line-end Inv-loop μ-loop
 part-write-line-end c = search needs
 
--- src/lib.rt:109:42
 mul-write-line : tie.Need-mul-write-line Inv-loop μ-loop
 mul-write-line c = search needs
 
--- src/lib.rt:109:42
 shared-slice-element-write-line : tie.Need-shared-slice-element-write-line Inv-loop μ-loop
 shared-slice-element-write-line c = search needs
 
--- src/lib.rt:109:15
 write-line-requires : tie.Need-write-line-requires Inv-loop μ-loop
 write-line-requires c κs = writes-room (fill reportForm) (c .before .before .before .before .before .before .args .rows .now) (length (c .before .before .before .before .before .before .args .rows .now)) (c .before .before .before .before .before .before .args .out .now) (c .before .before .before .before .loop .inv) [] (c .before .before .before .loop-test .taken)
 
--- src/lib.rt:109:9
 add-at : tie.Need-add-at Inv-loop μ-loop
 add-at c = omega (arith, writes-at (fill reportForm) (c .before .before .before .before .before .before .before .before .before .args .rows .now) (length (c .before .before .before .before .before .before .before .before .before .args .rows .now)) (c .before .before .before .before .before .before .before .before .before .args .out .now) (c .before .before .before .before .before .before .before .loop .inv) [] (c .before .before .before .before .before .before .loop-test .taken) (c .before .before .write-line .ensures))
 
--- src/lib.rt:110:9
 add-i : tie.Need-add-i Inv-loop μ-loop
 add-i c = search needs
 
--- src/lib.rt:108:5
 loop-less : tie.Need-loop-less Inv-loop μ-loop
 loop-less c = search needs
 
--- src/lib.rt:108:5
 loop-again : tie.Need-loop-again Inv-loop μ-loop
 loop-again c = writes-next (fill reportForm) (c .before .before .before .before .before .before .before .before .before .args .rows .now) (length (c .before .before .before .before .before .before .before .before .before .args .rows .now)) (c .before .before .before .before .before .before .before .before .before .args .out .now) (c .before .before .before .before .before .before .before .loop .inv) [] (c .before .before .before .before .before .before .loop-test .taken) (c .before .before .write-line .ensures)
 
--- src/lib.rt:102:1
 same-length : tie.Need-same-length Inv-loop μ-loop
 same-length c = writes-same (fill reportForm) (c .before .before .before .args .rows .now) (length (c .before .before .before .args .rows .now)) (c .before .before .before .args .out .now) (c .before .loop .inv)
 
--- src/lib.rt:102:1
 returns : tie.Need-returns Inv-loop μ-loop
 returns c = let s = c .before .before .before .args in rw (all-lines (fill reportForm) (s .rows .now)) at (writes-end (fill reportForm) (c .before .before .before .args .rows .now) (length (c .before .before .before .args .rows .now)) (c .before .before .before .args .out .now) (c .before .loop .inv) (c .loop-test .left))
 

@@ -1,51 +1,36 @@
+-- `report::write_report` meets its contract. Assumes nothing.
 use lib.ListN.{length-append}
 use Rattle.writer.proofs.Writing.{inside, second-room, written-both}
 use mathlib.Core.List.{map}
 use Rattle.form.specs.Form.{fill}
 use Rattle.text.specs.Text.{joinedLines}
 use Rattle.report.specs.Report.{countsForm, reportForm}
-use Prim.Native.Nat.{ℕ, zero, suc, _+_, _-_, _*_, _≤_, _<_}
-use mathlib.Core.Path.{_≡_, refl, ap, sym, _∙_}
-use mathlib.Core.List.{List, [], _∷_, _++_}
-use lib.ListN.{length, getD, take, drop, set}
 use native.Mathlib.Omega.{arith}
 use borrow.Author.Needs.{needs}
 use Rattle.report.proofs.write_report.Statement.{statement}
 use Rattle.report.proofs.write_report.Tie as tie
-use Rattle.report.proofs.write_report.Reads as reads
-use Rattle.report.proofs.write_report.Lts as lts
-use Rattle.report.proofs.write_counts.Reads as write-counts-reads
-use Rattle.report.proofs.write_lines.Reads as write-lines-reads
 
--- src/lib.rt:159:9
 write-counts-requires : tie.Need-write-counts-requires
 write-counts-requires c κs = let s = fill countsForm (c .before .before .before .args .counts .now) in let t = joinedLines (map (fill reportForm) (c .before .before .before .args .rows .now)) in omega (arith, length-append s t, c .before .before .before .pre)
 
--- src/lib.rt:160:22
 sub-write-lines : tie.Need-sub-write-lines
 sub-write-lines c = let s = fill countsForm (c .before .before .before .before .before .before .args .counts .now) in let t = joinedLines (map (fill reportForm) (c .before .before .before .before .before .before .args .rows .now)) in omega (arith, inside s (c .before .before .before .before .before .before .args .out .now) (c .before .before .write-counts .ensures) (omega (arith, length-append s t, c .before .before .before .before .before .before .pre)))
 
--- src/lib.rt:160:22
 part-write-lines-start : tie.Need-part-write-lines-start
 part-write-lines-start c = let s = fill countsForm (c .before .before .before .before .before .before .args .counts .now) in let t = joinedLines (map (fill reportForm) (c .before .before .before .before .before .before .args .rows .now)) in omega (arith, inside s (c .before .before .before .before .before .before .args .out .now) (c .before .before .write-counts .ensures) (omega (arith, length-append s t, c .before .before .before .before .before .before .pre)))
 
--- src/lib.rt:160:22
 part-write-lines-end : tie.Need-part-write-lines-end
 part-write-lines-end c = search needs
 
--- src/lib.rt:160:10
 write-lines-requires : tie.Need-write-lines-requires
 write-lines-requires c κs = let s = fill countsForm (c .before .before .before .before .before .before .before .args .counts .now) in let t = joinedLines (map (fill reportForm) (c .before .before .before .before .before .before .before .args .rows .now)) in second-room s (c .before .before .before .before .before .before .before .args .out .now) (c .before .before .before .write-counts .ensures) t (c .before .before .before .before .before .before .before .pre)
 
--- src/lib.rt:160:5
 add-result : tie.Need-add-result
 add-result c = let s = fill countsForm (c .before .before .before .before .before .before .before .before .before .before .args .counts .now) in let t = joinedLines (map (fill reportForm) (c .before .before .before .before .before .before .before .before .before .before .args .rows .now)) in let w = written-both s (c .before .before .before .before .before .before .before .before .before .before .args .out .now) (c .before .before .before .before .before .before .write-counts .ensures) t (c .before .before .before .before .before .before .before .before .before .before .pre) (c .before .before .write-lines .ensures) in omega (arith, w .0, c .before .before .before .before .before .before .before .before .before .before .pre)
 
--- src/lib.rt:155:1
 same-length : tie.Need-same-length
 same-length c = search needs
 
--- src/lib.rt:155:1
 returns : tie.Need-returns
 returns c = let s = fill countsForm (c .before .before .before .before .before .before .before .before .before .before .args .counts .now) in let t = joinedLines (map (fill reportForm) (c .before .before .before .before .before .before .before .before .before .before .args .rows .now)) in written-both s (c .before .before .before .before .before .before .before .before .before .before .args .out .now) (c .before .before .before .before .before .before .write-counts .ensures) t (c .before .before .before .before .before .before .before .before .before .before .pre) (c .before .before .write-lines .ensures)
 

@@ -1,18 +1,14 @@
+-- `writer::constraints_fit` meets its contract. Assumes nothing.
 use Rattle.writer.proofs.Writing.{Leaves, leaves-all, leaves-none, leaves-next, leaves-end}
 use Rattle.writer.specs.Placed.{constraintText}
 use Rattle.line.specs.Line.{constraintLine}
-use Prim.Native.Nat.{ℕ, zero, suc, _+_, _-_, _*_, _≤_, _<_}
-use mathlib.Core.Path.{_≡_, refl, ap, sym, _∙_}
-use mathlib.Core.List.{List, [], _∷_, _++_}
-use lib.ListN.{length, getD, take, drop, set}
-use native.Mathlib.Omega.{arith}
+use Prim.Native.Nat.{ℕ, _-_}
+use mathlib.Core.Path.{ap, _∙_}
+use mathlib.Core.List.{List}
+use lib.ListN.{length}
 use borrow.Author.Needs.{needs}
 use Rattle.writer.proofs.constraints_fit.Statement.{statement}
 use Rattle.writer.proofs.constraints_fit.Tie as tie
-use Rattle.writer.proofs.constraints_fit.Reads as reads
-use Rattle.writer.proofs.constraints_fit.Lts as lts
-use Rattle.line.proofs.constraint_line_length.Reads as constraint-line-length-reads
-use Rattle.row.proofs.constraint_row.Reads as constraint-row-reads
 
 abbrev Inv-loop : tie.InvT-loop
 Inv-loop n room a left₀ i₀ left i = Leaves constraintText a n room left i
@@ -20,43 +16,33 @@ Inv-loop n room a left₀ i₀ left i = Leaves constraintText a n room left i
 abbrev μ-loop : tie.MeasureT-loop
 μ-loop n room a left₀ i₀ left i = n - i
 
--- src/lib.rt:58:5
 loop-holds : tie.Need-loop-holds Inv-loop μ-loop
 loop-holds c = let s = c .args in leaves-all constraintText (s .t1) (s .n) (s .room) (search needs)
 
--- src/lib.rt:59:17
 mul-c : tie.Need-mul-c Inv-loop μ-loop
 mul-c c = search needs
 
--- src/lib.rt:59:17
 array-copy-out-c : tie.Need-array-copy-out-c Inv-loop μ-loop
 array-copy-out-c c = search needs
 
--- src/lib.rt:60:49
 constraint-row-requires : tie.Need-constraint-row-requires Inv-loop μ-loop
 constraint-row-requires c κs = search needs
 
--- src/lib.rt:60:13
 constraint-line-length-requires : tie.Need-constraint-line-length-requires Inv-loop μ-loop
 constraint-line-length-requires c κs = search needs
 
--- src/lib.rt:62:13
 returns : tie.Need-returns Inv-loop μ-loop
 returns c = let s = c .before .before .before .before .before .before .args in leaves-none constraintText (s .t1) (s .n) (s .room) (c .before .before .before .before .before .loop .inv) _ (c .before .before .before .before .loop-test .taken) (c .before .constraint-line-length .ensures ∙ ap (λ (r : List ℕ). length (constraintLine r)) (c .before .before .constraint-row .ensures)) (c .if1 .taken)
 
--- src/lib.rt:68:9
 add-i : tie.Need-add-i Inv-loop μ-loop
 add-i c = search needs
 
--- src/lib.rt:58:5
 loop-less : tie.Need-loop-less Inv-loop μ-loop
 loop-less c = search needs
 
--- src/lib.rt:58:5
 loop-again : tie.Need-loop-again Inv-loop μ-loop
 loop-again c = let s = c .before .before .before .before .before .before .args in leaves-next constraintText (s .t1) (s .n) (s .room) (c .before .before .before .before .before .loop .inv) _ (c .before .before .before .before .loop-test .taken) (c .before .constraint-line-length .ensures ∙ ap (λ (r : List ℕ). length (constraintLine r)) (c .before .before .constraint-row .ensures)) (c .if1 .left)
 
--- src/lib.rt:52:1
 returns-2 : tie.Need-returns-2 Inv-loop μ-loop
 returns-2 c = let s = c .before .before .args in leaves-end constraintText (s .t1) (s .n) (s .room) (c .before .loop .inv) (c .loop-test .left)
 

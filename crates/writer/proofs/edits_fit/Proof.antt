@@ -1,18 +1,14 @@
+-- `writer::edits_fit` meets its contract. Assumes nothing.
 use Rattle.writer.proofs.Writing.{Leaves, leaves-all, leaves-none, leaves-next, leaves-end}
 use Rattle.writer.specs.Placed.{editText}
 use Rattle.line.specs.Line.{editLine}
-use Prim.Native.Nat.{ℕ, zero, suc, _+_, _-_, _*_, _≤_, _<_}
-use mathlib.Core.Path.{_≡_, refl, ap, sym, _∙_}
-use mathlib.Core.List.{List, [], _∷_, _++_}
-use lib.ListN.{length, getD, take, drop, set}
-use native.Mathlib.Omega.{arith}
+use Prim.Native.Nat.{ℕ, _-_}
+use mathlib.Core.Path.{ap, _∙_}
+use mathlib.Core.List.{List}
+use lib.ListN.{length}
 use borrow.Author.Needs.{needs}
 use Rattle.writer.proofs.edits_fit.Statement.{statement}
 use Rattle.writer.proofs.edits_fit.Tie as tie
-use Rattle.writer.proofs.edits_fit.Reads as reads
-use Rattle.writer.proofs.edits_fit.Lts as lts
-use Rattle.line.proofs.edit_line_length.Reads as edit-line-length-reads
-use Rattle.row.proofs.edit_row.Reads as edit-row-reads
 
 abbrev Inv-loop : tie.InvT-loop
 Inv-loop n room a left₀ i₀ left i = Leaves editText a n room left i
@@ -20,43 +16,33 @@ Inv-loop n room a left₀ i₀ left i = Leaves editText a n room left i
 abbrev μ-loop : tie.MeasureT-loop
 μ-loop n room a left₀ i₀ left i = n - i
 
--- src/lib.rt:33:5
 loop-holds : tie.Need-loop-holds Inv-loop μ-loop
 loop-holds c = let s = c .args in leaves-all editText (s .t1) (s .n) (s .room) (search needs)
 
--- src/lib.rt:34:17
 mul-e : tie.Need-mul-e Inv-loop μ-loop
 mul-e c = search needs
 
--- src/lib.rt:34:17
 array-copy-out-e : tie.Need-array-copy-out-e Inv-loop μ-loop
 array-copy-out-e c = search needs
 
--- src/lib.rt:35:43
 edit-row-requires : tie.Need-edit-row-requires Inv-loop μ-loop
 edit-row-requires c κs = search needs
 
--- src/lib.rt:35:13
 edit-line-length-requires : tie.Need-edit-line-length-requires Inv-loop μ-loop
 edit-line-length-requires c κs = search needs
 
--- src/lib.rt:37:13
 returns : tie.Need-returns Inv-loop μ-loop
 returns c = let s = c .before .before .before .before .before .before .args in leaves-none editText (s .t1) (s .n) (s .room) (c .before .before .before .before .before .loop .inv) _ (c .before .before .before .before .loop-test .taken) (c .before .edit-line-length .ensures ∙ ap (λ (r : List ℕ). length (editLine r)) (c .before .before .edit-row .ensures)) (c .if1 .taken)
 
--- src/lib.rt:43:9
 add-i : tie.Need-add-i Inv-loop μ-loop
 add-i c = search needs
 
--- src/lib.rt:33:5
 loop-less : tie.Need-loop-less Inv-loop μ-loop
 loop-less c = search needs
 
--- src/lib.rt:33:5
 loop-again : tie.Need-loop-again Inv-loop μ-loop
 loop-again c = let s = c .before .before .before .before .before .before .args in leaves-next editText (s .t1) (s .n) (s .room) (c .before .before .before .before .before .loop .inv) _ (c .before .before .before .before .loop-test .taken) (c .before .edit-line-length .ensures ∙ ap (λ (r : List ℕ). length (editLine r)) (c .before .before .edit-row .ensures)) (c .if1 .left)
 
--- src/lib.rt:27:1
 returns-2 : tie.Need-returns-2 Inv-loop μ-loop
 returns-2 c = let s = c .before .before .args in leaves-end editText (s .t1) (s .n) (s .room) (c .before .loop .inv) (c .loop-test .left)
 

@@ -1,41 +1,28 @@
+-- `writer::text_fit` meets its contract. Assumes nothing.
 use Rattle.writer.proofs.Texts.{text-fit-none, text-fit-both}
 use Rattle.table.proofs.Elements.{length-mapped}
 use borrow.Author.Tests.{not-true, not-false}
-use Prim.Native.Nat.{ℕ, zero, suc, _+_, _-_, _*_, _≤_, _<_}
-use mathlib.Core.Path.{_≡_, refl, ap, sym, _∙_}
-use mathlib.Core.List.{List, [], _∷_, _++_}
-use lib.ListN.{length, getD, take, drop, set}
-use native.Mathlib.Omega.{arith}
+use mathlib.Core.Path.{_≡_}
+use lib.ListN.{length}
 use borrow.Author.Needs.{needs}
 use Rattle.writer.proofs.text_fit.Statement.{statement}
 use Rattle.writer.proofs.text_fit.Tie as tie
-use Rattle.writer.proofs.text_fit.Reads as reads
-use Rattle.writer.proofs.text_fit.Lts as lts
-use Rattle.writer.proofs.constraints_fit.Reads as constraints-fit-reads
-use Rattle.writer.proofs.edits_fit.Reads as edits-fit-reads
-use Rattle.writer.proofs.least.Reads as least-reads
 
--- src/lib.rt:91:9
 least-requires : tie.Need-least-requires
 least-requires c κs = search needs
 
--- src/lib.rt:92:9
 least-requires-2 : tie.Need-least-requires-2
 least-requires-2 c κs = search needs
 
--- src/lib.rt:93:9
 edits-fit-requires : tie.Need-edits-fit-requires
 edits-fit-requires c κs = search needs
 
--- src/lib.rt:95:9
 returns : tie.Need-returns
 returns c = let r = c .before .before .before .before .before .before .before .args .content in let z : length (r .edits) ≡ 127 = search (needs, length-mapped) in let y : length (r .constraints) ≡ 512 = search (needs, length-mapped) in text-fit-none r z y (c .before .before .before .before .least .ensures) (c .before .before .before .least2 .ensures) (c .before .before .before .before .before .before .before .args .room) (c .before .before .edits-fit .ensures) (not-true _ (c .if1 .taken))
 
--- src/lib.rt:97:5
 constraints-fit-requires : tie.Need-constraints-fit-requires
 constraints-fit-requires c κs = search needs
 
--- src/lib.rt:86:1
 returns-2 : tie.Need-returns-2
 returns-2 c = let r = c .before .before .before .before .before .before .before .before .args .content in let z : length (r .edits) ≡ 127 = search (needs, length-mapped) in let y : length (r .constraints) ≡ 512 = search (needs, length-mapped) in text-fit-both r z y (c .before .before .before .before .before .least .ensures) (c .before .before .before .before .least2 .ensures) (c .before .before .before .before .before .before .before .before .args .room) (c .before .before .before .edits-fit .ensures) (not-false _ (c .before .if1 .left)) (c .constraints-fit .ensures)
 

@@ -1,17 +1,11 @@
+-- `writer::write_constraints` meets its contract. Assumes nothing.
 use Rattle.writer.proofs.Writing.{Writes, writes-none, writes-inside, writes-room, writes-next, writes-at, writes-same, writes-end}
 use Rattle.writer.specs.Placed.{constraintText}
-use Prim.Native.Nat.{ℕ, zero, suc, _+_, _-_, _*_, _≤_, _<_}
-use mathlib.Core.Path.{_≡_, refl, ap, sym, _∙_}
-use mathlib.Core.List.{List, [], _∷_, _++_}
-use lib.ListN.{length, getD, take, drop, set}
+use Prim.Native.Nat.{_-_}
 use native.Mathlib.Omega.{arith}
 use borrow.Author.Needs.{needs}
 use Rattle.writer.proofs.write_constraints.Statement.{statement}
 use Rattle.writer.proofs.write_constraints.Tie as tie
-use Rattle.writer.proofs.write_constraints.Reads as reads
-use Rattle.writer.proofs.write_constraints.Lts as lts
-use Rattle.line.proofs.write_constraint_line.Reads as write-constraint-line-reads
-use Rattle.row.proofs.constraint_row.Reads as constraint-row-reads
 
 abbrev Inv-loop : tie.InvT-loop
 Inv-loop out₀ n a at₀ i₀ out at i = Writes constraintText a n out₀ out at i
@@ -19,59 +13,45 @@ Inv-loop out₀ n a at₀ i₀ out at i = Writes constraintText a n out₀ out a
 abbrev μ-loop : tie.MeasureT-loop
 μ-loop out₀ n a at₀ i₀ out at i = n - i
 
--- src/lib.rt:122:5
 loop-holds : tie.Need-loop-holds Inv-loop μ-loop
 loop-holds c = let s = c .before .args in writes-none constraintText (s .t2) (s .n) (s .out .now) (search needs) (c .before .pre .1)
 
--- src/lib.rt:123:17
 mul-c : tie.Need-mul-c Inv-loop μ-loop
 mul-c c = search needs
 
--- src/lib.rt:123:17
 array-copy-out-c : tie.Need-array-copy-out-c Inv-loop μ-loop
 array-copy-out-c c = search needs
 
--- src/lib.rt:124:43
 sub-write-constraint-line : tie.Need-sub-write-constraint-line Inv-loop μ-loop
 sub-write-constraint-line c = omega (arith, writes-inside constraintText (c .before .before .before .before .args .t2) (c .before .before .before .before .args .n) (c .before .before .before .before .args .out .now) (c .before .before .loop .inv))
 
--- src/lib.rt:124:43
 part-write-constraint-line-start : tie.Need-part-write-constraint-line-start Inv-loop μ-loop
 part-write-constraint-line-start c = omega (arith, writes-inside constraintText (c .before .before .before .before .args .t2) (c .before .before .before .before .args .n) (c .before .before .before .before .args .out .now) (c .before .before .loop .inv))
 
--- src/lib.rt:124:43
 part-write-constraint-line-end : tie.Need-part-write-constraint-line-end Inv-loop μ-loop
 part-write-constraint-line-end c = search needs
 
--- src/lib.rt:124:59
 constraint-row-requires : tie.Need-constraint-row-requires Inv-loop μ-loop
 constraint-row-requires c κs = search needs
 
--- src/lib.rt:124:15
 write-constraint-line-requires : tie.Need-write-constraint-line-requires Inv-loop μ-loop
 write-constraint-line-requires c κs = rw (c .constraint-row .ensures) (writes-room constraintText (c .before .before .before .before .before .before .args .t2) (c .before .before .before .before .before .before .args .n) (c .before .before .before .before .before .before .args .out .now) (c .before .before .before .before .loop .inv) _ (c .before .before .before .loop-test .taken))
 
--- src/lib.rt:124:9
 add-at : tie.Need-add-at Inv-loop μ-loop
 add-at c = omega (arith, writes-at constraintText (c .before .before .before .before .before .before .before .before .before .args .t2) (c .before .before .before .before .before .before .before .before .before .args .n) (c .before .before .before .before .before .before .before .before .before .args .out .now) (c .before .before .before .before .before .before .before .loop .inv) _ (c .before .before .before .before .before .before .loop-test .taken) (rw (c .before .before .before .constraint-row .ensures) at (c .before .before .write-constraint-line .ensures)))
 
--- src/lib.rt:125:9
 add-i : tie.Need-add-i Inv-loop μ-loop
 add-i c = search needs
 
--- src/lib.rt:122:5
 loop-less : tie.Need-loop-less Inv-loop μ-loop
 loop-less c = search needs
 
--- src/lib.rt:122:5
 loop-again : tie.Need-loop-again Inv-loop μ-loop
 loop-again c = writes-next constraintText (c .before .before .before .before .before .before .before .before .before .args .t2) (c .before .before .before .before .before .before .before .before .before .args .n) (c .before .before .before .before .before .before .before .before .before .args .out .now) (c .before .before .before .before .before .before .before .loop .inv) _ (c .before .before .before .before .before .before .loop-test .taken) (rw (c .before .before .before .constraint-row .ensures) at (c .before .before .write-constraint-line .ensures))
 
--- src/lib.rt:116:1
 same-length : tie.Need-same-length Inv-loop μ-loop
 same-length c = writes-same constraintText (c .before .before .before .args .t2) (c .before .before .before .args .n) (c .before .before .before .args .out .now) (c .before .loop .inv)
 
--- src/lib.rt:116:1
 returns : tie.Need-returns Inv-loop μ-loop
 returns c = writes-end constraintText (c .before .before .before .args .t2) (c .before .before .before .args .n) (c .before .before .before .args .out .now) (c .before .loop .inv) (c .loop-test .left)
 

@@ -1,17 +1,11 @@
+-- `writer::write_edits` meets its contract. Assumes nothing.
 use Rattle.writer.proofs.Writing.{Writes, writes-none, writes-inside, writes-room, writes-next, writes-at, writes-same, writes-end}
 use Rattle.writer.specs.Placed.{editText}
-use Prim.Native.Nat.{ℕ, zero, suc, _+_, _-_, _*_, _≤_, _<_}
-use mathlib.Core.Path.{_≡_, refl, ap, sym, _∙_}
-use mathlib.Core.List.{List, [], _∷_, _++_}
-use lib.ListN.{length, getD, take, drop, set}
+use Prim.Native.Nat.{_-_}
 use native.Mathlib.Omega.{arith}
 use borrow.Author.Needs.{needs}
 use Rattle.writer.proofs.write_edits.Statement.{statement}
 use Rattle.writer.proofs.write_edits.Tie as tie
-use Rattle.writer.proofs.write_edits.Reads as reads
-use Rattle.writer.proofs.write_edits.Lts as lts
-use Rattle.line.proofs.write_edit_line.Reads as write-edit-line-reads
-use Rattle.row.proofs.edit_row.Reads as edit-row-reads
 
 abbrev Inv-loop : tie.InvT-loop
 Inv-loop out₀ n a at₀ i₀ out at i = Writes editText a n out₀ out at i
@@ -19,59 +13,45 @@ Inv-loop out₀ n a at₀ i₀ out at i = Writes editText a n out₀ out at i
 abbrev μ-loop : tie.MeasureT-loop
 μ-loop out₀ n a at₀ i₀ out at i = n - i
 
--- src/lib.rt:107:5
 loop-holds : tie.Need-loop-holds Inv-loop μ-loop
 loop-holds c = let s = c .before .args in writes-none editText (s .t2) (s .n) (s .out .now) (search needs) (c .before .pre .1)
 
--- src/lib.rt:108:17
 mul-e : tie.Need-mul-e Inv-loop μ-loop
 mul-e c = search needs
 
--- src/lib.rt:108:17
 array-copy-out-e : tie.Need-array-copy-out-e Inv-loop μ-loop
 array-copy-out-e c = search needs
 
--- src/lib.rt:109:37
 sub-write-edit-line : tie.Need-sub-write-edit-line Inv-loop μ-loop
 sub-write-edit-line c = omega (arith, writes-inside editText (c .before .before .before .before .args .t2) (c .before .before .before .before .args .n) (c .before .before .before .before .args .out .now) (c .before .before .loop .inv))
 
--- src/lib.rt:109:37
 part-write-edit-line-start : tie.Need-part-write-edit-line-start Inv-loop μ-loop
 part-write-edit-line-start c = omega (arith, writes-inside editText (c .before .before .before .before .args .t2) (c .before .before .before .before .args .n) (c .before .before .before .before .args .out .now) (c .before .before .loop .inv))
 
--- src/lib.rt:109:37
 part-write-edit-line-end : tie.Need-part-write-edit-line-end Inv-loop μ-loop
 part-write-edit-line-end c = search needs
 
--- src/lib.rt:109:53
 edit-row-requires : tie.Need-edit-row-requires Inv-loop μ-loop
 edit-row-requires c κs = search needs
 
--- src/lib.rt:109:15
 write-edit-line-requires : tie.Need-write-edit-line-requires Inv-loop μ-loop
 write-edit-line-requires c κs = rw (c .edit-row .ensures) (writes-room editText (c .before .before .before .before .before .before .args .t2) (c .before .before .before .before .before .before .args .n) (c .before .before .before .before .before .before .args .out .now) (c .before .before .before .before .loop .inv) _ (c .before .before .before .loop-test .taken))
 
--- src/lib.rt:109:9
 add-at : tie.Need-add-at Inv-loop μ-loop
 add-at c = omega (arith, writes-at editText (c .before .before .before .before .before .before .before .before .before .args .t2) (c .before .before .before .before .before .before .before .before .before .args .n) (c .before .before .before .before .before .before .before .before .before .args .out .now) (c .before .before .before .before .before .before .before .loop .inv) _ (c .before .before .before .before .before .before .loop-test .taken) (rw (c .before .before .before .edit-row .ensures) at (c .before .before .write-edit-line .ensures)))
 
--- src/lib.rt:110:9
 add-i : tie.Need-add-i Inv-loop μ-loop
 add-i c = search needs
 
--- src/lib.rt:107:5
 loop-less : tie.Need-loop-less Inv-loop μ-loop
 loop-less c = search needs
 
--- src/lib.rt:107:5
 loop-again : tie.Need-loop-again Inv-loop μ-loop
 loop-again c = writes-next editText (c .before .before .before .before .before .before .before .before .before .args .t2) (c .before .before .before .before .before .before .before .before .before .args .n) (c .before .before .before .before .before .before .before .before .before .args .out .now) (c .before .before .before .before .before .before .before .loop .inv) _ (c .before .before .before .before .before .before .loop-test .taken) (rw (c .before .before .before .edit-row .ensures) at (c .before .before .write-edit-line .ensures))
 
--- src/lib.rt:101:1
 same-length : tie.Need-same-length Inv-loop μ-loop
 same-length c = writes-same editText (c .before .before .before .args .t2) (c .before .before .before .args .n) (c .before .before .before .args .out .now) (c .before .loop .inv)
 
--- src/lib.rt:101:1
 returns : tie.Need-returns Inv-loop μ-loop
 returns c = writes-end editText (c .before .before .before .args .t2) (c .before .before .before .args .n) (c .before .before .before .args .out .now) (c .before .loop .inv) (c .loop-test .left)
 

@@ -1,61 +1,43 @@
+-- `writer::write_text` meets its contract. Assumes nothing.
 use Rattle.writer.proofs.Texts.{past-end, no-room, has-room, end-fits, written-there}
 use Rattle.record.specs.Stored.{recordOf}
 use Rattle.text.specs.Text.{textOf}
 use borrow.Author.Tests.{not-true, not-false}
-use Prim.Native.Nat.{ℕ, zero, suc, _+_, _-_, _*_, _≤_, _<_}
-use mathlib.Core.Path.{_≡_, refl, ap, sym, _∙_}
-use mathlib.Core.List.{List, [], _∷_, _++_}
-use lib.ListN.{length, getD, take, drop, set}
 use native.Mathlib.Omega.{arith}
 use borrow.Author.Needs.{needs}
 use Rattle.writer.proofs.write_text.Statement.{statement}
 use Rattle.writer.proofs.write_text.Tie as tie
-use Rattle.writer.proofs.write_text.Reads as reads
-use Rattle.writer.proofs.write_text.Lts as lts
-use Rattle.writer.proofs.text_fit.Reads as text-fit-reads
-use Rattle.writer.proofs.write_rows.Reads as write-rows-reads
 
--- src/lib.rt:148:9
 returns : tie.Need-returns
 returns c = let s = c .before .before .args in let text = textOf (recordOf (s .content)) in past-end text (s .out .now) (s .at) (c .if1 .taken)
 
--- src/lib.rt:150:33
-sub-text-fit : tie.Need-sub-text-fit
-sub-text-fit c = search needs
+sub-room : tie.Need-sub-room
+sub-room c = search needs
 
--- src/lib.rt:150:9
 text-fit-requires : tie.Need-text-fit-requires
 text-fit-requires c κs = search needs
 
--- src/lib.rt:152:9
 returns-2 : tie.Need-returns-2
 returns-2 c = let s = c .before .before .before .before .before .args in let text = textOf (recordOf (s .content)) in no-room text (s .out .now) (s .at) (c .before .before .before .if1 .left) (c .before .before .text-fit .ensures) (not-true _ (c .if2 .taken))
 
--- src/lib.rt:154:27
 sub-write-rows : tie.Need-sub-write-rows
 sub-write-rows c = search needs
 
--- src/lib.rt:154:27
 part-write-rows-start : tie.Need-part-write-rows-start
 part-write-rows-start c = search needs
 
--- src/lib.rt:154:27
 part-write-rows-end : tie.Need-part-write-rows-end
 part-write-rows-end c = search needs
 
--- src/lib.rt:154:9
 write-rows-requires : tie.Need-write-rows-requires
 write-rows-requires c κs = let s = c .before .before .before .before .before .before .args in let text = textOf (recordOf (s .content)) in has-room text (s .out .now) (s .at) (c .before .before .before .before .if1 .left) (c .before .before .before .text-fit .ensures) (not-false _ (c .before .if2 .left))
 
--- src/lib.rt:157:14
-add-t6 : tie.Need-add-t6
-add-t6 c = let s = c .before .before .before .before .before .before .before .before .before .args in let text = textOf (recordOf (s .content)) in omega (arith, end-fits text (s .out .now) (s .at) (c .before .before .before .before .before .before .before .if1 .left) (c .before .before .before .before .before .before .text-fit .ensures) (not-false _ (c .before .before .before .before .if2 .left)) (c .before .before .write-rows .ensures))
+add-t7 : tie.Need-add-t7
+add-t7 c = let s = c .before .before .before .before .before .before .before .before .before .args in let text = textOf (recordOf (s .content)) in omega (arith, end-fits text (s .out .now) (s .at) (c .before .before .before .before .before .before .before .if1 .left) (c .before .before .before .before .before .before .text-fit .ensures) (not-false _ (c .before .before .before .before .if2 .left)) (c .before .before .write-rows .ensures))
 
--- src/lib.rt:144:1
 same-length : tie.Need-same-length
 same-length c = search needs
 
--- src/lib.rt:144:1
 returns-3 : tie.Need-returns-3
 returns-3 c = let s = c .before .before .before .before .before .before .before .before .before .args in let text = textOf (recordOf (s .content)) in written-there text (s .out .now) (s .at) (c .before .before .before .before .before .before .before .if1 .left) (c .before .before .before .before .before .before .text-fit .ensures) (not-false _ (c .before .before .before .before .if2 .left)) (c .before .before .write-rows .ensures)
 
@@ -64,13 +46,13 @@ write-text-spec =
     tie.close
     (tie.spec
     returns
-    sub-text-fit
+    sub-room
     text-fit-requires
     returns-2
     sub-write-rows
     part-write-rows-start
     part-write-rows-end
     write-rows-requires
-    add-t6
+    add-t7
     same-length
     returns-3)
