@@ -1,8 +1,8 @@
 -- The test of a pair by its indexes, and the pairs of a stored record. Assumes nothing.
 use mathlib.Core.Path.{_≡_, refl, ap, sym, _∙_}
 use mathlib.Core.Bool.{Bool, true, false, cond, not, _&&_, _||_}
-use mathlib.Core.List.{List, [], _∷_}
-use mathlib.Core.Logic.{_⊎_, ⊎-elim}
+use mathlib.Core.List.{List}
+use mathlib.Core.Logic.{⊎-elim}
 use Prim.Native.Nat.{ℕ, _+_, _≤_, _<_}
 use native.Mathlib.Omega.{arith}
 use borrow.Author.Tests.{eq-eqb, ne-eqb}
@@ -12,9 +12,9 @@ use lib.Seq.{length-take-le}
 use Rattle.record.specs.declared.Constraint.{Constraint}
 use Rattle.record.specs.declared.Record as declared
 use Rattle.record.specs.Lists.{_among_, sift, at}
-use Rattle.record.specs.Record.{Record, names, notafter, has, WellFormed}
+use Rattle.record.specs.Record.{Record, names, notafter, WellFormed}
 use Rattle.record.specs.Stored.{stored, recordOf}
-use Rattle.record.proofs.Lists.{by, mem-at}
+use Rattle.record.proofs.Lists.{mem-at}
 use Rattle.record.proofs.Records.{written-names, init-known}
 use Rattle.keyed.proofs.Logic.{Has, has-getD}
 use Rattle.links.specs.Marks.{nameAt, placeIn}

@@ -1,18 +1,17 @@
 -- The answers of making a proposal, return by return. Assumes nothing.
-use mathlib.Core.Path.{_≡_, refl, ap, sym, subst, _∙_}
-use mathlib.Core.Bool.{Bool, true, false, not, _||_, cond}
-use mathlib.Core.List.{List, [], _++_, map}
+use mathlib.Core.Path.{_≡_, ap, sym, _∙_}
+use mathlib.Core.Bool.{Bool, true, false}
+use mathlib.Core.List.{map}
 use Prim.Native.Nat.{ℕ, _≤_, _<_}
 use native.Mathlib.Omega.{arith}
-use borrow.Author.Tests.{not-true, not-false, eq-eqb, ne-eqb, lt-ltb, le-ltb}
+use borrow.Author.Tests.{eq-eqb, ne-eqb, lt-ltb, le-ltb}
 use lib.Dec.{eqb, ltb}
-use lib.ListN.{length, take, drop}
+use lib.ListN.{length, take}
 use Rattle.record.specs.declared.Record as declared
 use Rattle.record.specs.Record.{Record, written}
 use Rattle.record.specs.Lists.{_within_}
 use Rattle.record.specs.Stored.{stored, recordOf}
-use Rattle.record.specs.Judgement.{sound}
-use Rattle.record.proofs.Lists.{by, is-by}
+use Rattle.record.proofs.Lists.{by}
 use Rattle.row.specs.Row.{editRow, constraintRow}
 use Rattle.ground.specs.Ground.{Rows, _given_, _orelse_}
 use Rattle.ground.proofs.Grounds.{orelse-none, orelse-first, orelse-second}
@@ -25,7 +24,7 @@ use Rattle.join.specs.declared.Joined.{Joined}
 use Rattle.join.specs.Join.{outcome}
 use Rattle.proposal.specs.Proposal.{withConstraints, started, finished, proposed, keeps}
 use Rattle.propose.specs.declared.Proposed.{Proposed}
-use Rattle.propose.specs.Propose.{draftFault, unkept, tooShort, Lent, recordM, proposalQ, proposalFault, newProposal, answerOf, over, editsAfter, constraintsAfter, Makes, newFault, newOutcome}
+use Rattle.propose.specs.Propose.{draftFault, unkept, tooShort, Lent, recordM, proposalQ, proposalFault, newProposal, over, Makes, newFault, newOutcome}
 use Rattle.propose.proofs.Drafts.{stopped-is, made-is, drafted-checked}
 
 -- what an outcome says

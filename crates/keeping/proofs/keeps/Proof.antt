@@ -1,7 +1,7 @@
-use Prim.Native.Nat.{ℕ, zero, suc, _+_, _-_, _*_, _≤_, _<_}
-use mathlib.Core.Path.{_≡_, refl, ap, sym, _∙_}
-use mathlib.Core.List.{List, [], _∷_, _++_}
-use lib.ListN.{length, getD, take, drop, set}
+-- `keeping::keeps` meets its contract. Assumes nothing.
+use Prim.Native.Nat.{_-_, _≤_}
+use mathlib.Core.Path.{_≡_}
+use lib.ListN.{length, take}
 use native.Mathlib.Omega.{arith}
 use mathlib.Core.Bool.{true}
 use borrow.Author.Tests.{not-true, not-false}
@@ -15,9 +15,6 @@ use Rattle.keeping.proofs.Keeping.{isKept, name-known, keeps-stop, keep
 use borrow.Author.Needs.{needs}
 use Rattle.keeping.proofs.keeps.Statement.{statement}
 use Rattle.keeping.proofs.keeps.Tie as tie
-use Rattle.keeping.proofs.keeps.Reads as reads
-use Rattle.keeping.proofs.keeps.Lts as lts
-use Rattle.keeping.proofs.is_kept.Reads as is-kept-reads
 
 abbrev Inv-loop : tie.InvT-loop
 Inv-loop old new n edits i₀ i = (i ≤ n) × (n ≤ 127) × (length edits ≡ 127)
@@ -26,29 +23,23 @@ Inv-loop old new n edits i₀ i = (i ≤ n) × (n ≤ 127) × (length edits ≡ 
 abbrev μ-loop : tie.MeasureT-loop
 μ-loop old new n edits i₀ i = n - i
 
--- src/lib.rt:34:9
 returns : tie.Need-returns Inv-loop μ-loop
 returns c =
     λ Q P e f g h w. absurd (omega (arith, few-left (c .before .args .old) Q e f, c .if1 .taken))
 
--- src/lib.rt:38:5
 loop-holds : tie.Need-loop-holds Inv-loop μ-loop
 loop-holds c =
     (search needs, search needs, search (needs, length-mapped), λ Q P e f g h w. keeps-start Q P)
 
--- src/lib.rt:39:17
 mul-e : tie.Need-mul-e Inv-loop μ-loop
 mul-e c = search needs
 
--- src/lib.rt:39:17
 array-copy-out-e : tie.Need-array-copy-out-e Inv-loop μ-loop
 array-copy-out-e c = search needs
 
--- src/lib.rt:40:13
 is-kept-requires : tie.Need-is-kept-requires Inv-loop μ-loop
 is-kept-requires c κs = search needs
 
--- src/lib.rt:41:13
 returns-2 : tie.Need-returns-2 Inv-loop μ-loop
 returns-2 c =
     let o = c .before .before .before .before in
@@ -57,15 +48,12 @@ returns-2 c =
     λ Q P e f g h w. let m = name-known (s .args .old) Q e (o .loop .i) fillerEdit l in
     keeps-stop (s .args .old) Q P e (o .loop .i) fillerEdit l (c .before .is-kept .ensures Q P e f g h m (w _ m)) (not-true _ (c .if2 .taken))
 
--- src/lib.rt:43:9
 add-i : tie.Need-add-i Inv-loop μ-loop
 add-i c = search needs
 
--- src/lib.rt:38:5
 loop-less : tie.Need-loop-less Inv-loop μ-loop
 loop-less c = search needs
 
--- src/lib.rt:38:5
 loop-again : tie.Need-loop-again Inv-loop μ-loop
 loop-again c =
     let o = c .before .before .before .before in
@@ -79,7 +67,6 @@ loop-again c =
           keeps-next (s .args .old) Q P e (o .loop .i) fillerEdit l (c .before .is-kept .ensures Q P e f g h m (w _ m)) (not-false _ (c .if2 .left)) (k .3 Q P e f g h w),
     )
 
--- src/lib.rt:29:1
 returns-3 : tie.Need-returns-3 Inv-loop μ-loop
 returns-3 c =
     let o = c .before in

@@ -1,44 +1,27 @@
-use Prim.Native.Nat.{ℕ, zero, suc, _+_, _-_, _*_, _≤_, _<_}
-use mathlib.Core.Path.{_≡_, refl, ap, sym, _∙_}
-use mathlib.Core.List.{List, [], _∷_, _++_}
-use lib.ListN.{length, getD, take, drop, set}
-use native.Mathlib.Omega.{arith}
+-- `propose::new_proposal` meets its contract. Assumes nothing.
 use Rattle.table.specs.Table.{decoded}
 use Rattle.propose.proofs.Answers.{rows-refused, own-stored, own-checked, old-refused, both-stored, both-checked, old-checked, old-few, made-rows}
 use borrow.Author.Needs.{needs}
 use Rattle.propose.proofs.new_proposal.Statement.{statement}
 use Rattle.propose.proofs.new_proposal.Tie as tie
-use Rattle.propose.proofs.new_proposal.Reads as reads
-use Rattle.propose.proofs.new_proposal.Lts as lts
-use Rattle.join.proofs.lent.Reads as lent-reads
-use Rattle.join.proofs.merge.Reads as merge-reads
-use Rattle.propose.proofs.made.Reads as made-reads
-use Rattle.propose.proofs.stopped.Reads as stopped-reads
-use Rattle.unite.proofs.decode.Reads as decode-reads
 
--- src/lib.rt:89:9
 lent-requires : tie.Need-lent-requires
 lent-requires c κs = search needs
 
--- src/lib.rt:92:9
 stopped-requires : tie.Need-stopped-requires
 stopped-requires c κs = search needs
 
--- src/lib.rt:92:9
 returns : tie.Need-returns
 returns c =
     let s = c .before .before .before .args in
     rows-refused (s .edits .now) (s .constraints .now) (s .oldedits .now) (s .oldconstraints .now) _ (c .before .before .lent .ensures) (c .before .if1 .taken) (c .stopped .ensures)
 
--- src/lib.rt:95:9
 merge-requires : tie.Need-merge-requires
 merge-requires c κs = search needs
 
--- src/lib.rt:98:9
 stopped-requires-2 : tie.Need-stopped-requires-2
 stopped-requires-2 c κs = search needs
 
--- src/lib.rt:98:9
 returns-2 : tie.Need-returns-2
 returns-2 c =
     let s = c .before .before .before .before .before .before .args in
@@ -51,15 +34,12 @@ returns-2 c =
     let f = c .before .before .merge .ensures (decoded es cs) (own-stored es cs oes ocs _ e z) (own-checked es cs oes ocs _ e z) in
     old-refused es cs oes ocs _ e z _ f (c .before .if2 .taken) (c .stopped2 .ensures)
 
--- src/lib.rt:101:9
 decode-requires : tie.Need-decode-requires
 decode-requires c κs = search needs
 
--- src/lib.rt:102:5
 made-requires : tie.Need-made-requires
 made-requires c κs = search needs
 
--- src/lib.rt:81:1
 returns-3 : tie.Need-returns-3
 returns-3 c =
     let s = c .before .before .before .before .before .before .before .before .args in
