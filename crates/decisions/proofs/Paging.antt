@@ -14,7 +14,7 @@ use Rattle.record.specs.declared.Constraint.{Constraint}
 use Rattle.record.specs.declared.Record as declared
 use Rattle.record.specs.Lists.{mem, at, _among_}
 use Rattle.record.specs.Record.{Record, names, written, nameOf, WellFormed}
-use Rattle.record.specs.Stored.{stored, recordOf}
+use Rattle.record.specs.Stored.{stored}
 use Rattle.record.specs.Schedule.{schedule}
 use Rattle.record.specs.Judgement.{sound}
 use Rattle.record.proofs.Lists.{by, is-by, clash}
@@ -23,7 +23,7 @@ use Rattle.record.proofs.Scheduled.{schedule-sound}
 use Rattle.keyed.specs.Keyed.{Ascending, inserted, united}
 use Rattle.keyed.proofs.Logic.{Has, has-getD}
 use Rattle.table.specs.Table.{constraintKey}
-use Rattle.table.proofs.Tables.{stored-back}
+use Rattle.table.proofs.Tables.{held}
 use Rattle.links.specs.Marks.{nameAt, placeIn}
 use Rattle.links.proofs.Marks.{values-at, getD-mapped}
 use Rattle.links.proofs.Names.{getD-among, place-known}
@@ -167,7 +167,7 @@ module _ (a b left right : ℕ) (t : List Constraint) where
 
 -- the edits of a stored record
 pub held-edits : (r : declared.Record) (R : Record) → r ≡ stored R → take (r .editcount) (r .edits) ≡ R .edits
-held-edits r R e = ap (λ (x : Record). x .edits) (ap recordOf e ∙ stored-back R)
+held-edits r R e = ap (λ (x : Record). x .edits) (held r R e)
 
 -- the schedule starts with INIT
 pub scheduled-rest : (R : Record) → WellFormed R → sound R ≡ true → (rest : List ℕ) × (schedule R [] ≡ 0 ∷ rest)

@@ -1,8 +1,8 @@
 -- Keeping, edit by edit. Assumes nothing.
 use mathlib.Core.Path.{_≡_, refl, ap, sym, _∙_}
 use mathlib.Core.Bool.{Bool, true, false, not, _&&_, _||_}
-use mathlib.Core.List.{List, [], _∷_}
-use Prim.Native.Nat.{ℕ, zero, suc, _+_, _≤_, _<_}
+use mathlib.Core.List.{List}
+use Prim.Native.Nat.{ℕ, _+_, _≤_, _<_}
 use native.Mathlib.Numerals.{add-one}
 use native.Mathlib.Omega.{arith}
 use lib.ListN.{length, take, getD, length-map}
@@ -13,11 +13,13 @@ use Rattle.record.specs.Lists.{all, _among_}
 use Rattle.record.specs.Record.{Record, written, names, nameOf}
 use Rattle.record.specs.Stored.{stored}
 use Rattle.record.specs.Judgement.{settled}
-use Rattle.record.proofs.Lists.{by, clash, and-l}
+use Rattle.record.proofs.Lists.{by, clash}
 use Rattle.links.proofs.Names.{getD-among}
 use Rattle.indexes.proofs.Tables.{edit-count, name-at}
 use Rattle.vote.specs.Bundle.{bundle, eligible}
 use Rattle.vote.specs.Tally.{sameBundle}
+use Rattle.keyed.proofs.Logic.{has-getD, all-has}
+use Rattle.vote.proofs.Front.{all-more}
 use Rattle.vote.proofs.Elections.{same-is}
 use Rattle.proposal.specs.Proposal.{keeps}
 
@@ -41,22 +43,9 @@ module _ (Q P : Record) (e : ℕ) where
       let s : sameBundle (bundle P e) (bundle Q e) ≡ false = sym f ∙ g in
       rw (s, h) (by (eligible Q e) (λ q. rw q) (λ q. rw q))
 
--- a test of every name of a list, one by one
-module _ (p : ℕ → Bool) where
-  pub all-next : (l : List ℕ) (i : ℕ) → i < length l → all p (take i l) ≡ true → p (getD l i 0) ≡ true → all p (take (i + 1) l) ≡ true
-  unfolding all
-  all-next l i h e f = rw (add-one i) (go l i h e f)
-    where
-      go : (l : List ℕ) (i : ℕ) → i < length l → all p (take i l) ≡ true → p (getD l i 0) ≡ true → all p (take (suc i) l) ≡ true
-      go [] i h e f = absurd (omega arith)
-      go (x ∷ l) zero h e f = rw f
-      go (x ∷ l) (suc i) h e f = by (p x) (λ q. rw q (go l i (omega arith) (rw q at e) f)) (λ q. clash (and-l (p x) (all p (take i l)) e) q)
-
-  pub all-stop : (l : List ℕ) (i : ℕ) → i < length l → p (getD l i 0) ≡ false → false ≡ all p l
-  unfolding all
-  all-stop [] i h f = absurd (omega arith)
-  all-stop (x ∷ l) zero h f = rw f
-  all-stop (x ∷ l) (suc i) h f = by (p x) (λ q. rw q (all-stop l i (omega arith) f)) (λ q. rw q)
+-- a test that one name fails
+all-stop : (p : ℕ → Bool) (l : List ℕ) (i : ℕ) → i < length l → p (getD l i 0) ≡ false → false ≡ all p l
+all-stop p l i h f = by (all p l) (λ q. clash (all-has p l q (getD l i 0) (has-getD l i 0 h)) f) (λ q. sym q)
 
 -- the names of a stored record
 module _ (r : declared.Record) (Q : Record) (e : r ≡ stored Q) (i : ℕ) (d : Edit) (h : i < r .editcount) where
@@ -83,7 +72,7 @@ module _ (r : declared.Record) (Q P : Record) (e : r ≡ stored Q) (i : ℕ) (d 
   keeps-stop g = all-stop (isKept Q P) (written Q) i (name-low r Q e i d h) (test-is ∙ g)
 
   pub keeps-next : b ≡ true → all (isKept Q P) (take i (written Q)) ≡ true → all (isKept Q P) (take (i + 1) (written Q)) ≡ true
-  keeps-next g t = all-next (isKept Q P) (written Q) i (name-low r Q e i d h) t (test-is ∙ g)
+  keeps-next g t = all-more (isKept Q P) (written Q) i 0 (name-low r Q e i d h) t (test-is ∙ g)
 
 pub keeps-start : (Q P : Record) → all (isKept Q P) (take 0 (written Q)) ≡ true
 unfolding all
