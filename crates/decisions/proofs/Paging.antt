@@ -1,33 +1,32 @@
 -- Decisions and orders, from the pages of a schedule. Assumes nothing.
 use mathlib.Core.Path.{_≡_, refl, ap, sym, _∙_}
-use mathlib.Core.Bool.{Bool, true, false, cond, _&&_}
-use mathlib.Core.Logic.{_⊎_, ⊎-elim}
-use mathlib.Core.List.{List, [], _∷_, _++_, map, map-append}
+use mathlib.Core.Bool.{true, false, cond, _&&_}
+use mathlib.Core.List.{List, [], _∷_, _++_}
 use Prim.Native.Nat.{ℕ, suc, _+_, _≤_, _<_}
 use native.Mathlib.Numerals.{add-one}
 use native.Mathlib.Omega.{arith}
-use borrow.Author.Tests.{eq-eqb, ne-eqb, eqb-true, eqb-false, lt-ltb, le-ltb}
-use lib.Dec.{eqb, ltb}
+use borrow.Author.Tests.{eq-eqb, ne-eqb, eqb-false, lt-ltb, le-ltb}
+use lib.Dec.{ltb}
 use lib.ListN.{length, take, getD, length-map}
 use lib.Seq.{length-take-le}
 use Rattle.record.specs.declared.Edit.{Edit}
 use Rattle.record.specs.declared.Constraint.{Constraint}
 use Rattle.record.specs.declared.Record as declared
 use Rattle.record.specs.Lists.{mem, at, _among_}
-use Rattle.record.specs.Record.{Record, names, written, nameOf, has, WellFormed}
-use Rattle.record.specs.Stored.{stored, recordOf}
+use Rattle.record.specs.Record.{Record, names, written, nameOf, WellFormed}
+use Rattle.record.specs.Stored.{stored}
 use Rattle.record.specs.Schedule.{schedule}
 use Rattle.record.specs.Judgement.{sound}
-use Rattle.record.proofs.Lists.{by, is-by, clash, mem-at}
+use Rattle.record.proofs.Lists.{by, is-by, clash}
 use Rattle.record.proofs.Records.{written-names, right-written, not-init}
 use Rattle.record.proofs.Scheduled.{schedule-sound}
 use Rattle.keyed.specs.Keyed.{Ascending, inserted, united}
 use Rattle.keyed.proofs.Logic.{Has, has-getD}
 use Rattle.table.specs.Table.{constraintKey}
-use Rattle.table.proofs.Tables.{stored-back}
-use Rattle.links.specs.Marks.{nameAt, placeIn, valuesOf}
+use Rattle.table.proofs.Tables.{held}
+use Rattle.links.specs.Marks.{nameAt, placeIn}
 use Rattle.links.proofs.Marks.{values-at, getD-mapped}
-use Rattle.links.proofs.Names.{getD-place, getD-among, place-known}
+use Rattle.links.proofs.Names.{getD-among, place-known}
 use Rattle.proposal.specs.Proposal.{withConstraints, before, unordered, decisions, orders, finished}
 use Rattle.proposal.proofs.Finished.{unordered-from}
 use Rattle.insertion.specs.declared.Constraints.{Constraints}
@@ -168,7 +167,7 @@ module _ (a b left right : ℕ) (t : List Constraint) where
 
 -- the edits of a stored record
 pub held-edits : (r : declared.Record) (R : Record) → r ≡ stored R → take (r .editcount) (r .edits) ≡ R .edits
-held-edits r R e = ap (λ (x : Record). x .edits) (ap recordOf e ∙ stored-back R)
+held-edits r R e = ap (λ (x : Record). x .edits) (held r R e)
 
 -- the schedule starts with INIT
 pub scheduled-rest : (R : Record) → WellFormed R → sound R ≡ true → (rest : List ℕ) × (schedule R [] ≡ 0 ∷ rest)

@@ -1,13 +1,12 @@
 -- The place of a name in a row that starts with INIT: 0 tells that it does not stand among the others. Assumes nothing.
-use mathlib.Core.Path.{_≡_, refl, ap, sym, _∙_}
-use mathlib.Core.Bool.{Bool, true, false, cond}
-use mathlib.Core.List.{List, [], _∷_}
-use Prim.Native.Nat.{ℕ, suc, _<_}
+use mathlib.Core.Path.{_≡_}
+use mathlib.Core.Bool.{true, false}
+use mathlib.Core.List.{List, _∷_}
+use Prim.Native.Nat.{ℕ}
 use native.Mathlib.Omega.{arith}
-use borrow.Author.Tests.{eqb-true, eqb-false, eq-eqb, ne-eqb}
-use lib.Dec.{eqb}
-use Rattle.record.specs.Lists.{mem, at, _among_}
-use Rattle.record.proofs.Lists.{by, clash, is-by, mem-head}
+use borrow.Author.Tests.{ne-eqb}
+use Rattle.record.specs.Lists.{mem, at}
+use Rattle.record.proofs.Lists.{by, is-by}
 use Rattle.links.specs.Marks.{placeIn}
 
 module _ (l : List ℕ) (x : ℕ) where

@@ -1,20 +1,19 @@
 -- The rows "b notafter a", from what is read of the old proposal. Assumes nothing.
 use mathlib.Core.Path.{_≡_, refl, ap, sym, _∙_}
-use mathlib.Core.Bool.{Bool, true, false, cond, _&&_}
+use mathlib.Core.Bool.{Bool, true, false, cond}
 use mathlib.Core.List.{List, [], _∷_, _++_, append-assoc, append-nil}
 use Prim.Native.Nat.{ℕ, _+_, _≤_, _<_}
 use native.Mathlib.Omega.{arith}
-use borrow.Author.Tests.{eq-eqb, ne-eqb}
 use lib.Dec.{eqb}
 use lib.ListN.{length, take, getD}
 use lib.Seq.{length-take-le}
 use Rattle.record.specs.declared.Constraint.{Constraint}
-use Rattle.record.specs.Lists.{mem, at, _among_}
+use Rattle.record.specs.Lists.{at, _among_}
 use Rattle.record.specs.Record.{Record, names, written}
 use Rattle.record.specs.Judgement.{settled}
-use Rattle.record.proofs.Lists.{by, mem-at}
+use Rattle.record.proofs.Lists.{mem-at}
 use Rattle.record.proofs.Records.{written-names}
-use Rattle.links.specs.Marks.{nameAt, placeIn, marksOf}
+use Rattle.links.specs.Marks.{nameAt, placeIn}
 use Rattle.links.proofs.Marks.{marks-at}
 use Rattle.links.proofs.Names.{getD-place, place-known}
 use Rattle.keyed.specs.Keyed.{Ascending, inserted, united}

@@ -1,14 +1,14 @@
 -- The place of an element in an ascending table, looked for by halving, and what its insertion there gives. Assumes nothing.
 use mathlib.Core.Path.{_≡_, refl, ap, sym, _∙_}
-use mathlib.Core.Bool.{Bool, true, false, cond, not, _&&_}
+use mathlib.Core.Bool.{Bool, true, false}
 use mathlib.Core.Logic.{_⊎_, inl, inr, ⊎-elim}
 use mathlib.Core.List.{List, [], _∷_, _++_}
-use Prim.Native.Nat.{ℕ, zero, suc, _+_, _-_, _≤_, _<_}
+use Prim.Native.Nat.{ℕ, zero, suc, _+_, _≤_, _<_}
 use native.Mathlib.Numerals.{add-one}
 use native.Mathlib.Omega.{arith}
 use lib.ListN.{length, take, drop, getD, drop-of-length-le}
 use lib.Seq.{take-suc, drop-cons, length-take-le, getD-take}
-use Rattle.keyed.specs.Keyed.{precedes, Below, Ascending, inserted}
+use Rattle.keyed.specs.Keyed.{precedes, Ascending, inserted}
 use Rattle.keyed.proofs.Logic.{by, clash, Has, has-getD}
 use Rattle.keyed.proofs.Order.{less-irrefl, less-trans}
 use Rattle.keyed.proofs.Union.{below-has}

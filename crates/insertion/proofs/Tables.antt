@@ -1,21 +1,19 @@
 -- A table that a row joins, as it is held. Assumes nothing.
-use mathlib.Core.Path.{_≡_, refl, ap, sym, subst, _∙_}
-use mathlib.Core.Bool.{Bool, true, false, cond, not, _&&_}
+use mathlib.Core.Path.{_≡_, ap, sym, _∙_}
+use mathlib.Core.Bool.{Bool, true, false, not, _&&_}
 use mathlib.Core.List.{List, [], _∷_, _++_, append-assoc}
-use Prim.Native.Nat.{ℕ, zero, suc, _+_, _-_, _≤_, _<_}
-use native.Mathlib.Nat.{sub-zero}
-use native.Mathlib.Numerals.{add-one}
+use Prim.Native.Nat.{ℕ, suc, _+_, _-_, _≤_, _<_}
 use native.Mathlib.Omega.{arith}
 use borrow.Author.Tests.{ltb-true, ltb-false, lt-ltb, le-ltb, not-true, not-false}
 use lib.Dec.{ltb}
-use lib.ListN.{length, take, drop, getD, replicate, length-append, length-take, length-drop, take-append-drop, drop-of-length-le, List·getD-append}
-use lib.Seq.{take-append-le, take-append-seam, drop-append-le, drop-append-add, take-all, length-take-le, getD-drop}
+use lib.ListN.{length, take, drop, getD, replicate, length-append, length-drop, take-append-drop, List·getD-append}
+use lib.Seq.{take-append-le, take-append-seam, drop-append-le, drop-append-add, length-take-le, getD-drop}
 use Rattle.record.specs.declared.Constraint.{Constraint}
 use Rattle.record.specs.declared.Record as declared
 use Rattle.record.specs.Record.{Record}
 use Rattle.record.specs.Stored.{padded, stored, fillerConstraint}
 use Rattle.keyed.specs.Keyed.{precedes, Ascending, inserted, united}
-use Rattle.keyed.proofs.Logic.{by, clash, and-l, and-r, Has}
+use Rattle.keyed.proofs.Logic.{by, and-l, and-r}
 use Rattle.keyed.proofs.Union.{length-grown}
 use Rattle.table.specs.Table.{constraintKey}
 use Rattle.insertion.specs.declared.Constraints.{Constraints}

@@ -1,8 +1,8 @@
 -- The test of a pair by its indexes, and the pairs of a stored record. Assumes nothing.
 use mathlib.Core.Path.{_≡_, refl, ap, sym, _∙_}
 use mathlib.Core.Bool.{Bool, true, false, cond, not, _&&_, _||_}
-use mathlib.Core.List.{List, [], _∷_}
-use mathlib.Core.Logic.{_⊎_, ⊎-elim}
+use mathlib.Core.List.{List}
+use mathlib.Core.Logic.{⊎-elim}
 use Prim.Native.Nat.{ℕ, _+_, _≤_, _<_}
 use native.Mathlib.Omega.{arith}
 use borrow.Author.Tests.{eq-eqb, ne-eqb}
@@ -12,14 +12,14 @@ use lib.Seq.{length-take-le}
 use Rattle.record.specs.declared.Constraint.{Constraint}
 use Rattle.record.specs.declared.Record as declared
 use Rattle.record.specs.Lists.{_among_, sift, at}
-use Rattle.record.specs.Record.{Record, names, notafter, has, WellFormed}
-use Rattle.record.specs.Stored.{stored, recordOf}
-use Rattle.record.proofs.Lists.{by, mem-at}
+use Rattle.record.specs.Record.{Record, names, notafter, WellFormed}
+use Rattle.record.specs.Stored.{stored}
+use Rattle.record.proofs.Lists.{mem-at}
 use Rattle.record.proofs.Records.{written-names, init-known}
 use Rattle.keyed.proofs.Logic.{Has, has-getD}
 use Rattle.links.specs.Marks.{nameAt, placeIn}
 use Rattle.links.proofs.Names.{getD-place, place-known}
-use Rattle.table.proofs.Tables.{stored-back}
+use Rattle.table.proofs.Tables.{held}
 use Rattle.indexes.specs.Fit.{Fit}
 use Rattle.proposal.specs.Proposal.{unordered}
 use Rattle.proposal.proofs.Joined.{in-has}
@@ -89,7 +89,7 @@ bit-low false e f = (e ∙ f, omega arith)
 
 -- the constraints of a stored record
 pub held-constraints : (r : declared.Record) (R : Record) → r ≡ stored R → take (r .constraintcount) (r .constraints) ≡ R .constraints
-held-constraints r R e = ap (λ (x : Record). x .constraints) (ap recordOf e ∙ stored-back R)
+held-constraints r R e = ap (λ (x : Record). x .constraints) (held r R e)
 
 -- what is read of two edits by their indexes
 pub index-read : (table : List ℕ) (x n i : ℕ) → n ≡ x → i ≡ getD table n 0 → i ≡ getD table x 0

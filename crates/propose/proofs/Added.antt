@@ -1,21 +1,20 @@
 -- What is added to a checked record while a proposal is made leaves it checked, where it has places. Assumes nothing.
-use mathlib.Core.Path.{_≡_, refl, ap, sym, _∙_}
+use mathlib.Core.Path.{_≡_, refl}
 use mathlib.Core.Bool.{Bool, true, false, not, _&&_, _||_}
 use mathlib.Core.Logic.{_⊎_, inl, inr, ⊎-elim}
 use mathlib.Core.List.{List, [], _∷_, _++_}
 use Prim.Native.Nat.{ℕ, _≤_, _<_}
 use native.Mathlib.Omega.{arith}
 use borrow.Author.Tests.{lt-ltb}
-use lib.Dec.{eqb, ltb}
+use lib.Dec.{eqb}
 use lib.ListN.{length}
-use Rattle.record.specs.declared.Edit.{Edit}
 use Rattle.record.specs.declared.Constraint.{Constraint}
-use Rattle.record.specs.Lists.{mem, all, _among_}
-use Rattle.record.specs.Record.{Record, names, written, has}
+use Rattle.record.specs.Lists.{mem, _among_}
+use Rattle.record.specs.Record.{Record, names, written}
 use Rattle.record.specs.Schedule.{schedule}
 use Rattle.record.proofs.Lists.{by}
 use Rattle.record.proofs.Records.{written-names, init-known, right-written, not-init}
-use Rattle.keyed.specs.Keyed.{Ascending, united}
+use Rattle.keyed.specs.Keyed.{united}
 use Rattle.keyed.proofs.Logic.{Has, all-has, all-by}
 use Rattle.keyed.proofs.Union.{ascending-united, united-has}
 use Rattle.row.specs.Row.{isName, isSide, editInRange, constraintInRange, editRow, constraintRow}
@@ -23,11 +22,11 @@ use Rattle.row.proofs.Cells.{edit-in-range}
 use Rattle.table.specs.Table.{pairNotAllowed, constraintKey, unite}
 use Rattle.table.specs.Checked.{Checked}
 use Rattle.table.proofs.Unions.{mem-by}
-use Rattle.table.proofs.Records.{Sides, checked-sides, checked-wellformed}
+use Rattle.table.proofs.Records.{checked-wellformed}
 use Rattle.fit.proofs.Fit.{checked-fit}
 use Rattle.proposal.specs.Proposal.{withConstraints, before, unordered, firsts, started, decisions, orders, finished}
 use Rattle.proposal.proofs.Joined.{in-has}
-use Rattle.proposal.proofs.Finished.{Decides, decisions-by, Pair, orders-by, unordered-from}
+use Rattle.proposal.proofs.Finished.{Decides, decisions-by, orders-by, unordered-from}
 use Rattle.proposal.proofs.Proposed.{has-append-by, firsts-by}
 
 -- a row that is added: an order of two edits, or a decision

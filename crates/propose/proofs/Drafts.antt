@@ -1,11 +1,10 @@
 -- The number of a draft, ground by ground, and the draft as it is stored. Assumes nothing.
 use mathlib.Core.Path.{_≡_, refl, ap, sym, _∙_}
-use mathlib.Core.Bool.{Bool, true, false, not, cond}
-use mathlib.Core.List.{List, []}
-use Prim.Native.Nat.{ℕ, _≤_, _<_}
-use native.Mathlib.Omega.{arith}
-use borrow.Author.Tests.{not-true, not-false, ltb-false, ne-eqb}
-use lib.Dec.{eqb, ltb}
+use mathlib.Core.Bool.{Bool, true, false, not}
+use mathlib.Core.List.{List}
+use Prim.Native.Nat.{ℕ}
+use borrow.Author.Tests.{not-false, ltb-false, ne-eqb}
+use lib.Dec.{ltb}
 use lib.ListN.{length}
 use Rattle.record.specs.declared.Constraint.{Constraint}
 use Rattle.record.specs.declared.Record as declared

@@ -1,3 +1,4 @@
 pub mod Added
 pub mod Written
 pub mod Drafts
+pub mod Answers

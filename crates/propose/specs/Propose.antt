@@ -1,7 +1,8 @@
 -- Document 01, "Proposals and votes", last paragraph, and "What is turned away": making a proposal from a lent record M and the bench's old proposal
 -- Q, and what is answered and written. Assumes nothing.
+use mathlib.Core.Path.{_≡_}
 use mathlib.Core.Bool.{Bool, not, _||_, cond}
-use mathlib.Core.List.{List, _++_}
+use mathlib.Core.List.{_++_}
 use Prim.Native.Nat.{ℕ}
 use lib.Dec.{eqb, ltb}
 use lib.ListN.{length, drop}
@@ -9,6 +10,8 @@ use Rattle.record.specs.Record.{Record}
 use Rattle.record.specs.Judgement.{sound}
 use Rattle.ground.specs.Ground.{Rows, _given_, _orelse_}
 use Rattle.table.specs.Table.{editRows, constraintRows, decoded, emptyTables, lentFault}
+use Rattle.join.specs.declared.Joined.{Joined}
+use Rattle.join.specs.Join.{outcome}
 use Rattle.proposal.specs.Proposal.{started, proposed, keeps}
 use Rattle.propose.specs.declared.Proposed.{Proposed}
 
@@ -74,3 +77,20 @@ editsAfter t = over (editRows (newProposal t)) (t .newedits)
 
 abbrev pub constraintsAfter : Lent → Rows
 constraintsAfter t = over (constraintRows (newProposal t)) (t .newconstraints)
+
+-- What making a proposal promises: the answer, and the whole content of both tables afterwards.
+pub record Makes (t : Lent) (answer : Proposed) (edits constraints : Rows) : Type 0 where
+  pub answers : answer ≡ answerOf t
+  pub editrows : edits ≡ editsAfter t
+  pub constraintrows : constraints ≡ constraintsAfter t
+
+-- the same before the lent output is looked at. Inner: what is refused says proposalFault
+abbrev pub newFault : Rows → Rows → Rows → Rows → ℕ
+newFault edits constraints oldedits oldconstraints =
+    let M = decoded edits constraints in
+    let Q = decoded oldedits oldconstraints in
+    lentFault emptyTables edits constraints orelse lentFault M oldedits oldconstraints orelse draftFault M Q orelse 11 given unkept M Q
+
+abbrev pub newOutcome : Rows → Rows → Rows → Rows → Joined
+newOutcome edits constraints oldedits oldconstraints =
+    outcome (newFault edits constraints oldedits oldconstraints) emptyTables (proposed (decoded edits constraints) (decoded oldedits oldconstraints))

@@ -13,7 +13,7 @@ ghost use Rattle.table.specs.Checked.{Checked};
 ghost use Rattle.ground.specs.Ground.{_given_, _orelse_};
 ghost use Rattle.join.specs.Join.{outcome};
 ghost use Rattle.proposal.specs.Proposal.{proposed};
-ghost use Rattle.propose.specs.Propose.{draftFault, unkept, answerOf, editsAfter, constraintsAfter, over};
+ghost use Rattle.propose.specs.Propose.{draftFault, unkept, newOutcome, over, Makes};
 
 // number: 0, or that of the refusal; how many rows of each table are written.
 pub struct Proposed {
@@ -57,6 +57,51 @@ fn drafted(both: Record, old: Record) -> Joined
     }
 }
 
+// The finished proposal, if it keeps the old one.
+fn made(both: Record, old: Record) -> Joined
+    ensures { λ r. ⌜ ((M Q : theory.Record) → both ≡ stored (unite M Q) → Checked (unite M Q) → old ≡ stored Q → Checked Q
+        → r ≡ outcome (draftFault M Q orelse 11 given unkept M Q) emptyTables (proposed M Q)) ⌝ }
+{
+    let new = drafted(both, old);
+    let number = new.number;
+    if number != 0 {
+        return stopped(number);
+    }
+    let after = new.after;
+    if !keeping::keeps(old, after) {
+        return stopped(11);
+    }
+    Joined {
+        number: 0,
+        after: after,
+    }
+}
+
+// The new proposal of four lent tables.
+fn new_proposal(
+    edits: &[[u32; 5]],
+    constraints: &[[u32; 3]],
+    oldedits: &[[u32; 5]],
+    oldconstraints: &[[u32; 3]],
+) -> Joined
+    ensures { λ r. ⌜ r ≡ newOutcome (now (edits .entry)) (now (constraints .entry)) (now (oldedits .entry)) (now (oldconstraints .entry)) ⌝ }
+{
+    let own = join::lent(edits, constraints);
+    let number = own.number;
+    if number != 0 {
+        return stopped(number);
+    }
+    let multilog = own.after;
+    let joined = join::merge(multilog, oldedits, oldconstraints);
+    let second = joined.number;
+    if second != 0 {
+        return stopped(second);
+    }
+    let both = joined.after;
+    let old = unite::decode(oldedits, oldconstraints);
+    made(both, old)
+}
+
 fn refused(number: u32) -> Proposed
     ensures { λ r. ⌜ r ≡ record { number = number; editcount = 0; constraintcount = 0 } ⌝ }
 {
@@ -96,5 +141,46 @@ fn write_constraints(multilog: Record, table: &mut [[u32; 3]])
         let row = row::constraint_row(c);
         table[i] = row;
         i += 1;
+    }
+}
+
+// Makes a proposal from a record and the bench's old proposal, and writes it over the first rows of two tables. Nothing is written before it is known
+// that nothing is refused.
+pub fn propose(
+    edits: &[[u32; 5]],
+    constraints: &[[u32; 3]],
+    oldedits: &[[u32; 5]],
+    oldconstraints: &[[u32; 3]],
+    newedits: &mut [[u32; 5]],
+    newconstraints: &mut [[u32; 3]],
+) -> Proposed
+    ensures { λ r. ⌜ Makes (record {
+      edits = now (edits .entry);
+      constraints = now (constraints .entry);
+      oldedits = now (oldedits .entry);
+      oldconstraints = now (oldconstraints .entry);
+      newedits = now (newedits .entry);
+      newconstraints = now (newconstraints .entry);
+    }) r (now (newedits .exit)) (now (newconstraints .exit)) ⌝ }
+{
+    let new = new_proposal(edits, constraints, oldedits, oldconstraints);
+    if new.number != 0 {
+        return refused(new.number);
+    }
+    let after = new.after;
+    let n = after.editcount;
+    let m = after.constraintcount;
+    if newedits.len() < n {
+        return refused(12);
+    }
+    if newconstraints.len() < m {
+        return refused(12);
+    }
+    write_edits(after, newedits);
+    write_constraints(after, newconstraints);
+    Proposed {
+        number: 0,
+        editcount: n,
+        constraintcount: m,
     }
 }

@@ -1,8 +1,7 @@
-use Prim.Native.Nat.{ℕ, zero, suc, _+_, _-_, _*_, _≤_, _<_}
-use mathlib.Core.Path.{_≡_, refl, ap, sym, _∙_}
-use mathlib.Core.List.{List, [], _∷_, _++_}
-use lib.ListN.{length, getD, take, drop, set}
-use native.Mathlib.Omega.{arith}
+-- `decisions::finished` meets its contract. Assumes nothing.
+use Prim.Native.Nat.{ℕ}
+use mathlib.Core.Path.{ap, _∙_}
+use mathlib.Core.List.{List, _∷_}
 use Rattle.record.specs.Record.{written}
 use Rattle.keyed.proofs.Union.{ascending-united}
 use Rattle.table.specs.Table.{constraintKey}
@@ -15,40 +14,25 @@ use Rattle.decisions.proofs.Paging.{scheduled-rest, finished-is}
 use borrow.Author.Needs.{needs}
 use Rattle.decisions.proofs.finished.Statement.{statement}
 use Rattle.decisions.proofs.finished.Tie as tie
-use Rattle.decisions.proofs.finished.Reads as reads
-use Rattle.decisions.proofs.finished.Lts as lts
-use Rattle.decisions.proofs.pages.Reads as pages-reads
-use Rattle.decisions.proofs.with_decisions.Reads as with-decisions-reads
-use Rattle.decisions.proofs.with_orders.Reads as with-orders-reads
-use Rattle.indexes.proofs.index_table.Reads as index-table-reads
-use Rattle.insertion.proofs.table_of.Reads as table-of-reads
-use Rattle.pairs.proofs.unordered_pairs.Reads as unordered-pairs-reads
 
--- src/lib.rt:133:9
 unordered-pairs-requires : tie.Need-unordered-pairs-requires
 unordered-pairs-requires c κs = search needs
 
--- src/lib.rt:134:17
 index-table-requires : tie.Need-index-table-requires
 index-table-requires c κs = search needs
 
--- src/lib.rt:135:17
 pages-requires : tie.Need-pages-requires
 pages-requires c κs = search needs
 
--- src/lib.rt:136:9
 table-of-requires : tie.Need-table-of-requires
 table-of-requires c κs = search needs
 
--- src/lib.rt:137:9
 with-decisions-requires : tie.Need-with-decisions-requires
 with-decisions-requires c κs = search needs
 
--- src/lib.rt:138:5
 with-orders-requires : tie.Need-with-orders-requires
 with-orders-requires c κs = search needs
 
--- src/lib.rt:130:1
 returns : tie.Need-returns
 returns c =
     λ R e k h.

@@ -1,28 +1,24 @@
-use Prim.Native.Nat.{ℕ, zero, suc, _+_, _-_, _*_, _≤_, _<_}
-use mathlib.Core.Path.{_≡_, refl, ap, sym, _∙_}
-use mathlib.Core.List.{List, [], _∷_, _++_}
-use lib.ListN.{length, getD, take, drop, set}
+-- `decisions::with_decisions` meets its contract. Assumes nothing.
+use Prim.Native.Nat.{ℕ, _-_, _≤_}
+use mathlib.Core.Path.{_≡_}
+use mathlib.Core.List.{List, _∷_}
+use lib.ListN.{length, take}
 use native.Mathlib.Omega.{arith}
 use Rattle.record.specs.Record.{Record, written}
 use Rattle.record.specs.declared.Constraint.{Constraint}
-use Rattle.record.specs.Stored.{fillerConstraint, fillerEdit}
+use Rattle.record.specs.Stored.{fillerEdit}
 use Rattle.keyed.specs.Keyed.{Ascending, united}
 use Rattle.table.specs.Table.{constraintKey}
 use Rattle.table.proofs.Elements.{length-mapped}
-use Rattle.proposal.specs.Proposal.{unordered, decisions, orders}
+use Rattle.proposal.specs.Proposal.{decisions}
 use Rattle.insertion.specs.Insertion.{tableOf}
 use Rattle.draft.proofs.Joins.{joins-start, joins-order, joins-end}
-use Rattle.draft.proofs.Settled.{array-end}
 use Rattle.decisions.specs.Decisions.{Paged}
 use Rattle.indexes.proofs.Tables.{few-left}
 use Rattle.decisions.proofs.Paging.{decisions-none, decisions-append, decisions-next, decisions-end, held-edits}
 use borrow.Author.Needs.{needs}
 use Rattle.decisions.proofs.with_decisions.Statement.{statement}
 use Rattle.decisions.proofs.with_decisions.Tie as tie
-use Rattle.decisions.proofs.with_decisions.Reads as reads
-use Rattle.decisions.proofs.with_decisions.Lts as lts
-use Rattle.decisions.proofs.decision.Reads as decision-reads
-use Rattle.insertion.proofs.insert.Reads as insert-reads
 
 abbrev Inv-loop : tie.InvT-loop
 Inv-loop pages n edits out₀ i₀ out i = (i ≤ n) × (n ≤ 127) × (length edits ≡ 127)
@@ -32,12 +28,10 @@ Inv-loop pages n edits out₀ i₀ out i = (i ≤ n) × (n ≤ 127) × (length e
 abbrev μ-loop : tie.MeasureT-loop
 μ-loop pages n edits out₀ i₀ out i = n - i
 
--- src/lib.rt:63:9
 returns : tie.Need-returns Inv-loop μ-loop
 returns c =
     λ R rest index t e f g q a. absurd (omega (arith, few-left (c .before .args .multilog) R e f, c .if1 .taken))
 
--- src/lib.rt:68:5
 loop-holds : tie.Need-loop-holds Inv-loop μ-loop
 loop-holds c = (
   search needs,
@@ -46,35 +40,27 @@ loop-holds c = (
   λ R rest index t q g e a. joins-start (decisions (0 ∷ rest)) (decisions-none (0 ∷ rest)) (decisions-append (0 ∷ rest)) t a e (written R),
 )
 
--- src/lib.rt:69:17
 mul-e : tie.Need-mul-e Inv-loop μ-loop
 mul-e c = search needs
 
--- src/lib.rt:69:17
 array-copy-out-e : tie.Need-array-copy-out-e Inv-loop μ-loop
 array-copy-out-e c = search needs
 
--- src/lib.rt:70:9
 add-i : tie.Need-add-i Inv-loop μ-loop
 add-i c = search needs
 
--- src/lib.rt:71:34
 element-copy-out-decision : tie.Need-element-copy-out-decision Inv-loop μ-loop
 element-copy-out-decision c = search needs
 
--- src/lib.rt:71:13
 decision-requires : tie.Need-decision-requires Inv-loop μ-loop
 decision-requires c κs = search needs
 
--- src/lib.rt:72:13
 insert-requires : tie.Need-insert-requires Inv-loop μ-loop
 insert-requires c κs = search needs
 
--- src/lib.rt:68:5
 loop-less : tie.Need-loop-less Inv-loop μ-loop
 loop-less c = search needs
 
--- src/lib.rt:68:5
 loop-again : tie.Need-loop-again Inv-loop μ-loop
 loop-again c =
     let o = c .before .before .before .before .before in
@@ -89,7 +75,6 @@ loop-again c =
           (c .insert .ensures _ (k .3 R rest index t q g e a) (joins-order (decisions (0 ∷ rest)) (decisions-none (0 ∷ rest)) (decisions-append (0 ∷ rest)) t a (written R) (o .loop .i))),
     )
 
--- src/lib.rt:56:1
 returns-2 : tie.Need-returns-2 Inv-loop μ-loop
 returns-2 c =
     let o = c .before in

@@ -1,15 +1,16 @@
-use Prim.Native.Nat.{ℕ, zero, suc, _+_, _-_, _*_, _≤_, _<_}
-use mathlib.Core.Path.{_≡_, refl, ap, sym, _∙_}
-use mathlib.Core.List.{List, [], _∷_, _++_}
-use lib.ListN.{length, getD, take, drop, set}
+-- `decisions::with_orders` meets its contract. Assumes nothing.
+use Prim.Native.Nat.{ℕ, _-_, _≤_}
+use mathlib.Core.Path.{_≡_}
+use mathlib.Core.List.{List, _∷_}
+use lib.ListN.{length, take}
 use native.Mathlib.Omega.{arith}
-use Rattle.record.specs.Record.{Record, written}
+use Rattle.record.specs.Record.{Record}
 use Rattle.record.specs.declared.Constraint.{Constraint}
-use Rattle.record.specs.Stored.{fillerConstraint, fillerEdit}
+use Rattle.record.specs.Stored.{fillerConstraint}
 use Rattle.keyed.specs.Keyed.{Ascending, united}
 use Rattle.table.specs.Table.{constraintKey}
 use Rattle.table.proofs.Elements.{length-mapped}
-use Rattle.proposal.specs.Proposal.{unordered, decisions, orders}
+use Rattle.proposal.specs.Proposal.{unordered, orders}
 use Rattle.insertion.specs.Insertion.{tableOf}
 use Rattle.draft.proofs.Joins.{joins-start, joins-order, joins-end}
 use Rattle.draft.proofs.Settled.{array-end}
@@ -18,10 +19,6 @@ use Rattle.decisions.proofs.Paging.{orders-none, orders-append, orders-
 use borrow.Author.Needs.{needs}
 use Rattle.decisions.proofs.with_orders.Statement.{statement}
 use Rattle.decisions.proofs.with_orders.Tie as tie
-use Rattle.decisions.proofs.with_orders.Reads as reads
-use Rattle.decisions.proofs.with_orders.Lts as lts
-use Rattle.decisions.proofs.order_row.Reads as order-row-reads
-use Rattle.decisions.proofs.page_of.Reads as page-of-reads
 
 abbrev Inv-loop : tie.InvT-loop
 Inv-loop index pages rows n out₀ i₀ out i = (i ≤ n) × (n ≤ 512) × (length rows ≡ 512)
@@ -31,7 +28,6 @@ Inv-loop index pages rows n out₀ i₀ out i = (i ≤ n) × (n ≤ 512) × (len
 abbrev μ-loop : tie.MeasureT-loop
 μ-loop index pages rows n out₀ i₀ out i = n - i
 
--- src/lib.rt:118:5
 loop-holds : tie.Need-loop-holds Inv-loop μ-loop
 loop-holds c = (
   search needs,
@@ -40,39 +36,31 @@ loop-holds c = (
   λ R rest t g e a q. joins-start (orders (0 ∷ rest)) (orders-none (0 ∷ rest)) (orders-append (0 ∷ rest)) t a e (unordered R),
 )
 
--- src/lib.rt:119:17
 mul-c : tie.Need-mul-c Inv-loop μ-loop
 mul-c c = search needs
 
--- src/lib.rt:119:17
 array-copy-out-c : tie.Need-array-copy-out-c Inv-loop μ-loop
 array-copy-out-c c = search needs
 
--- src/lib.rt:120:13
 page-of-requires : tie.Need-page-of-requires Inv-loop μ-loop
 page-of-requires c κs =
     let s = c .before .before .before .before in
     (s .pre .0, s .pre .1, s .pre .2)
 
--- src/lib.rt:121:13
 page-of-requires-2 : tie.Need-page-of-requires-2 Inv-loop μ-loop
 page-of-requires-2 c κs =
     let s = c .before .before .before .before .before in
     (s .pre .0, s .pre .1, s .pre .2)
 
--- src/lib.rt:122:13
 order-row-requires : tie.Need-order-row-requires Inv-loop μ-loop
 order-row-requires c κs = search needs
 
--- src/lib.rt:124:9
 add-i : tie.Need-add-i Inv-loop μ-loop
 add-i c = search needs
 
--- src/lib.rt:118:5
 loop-less : tie.Need-loop-less Inv-loop μ-loop
 loop-less c = search needs
 
--- src/lib.rt:118:5
 loop-again : tie.Need-loop-again Inv-loop μ-loop
 loop-again c =
     let o = c .before .before .before .before .before in
@@ -87,7 +75,6 @@ loop-again c =
           (c .order-row .ensures _ (k .3 R rest t g e a q) (joins-order (orders (0 ∷ rest)) (orders-none (0 ∷ rest)) (orders-append (0 ∷ rest)) t a (unordered R) (o .loop .i))),
     )
 
--- src/lib.rt:104:1
 returns : tie.Need-returns Inv-loop μ-loop
 returns c =
     let o = c .before in

@@ -1,52 +1,37 @@
-use Prim.Native.Nat.{ℕ, zero, suc, _+_, _-_, _*_, _≤_, _<_}
-use mathlib.Core.Path.{_≡_, refl, ap, sym, _∙_}
-use mathlib.Core.List.{List, [], _∷_, _++_}
-use lib.ListN.{length, getD, take, drop, set}
-use native.Mathlib.Omega.{arith}
+-- `draft::first_row` meets its contract. Assumes nothing.
+use mathlib.Core.Path.{sym, _∙_}
 use Rattle.draft.proofs.Settled.{none-first, left-first, right-first}
 use borrow.Author.Needs.{needs}
 use Rattle.draft.proofs.first_row.Statement.{statement}
 use Rattle.draft.proofs.first_row.Tie as tie
-use Rattle.draft.proofs.first_row.Reads as reads
-use Rattle.draft.proofs.first_row.Lts as lts
-use Rattle.draft.proofs.notafter.Reads as notafter-reads
-use Rattle.insertion.proofs.insert.Reads as insert-reads
 
--- src/lib.rt:50:13
 returns : tie.Need-returns
 returns c =
     λ t e a. let s = c .before .before .args in
     none-first (s .left) (s .right) (s .c .left) (s .c .right) t e (c .before .if1 .taken ∙ sym (c .if2 .taken))
 
--- src/lib.rt:52:41
 notafter-requires : tie.Need-notafter-requires
 notafter-requires c κs = search needs
 
--- src/lib.rt:52:9
 insert-requires : tie.Need-insert-requires
 insert-requires c κs = search needs
 
--- src/lib.rt:52:9
 returns-2 : tie.Need-returns-2
 returns-2 c =
     λ t e a. let s = c .before .before .before .before .args in
     left-first (s .left) (s .right) (s .c .left) (s .c .right) t (c .before .before .before .if1 .taken) (c .before .before .if2 .left) (c .before .notafter .ensures) (c .insert .ensures t e a)
 
--- src/lib.rt:55:41
 notafter-requires-2 : tie.Need-notafter-requires-2
 notafter-requires-2 c κs = search needs
 
--- src/lib.rt:55:9
 insert-requires-2 : tie.Need-insert-requires-2
 insert-requires-2 c κs = search needs
 
--- src/lib.rt:55:9
 returns-3 : tie.Need-returns-3
 returns-3 c =
     λ t e a. let s = c .before .before .before .before .args in
     right-first (s .left) (s .right) (s .c .left) (s .c .right) t (c .before .before .before .if1 .left) (c .before .before .if3 .taken) (c .before .notafter2 .ensures) (c .insert2 .ensures t e a)
 
--- src/lib.rt:45:1
 returns-4 : tie.Need-returns-4
 returns-4 c =
     λ t e a. let s = c .before .before .args in

@@ -1,7 +1,8 @@
-use Prim.Native.Nat.{ℕ, zero, suc, _+_, _-_, _*_, _≤_, _<_}
-use mathlib.Core.Path.{_≡_, refl, ap, sym, _∙_}
-use mathlib.Core.List.{List, [], _∷_, _++_}
-use lib.ListN.{length, getD, take, drop, set}
+-- `draft::with_firsts` meets its contract. Assumes nothing.
+use Prim.Native.Nat.{_-_, _≤_}
+use mathlib.Core.Path.{_≡_}
+use mathlib.Core.List.{List}
+use lib.ListN.{length, take}
 use native.Mathlib.Omega.{arith}
 use Rattle.record.specs.Record.{Record}
 use Rattle.record.specs.declared.Constraint.{Constraint}
@@ -11,17 +12,12 @@ use Rattle.table.specs.Table.{constraintKey}
 use Rattle.table.proofs.Elements.{length-mapped}
 use Rattle.proposal.specs.Proposal.{firsts}
 use Rattle.insertion.specs.Insertion.{tableOf}
-use Rattle.pairs.proofs.Sifting.{in-array}
 use Rattle.draft.specs.Draft.{Settles}
 use Rattle.draft.proofs.Joins.{joins-start, joins-order, joins-end}
 use Rattle.draft.proofs.Settled.{firsts-none, firsts-append, firsts-next, array-end}
 use borrow.Author.Needs.{needs}
 use Rattle.draft.proofs.with_firsts.Statement.{statement}
 use Rattle.draft.proofs.with_firsts.Tie as tie
-use Rattle.draft.proofs.with_firsts.Reads as reads
-use Rattle.draft.proofs.with_firsts.Lts as lts
-use Rattle.draft.proofs.first_row.Reads as first-row-reads
-use Rattle.draft.proofs.settled_in.Reads as settled-in-reads
 
 abbrev Inv-loop : tie.InvT-loop
 Inv-loop index settled rows n out₀ i₀ out i = (i ≤ n) × (n ≤ 512) × (length rows ≡ 512)
@@ -30,44 +26,35 @@ Inv-loop index settled rows n out₀ i₀ out i = (i ≤ n) × (n ≤ 512) × (l
 abbrev μ-loop : tie.MeasureT-loop
 μ-loop index settled rows n out₀ i₀ out i = n - i
 
--- src/lib.rt:75:5
 loop-holds : tie.Need-loop-holds Inv-loop μ-loop
 loop-holds c =
     (search needs, search needs, search (needs, length-mapped), λ Q t l g e a q. joins-start (firsts Q) (firsts-none Q) (firsts-append Q) t a e l)
 
--- src/lib.rt:76:17
 mul-c : tie.Need-mul-c Inv-loop μ-loop
 mul-c c = search needs
 
--- src/lib.rt:76:17
 array-copy-out-c : tie.Need-array-copy-out-c Inv-loop μ-loop
 array-copy-out-c c = search needs
 
--- src/lib.rt:77:13
 settled-in-requires : tie.Need-settled-in-requires Inv-loop μ-loop
 settled-in-requires c κs =
     let s = c .before .before .before .before in
     (s .pre .0, s .pre .1)
 
--- src/lib.rt:78:13
 settled-in-requires-2 : tie.Need-settled-in-requires-2 Inv-loop μ-loop
 settled-in-requires-2 c κs =
     let s = c .before .before .before .before .before in
     (s .pre .0, s .pre .1)
 
--- src/lib.rt:79:13
 first-row-requires : tie.Need-first-row-requires Inv-loop μ-loop
 first-row-requires c κs = search needs
 
--- src/lib.rt:81:9
 add-i : tie.Need-add-i Inv-loop μ-loop
 add-i c = search needs
 
--- src/lib.rt:75:5
 loop-less : tie.Need-loop-less Inv-loop μ-loop
 loop-less c = search needs
 
--- src/lib.rt:75:5
 loop-again : tie.Need-loop-again Inv-loop μ-loop
 loop-again c =
     let o = c .before .before .before .before .before in
@@ -81,7 +68,6 @@ loop-again c =
           (c .first-row .ensures _ (k .3 Q t l g e a q) (joins-order (firsts Q) (firsts-none Q) (firsts-append Q) t a l (o .loop .i))),
     )
 
--- src/lib.rt:61:1
 returns : tie.Need-returns Inv-loop μ-loop
 returns c =
     let o = c .before in

@@ -1,25 +1,14 @@
-use Prim.Native.Nat.{ℕ, zero, suc, _+_, _-_, _*_, _≤_, _<_}
-use mathlib.Core.Path.{_≡_, refl, ap, sym, _∙_}
-use mathlib.Core.List.{List, [], _∷_, _++_}
-use lib.ListN.{length, getD, take, drop, set}
+-- `insertion::insert` meets its contract. Assumes nothing.
 use native.Mathlib.Omega.{arith}
 use Rattle.insertion.proofs.Tables.{stays-full, few, count-is, in-order, known-is, overflows, joins}
 use borrow.Author.Needs.{needs}
 use Rattle.insertion.proofs.insert.Statement.{statement}
 use Rattle.insertion.proofs.insert.Tie as tie
-use Rattle.insertion.proofs.insert.Reads as reads
-use Rattle.insertion.proofs.insert.Lts as lts
-use Rattle.insertion.proofs.full_table.Reads as full-table-reads
-use Rattle.insertion.proofs.place.Reads as place-reads
-use Rattle.insertion.proofs.put_at.Reads as put-at-reads
-use Rattle.insertion.proofs.stands.Reads as stands-reads
 
--- src/lib.rt:104:9
 returns : tie.Need-returns
 returns c =
     λ l e a. let s = c .before in stays-full (s .args .table) l e (s .args .c) (c .if1 .taken)
 
--- src/lib.rt:108:9
 returns-2 : tie.Need-returns-2
 returns-2 c =
     λ l e a.
@@ -27,15 +16,12 @@ returns-2 c =
     let f = c .before .if1 .left in
     absurd (omega (arith, few (s .args .table) l e (s .args .c) f, count-is (s .args .table) l e (s .args .c) f))
 
--- src/lib.rt:111:9
 place-requires : tie.Need-place-requires
 place-requires c κs = search needs
 
--- src/lib.rt:112:8
 stands-requires : tie.Need-stands-requires
 stands-requires c κs = search needs
 
--- src/lib.rt:113:9
 returns-3 : tie.Need-returns-3
 returns-3 c =
     λ l e a.
@@ -44,11 +30,9 @@ returns-3 c =
     let p = c .before .before .place in
     known-is (s .args .table) l e (s .args .c) f (p .result) (p .ensures .0 (in-order (s .args .table) l e (s .args .c) f a)) (c .before .stands .ensures) (c .if3 .taken)
 
--- src/lib.rt:116:9
 full-table-requires : tie.Need-full-table-requires
 full-table-requires c κs = search needs
 
--- src/lib.rt:116:9
 returns-4 : tie.Need-returns-4
 returns-4 c =
     λ l e a.
@@ -57,17 +41,14 @@ returns-4 c =
     let p = c .before .before .before .before .place in
     overflows (s .args .table) l e (s .args .c) f (p .result) (p .ensures .0 (in-order (s .args .table) l e (s .args .c) f a)) (c .before .before .before .stands .ensures) (c .before .before .if3 .left) (c .before .if4 .taken) (c .full-table .ensures)
 
--- src/lib.rt:118:9
 put-at-requires : tie.Need-put-at-requires
 put-at-requires c κs =
     let p = c .before .before .before .place in
     (p .ensures .1, search needs)
 
--- src/lib.rt:121:16
 add-t9 : tie.Need-add-t9
 add-t9 c = search needs
 
--- src/lib.rt:100:1
 returns-5 : tie.Need-returns-5
 returns-5 c =
     λ l e a.

@@ -1,15 +1,12 @@
-use Prim.Native.Nat.{ℕ, zero, suc, _+_, _-_, _*_, _≤_, _<_}
-use mathlib.Core.Path.{_≡_, refl, ap, sym, _∙_}
-use mathlib.Core.List.{List, [], _∷_, _++_}
-use lib.ListN.{length, getD, take, drop, set}
-use native.Mathlib.Omega.{arith}
+-- `insertion::put_at` meets its contract. Assumes nothing.
+use Prim.Native.Nat.{_≤_, _<_}
+use mathlib.Core.Path.{_≡_}
+use lib.ListN.{length}
 use Rattle.record.specs.Stored.{fillerConstraint}
 use Rattle.insertion.proofs.Moves.{opened, opened-start, opened-turn, opened-done}
 use borrow.Author.Needs.{needs}
 use Rattle.insertion.proofs.put_at.Statement.{statement}
 use Rattle.insertion.proofs.put_at.Tie as tie
-use Rattle.insertion.proofs.put_at.Reads as reads
-use Rattle.insertion.proofs.put_at.Lts as lts
 
 abbrev Inv-loop : tie.InvT-loop
 Inv-loop n p c out₀ j₀ out j = (p ≤ j) × (j ≤ n) × (n < length out₀) × (out ≡ opened n out₀ j)
@@ -17,55 +14,43 @@ Inv-loop n p c out₀ j₀ out j = (p ≤ j) × (j ≤ n) × (n < length out₀)
 abbrev μ-loop : tie.MeasureT-loop
 μ-loop n p c out₀ j₀ out j = j
 
--- src/lib.rt:90:5
 loop-holds : tie.Need-loop-holds Inv-loop μ-loop
 loop-holds c =
     (search needs, search needs, search needs, opened-start (c .args .n) (c .args .rows))
 
--- src/lib.rt:91:21
 sub-y : tie.Need-sub-y Inv-loop μ-loop
 sub-y c = search needs
 
--- src/lib.rt:91:17
 mul-y : tie.Need-mul-y Inv-loop μ-loop
 mul-y c = search needs
 
--- src/lib.rt:91:17
 array-copy-out-y : tie.Need-array-copy-out-y Inv-loop μ-loop
 array-copy-out-y c = search needs
 
--- src/lib.rt:92:9
 mul-out : tie.Need-mul-out Inv-loop μ-loop
 mul-out c = search needs
 
--- src/lib.rt:92:9
 array-set-from-out : tie.Need-array-set-from-out Inv-loop μ-loop
 array-set-from-out c = search needs
 
--- src/lib.rt:93:9
 sub-j : tie.Need-sub-j Inv-loop μ-loop
 sub-j c = search needs
 
--- src/lib.rt:90:5
 loop-less : tie.Need-loop-less Inv-loop μ-loop
 loop-less c = search needs
 
--- src/lib.rt:90:5
 loop-again : tie.Need-loop-again Inv-loop μ-loop
 loop-again c =
     let l = c .before .before in
     let s = l .before in
     (search needs, search needs, l .loop .inv .2, opened-turn (s .args .n) (s .args .rows) (l .loop .j) fillerConstraint (search needs) (l .loop .inv .1) (l .loop .inv .2) (l .loop .inv .3))
 
--- src/lib.rt:95:5
 mul-out-2 : tie.Need-mul-out-2 Inv-loop μ-loop
 mul-out-2 c = search needs
 
--- src/lib.rt:95:5
 array-set-from-out-2 : tie.Need-array-set-from-out-2 Inv-loop μ-loop
 array-set-from-out-2 c = search needs
 
--- src/lib.rt:84:1
 returns : tie.Need-returns Inv-loop μ-loop
 returns c =
     let l = c .before in

@@ -1,49 +1,34 @@
-use Prim.Native.Nat.{ℕ, zero, suc, _+_, _-_, _*_, _≤_, _<_}
-use mathlib.Core.Path.{_≡_, refl, ap, sym, _∙_}
-use mathlib.Core.List.{List, [], _∷_, _++_}
-use lib.ListN.{length, getD, take, drop, set}
+-- `pairs::is_unordered` meets its contract. Assumes nothing.
+use mathlib.Core.Path.{sym, _∙_}
 use native.Mathlib.Omega.{arith}
 use Rattle.record.specs.Record.{notafter}
-use Rattle.links.specs.Marks.{nameAt}
 use Rattle.pairs.proofs.Unordered.{index-low, index-name, other-rule, order-forth, order-back, index-read, order-read}
 use borrow.Author.Needs.{needs}
 use Rattle.pairs.proofs.is_unordered.Statement.{statement}
 use Rattle.pairs.proofs.is_unordered.Tie as tie
-use Rattle.pairs.proofs.is_unordered.Reads as reads
-use Rattle.pairs.proofs.is_unordered.Lts as lts
-use Rattle.indexes.proofs.index_of.Reads as index-of-reads
-use Rattle.links.proofs.leads_to.Reads as leads-to-reads
-use Rattle.links.proofs.wide16.Reads as wide16-reads
 
--- src/lib.rt:40:9
 returns : tie.Need-returns
 returns c =
     λ R g f l r. other-rule R (c .before .before .args .c) (c .if1 .taken)
 
--- src/lib.rt:42:38
 wide16-requires : tie.Need-wide16-requires
 wide16-requires c κs = search needs
 
--- src/lib.rt:42:9
 index-of-requires : tie.Need-index-of-requires
 index-of-requires c κs = search needs
 
--- src/lib.rt:43:38
 wide16-requires-2 : tie.Need-wide16-requires-2
 wide16-requires-2 c κs = search needs
 
--- src/lib.rt:43:9
 index-of-requires-2 : tie.Need-index-of-requires-2
 index-of-requires-2 c κs = search needs
 
--- src/lib.rt:44:8
 leads-to-requires : tie.Need-leads-to-requires
 leads-to-requires c κs =
     let s = c .before .before .before .before .before .before in
     let j = s .pre .2 (c .before .wide162 .result) in
     (s .pre .0, omega arith, omega (arith, c .index-of2 .ensures, j))
 
--- src/lib.rt:45:9
 returns-2 : tie.Need-returns-2
 returns-2 c =
     let s = c .before .before .before .before .before .before .before .before in
@@ -58,14 +43,12 @@ returns-2 c =
     order-forth R (s .args .c) (c .before .before .before .before .before .before .if1 .left)
     (sym (order-read R (s .args .c .left) (s .args .c .right) _ _ (c .before .leads-to .ensures (notafter R) R (g .notafters) il jl) n m) ∙ c .if2 .taken)
 
--- src/lib.rt:47:6
 leads-to-requires-2 : tie.Need-leads-to-requires-2
 leads-to-requires-2 c κs =
     let s = c .before .before .before .before .before .before .before .before in
     let j = s .pre .2 (c .before .before .before .before .before .wide16 .result) in
     (s .pre .0, omega arith, omega (arith, c .before .before .before .before .index-of .ensures, j))
 
--- src/lib.rt:27:1
 returns-3 : tie.Need-returns-3
 returns-3 c =
     let s = c .before .before .before .before .before .before .before .before .before in

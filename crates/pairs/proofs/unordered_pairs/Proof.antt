@@ -1,7 +1,7 @@
-use Prim.Native.Nat.{ℕ, zero, suc, _+_, _-_, _*_, _≤_, _<_}
-use mathlib.Core.Path.{_≡_, refl, ap, sym, _∙_}
-use mathlib.Core.List.{List, [], _∷_, _++_}
-use lib.ListN.{length, getD, take, drop, set}
+-- `pairs::unordered_pairs` meets its contract. Assumes nothing.
+use Prim.Native.Nat.{ℕ, _-_, _≤_}
+use mathlib.Core.Path.{_≡_}
+use lib.ListN.{length, getD, take}
 use native.Mathlib.Omega.{arith}
 use Rattle.record.specs.Lists.{sift}
 use Rattle.record.specs.Record.{Record, names}
@@ -13,13 +13,6 @@ use Rattle.pairs.proofs.Unordered.{isUnordered, left-known, right-known
 use borrow.Author.Needs.{needs}
 use Rattle.pairs.proofs.unordered_pairs.Statement.{statement}
 use Rattle.pairs.proofs.unordered_pairs.Tie as tie
-use Rattle.pairs.proofs.unordered_pairs.Reads as reads
-use Rattle.pairs.proofs.unordered_pairs.Lts as lts
-use Rattle.indexes.proofs.index_table.Reads as index-table-reads
-use Rattle.indexes.proofs.resolved.Reads as resolved-reads
-use Rattle.links.proofs.wide8.Reads as wide8-reads
-use Rattle.marks.proofs.bit.Reads as bit-reads
-use Rattle.pairs.proofs.is_unordered.Reads as is-unordered-reads
 
 abbrev Inv-loop : tie.InvT-loop
 Inv-loop constraints n index head link left rows₀ count₀ i₀ rows count i = (i ≤ n) × (n ≤ 512) × (length constraints ≡ 512) × (count ≤ i) × (length rows ≡ 512)
@@ -28,72 +21,57 @@ Inv-loop constraints n index head link left rows₀ count₀ i₀ rows count i =
 abbrev μ-loop : tie.MeasureT-loop
 μ-loop constraints n index head link left rows₀ count₀ i₀ rows count i = n - i
 
--- src/lib.rt:57:9
 returns : tie.Need-returns Inv-loop μ-loop
 returns c =
     let s = c .before .before in
     (search (needs, length-mapped), search needs, λ R e f. absurd (omega (arith, within-limit (s .args .multilog) R e f, c .if1 .taken)))
 
--- src/lib.rt:62:17
 index-table-requires : tie.Need-index-table-requires Inv-loop μ-loop
 index-table-requires c κs = search needs
 
--- src/lib.rt:63:9
 resolved-requires : tie.Need-resolved-requires Inv-loop μ-loop
 resolved-requires c κs = search needs
 
--- src/lib.rt:70:5
 loop-holds : tie.Need-loop-holds Inv-loop μ-loop
 loop-holds c =
     (search needs, search needs, search (needs, length-mapped), search needs, search (needs, length-mapped), λ R g f e. pairs-start R (c .before .before .before .before .before .before .before .args .multilog .constraints))
 
--- src/lib.rt:71:17
 mul-c : tie.Need-mul-c Inv-loop μ-loop
 mul-c c = search needs
 
--- src/lib.rt:71:17
 array-copy-out-c : tie.Need-array-copy-out-c Inv-loop μ-loop
 array-copy-out-c c = search needs
 
--- src/lib.rt:72:13
 is-unordered-requires : tie.Need-is-unordered-requires Inv-loop μ-loop
 is-unordered-requires c κs =
     let r = c .before .before .before .before .before .before .before .before .before .before .resolved in
     let t = c .before .before .before .before .before .before .before .before .before .before .before .index-table in
     (r .ensures .0, t .ensures .0, t .ensures .1)
 
--- src/lib.rt:73:9
 mul-rows : tie.Need-mul-rows Inv-loop μ-loop
 mul-rows c = search needs
 
--- src/lib.rt:73:9
 array-set-from-rows : tie.Need-array-set-from-rows Inv-loop μ-loop
 array-set-from-rows c = search needs
 
--- src/lib.rt:74:31
 bit-requires : tie.Need-bit-requires Inv-loop μ-loop
 bit-requires c κs = search needs
 
--- src/lib.rt:74:18
 wide8-requires : tie.Need-wide8-requires Inv-loop μ-loop
 wide8-requires c κs = search needs
 
--- src/lib.rt:74:9
 add-count : tie.Need-add-count Inv-loop μ-loop
 add-count c =
     let l = c .before .before .before .before .before .before .before .before .before in
     let b = bit-low (c .before .before .is-unordered .result) (c .wide8 .ensures) (c .before .bit .ensures) .1 in
     omega arith
 
--- src/lib.rt:75:9
 add-i : tie.Need-add-i Inv-loop μ-loop
 add-i c = search needs
 
--- src/lib.rt:70:5
 loop-less : tie.Need-loop-less Inv-loop μ-loop
 loop-less c = search needs
 
--- src/lib.rt:70:5
 loop-again : tie.Need-loop-again Inv-loop μ-loop
 loop-again c =
     let l = c .before .before .before .before .before .before .before .before .before in
@@ -114,7 +92,6 @@ loop-again c =
           (u .ensures R g f (left-known R (g .formed) _ m) (right-known R (g .formed) _ m)) (b .0),
     )
 
--- src/lib.rt:51:1
 returns-2 : tie.Need-returns-2 Inv-loop μ-loop
 returns-2 c =
     let l = c .before in

@@ -1,7 +1,5 @@
-use Prim.Native.Nat.{ℕ, zero, suc, _+_, _-_, _*_, _≤_, _<_}
-use mathlib.Core.Path.{_≡_, refl, ap, sym, _∙_}
-use mathlib.Core.List.{List, [], _∷_, _++_}
-use lib.ListN.{length, getD, take, drop, set}
+-- `propose::drafted` meets its contract. Assumes nothing.
+use mathlib.Core.Path.{sym, _∙_}
 use native.Mathlib.Omega.{arith}
 use borrow.Author.Tests.{not-true, not-false}
 use Rattle.table.specs.Table.{unite}
@@ -12,37 +10,24 @@ use Rattle.propose.proofs.Drafts.{stopped-is, made-is, unsound-old, no-
 use borrow.Author.Needs.{needs}
 use Rattle.propose.proofs.drafted.Statement.{statement}
 use Rattle.propose.proofs.drafted.Tie as tie
-use Rattle.propose.proofs.drafted.Reads as reads
-use Rattle.propose.proofs.drafted.Lts as lts
-use Rattle.decisions.proofs.finished.Reads as finished-reads
-use Rattle.draft.proofs.started.Reads as started-reads
-use Rattle.insertion.proofs.with_table.Reads as with-table-reads
-use Rattle.judge.proofs.sound.Reads as sound-reads
-use Rattle.propose.proofs.stopped.Reads as stopped-reads
 
--- src/lib.rt:39:9
 sound-requires : tie.Need-sound-requires
 sound-requires c κs = search needs
 
--- src/lib.rt:40:9
 stopped-requires : tie.Need-stopped-requires
 stopped-requires c κs = search needs
 
--- src/lib.rt:40:9
 returns : tie.Need-returns
 returns c =
     λ M Q e k f j.
     stopped-is 8 (draftFault M Q) (proposed M Q) (unsound-old M Q (sym (c .before .before .sound .ensures Q f (checked-fit Q j)) ∙ not-true _ (c .before .if1 .taken))) (λ z. omega arith) (c .stopped .ensures)
 
--- src/lib.rt:42:9
 started-requires : tie.Need-started-requires
 started-requires c κs = search needs
 
--- src/lib.rt:44:9
 stopped-requires-2 : tie.Need-stopped-requires-2
 stopped-requires-2 c κs = search needs
 
--- src/lib.rt:44:9
 returns-2 : tie.Need-returns-2
 returns-2 c =
     λ M Q e k f j.
@@ -51,19 +36,15 @@ returns-2 c =
     let t = c .before .before .started .ensures (unite M Q) Q e k f j in
     stopped-is 3 (draftFault M Q) (proposed M Q) (no-place-before M Q p first t (c .before .if2 .taken)) (λ z. omega arith) (c .stopped2 .ensures)
 
--- src/lib.rt:46:9
 with-table-requires : tie.Need-with-table-requires
 with-table-requires c κs = search needs
 
--- src/lib.rt:47:9
 sound-requires-2 : tie.Need-sound-requires-2
 sound-requires-2 c κs = search needs
 
--- src/lib.rt:48:9
 stopped-requires-3 : tie.Need-stopped-requires-3
 stopped-requires-3 c κs = search needs
 
--- src/lib.rt:48:9
 returns-3 : tie.Need-returns-3
 returns-3 c =
     λ M Q e k f j.
@@ -75,15 +56,12 @@ returns-3 c =
     let w = start-checked M Q p first t q k in
     stopped-is 8 (draftFault M Q) (proposed M Q) (unsound-start M Q p first t q (sym (c .before .before .sound2 .ensures (started M Q) s (checked-fit (started M Q) w)) ∙ not-true _ (c .before .if3 .taken))) (λ z. omega arith) (c .stopped3 .ensures)
 
--- src/lib.rt:50:9
 finished-requires : tie.Need-finished-requires
 finished-requires c κs = search needs
 
--- src/lib.rt:52:9
 stopped-requires-4 : tie.Need-stopped-requires-4
 stopped-requires-4 c κs = search needs
 
--- src/lib.rt:52:9
 returns-4 : tie.Need-returns-4
 returns-4 c =
     λ M Q e k f j.
@@ -98,11 +76,9 @@ returns-4 c =
     let u = c .before .before .finished .ensures (started M Q) s w y in
     stopped-is 3 (draftFault M Q) (proposed M Q) (no-place-after M Q p first t q y last u (c .before .if4 .taken)) (λ z. omega arith) (c .stopped4 .ensures)
 
--- src/lib.rt:56:16
 with-table-requires-2 : tie.Need-with-table-requires-2
 with-table-requires-2 c κs = search needs
 
--- src/lib.rt:36:1
 returns-5 : tie.Need-returns-5
 returns-5 c =
     λ M Q e k f j.

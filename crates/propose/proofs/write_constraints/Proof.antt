@@ -1,7 +1,7 @@
-use Prim.Native.Nat.{ℕ, zero, suc, _+_, _-_, _*_, _≤_, _<_}
-use mathlib.Core.Path.{_≡_, refl, ap, sym, _∙_}
-use mathlib.Core.List.{List, [], _∷_, _++_}
-use lib.ListN.{length, getD, take, drop, set}
+-- `propose::write_constraints` meets its contract. Assumes nothing.
+use Prim.Native.Nat.{_-_, _≤_}
+use mathlib.Core.Path.{_≡_, refl}
+use lib.ListN.{length}
 use native.Mathlib.Omega.{arith}
 use Rattle.record.specs.Stored.{fillerConstraint}
 use Rattle.row.specs.Row.{constraintRow}
@@ -10,9 +10,6 @@ use Rattle.propose.proofs.Written.{written, written-next, written-end}
 use borrow.Author.Needs.{needs}
 use Rattle.propose.proofs.write_constraints.Statement.{statement}
 use Rattle.propose.proofs.write_constraints.Tie as tie
-use Rattle.propose.proofs.write_constraints.Reads as reads
-use Rattle.propose.proofs.write_constraints.Lts as lts
-use Rattle.row.proofs.constraint_row.Reads as constraint-row-reads
 
 abbrev Inv-loop : tie.InvT-loop
 Inv-loop table₀ constraints n i₀ table i = (i ≤ n) × (n ≤ 512) × (length constraints ≡ 512) × (n ≤ length table₀) × (length table ≡ length table₀) × (table ≡ written constraintRow constraints table₀ i)
@@ -20,40 +17,31 @@ Inv-loop table₀ constraints n i₀ table i = (i ≤ n) × (n ≤ 512) × (leng
 abbrev μ-loop : tie.MeasureT-loop
 μ-loop table₀ constraints n i₀ table i = n - i
 
--- src/lib.rt:59:5
 loop-holds : tie.Need-loop-holds Inv-loop μ-loop
 loop-holds c =
     (search needs, search needs, search (needs, length-mapped), c .before .pre .1, search needs, refl)
 
--- src/lib.rt:60:17
 mul-c : tie.Need-mul-c Inv-loop μ-loop
 mul-c c = search needs
 
--- src/lib.rt:60:17
 array-copy-out-c : tie.Need-array-copy-out-c Inv-loop μ-loop
 array-copy-out-c c = search needs
 
--- src/lib.rt:61:13
 constraint-row-requires : tie.Need-constraint-row-requires Inv-loop μ-loop
 constraint-row-requires c κs = search needs
 
--- src/lib.rt:62:9
 mul-row : tie.Need-mul-row Inv-loop μ-loop
 mul-row c = search needs
 
--- src/lib.rt:62:9
 slice-set-from-row : tie.Need-slice-set-from-row Inv-loop μ-loop
 slice-set-from-row c = search needs
 
--- src/lib.rt:63:9
 add-i : tie.Need-add-i Inv-loop μ-loop
 add-i c = search needs
 
--- src/lib.rt:59:5
 loop-less : tie.Need-loop-less Inv-loop μ-loop
 loop-less c = search needs
 
--- src/lib.rt:59:5
 loop-again : tie.Need-loop-again Inv-loop μ-loop
 loop-again c =
     let o = c .before .before .before in
@@ -68,12 +56,10 @@ loop-again c =
       written-next constraintRow (s .args .multilog .constraints) (s .args .table .now) (o .loop .i) fillerConstraint (omega arith) (omega arith) (k .5) (c .constraint-row .ensures),
     )
 
--- src/lib.rt:52:1
 same-length : tie.Need-same-length Inv-loop μ-loop
 same-length c =
     c .before .loop .inv .4
 
--- src/lib.rt:52:1
 returns : tie.Need-returns Inv-loop μ-loop
 returns c =
     let o = c .before in

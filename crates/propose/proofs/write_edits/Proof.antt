@@ -1,7 +1,7 @@
-use Prim.Native.Nat.{ℕ, zero, suc, _+_, _-_, _*_, _≤_, _<_}
-use mathlib.Core.Path.{_≡_, refl, ap, sym, _∙_}
-use mathlib.Core.List.{List, [], _∷_, _++_}
-use lib.ListN.{length, getD, take, drop, set}
+-- `propose::write_edits` meets its contract. Assumes nothing.
+use Prim.Native.Nat.{_-_, _≤_}
+use mathlib.Core.Path.{_≡_, refl}
+use lib.ListN.{length}
 use native.Mathlib.Omega.{arith}
 use Rattle.record.specs.Stored.{fillerEdit}
 use Rattle.row.specs.Row.{editRow}
@@ -10,9 +10,6 @@ use Rattle.propose.proofs.Written.{written, written-next, written-end}
 use borrow.Author.Needs.{needs}
 use Rattle.propose.proofs.write_edits.Statement.{statement}
 use Rattle.propose.proofs.write_edits.Tie as tie
-use Rattle.propose.proofs.write_edits.Reads as reads
-use Rattle.propose.proofs.write_edits.Lts as lts
-use Rattle.row.proofs.edit_row.Reads as edit-row-reads
 
 abbrev Inv-loop : tie.InvT-loop
 Inv-loop table₀ edits n i₀ table i = (i ≤ n) × (n ≤ 127) × (length edits ≡ 127) × (n ≤ length table₀) × (length table ≡ length table₀) × (table ≡ written editRow edits table₀ i)
@@ -20,40 +17,31 @@ Inv-loop table₀ edits n i₀ table i = (i ≤ n) × (n ≤ 127) × (length edi
 abbrev μ-loop : tie.MeasureT-loop
 μ-loop table₀ edits n i₀ table i = n - i
 
--- src/lib.rt:43:5
 loop-holds : tie.Need-loop-holds Inv-loop μ-loop
 loop-holds c =
     (search needs, search needs, search (needs, length-mapped), c .before .pre .1, search needs, refl)
 
--- src/lib.rt:44:17
 mul-e : tie.Need-mul-e Inv-loop μ-loop
 mul-e c = search needs
 
--- src/lib.rt:44:17
 array-copy-out-e : tie.Need-array-copy-out-e Inv-loop μ-loop
 array-copy-out-e c = search needs
 
--- src/lib.rt:45:13
 edit-row-requires : tie.Need-edit-row-requires Inv-loop μ-loop
 edit-row-requires c κs = search needs
 
--- src/lib.rt:46:9
 mul-row : tie.Need-mul-row Inv-loop μ-loop
 mul-row c = search needs
 
--- src/lib.rt:46:9
 slice-set-from-row : tie.Need-slice-set-from-row Inv-loop μ-loop
 slice-set-from-row c = search needs
 
--- src/lib.rt:47:9
 add-i : tie.Need-add-i Inv-loop μ-loop
 add-i c = search needs
 
--- src/lib.rt:43:5
 loop-less : tie.Need-loop-less Inv-loop μ-loop
 loop-less c = search needs
 
--- src/lib.rt:43:5
 loop-again : tie.Need-loop-again Inv-loop μ-loop
 loop-again c =
     let o = c .before .before .before in
@@ -68,12 +56,10 @@ loop-again c =
       written-next editRow (s .args .multilog .edits) (s .args .table .now) (o .loop .i) fillerEdit (omega arith) (omega arith) (k .5) (c .edit-row .ensures),
     )
 
--- src/lib.rt:36:1
 same-length : tie.Need-same-length Inv-loop μ-loop
 same-length c =
     c .before .loop .inv .4
 
--- src/lib.rt:36:1
 returns : tie.Need-returns Inv-loop μ-loop
 returns c =
     let o = c .before in

@@ -1,0 +1,91 @@
+-- `keeping::keeps` meets its contract. Assumes nothing.
+use Prim.Native.Nat.{_-_, _≤_}
+use mathlib.Core.Path.{_≡_}
+use lib.ListN.{length, take}
+use native.Mathlib.Omega.{arith}
+use mathlib.Core.Bool.{true}
+use borrow.Author.Tests.{not-true, not-false}
+use Rattle.record.specs.Lists.{all, _within_}
+use Rattle.record.specs.Record.{Record, written}
+use Rattle.record.specs.Stored.{stored, fillerEdit}
+use Rattle.indexes.specs.Fit.{Fit}
+use Rattle.indexes.proofs.Tables.{few-left}
+use Rattle.table.proofs.Elements.{length-mapped}
+use Rattle.keeping.proofs.Keeping.{isKept, name-known, keeps-stop, keeps-next, keeps-start, keeps-end}
+use borrow.Author.Needs.{needs}
+use Rattle.keeping.proofs.keeps.Statement.{statement}
+use Rattle.keeping.proofs.keeps.Tie as tie
+
+abbrev Inv-loop : tie.InvT-loop
+Inv-loop old new n edits i₀ i = (i ≤ n) × (n ≤ 127) × (length edits ≡ 127)
+    × ((Q P : Record) → old ≡ stored Q → Fit Q → new ≡ stored P → Fit P → written Q within written P → all (isKept Q P) (take i (written Q)) ≡ true)
+
+abbrev μ-loop : tie.MeasureT-loop
+μ-loop old new n edits i₀ i = n - i
+
+returns : tie.Need-returns Inv-loop μ-loop
+returns c =
+    λ Q P e f g h w. absurd (omega (arith, few-left (c .before .args .old) Q e f, c .if1 .taken))
+
+loop-holds : tie.Need-loop-holds Inv-loop μ-loop
+loop-holds c =
+    (search needs, search needs, search (needs, length-mapped), λ Q P e f g h w. keeps-start Q P)
+
+mul-e : tie.Need-mul-e Inv-loop μ-loop
+mul-e c = search needs
+
+array-copy-out-e : tie.Need-array-copy-out-e Inv-loop μ-loop
+array-copy-out-e c = search needs
+
+is-kept-requires : tie.Need-is-kept-requires Inv-loop μ-loop
+is-kept-requires c κs = search needs
+
+returns-2 : tie.Need-returns-2 Inv-loop μ-loop
+returns-2 c =
+    let o = c .before .before .before .before in
+    let s = o .before .before .before in
+    let l = c .before .before .before .loop-test .taken in
+    λ Q P e f g h w. let m = name-known (s .args .old) Q e (o .loop .i) fillerEdit l in
+    keeps-stop (s .args .old) Q P e (o .loop .i) fillerEdit l (c .before .is-kept .ensures Q P e f g h m (w _ m)) (not-true _ (c .if2 .taken))
+
+add-i : tie.Need-add-i Inv-loop μ-loop
+add-i c = search needs
+
+loop-less : tie.Need-loop-less Inv-loop μ-loop
+loop-less c = search needs
+
+loop-again : tie.Need-loop-again Inv-loop μ-loop
+loop-again c =
+    let o = c .before .before .before .before in
+    let s = o .before .before .before in
+    let l = c .before .before .before .loop-test .taken in
+    let k = o .loop .inv in (
+      search needs,
+      k .1,
+      k .2,
+      λ Q P e f g h w. let m = name-known (s .args .old) Q e (o .loop .i) fillerEdit l in
+          keeps-next (s .args .old) Q P e (o .loop .i) fillerEdit l (c .before .is-kept .ensures Q P e f g h m (w _ m)) (not-false _ (c .if2 .left)) (k .3 Q P e f g h w),
+    )
+
+returns-3 : tie.Need-returns-3 Inv-loop μ-loop
+returns-3 c =
+    let o = c .before in
+    let s = o .before .before .before in
+    λ Q P e f g h w. keeps-end (s .args .old) Q P e (o .loop .i) (c .loop-test .left) (o .loop .inv .3 Q P e f g h w)
+
+pub keeps-spec : {M : Type 1} → statement M
+keeps-spec =
+    tie.close
+    (tie.spec
+    Inv-loop
+    μ-loop
+    returns
+    loop-holds
+    mul-e
+    array-copy-out-e
+    is-kept-requires
+    returns-2
+    add-i
+    loop-less
+    loop-again
+    returns-3)
