@@ -19,7 +19,7 @@ fn is_kept(old: Record, new: Record, name: u16) -> bool
 {
     let after = bundle::bundle(new, name);
     let before = bundle::bundle(old, name);
-    if tally::same_bundle(after, before) {
+    if equality::same_bundle(after, before) {
         return true;
     }
     !bundle::eligible(old, name)

@@ -1,4 +1,3 @@
-pub mod Equal
 pub mod Counts
 pub mod Steps
 pub mod Winners

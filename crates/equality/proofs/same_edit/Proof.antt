@@ -1,9 +1,9 @@
--- `tally::same_edit` meets its contract. Assumes nothing.
+-- `equality::same_edit` meets its contract. Assumes nothing.
 use mathlib.Core.Path.{_∙_}
 use borrow.Author.Needs.{needs}
-use Rattle.tally.proofs.Equal.{edits-compared}
-use Rattle.tally.proofs.same_edit.Statement.{statement}
-use Rattle.tally.proofs.same_edit.Tie as tie
+use Rattle.equality.proofs.Equal.{edits-compared}
+use Rattle.equality.proofs.same_edit.Statement.{statement}
+use Rattle.equality.proofs.same_edit.Tie as tie
 
 edit-row-requires : tie.Need-edit-row-requires
 edit-row-requires c κs = search needs

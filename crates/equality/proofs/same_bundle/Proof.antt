@@ -1,13 +1,13 @@
--- `tally::same_bundle` meets its contract. Assumes nothing.
+-- `equality::same_bundle` meets its contract. Assumes nothing.
 use mathlib.Core.Path.{_≡_}
 use native.Mathlib.Omega.{arith}
 use lib.ListN.{length}
 use borrow.Author.Tests.{not-true, not-false}
 use borrow.Author.Needs.{needs}
 use Rattle.vote.proofs.Front.{length-mapped}
-use Rattle.tally.proofs.Equal.{more-edits, more-constraints, edits-differ, constraints-decide, edits-within, constraints-within}
-use Rattle.tally.proofs.same_bundle.Statement.{statement}
-use Rattle.tally.proofs.same_bundle.Tie as tie
+use Rattle.equality.proofs.Equal.{more-edits, more-constraints, edits-differ, constraints-decide, edits-within, constraints-within}
+use Rattle.equality.proofs.same_bundle.Statement.{statement}
+use Rattle.equality.proofs.same_bundle.Tie as tie
 
 returns : tie.Need-returns
 returns c = λ P Q p q. let s = c .before .before in more-edits (s .args .a) (s .args .b) P Q p q (c .if1 .taken)

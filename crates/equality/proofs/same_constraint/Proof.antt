@@ -1,9 +1,9 @@
--- `tally::same_constraint` meets its contract. Assumes nothing.
+-- `equality::same_constraint` meets its contract. Assumes nothing.
 use mathlib.Core.Path.{_∙_}
 use borrow.Author.Needs.{needs}
-use Rattle.tally.proofs.Equal.{constraints-compared}
-use Rattle.tally.proofs.same_constraint.Statement.{statement}
-use Rattle.tally.proofs.same_constraint.Tie as tie
+use Rattle.equality.proofs.Equal.{constraints-compared}
+use Rattle.equality.proofs.same_constraint.Statement.{statement}
+use Rattle.equality.proofs.same_constraint.Tie as tie
 
 constraint-row-requires : tie.Need-constraint-row-requires
 constraint-row-requires c κs = search needs

@@ -1,4 +1,4 @@
--- `tally::same_constraints` meets its contract. Assumes nothing.
+-- `equality::same_constraints` meets its contract. Assumes nothing.
 use mathlib.Core.Path.{_≡_, refl, sym, _∙_}
 use mathlib.Core.Bool.{true}
 use Prim.Native.Nat.{_-_, _≤_}
@@ -7,9 +7,9 @@ use lib.ListN.{length, take}
 use borrow.Author.Tests.{not-true, not-false}
 use borrow.Author.Needs.{needs}
 use Rattle.vote.specs.Tally.{sameList, sameConstraint}
-use Rattle.tally.proofs.Equal.{same-more, same-broken}
-use Rattle.tally.proofs.same_constraints.Statement.{statement}
-use Rattle.tally.proofs.same_constraints.Tie as tie
+use Rattle.equality.proofs.Equal.{same-more, same-broken}
+use Rattle.equality.proofs.same_constraints.Statement.{statement}
+use Rattle.equality.proofs.same_constraints.Tie as tie
 
 abbrev Inv-loop : tie.InvT-loop
 Inv-loop n a b i₀ i = (i ≤ n) × (n ≤ 512) × (sameList sameConstraint (take i a) (take i b) ≡ true)

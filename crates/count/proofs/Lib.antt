@@ -1,0 +1,4 @@
+pub mod Benches
+pub mod Proposals
+pub mod Rolled
+pub mod Answers

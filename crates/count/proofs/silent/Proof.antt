@@ -1,0 +1,14 @@
+-- `count::silent` meets its contract. Assumes nothing.
+use borrow.Author.Needs.{needs}
+use Rattle.tally.specs.declared.Vote.the-variants.{Silent}
+use Rattle.count.proofs.silent.Statement.{statement}
+use Rattle.count.proofs.silent.Tie as tie
+
+empty-requires : tie.Need-empty-requires
+empty-requires c κs = search needs
+
+returns : tie.Need-returns
+returns c = λ i. record { vote = Silent; bundle = c .empty .ensures i }
+
+pub silent-spec : {M : Type 1} → statement M
+silent-spec = tie.close (tie.spec empty-requires returns)
