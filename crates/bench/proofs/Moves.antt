@@ -24,9 +24,11 @@ use Rattle.vote.specs.declared.Election.{Election}
 use Rattle.turner.specs.declared.Turned.{Turned}
 use Rattle.turner.specs.declared.Turned.the-variants.{To, Refused}
 use Rattle.turner.specs.declared.TurnAnswer.{TurnAnswer}
-use Rattle.turner.specs.Turn.{turned, turnOf, answerOf}
+use Rattle.turner.specs.Turn.{turned, answerOf}
 use Rattle.turner.proofs.Signed.{turn-is}
 use Rattle.turner.proofs.Landed.{turned-lands}
+use Rattle.turning.specs.declared.Turning.{Turning}
+use Rattle.turning.specs.Turning.{turnAnswerOf, turningOf}
 use Rattle.pages.specs.Steps.{commonBeginning, Agree}
 use Rattle.catalogue.specs.declared.View.{View}
 use Rattle.catalogue.specs.declared.Changed.{Changed}
@@ -55,54 +57,47 @@ length-pages : (L : Ledger) → length (pageEdits L) ≡ last L
 unfolding pageEdits last
 length-pages L = length-map (pages L) (editNamed (L .multilog .edits))
 
--- what the turner answers, of the number as the code holds it
-pub answer-of : (opened last : ℕ) (by : ℤ) → SFits w32 by → (t : Turned) (answer : TurnAnswer) → t ≡ turnOf opened last (toZ w32 (ofZ w32 by)) → answer ≡ answerOf opened t
-    → answer ≡ answerOf opened (turnOf opened last by)
-answer-of opened last by f t answer h a = a ∙ ap (answerOf opened) (h ∙ ap (turnOf opened last) (toZ-ofZ f))
+-- a turn, by the number as the code holds it
+module _ (L : Ledger) (v : Valid L) (bench : Bench) (e : bench ≡ benchOf L) (by : ℤ) (fits : SFits w32 by) (t : Turning) (h : t ≡ turningOf (bench .turner) (toZ w32 (ofZ w32 by))) where
+  abbrev answer : TurnAnswer
+  answer = answerOf (L .opened) (turned (L .opened) (last L) by)
 
--- a turn
-module _ (L : Ledger) (v : Valid L) (bench : Bench) (e : bench ≡ benchOf L) (by : ℤ) (answer : TurnAnswer)
-    (h : answer ≡ answerOf (bench .turner .opened) (turnOf (bench .turner .opened) (bench .turner .last) by)) where
-  opened-is : bench .turner .opened ≡ L .opened
+  answer-is : turnAnswerOf (L .opened) (last L) by ≡ answer
+  answer-is = ap (answerOf (L .opened)) (turn-is (L .opened) (last L) by (omega (arith, v .opened-within, last-room L v)))
+
+  turning-is : t ≡ record { number = answer .number; turner = record { opened = answer .opened; last = last L } }
   unfolding benchOf
-  opened-is = ap (λ (b : Bench). b .turner .opened) e
+  turning-is =
+      h ∙ (λ i. turningOf (e i .turner) (toZ-ofZ fits i))
+      ∙ (λ i. record { number = answer-is i .number; turner = record { opened = answer-is i .opened; last = last L } })
 
-  last-is : bench .turner .last ≡ last L
-  unfolding benchOf
-  last-is = ap (λ (b : Bench). b .turner .last) e
-
-  answer-is : answer ≡ answerOf (L .opened) (turned (L .opened) (last L) by)
-  answer-is =
-      h ∙ (λ i. answerOf (opened-is i) (turnOf (opened-is i) (last-is i) by))
-      ∙ ap (answerOf (L .opened)) (turn-is (L .opened) (last L) by (omega (arith, v .opened-within, last-room L v)))
-
-  pub turn-refused : (answer .number ≡ 0 → ⊥) → refusedWith bench 10 ≡ outcome (step L (turn by))
+  pub turn-refused : (t .number ≡ 0 → ⊥) → refusedWith bench 10 ≡ outcome (step L (turn by))
   unfolding judge
   turn-refused z = go (turned (L .opened) (last L) by) refl
     where
-      go : (t : Turned) → turned (L .opened) (last L) by ≡ t → refusedWith bench 10 ≡ outcome (step L (turn by))
-      go (To page) q = absurd (z (ap (λ (a : TurnAnswer). a .number) (answer-is ∙ ap (answerOf (L .opened)) q)))
-      go Refused q = refused-is L bench (turn by) 10 e (ap (λ (t : Turned). answerOf (L .opened) t .number) q) (λ x. omega arith)
+      go : (u : Turned) → turned (L .opened) (last L) by ≡ u → refusedWith bench 10 ≡ outcome (step L (turn by))
+      go (To page) q = absurd (z (ap (λ (r : Turning). r .number) turning-is ∙ ap (λ (u : Turned). answerOf (L .opened) u .number) q))
+      go Refused q = refused-is L bench (turn by) 10 e (ap (λ (u : Turned). answerOf (L .opened) u .number) q) (λ x. omega arith)
 
   landed-within : answer .opened ≤ last L
   landed-within = go (turned (L .opened) (last L) by) refl
     where
-      go : (t : Turned) → turned (L .opened) (last L) by ≡ t → answer .opened ≤ last L
-      go (To page) q =
-          omega (arith, ap (λ (a : TurnAnswer). a .opened) (answer-is ∙ ap (answerOf (L .opened)) q), turned-lands (last L) page (L .opened) by q .within)
-      go Refused q = omega (arith, ap (λ (a : TurnAnswer). a .opened) (answer-is ∙ ap (answerOf (L .opened)) q), v .opened-within)
+      go : (u : Turned) → turned (L .opened) (last L) by ≡ u → answer .opened ≤ last L
+      go (To page) q = omega (arith, ap (λ (u : Turned). answerOf (L .opened) u .opened) q, turned-lands (last L) page (L .opened) by q .within)
+      go Refused q = omega (arith, ap (λ (u : Turned). answerOf (L .opened) u .opened) q, v .opened-within)
 
-  pub turn-accepted : (w : View) → answer .number ≡ 0 → moves.Turns (bench .schedule) (bench .turner .opened) (answer .opened) (bench .view) w
-      → turnedTo bench (answer .opened) w ≡ outcome (step L (turn by))
+  pub turn-accepted : (w : View) → t .number ≡ 0 → moves.Turns (bench .schedule) (bench .turner .opened) (t .turner .opened) (bench .view) w
+      → turnedTo bench (t .turner) w ≡ outcome (step L (turn by))
   unfolding judge act outcome benchOf moves.Turns openEdits pageEdits last pages
   turn-accepted w z m =
-      let p : answer .opened ≡ answerOf (L .opened) (turned (L .opened) (last L) by) .opened = ap (λ (a : TurnAnswer). a .opened) answer-is in
+      let o : bench .turner .opened ≡ L .opened = ap (λ (b : Bench). b .turner .opened) e in
+      let p : t .turner .opened ≡ answer .opened = ap (λ (r : Turning). r .turner .opened) turning-is in
       let n = length-pages L in
-      let x : w ≡ viewOf (take (answer .opened) (pageEdits L)) =
-      m (pageEdits L) (omega (arith, last-room L v)) (ap (λ (b : Bench). b .schedule) e) (omega (arith, opened-is, v .opened-within)) (omega (arith, landed-within))
-      (ap (λ (b : Bench). b .view) e ∙ ap (λ (k : ℕ). viewOf (take k (pageEdits L))) (sym opened-is)) in
-      accepted-is L (turn by) _ (sym (ap (λ (a : TurnAnswer). a .number) answer-is) ∙ z)
-      ((λ i. turnedTo (e i) (p i) (x i)) ∙ ap (λ (k : ℕ). turnedTo (benchOf L) (answerOf (L .opened) (turned (L .opened) (last L) by) .opened) (viewOf (take k (pageEdits L)))) p)
+      let x : w ≡ viewOf (take (t .turner .opened) (pageEdits L)) =
+      m (pageEdits L) (omega (arith, last-room L v)) (ap (λ (b : Bench). b .schedule) e) (omega (arith, o, v .opened-within)) (omega (arith, p, landed-within))
+      (ap (λ (b : Bench). b .view) e ∙ ap (λ (k : ℕ). viewOf (take k (pageEdits L))) (sym o)) in
+      accepted-is L (turn by) _ (sym (ap (λ (r : Turning). r .number) turning-is) ∙ z)
+      (λ i. turnedTo (e i) (turning-is i .turner) ((x ∙ ap (λ (k : ℕ). viewOf (take k (pageEdits L))) p) i))
 
 -- a change
 module _ (L : Ledger) (v : Valid L) (bench : Bench) (e : bench ≡ benchOf L) (R : Record) (h : List ℕ) (k : Checked R) (s : sound R ≡ true)

@@ -14,6 +14,7 @@ use Rattle.record.specs.Judgement.{sound}
 use Rattle.links.specs.Marks.{marksOf}
 use Rattle.table.specs.Checked.{Checked}
 use Rattle.vote.specs.declared.Election.{Election}
+use Rattle.turner.specs.declared.Turner.{Turner}
 use Rattle.catalogue.specs.declared.View.{View}
 use Rattle.catalogue.specs.Chips.{scheduleOf}
 use Rattle.ledger.specs.declared.Bench.{Bench}
@@ -28,15 +29,15 @@ refusedWith bench number = record {
   bench = bench;
 }
 
--- the bench open at another page; a turn reports no pages
-abbrev pub turnedTo : Bench → ℕ → View → Outcome
-turnedTo bench page view = record {
+-- the bench with another turner and view; a turn reports no pages
+abbrev pub turnedTo : Bench → Turner → View → Outcome
+turnedTo bench turner view = record {
   answer = answered 0 0 noElection;
   bench = record {
     multilog = bench .multilog;
     hidden = bench .hidden;
     schedule = bench .schedule;
-    turner = record { opened = page; last = bench .turner .last };
+    turner = turner;
     view = view;
   };
 }

@@ -48,11 +48,11 @@ pub fn refused(bench: Bench, number: u32) -> Outcome
     }
 }
 
-fn opened_at(bench: Bench, page: usize, view: View) -> Outcome
-    ensures { λ r. ⌜ r ≡ turnedTo bench page view ⌝ }
+fn turned_to(bench: Bench, turner: Turner, view: View) -> Outcome
+    ensures { λ r. ⌜ r ≡ turnedTo bench turner view ⌝ }
 {
     let mut turned = bench;
-    turned.turner.opened = page;
+    turned.turner = turner;
     turned.view = view;
     Outcome {
         answer: Answer {
@@ -71,18 +71,16 @@ fn opened_at(bench: Bench, page: usize, view: View) -> Outcome
 pub fn turn(bench: Bench, by: i32) -> Outcome
     ensures { λ r. ⌜ Answers bench (Call.turn by) r ⌝ }
 {
-    let turner = bench.turner;
-    let opened = turner.opened;
-    let turned = turner::turn_step(opened, turner.last, by);
-    let answer = turner::turn_answer(opened, turned);
-    if answer.number != 0 {
+    let before = bench.turner;
+    let turning = turning::turned(before, by);
+    if turning.number != 0 {
         return refused(bench, 10);
     }
-    let page = answer.opened;
+    let after = turning.turner;
     let schedule = bench.schedule;
     let view = bench.view;
-    let moved = catalogue::turn_to(view, schedule, opened, page);
-    opened_at(bench, page, moved)
+    let moved = catalogue::turn_to(view, schedule, before.opened, after.opened);
+    turned_to(bench, after, moved)
 }
 
 // What a call without an election tells of one. Pub for the crates of the other calls.

@@ -1,0 +1,18 @@
+-- Document 01, "Entries and pages": the open page and the last page form the turner, one small state changed by each turn. Assumes nothing.
+use Prim.Native.Nat.{ℕ}
+use lib.IntN.{ℤ}
+use Rattle.turner.specs.declared.Turner.{Turner}
+use Rattle.turner.specs.declared.TurnAnswer.{TurnAnswer}
+use Rattle.turner.specs.Turn.{turnOf, answerOf}
+use Rattle.turning.specs.declared.Turning.{Turning}
+
+-- what a turn answers: the number, and the page that is then open
+abbrev pub turnAnswerOf : ℕ → ℕ → ℤ → TurnAnswer
+turnAnswerOf opened last by = answerOf opened (turnOf opened last by)
+
+-- the turner after a turn: the last page stays
+abbrev pub afterTurn : Turner → ℤ → Turner
+afterTurn turner by = record { opened = turnAnswerOf (turner .opened) (turner .last) by .opened; last = turner .last }
+
+abbrev pub turningOf : Turner → ℤ → Turning
+turningOf turner by = record { number = turnAnswerOf (turner .opened) (turner .last) by .number; turner = afterTurn turner by }
