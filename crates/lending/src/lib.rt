@@ -1,17 +1,20 @@
 // What the lines of a call log lend: nine records as tables of rows with any numbers, a roll, and a row to be tested. The nine tables of a kind
 // stand in one lent table, each from its own place on, so that a line costs no copy of them.
+use record::Constraint;
+use record::Edit;
 use record::Record;
 use roll::Roll;
 use vote::RollRow;
 ghost use mathlib.Core.Path.{_≡_};
 ghost use mathlib.Core.Bool.{false};
-ghost use mathlib.Core.List.{List, [], _∷_, _++_};
+ghost use mathlib.Core.List.{List, [], _∷_, _++_, map};
 ghost use Prim.Native.Nat.{ℕ, _*_, _<_, _≤_};
 ghost use lib.Dec.{eqb};
 ghost use lib.ListN.{length, replicate, take};
 ghost use Rattle.record.specs.Record as theory;
 ghost use Rattle.record.specs.Stored.{stored};
 ghost use Rattle.table.specs.Table.{editRows, constraintRows};
+ghost use Rattle.row.specs.Row.{editRow, constraintRow};
 ghost use Rattle.ground.specs.Ground.{Rows};
 ghost use Rattle.lending.specs.Lent.{Lent, nothingLent, with, rowsFault, added};
 ghost use Rattle.lending.specs.Kept.{Tables, Kept};
@@ -63,4 +66,133 @@ fn add_edit(counts: [usize; 9], kept: &mut [[u32; 5]], k: usize, row: [u32; 5]) 
         number: 0,
         counts: more,
     }
+}
+
+// A row joins table k of the lent constraints.
+fn add_constraint(counts: [usize; 9], kept: &mut [[u32; 3]], k: usize, row: [u32; 3]) -> Counts
+    ensures { λ r. ⌜ ((tables : ℕ → Rows) → Tables 513 tables counts (now (kept .entry))
+        → (r .number ≡ rowsFault 513 tables k) × Tables 513 (added 513 tables k row) (r .counts) (now (kept .exit))) ⌝ }
+{
+    if 9 <= k {
+        return Counts {
+            number: 2,
+            counts: counts,
+        };
+    }
+    let n = counts[k];
+    if 513 <= n {
+        return Counts {
+            number: 3,
+            counts: counts,
+        };
+    }
+    let at = k * 513 + n;
+    if kept.len() <= at {
+        return Counts {
+            number: 3,
+            counts: counts,
+        };
+    }
+    kept[at] = row;
+    let mut more = counts;
+    more[k] = n + 1;
+    Counts {
+        number: 0,
+        counts: more,
+    }
+}
+
+// Table k has no rows.
+fn without_rows(counts: [usize; 9], k: usize) -> [usize; 9]
+    ensures { λ r. ⌜ ((places : ℕ) (tables : ℕ → Rows) (kept : Rows) → Tables places tables counts kept → Tables places (with k [] tables) r kept) ⌝ }
+{
+    let mut fewer = counts;
+    if k < 9 {
+        fewer[k] = 0;
+    }
+    fewer
+}
+
+// The rows of n edits join table k.
+fn add_edits(
+    counts: [usize; 9],
+    kept: &mut [[u32; 5]],
+    k: usize,
+    edits: [Edit; 127],
+    n: usize,
+) -> [usize; 9]
+    requires { ⌜ n ≤ 127 ⌝ }
+    ensures { λ r. ⌜ ((tables : ℕ → Rows) → Tables 128 tables counts (now (kept .entry)) → tables k ≡ [] → k < 9
+        → Tables 128 (with k (map editRow (take n edits)) tables) r (now (kept .exit))) ⌝ }
+{
+    let mut more = counts;
+    let mut i = 0;
+    while i < n {
+        let e = edits[i];
+        let row = row::edit_row(e);
+        let added = add_edit(more, &mut kept[..], k, row);
+        more = added.counts;
+        i += 1;
+    }
+    more
+}
+
+// The rows of n constraints join table k.
+fn add_constraints(
+    counts: [usize; 9],
+    kept: &mut [[u32; 3]],
+    k: usize,
+    constraints: [Constraint; 512],
+    n: usize,
+) -> [usize; 9]
+    requires { ⌜ n ≤ 512 ⌝ }
+    ensures { λ r. ⌜ ((tables : ℕ → Rows) → Tables 513 tables counts (now (kept .entry)) → tables k ≡ [] → k < 9
+        → Tables 513 (with k (map constraintRow (take n constraints)) tables) r (now (kept .exit))) ⌝ }
+{
+    let mut more = counts;
+    let mut i = 0;
+    while i < n {
+        let c = constraints[i];
+        let row = row::constraint_row(c);
+        let added = add_constraint(more, &mut kept[..], k, row);
+        more = added.counts;
+        i += 1;
+    }
+    more
+}
+
+// The rows of table k of the lent edits.
+pub fn edits_of<'a>(counts: [usize; 9], kept: &'a [[u32; 5]], k: usize) -> &'a [[u32; 5]]
+    ensures { λ r. ⌜ ((tables : ℕ → Rows) → Tables 128 tables counts (now (kept .entry)) → k < 9 → now r ≡ tables k) ⌝ }
+{
+    if 9 <= k {
+        return &kept[0..0];
+    }
+    let n = counts[k];
+    if 128 < n {
+        return &kept[0..0];
+    }
+    let at = k * 128;
+    if kept.len() < at + n {
+        return &kept[0..0];
+    }
+    &kept[at..at + n]
+}
+
+// The rows of table k of the lent constraints.
+pub fn constraints_of<'a>(counts: [usize; 9], kept: &'a [[u32; 3]], k: usize) -> &'a [[u32; 3]]
+    ensures { λ r. ⌜ ((tables : ℕ → Rows) → Tables 513 tables counts (now (kept .entry)) → k < 9 → now r ≡ tables k) ⌝ }
+{
+    if 9 <= k {
+        return &kept[0..0];
+    }
+    let n = counts[k];
+    if 513 < n {
+        return &kept[0..0];
+    }
+    let at = k * 513;
+    if kept.len() < at + n {
+        return &kept[0..0];
+    }
+    &kept[at..at + n]
 }

@@ -64,7 +64,7 @@ same-length c = search needs
 
 -- src/lib.rt:35:1
 returns-4 : tie.Need-returns-4
-returns-4 c = λ tables T. (has-place T _ (c .before .before .if1 .left) (c .before .if2 .left) , one-more T _ (c .before .before .if1 .left) _ (c .before .if2 .left))
+returns-4 c = λ tables T. (has-place T _ (c .before .before .if1 .left) (c .before .if2 .left), one-more T _ (c .before .before .if1 .left) _ (c .before .if2 .left))
 
 pub add-edit-spec : {M : Type 1} → statement M
 add-edit-spec =
