@@ -150,10 +150,13 @@ module _ {A : Type 0} (f : A → Row) (l : List A) {places : ℕ} (tables : ℕ 
     where
       sized : length (with k (map f (take i l)) tables k) ≡ i
       sized = ap length (with-same k (map f (take i l)) tables) ∙ length-map (take i l) f ∙ length-take-le i l (omega arith)
+
       free : rowsFault places (with k (map f (take i l)) tables) k ≡ 0
       free = let p : ltb k 9 ≡ true = lt-ltb k 9 h in let q : leb places (length (with k (map f (take i l)) tables k)) ≡ false = rw sized (lt-leb places i b) in rw (p, q) refl
+
       longer : map f (take i l) ++ (row ∷ []) ≡ map f (take (i + 1) l)
       longer = let n : i + 1 ≡ suc i = omega arith in rw (n, take-suc l i d a, map-append f (take i l) (getD l i d ∷ []), e) refl
+
       each : (j : ℕ) → j < 9
           → with k (with k (map f (take i l)) tables k ++ (row ∷ [])) (with k (map f (take i l)) tables) j ≡ with k (map f (take (i + 1) l)) tables j
       each j n = is-by j k

@@ -19,4 +19,5 @@ pub record Kept (L : Lent) (lending : Lending) (editrows constraintrows : Rows) 
   pub constraints : Tables constraintPlaces (L .constraints) (lending .constraintcounts) constraintrows
   pub roll : lending .roll ≡ rollOf (L .roll)
   pub row : take (lending .rowcount) (lending .row) ≡ L .row
+  pub rowsize : length (lending .row) ≡ rowPlaces
   pub rowfew : lending .rowcount ≤ rowPlaces

@@ -16,7 +16,7 @@ ghost use Rattle.record.specs.Stored.{stored};
 ghost use Rattle.table.specs.Table.{editRows, constraintRows};
 ghost use Rattle.row.specs.Row.{editRow, constraintRow};
 ghost use Rattle.ground.specs.Ground.{Rows};
-ghost use Rattle.lending.specs.Lent.{Lent, nothingLent, with, rowsFault, added};
+ghost use Rattle.lending.specs.Lent.{Lent, nothingLent, with, rowsFault, added, withEdit, withConstraint, withRecord, recordNumber, seatNumber, withSeat, withoutRoll, nameNumber, withName, withoutRow};
 ghost use Rattle.lending.specs.Kept.{Tables, Kept};
 
 // How many rows each table has; the roll; the row to be tested.
@@ -195,4 +195,181 @@ pub fn constraints_of<'a>(counts: [usize; 9], kept: &'a [[u32; 3]], k: usize) ->
         return &kept[0..0];
     }
     &kept[at..at + n]
+}
+
+// The number of a refusal, 0 for none, and what is lent then.
+pub struct Setting {
+    pub number: u32,
+    pub lending: Lending,
+}
+
+pub fn nothing_lent() -> Lending
+    ensures { λ r. ⌜ ((edits constraints : Rows) → length edits ≡ 1152 → length constraints ≡ 4617 → Kept nothingLent r edits constraints) ⌝ }
+{
+    let counts = [0usize; 9];
+    let row = [0u32; 129];
+    Lending {
+        editcounts: counts,
+        constraintcounts: counts,
+        roll: roll::empty_roll(),
+        row: row,
+        rowcount: 0,
+    }
+}
+
+// A row of edits for record k.
+pub fn lend_edit(lending: Lending, kept: &mut [[u32; 5]], k: u32, row: [u32; 5]) -> Setting
+    ensures { λ r. ⌜ ((L : Lent) (constraints : Rows) → Kept L lending (now (kept .entry)) constraints
+        → (r .number ≡ rowsFault 128 (L .edits) k) × Kept (withEdit L k row) (r .lending) (now (kept .exit)) constraints) ⌝ }
+{
+    let counts = lending.editcounts;
+    let added = add_edit(counts, &mut kept[..], k as usize, row);
+    let more = added.counts;
+    let mut lent = lending;
+    lent.editcounts = more;
+    Setting {
+        number: added.number,
+        lending: lent,
+    }
+}
+
+// A row of constraints for record k.
+pub fn lend_constraint(lending: Lending, kept: &mut [[u32; 3]], k: u32, row: [u32; 3]) -> Setting
+    ensures { λ r. ⌜ ((L : Lent) (edits : Rows) → Kept L lending edits (now (kept .entry))
+        → (r .number ≡ rowsFault 513 (L .constraints) k) × Kept (withConstraint L k row) (r .lending) edits (now (kept .exit))) ⌝ }
+{
+    let counts = lending.constraintcounts;
+    let added = add_constraint(counts, &mut kept[..], k as usize, row);
+    let more = added.counts;
+    let mut lent = lending;
+    lent.constraintcounts = more;
+    Setting {
+        number: added.number,
+        lending: lent,
+    }
+}
+
+// Record k is this one.
+pub fn lend_record(
+    lending: Lending,
+    edits: &mut [[u32; 5]],
+    constraints: &mut [[u32; 3]],
+    k: u32,
+    multilog: Record,
+) -> Setting
+    ensures { λ r. ⌜ ((L : Lent) (R : theory.Record) → Kept L lending (now (edits .entry)) (now (constraints .entry)) → multilog ≡ stored R
+        → length (R .edits) ≤ 127 → length (R .constraints) ≤ 512
+        → (r .number ≡ recordNumber k) × Kept (withRecord L k R) (r .lending) (now (edits .exit)) (now (constraints .exit))) ⌝ }
+{
+    if 8 < k {
+        return Setting {
+            number: 2,
+            lending: lending,
+        };
+    }
+    let place = k as usize;
+    let n = multilog.editcount;
+    let m = multilog.constraintcount;
+    if 127 < n {
+        return Setting {
+            number: 2,
+            lending: lending,
+        };
+    }
+    if 512 < m {
+        return Setting {
+            number: 2,
+            lending: lending,
+        };
+    }
+    let editrows = multilog.edits;
+    let constraintrows = multilog.constraints;
+    let oldedits = lending.editcounts;
+    let oldconstraints = lending.constraintcounts;
+    let noedits = without_rows(oldedits, place);
+    let noconstraints = without_rows(oldconstraints, place);
+    let editcounts = add_edits(noedits, &mut edits[..], place, editrows, n);
+    let constraintcounts = add_constraints(
+        noconstraints,
+        &mut constraints[..],
+        place,
+        constraintrows,
+        m,
+    );
+    let mut lent = lending;
+    lent.editcounts = editcounts;
+    lent.constraintcounts = constraintcounts;
+    Setting {
+        number: 0,
+        lending: lent,
+    }
+}
+
+// A row of the roll.
+pub fn lend_seat(lending: Lending, bench: u32, weight: u32) -> Setting
+    ensures { λ r. ⌜ ((L : Lent) (edits constraints : Rows) → Kept L lending edits constraints
+        → (r .number ≡ seatNumber bench weight) × Kept (withSeat L bench weight) (r .lending) edits constraints) ⌝ }
+{
+    if 255 < bench {
+        return Setting {
+            number: 2,
+            lending: lending,
+        };
+    }
+    if 65535 < weight {
+        return Setting {
+            number: 2,
+            lending: lending,
+        };
+    }
+    let seat = RollRow {
+        bench: bench as u8,
+        weight: weight as u16,
+    };
+    let seats = lending.roll;
+    let mut lent = lending;
+    lent.roll = roll::with_row(seats, seat);
+    Setting {
+        number: 0,
+        lending: lent,
+    }
+}
+
+// No roll.
+pub fn lend_no_roll(lending: Lending) -> Lending
+    ensures { λ r. ⌜ ((L : Lent) (edits constraints : Rows) → Kept L lending edits constraints → Kept (withoutRoll L) r edits constraints) ⌝ }
+{
+    let mut lent = lending;
+    lent.roll = roll::empty_roll();
+    lent
+}
+
+// A name of the row to be tested.
+pub fn lend_name(lending: Lending, name: u32) -> Setting
+    ensures { λ r. ⌜ ((L : Lent) (edits constraints : Rows) → Kept L lending edits constraints
+        → (r .number ≡ nameNumber L) × Kept (withName L name) (r .lending) edits constraints) ⌝ }
+{
+    let n = lending.rowcount;
+    if 129 <= n {
+        return Setting {
+            number: 3,
+            lending: lending,
+        };
+    }
+    let mut lent = lending;
+    lent.row[n] = name;
+    lent.rowcount = n + 1;
+    Setting {
+        number: 0,
+        lending: lent,
+    }
+}
+
+// No row to be tested.
+pub fn lend_no_row(lending: Lending) -> Lending
+    ensures { λ r. ⌜ ((L : Lent) (edits constraints : Rows) → Kept L lending edits constraints → Kept (withoutRow L) r edits constraints) ⌝ }
+{
+    let mut lent = lending;
+    lent.rowcount = 0;
+    lent
 }

@@ -56,7 +56,7 @@ loop-less c = search needs
 
 -- src/lib.rt:154:5
 loop-again : tie.Need-loop-again Inv-loop μ-loop
-loop-again c = 
+loop-again c =
     let o = c .before .before .before .before .before .before .before in
     let v = o .loop .inv in (
       search needs,
