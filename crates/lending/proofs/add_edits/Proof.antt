@@ -1,0 +1,92 @@
+use Prim.Native.Nat.{ℕ, zero, suc, _+_, _-_, _*_, _≤_, _<_}
+use mathlib.Core.Path.{_≡_, refl, ap, sym, _∙_}
+use mathlib.Core.List.{List, [], _∷_, _++_}
+use lib.ListN.{length, getD, take, drop, set}
+use native.Mathlib.Omega.{arith}
+use borrow.Author.Needs.{needs}
+use mathlib.Core.List.{map}
+use Rattle.record.specs.Stored.{fillerEdit}
+use Rattle.row.specs.Row.{editRow}
+use Rattle.ground.specs.Ground.{Rows}
+use Rattle.lending.specs.Lent.{with}
+use Rattle.lending.specs.Kept.{Tables}
+use Rattle.lending.proofs.Rows.{rows-none, rows-next}
+use Rattle.lending.proofs.add_edits.Statement.{statement}
+use Rattle.lending.proofs.add_edits.Tie as tie
+use Rattle.lending.proofs.add_edits.Reads as reads
+use Rattle.lending.proofs.add_edits.Lts as lts
+use Rattle.lending.proofs.add_edit.Reads as add-edit-reads
+use Rattle.row.proofs.edit_row.Reads as edit-row-reads
+
+abbrev Inv-loop : tie.InvT-loop
+Inv-loop kept₀ k n edits more₀ i₀ kept more i =
+    (i ≤ n) × (n ≤ 127) × (length edits ≡ 127) × (length kept ≡ length kept₀)
+    × ((tables : ℕ → Rows) → Tables 128 tables more₀ kept₀ → tables k ≡ [] → k < 9 → Tables 128 (with k (map editRow (take i edits)) tables) more kept)
+
+abbrev μ-loop : tie.MeasureT-loop
+μ-loop kept₀ k n edits more₀ i₀ kept more i = n - i
+
+-- src/lib.rt:130:5
+loop-holds : tie.Need-loop-holds Inv-loop μ-loop
+loop-holds c = (search needs, c .pre, search needs, search needs, λ tables T e h. rows-none editRow [] tables _ h e T)
+
+-- src/lib.rt:131:17
+mul-e : tie.Need-mul-e Inv-loop μ-loop
+mul-e c = search needs
+
+-- src/lib.rt:131:17
+array-copy-out-e : tie.Need-array-copy-out-e Inv-loop μ-loop
+array-copy-out-e c = search needs
+
+-- src/lib.rt:132:13
+edit-row-requires : tie.Need-edit-row-requires Inv-loop μ-loop
+edit-row-requires c κs = search needs
+
+-- src/lib.rt:133:13
+add-edit-requires : tie.Need-add-edit-requires Inv-loop μ-loop
+add-edit-requires c κs = search needs
+
+-- src/lib.rt:135:9
+add-i : tie.Need-add-i Inv-loop μ-loop
+add-i c = search needs
+
+-- src/lib.rt:130:5
+loop-less : tie.Need-loop-less Inv-loop μ-loop
+loop-less c = search needs
+
+-- src/lib.rt:130:5
+loop-again : tie.Need-loop-again Inv-loop μ-loop
+loop-again c =
+    let o = c .before .before .before .before .before .before .before in
+    let v = o .loop .inv in (
+      search needs,
+      v .1,
+      v .2,
+      search needs,
+      λ tables T e h. rows-next editRow _ tables _ h (o .loop .i) fillerEdit (omega arith) (omega arith) (c .before .before .before .before .edit-row .ensures) (c .before .before .add-edit .ensures _ (v .4 tables T e h) .1),
+    )
+
+-- src/lib.rt:117:1
+same-length : tie.Need-same-length Inv-loop μ-loop
+same-length c = c .before .loop .inv .3
+
+-- src/lib.rt:117:1
+returns : tie.Need-returns Inv-loop μ-loop
+returns c = let v = c .before .loop .inv in λ tables T e h. let q : c .before .loop .i ≡ c .before .before .args .n = omega arith in rw q at (v .4 tables T e h)
+
+pub add-edits-spec : {M : Type 1} → statement M
+add-edits-spec =
+    tie.close
+    (tie.spec
+    Inv-loop
+    μ-loop
+    loop-holds
+    mul-e
+    array-copy-out-e
+    edit-row-requires
+    add-edit-requires
+    add-i
+    loop-less
+    loop-again
+    same-length
+    returns)
