@@ -1,2 +1,2 @@
 -- What the proofs of several functions use.
-mod Lent
+pub mod Lent
