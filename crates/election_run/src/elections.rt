@@ -121,32 +121,39 @@ fn off_the_roll() {
     of_one(b"known off the roll only", 257, two);
 }
 
-// In proposal 1, 257 must stand, since 258 is required; in its bundle, taken alone, it need not. In proposal 2 it is not decided.
-fn all_silent() {
+// Benches 1 and 8 have a proposal, of any length, and the others none.
+fn of_two<'a>(
+    label: &[u8],
+    edit: u32,
+    edits: [&'a [[u32; 5]]; 2],
+    constraints: [&'a [[u32; 3]]; 2],
+    roll: Roll,
+) {
+    let one = edits[0];
+    let first = constraints[0];
+    let none = &one[0..0];
+    let free = &first[0..0];
     print::election(
+        label,
+        edit,
+        [one, none, none, none, none, none, none, edits[1]],
+        [first, free, free, free, free, free, free, constraints[1]],
+        roll,
+    );
+}
+
+// In proposal 1, 257 must stand, since 258 is required; in its bundle, taken alone, it need not. In proposal 8 it is not decided.
+fn all_silent() {
+    let three = print::three_benches(3, 2, 1);
+    of_two(
         b"all silent",
         257,
         [
             &[[257, 0, 5, 0, 0], [258, 1, 5, 1, 8192]],
             &[[257, 0, 5, 0, 0]],
-            &[],
-            &[],
-            &[],
-            &[],
-            &[],
-            &[],
         ],
-        [
-            &[[257, 1, 258], [258, 1, 0]],
-            &[],
-            &[],
-            &[],
-            &[],
-            &[],
-            &[],
-            &[],
-        ],
-        print::three_benches(3, 2, 1),
+        [&[[257, 1, 258], [258, 1, 0]], &[]],
+        print::seated(three, 8, 4),
     );
 }
 
@@ -220,27 +227,15 @@ fn edits_turned_away() {
 
 // P5 in proposal 8, which is off the roll.
 fn unsound_proposal(label: &[u8], edit: u32) {
-    print::election(
+    of_two(
         label,
         edit,
         [
             &[[257, 0, 5, 0, 0]],
-            &[],
-            &[],
-            &[],
-            &[],
-            &[],
-            &[],
             &[[257, 0, 5, 0, 0], [258, 0, 6, 0, 0]],
         ],
         [
             &[[257, 1, 0]],
-            &[],
-            &[],
-            &[],
-            &[],
-            &[],
-            &[],
             &[[257, 0, 258], [257, 1, 0], [258, 0, 257], [258, 1, 0]],
         ],
         print::three_benches(3, 2, 1),

@@ -1,7 +1,9 @@
 // Printing of answers, and rolls.
+use bundle::BundleAnswer;
 use libc::STDOUT_FILENO;
 use record::Record;
 use roll::Roll;
+use vote::Election;
 use vote::RollRow;
 
 fn number(label: &[u8], n: u64) {
@@ -33,6 +35,16 @@ pub fn three_benches(a: u16, b: u16, c: u16) -> Roll {
     seated(two, 3, c)
 }
 
+fn told(label: &[u8], answer: Election) {
+    io::write_all(STDOUT_FILENO, label);
+    number(b": number=", wide(answer.number));
+    number(b" won=", bit(answer.won));
+    number(b" greatest=", wide(answer.greatest));
+    number(b" silent=", wide(answer.silent));
+    number(b" total=", wide(answer.total));
+    io::write_all(STDOUT_FILENO, b"\n");
+}
+
 // The election on an edit.
 pub fn election(
     label: &[u8],
@@ -42,13 +54,7 @@ pub fn election(
     roll: Roll,
 ) {
     let answer = count::election(edit, edits, constraints, roll);
-    io::write_all(STDOUT_FILENO, label);
-    number(b": number=", wide(answer.number));
-    number(b" won=", bit(answer.won));
-    number(b" greatest=", wide(answer.greatest));
-    number(b" silent=", wide(answer.silent));
-    number(b" total=", wide(answer.total));
-    io::write_all(STDOUT_FILENO, b"\n");
+    told(label, answer);
 }
 
 fn name(multilog: Record, i: usize) {
@@ -59,24 +65,33 @@ fn name(multilog: Record, i: usize) {
     number(b" ", edit.name as u64);
 }
 
-// The bundle of an edit in a lent record: whether it is eligible, its first members, and how many constraints it has.
-pub fn bundle(label: &[u8], edits: &[[u32; 5]], constraints: &[[u32; 3]], edit: u32) {
-    let answer = bundle::lent_bundle(edits, constraints, edit);
+// The first members of a bundle, and how many it has.
+fn members(bundle: Record) {
+    let count = bundle.editcount;
+    number(b" edits=", count as u64);
+    if 0 < count {
+        name(bundle, 0);
+    }
+    if 1 < count {
+        name(bundle, 1);
+    }
+    if 2 < count {
+        name(bundle, 2);
+    }
+}
+
+fn told_bundle(label: &[u8], answer: BundleAnswer) {
     let small = answer.bundle;
-    let count = small.editcount;
     io::write_all(STDOUT_FILENO, label);
     number(b": number=", wide(answer.number));
     number(b" eligible=", bit(answer.eligible));
     number(b" rules=", small.constraintcount as u64);
-    number(b" edits=", count as u64);
-    if 0 < count {
-        name(small, 0);
-    }
-    if 1 < count {
-        name(small, 1);
-    }
-    if 2 < count {
-        name(small, 2);
-    }
+    members(small);
     io::write_all(STDOUT_FILENO, b"\n");
+}
+
+// The bundle of an edit in a lent record: whether it is eligible, how many constraints it has, and its members.
+pub fn bundle(label: &[u8], edits: &[[u32; 5]], constraints: &[[u32; 3]], edit: u32) {
+    let answer = bundle::lent_bundle(edits, constraints, edit);
+    told_bundle(label, answer);
 }
