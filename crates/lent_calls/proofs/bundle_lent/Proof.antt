@@ -4,6 +4,7 @@ use mathlib.Core.List.{List, [], _∷_, _++_}
 use lib.ListN.{length, getD, take, drop, set}
 use native.Mathlib.Omega.{arith}
 use borrow.Author.Needs.{needs}
+use Rattle.lent_calls.proofs.Given.{bundle-elsewhere, bundle-given}
 use Rattle.lent_calls.proofs.bundle_lent.Statement.{statement}
 use Rattle.lent_calls.proofs.bundle_lent.Tie as tie
 use Rattle.lent_calls.proofs.bundle_lent.Reads as reads
@@ -19,7 +20,7 @@ empty-requires c κs = search needs
 
 -- src/lib.rt:91:9
 returns : tie.Need-returns
-returns c = search needs
+returns c = λ L K. bundle-elsewhere L _ _ (c .before .if1 .taken) (c .empty .ensures)
 
 -- src/lib.rt:101:9
 edits-of-requires : tie.Need-edits-of-requires
@@ -35,7 +36,7 @@ lent-bundle-requires c κs = search needs
 
 -- src/lib.rt:81:1
 returns-2 : tie.Need-returns-2
-returns-2 c = search needs
+returns-2 c = λ L K. let h = c .before .before .before .before .before .if1 .left in bundle-given L _ _ h (c .lent-bundle .ensures) (c .before .before .edits-of .ensures (L .edits) (K .edits) (omega arith)) (c .before .constraints-of .ensures (L .constraints) (K .constraints) (omega arith))
 
 pub bundle-lent-spec : {M : Type 1} → statement M
 bundle-lent-spec =

@@ -4,6 +4,7 @@ use mathlib.Core.List.{List, [], _∷_, _++_}
 use lib.ListN.{length, getD, take, drop, set}
 use native.Mathlib.Omega.{arith}
 use borrow.Author.Needs.{needs}
+use Rattle.lent_calls.proofs.Given.{eight, election-given}
 use Rattle.lent_calls.proofs.elect_lent.Statement.{statement}
 use Rattle.lent_calls.proofs.elect_lent.Tie as tie
 use Rattle.lent_calls.proofs.elect_lent.Reads as reads
@@ -82,7 +83,28 @@ election-requires c κs = search needs
 
 -- src/lib.rt:44:1
 returns : tie.Need-returns
-returns c = search needs
+returns c =
+    λ L K.
+    election-given L _
+    (eight (L .edits)
+    (c .before .before .before .before .before .before .before .before .before .before .before .before .before .before .before .before .edits-of .ensures (L .edits) (K .edits) (omega arith))
+    (c .before .before .before .before .before .before .before .before .before .before .before .before .before .before .before .edits-of2 .ensures (L .edits) (K .edits) (omega arith))
+    (c .before .before .before .before .before .before .before .before .before .before .before .before .before .before .edits-of3 .ensures (L .edits) (K .edits) (omega arith))
+    (c .before .before .before .before .before .before .before .before .before .before .before .before .before .edits-of4 .ensures (L .edits) (K .edits) (omega arith))
+    (c .before .before .before .before .before .before .before .before .before .before .before .before .edits-of5 .ensures (L .edits) (K .edits) (omega arith))
+    (c .before .before .before .before .before .before .before .before .before .before .before .edits-of6 .ensures (L .edits) (K .edits) (omega arith))
+    (c .before .before .before .before .before .before .before .before .before .before .edits-of7 .ensures (L .edits) (K .edits) (omega arith))
+    (c .before .before .before .before .before .before .before .before .before .edits-of8 .ensures (L .edits) (K .edits) (omega arith)))
+    (eight (L .constraints)
+    (c .before .before .before .before .before .before .before .before .constraints-of .ensures (L .constraints) (K .constraints) (omega arith))
+    (c .before .before .before .before .before .before .before .constraints-of2 .ensures (L .constraints) (K .constraints) (omega arith))
+    (c .before .before .before .before .before .before .constraints-of3 .ensures (L .constraints) (K .constraints) (omega arith))
+    (c .before .before .before .before .before .constraints-of4 .ensures (L .constraints) (K .constraints) (omega arith))
+    (c .before .before .before .before .constraints-of5 .ensures (L .constraints) (K .constraints) (omega arith))
+    (c .before .before .before .constraints-of6 .ensures (L .constraints) (K .constraints) (omega arith))
+    (c .before .before .constraints-of7 .ensures (L .constraints) (K .constraints) (omega arith))
+    (c .before .constraints-of8 .ensures (L .constraints) (K .constraints) (omega arith)))
+    (c .election .ensures (L .roll) (K .roll))
 
 pub elect-lent-spec : {M : Type 1} → statement M
 elect-lent-spec =

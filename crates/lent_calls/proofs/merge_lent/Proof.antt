@@ -4,6 +4,7 @@ use mathlib.Core.List.{List, [], _∷_, _++_}
 use lib.ListN.{length, getD, take, drop, set}
 use native.Mathlib.Omega.{arith}
 use borrow.Author.Needs.{needs}
+use Rattle.lent_calls.proofs.Given.{merge-given}
 use Rattle.lent_calls.proofs.merge_lent.Statement.{statement}
 use Rattle.lent_calls.proofs.merge_lent.Tie as tie
 use Rattle.lent_calls.proofs.merge_lent.Reads as reads
@@ -19,7 +20,7 @@ refused-requires c κs = search needs
 
 -- src/lib.rt:31:9
 returns : tie.Need-returns
-returns c = search needs
+returns c = (λ h. c .refused .ensures, λ L K h. absurd (let g = c .before .if1 .taken in omega arith))
 
 -- src/lib.rt:38:9
 edits-of-requires : tie.Need-edits-of-requires
@@ -35,7 +36,7 @@ merge-requires c κs = search needs
 
 -- src/lib.rt:20:1
 returns-2 : tie.Need-returns-2
-returns-2 c = search needs
+returns-2 c = (λ h. absurd (let g = c .before .before .before .before .before .if1 .left in omega arith), λ L K h. merge-given _ _ (c .merge .ensures) (c .before .before .edits-of .ensures (L .edits) (K .edits) h) (c .before .constraints-of .ensures (L .constraints) (K .constraints) h))
 
 pub merge-lent-spec : {M : Type 1} → statement M
 merge-lent-spec =
