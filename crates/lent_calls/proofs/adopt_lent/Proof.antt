@@ -83,27 +83,27 @@ adopt-requires c κs = search needs
 
 -- src/lib.rt:159:1
 returns : tie.Need-returns
-returns c = 
+returns c =
     λ L K.
     adoption-given L _ _ _
     (eight (L .edits)
-        (c .before .before .before .before .before .before .before .before .before .before .before .before .before .before .before .before .edits-of .ensures (L .edits) (K .edits) (omega arith))
-        (c .before .before .before .before .before .before .before .before .before .before .before .before .before .before .before .edits-of2 .ensures (L .edits) (K .edits) (omega arith))
-        (c .before .before .before .before .before .before .before .before .before .before .before .before .before .before .edits-of3 .ensures (L .edits) (K .edits) (omega arith))
-        (c .before .before .before .before .before .before .before .before .before .before .before .before .before .edits-of4 .ensures (L .edits) (K .edits) (omega arith))
-        (c .before .before .before .before .before .before .before .before .before .before .before .before .edits-of5 .ensures (L .edits) (K .edits) (omega arith))
-        (c .before .before .before .before .before .before .before .before .before .before .before .edits-of6 .ensures (L .edits) (K .edits) (omega arith))
-        (c .before .before .before .before .before .before .before .before .before .before .edits-of7 .ensures (L .edits) (K .edits) (omega arith))
-        (c .before .before .before .before .before .before .before .before .before .edits-of8 .ensures (L .edits) (K .edits) (omega arith)))
+    (c .before .before .before .before .before .before .before .before .before .before .before .before .before .before .before .before .edits-of .ensures (L .edits) (K .edits) (omega arith))
+    (c .before .before .before .before .before .before .before .before .before .before .before .before .before .before .before .edits-of2 .ensures (L .edits) (K .edits) (omega arith))
+    (c .before .before .before .before .before .before .before .before .before .before .before .before .before .before .edits-of3 .ensures (L .edits) (K .edits) (omega arith))
+    (c .before .before .before .before .before .before .before .before .before .before .before .before .before .edits-of4 .ensures (L .edits) (K .edits) (omega arith))
+    (c .before .before .before .before .before .before .before .before .before .before .before .before .edits-of5 .ensures (L .edits) (K .edits) (omega arith))
+    (c .before .before .before .before .before .before .before .before .before .before .before .edits-of6 .ensures (L .edits) (K .edits) (omega arith))
+    (c .before .before .before .before .before .before .before .before .before .before .edits-of7 .ensures (L .edits) (K .edits) (omega arith))
+    (c .before .before .before .before .before .before .before .before .before .edits-of8 .ensures (L .edits) (K .edits) (omega arith)))
     (eight (L .constraints)
-        (c .before .before .before .before .before .before .before .before .constraints-of .ensures (L .constraints) (K .constraints) (omega arith))
-        (c .before .before .before .before .before .before .before .constraints-of2 .ensures (L .constraints) (K .constraints) (omega arith))
-        (c .before .before .before .before .before .before .constraints-of3 .ensures (L .constraints) (K .constraints) (omega arith))
-        (c .before .before .before .before .before .constraints-of4 .ensures (L .constraints) (K .constraints) (omega arith))
-        (c .before .before .before .before .constraints-of5 .ensures (L .constraints) (K .constraints) (omega arith))
-        (c .before .before .before .constraints-of6 .ensures (L .constraints) (K .constraints) (omega arith))
-        (c .before .before .constraints-of7 .ensures (L .constraints) (K .constraints) (omega arith))
-        (c .before .constraints-of8 .ensures (L .constraints) (K .constraints) (omega arith)))
+    (c .before .before .before .before .before .before .before .before .constraints-of .ensures (L .constraints) (K .constraints) (omega arith))
+    (c .before .before .before .before .before .before .before .constraints-of2 .ensures (L .constraints) (K .constraints) (omega arith))
+    (c .before .before .before .before .before .before .constraints-of3 .ensures (L .constraints) (K .constraints) (omega arith))
+    (c .before .before .before .before .before .constraints-of4 .ensures (L .constraints) (K .constraints) (omega arith))
+    (c .before .before .before .before .constraints-of5 .ensures (L .constraints) (K .constraints) (omega arith))
+    (c .before .before .before .constraints-of6 .ensures (L .constraints) (K .constraints) (omega arith))
+    (c .before .before .constraints-of7 .ensures (L .constraints) (K .constraints) (omega arith))
+    (c .before .constraints-of8 .ensures (L .constraints) (K .constraints) (omega arith)))
     (c .adopt .ensures (L .roll) (K .roll))
 
 pub adopt-lent-spec : {M : Type 1} → statement M

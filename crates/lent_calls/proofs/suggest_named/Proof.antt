@@ -95,7 +95,7 @@ suggest-requires c κs = search needs
 
 -- src/lib.rt:223:1
 returns-6 : tie.Need-returns-6
-returns-6 c = 
+returns-6 c =
     λ R q v.
     let f = sym (c .before .before .before .before .before .before .knows .ensures R q v) ∙ not-false _ (c .before .before .before .before .before .if4 .left) in
     let g = sym (c .before .before .before .before .knows2 .ensures R q v) ∙ not-false _ (c .before .before .before .if5 .left) in
