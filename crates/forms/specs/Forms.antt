@@ -1,14 +1,21 @@
--- The call log: tables of forms. A table is a quoted text; each of its lines is a form, and the form's kind is its place, from 0. Assumes nothing.
+-- The call log: tables of forms. A table is a text; each of its lines is a form, and the form's kind is its place, from 0. Assumes nothing.
 use Prim.Native.Nat.{ℕ, suc}
+use Prim.Native.String.{String}
 use mathlib.Core.Bool.{cond}
 use mathlib.Core.List.{List, [], _∷_, _++_}
 use mathlib.Core.Option.{Option, none, some}
 use lib.ListN.{getD, take, replicate}
 use Rattle.record.specs.Lists.{all}
+use Rattle.form.specs.Spelling.{bytes}
 use Rattle.form.specs.Form.{taken}
 use Rattle.line.specs.Line.{fitsWord}
 use Rattle.line.specs.Lines.{lines}
 use Rattle.forms.specs.declared.Order.{Order}
+
+-- the table of quoted lines, each ended by byte 10
+unfoldable pub tableOf : List String → List ℕ
+tableOf [] = []
+tableOf (line ∷ rest) = bytes line ++ (10 ∷ tableOf rest)
 
 unfoldable pub formAt : List ℕ → ℕ → List ℕ
 formAt table kind = getD (lines table) kind []
