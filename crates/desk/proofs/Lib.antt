@@ -1,2 +1,2 @@
 pub mod Signs
-pub mod Kinds
+pub mod Cases

@@ -4,7 +4,7 @@ use mathlib.Core.List.{List, [], _∷_}
 use Prim.Native.Nat.{ℕ}
 use lib.Dec.{ltb}
 use lib.IntN.{pos, negℤ}
-use lib.ListN.{getD, take}
+use lib.ListN.{getD}
 use Rattle.row.specs.Row.{cell}
 use Rattle.ledger.specs.Ledger.{addEdit, addConstraint, merge, hide, show, turn, adopt}
 use Rattle.lending.specs.Lent.{isLent}
@@ -34,10 +34,10 @@ unfoldable pub adoptOf : Desk → Cells → Request
 adoptOf D c = make (adopt (cell c 0) (proposalsOf (D .lent)) (D .lent .roll))
 
 unfoldable pub addEditOf : Desk → Cells → Request
-addEditOf D c = make (addEdit (take 5 c))
+addEditOf D c = make (addEdit (cell c 0 ∷ cell c 1 ∷ cell c 2 ∷ cell c 3 ∷ cell c 4 ∷ []))
 
 unfoldable pub addConstraintOf : Desk → Cells → Request
-addConstraintOf D c = make (addConstraint (take 3 c))
+addConstraintOf D c = make (addConstraint (cell c 0 ∷ cell c 1 ∷ cell c 2 ∷ []))
 
 unfoldable pub requests : List (Desk → Cells → Request)
 requests = mergeOf ∷ hideOf ∷ showOf ∷ forwardOf ∷ backOf ∷ adoptOf ∷ addEditOf ∷ addConstraintOf ∷ []

@@ -4,6 +4,7 @@ use mathlib.Core.List.{List, [], _∷_, _++_}
 use lib.ListN.{length, getD, take, drop, set}
 use native.Mathlib.Omega.{arith}
 use borrow.Author.Needs.{needs}
+use Rattle.desk.proofs.Signs.{back-fits, back-is}
 use Rattle.desk.proofs.back.Statement.{statement}
 use Rattle.desk.proofs.back.Tie as tie
 use Rattle.desk.proofs.back.Reads as reads
@@ -15,11 +16,11 @@ cast-result c = search needs
 
 -- src/lib.rt:117:5
 sub-result : tie.Need-sub-result
-sub-result c = ?
+sub-result c = back-fits (c .args .pages) (c .pre)
 
 -- src/lib.rt:113:1
 returns : tie.Need-returns
-returns c = ?
+returns c = back-is (c .args .pages) (c .pre)
 
 pub back-spec : {M : Type 1} → statement M
 back-spec = tie.close (tie.spec cast-result sub-result returns)

@@ -4,6 +4,7 @@ use mathlib.Core.List.{List, [], _∷_, _++_}
 use lib.ListN.{length, getD, take, drop, set}
 use native.Mathlib.Omega.{arith}
 use borrow.Author.Needs.{needs}
+use Rattle.desk.proofs.Cases.{merge-reply, adopt-reply}
 use Rattle.desk.proofs.call.Statement.{statement}
 use Rattle.desk.proofs.call.Tie as tie
 use Rattle.desk.proofs.call.Reads as reads
@@ -34,15 +35,15 @@ call-alone-requires c κs = search needs
 
 -- src/lib.rt:154:1
 returns : tie.Need-returns
-returns c = search needs
+returns c = λ D e K w. merge-reply D _ _ e _ _ (c .before .match .keys1) (c .merge-lent .ensures .0) (λ h. c .merge-lent .ensures .1 (D .lent) K h)
 
 -- src/lib.rt:154:1
 returns-2 : tie.Need-returns-2
-returns-2 c = search needs
+returns-2 c = λ D e K w. adopt-reply D _ _ e _ _ (c .before .match .keys2) (c .adopt-lent .ensures (D .lent) K)
 
 -- src/lib.rt:154:1
 returns-3 : tie.Need-returns-3
-returns-3 c = search needs
+returns-3 c = λ D e K w. c .call-alone .ensures D e w (c .before .match .rest .0 .1) (c .before .match .rest .1)
 
 pub call-spec : {M : Type 1} → statement M
 call-spec =

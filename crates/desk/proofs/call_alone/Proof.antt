@@ -4,6 +4,7 @@ use mathlib.Core.List.{List, [], _∷_, _++_}
 use lib.ListN.{length, getD, take, drop, set}
 use native.Mathlib.Omega.{arith}
 use borrow.Author.Needs.{needs}
+use Rattle.desk.proofs.Cases.{hide-reply, show-reply, forward-reply, back-reply, edit-reply, constraint-reply, last-request}
 use Rattle.desk.proofs.call_alone.Statement.{statement}
 use Rattle.desk.proofs.call_alone.Tie as tie
 use Rattle.desk.proofs.call_alone.Reads as reads
@@ -89,27 +90,27 @@ add-constraint-requires c κs = search needs
 
 -- src/lib.rt:140:1
 returns : tie.Need-returns
-returns c = search needs
+returns c = λ D e w n f. hide-reply D _ _ e _ _ (c .before .match .keys1) (c .hide .ensures)
 
 -- src/lib.rt:140:1
 returns-2 : tie.Need-returns-2
-returns-2 c = search needs
+returns-2 c = λ D e w n f. show-reply D _ _ e _ _ (c .before .match .keys2) (c .show .ensures)
 
 -- src/lib.rt:140:1
 returns-3 : tie.Need-returns-3
-returns-3 c = search needs
+returns-3 c = λ D e w n f. forward-reply D _ _ e _ _ (c .before .match .keys3) (c .turn-forward .ensures D _ e refl)
 
 -- src/lib.rt:140:1
 returns-4 : tie.Need-returns-4
-returns-4 c = search needs
+returns-4 c = λ D e w n f. back-reply D _ _ e _ _ (c .before .match .keys4) (c .turn-back .ensures D _ e refl)
 
 -- src/lib.rt:140:1
 returns-5 : tie.Need-returns-5
-returns-5 c = search needs
+returns-5 c = λ D e w n f. edit-reply D _ _ e _ _ (c .before .match .keys5) (c .add-edit .ensures)
 
 -- src/lib.rt:140:1
 returns-6 : tie.Need-returns-6
-returns-6 c = search needs
+returns-6 c = λ D e w n f. constraint-reply D _ _ e _ _ (last-request _ w n f (c .before .match .rest .0 .0 .0 .0 .1) (c .before .match .rest .0 .0 .0 .1) (c .before .match .rest .0 .0 .1) (c .before .match .rest .0 .1) (c .before .match .rest .1)) (c .add-constraint .ensures)
 
 pub call-alone-spec : {M : Type 1} → statement M
 call-alone-spec =

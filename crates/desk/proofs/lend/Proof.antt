@@ -25,7 +25,7 @@ same-length-2 c = search needs
 
 -- src/lib.rt:94:9
 returns : tie.Need-returns
-returns c = search needs
+returns c = λ D K m h. c .before .before .lend-rows .ensures D K m (c .before .before .before .before .before .if1 .taken)
 
 -- src/lib.rt:103:5
 lend-names-requires : tie.Need-lend-names-requires
@@ -33,7 +33,7 @@ lend-names-requires c κs = search needs
 
 -- src/lib.rt:82:1
 returns-2 : tie.Need-returns-2
-returns-2 c = search needs
+returns-2 c = λ D K m h. c .lend-names .ensures D _ _ K (c .before .if1 .left) h
 
 pub lend-spec : {M : Type 1} → statement M
 lend-spec =

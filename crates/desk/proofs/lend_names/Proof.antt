@@ -4,6 +4,8 @@ use mathlib.Core.List.{List, [], _∷_, _++_}
 use lib.ListN.{length, getD, take, drop, set}
 use native.Mathlib.Omega.{arith}
 use borrow.Author.Needs.{needs}
+use Rattle.desk.specs.Lends.{lendSeat, lendNoRoll, lendName, lendNoRow}
+use Rattle.desk.proofs.Cases.{lent-seat, lent-no-roll, lent-name, lent-no-row, last-kind}
 use Rattle.desk.proofs.lend_names.Statement.{statement}
 use Rattle.desk.proofs.lend_names.Tie as tie
 use Rattle.desk.proofs.lend_names.Reads as reads
@@ -52,19 +54,23 @@ set-requires-2 c κs = search needs
 
 -- src/lib.rt:69:1
 returns : tie.Need-returns
-returns c = search needs
+unfolding lendSeat
+returns c = λ D e k K a h. lent-seat D _ _ (c .before .match .keys1) (c .lend-seat .ensures (D .lent) e k K)
 
 -- src/lib.rt:69:1
 returns-2 : tie.Need-returns-2
-returns-2 c = search needs
+unfolding lendNoRoll
+returns-2 c = λ D e k K a h. rw (c .set .ensures) (lent-no-roll D _ _ (c .before .before .match .keys2) (refl, c .before .lend-no-roll .ensures (D .lent) e k K))
 
 -- src/lib.rt:69:1
 returns-3 : tie.Need-returns-3
-returns-3 c = search needs
+unfolding lendName
+returns-3 c = λ D e k K a h. lent-name D _ _ (c .before .match .keys3) (c .lend-name .ensures (D .lent) e k K)
 
 -- src/lib.rt:69:1
 returns-4 : tie.Need-returns-4
-returns-4 c = search needs
+unfolding lendNoRow
+returns-4 c = λ D e k K a h. rw (c .set2 .ensures) (lent-no-row D _ _ (last-kind _ a h (c .before .before .match .rest .0 .0 .1) (c .before .before .match .rest .0 .1) (c .before .before .match .rest .1)) (refl, c .before .lend-no-row .ensures (D .lent) e k K))
 
 pub lend-names-spec : {M : Type 1} → statement M
 lend-names-spec =

@@ -4,6 +4,11 @@ use mathlib.Core.List.{List, [], _∷_, _++_}
 use lib.ListN.{length, getD, take, drop, set}
 use native.Mathlib.Omega.{arith}
 use borrow.Author.Needs.{needs}
+use Rattle.desk.specs.Lends.{lendEdit, lendConstraint, lendNothing, lendBench}
+use Rattle.desk.proofs.Cases.{lent-edit, lent-constraint, lent-nothing, lent-bench, third-kind, ledger-valid, multilog-is}
+use Rattle.table.specs.Table.{emptyTables}
+use Rattle.table.proofs.Tables.{empty-stored}
+use Rattle.desk.specs.Desk.{ledgerOf}
 use Rattle.desk.proofs.lend_rows.Statement.{statement}
 use Rattle.desk.proofs.lend_rows.Tie as tie
 use Rattle.desk.proofs.lend_rows.Reads as reads
@@ -87,7 +92,8 @@ same-length c = search needs
 
 -- src/lib.rt:18:1
 returns : tie.Need-returns
-returns c = search needs
+unfolding lendEdit
+returns c = λ D K m h. lent-edit D _ _ (c .before .before .before .match .keys1) (c .before .lend-edit .ensures (D .lent) _ K)
 
 -- src/lib.rt:18:1
 same-length-2 : tie.Need-same-length-2
@@ -95,7 +101,8 @@ same-length-2 c = search needs
 
 -- src/lib.rt:18:1
 returns-2 : tie.Need-returns-2
-returns-2 c = search needs
+unfolding lendConstraint
+returns-2 c = λ D K m h. lent-constraint D _ _ (c .before .before .before .match .keys2) (c .before .lend-constraint .ensures (D .lent) _ K)
 
 -- src/lib.rt:18:1
 same-length-3 : tie.Need-same-length-3
@@ -107,7 +114,8 @@ same-length-4 c = search needs
 
 -- src/lib.rt:18:1
 returns-3 : tie.Need-returns-3
-returns-3 c = search needs
+unfolding lendNothing
+returns-3 c = λ D K m h. lent-nothing D _ _ (c .before .before .before .before .before .before .match .keys3) (c .before .before .lend-record .ensures (D .lent) emptyTables K (c .before .before .before .empty .ensures ∙ empty-stored) (omega arith) (omega arith))
 
 -- src/lib.rt:18:1
 same-length-5 : tie.Need-same-length-5
@@ -119,7 +127,8 @@ same-length-6 c = search needs
 
 -- src/lib.rt:18:1
 returns-4 : tie.Need-returns-4
-returns-4 c = search needs
+unfolding lendBench
+returns-4 c = λ D K m h. let v = ledger-valid D .checked in lent-bench D _ _ (third-kind _ h (c .before .before .before .before .before .match .rest .0 .0 .1) (c .before .before .before .before .before .match .rest .0 .1) (c .before .before .before .before .before .match .rest .1)) (c .before .before .lend-record2 .ensures (D .lent) (ledgerOf D .multilog) K (m ∙ multilog-is D) (v .editplaces) (v .constraintplaces))
 
 pub lend-rows-spec : {M : Type 1} → statement M
 lend-rows-spec =
