@@ -25,7 +25,7 @@ use Rattle.lending.specs.declared.Lending.{Lending}
 use Rattle.lent_calls.specs.Calls.{proposalsOf}
 use Rattle.lending.specs.Lent.{Lent, recordNumber, withRecord}
 use Rattle.lending.specs.Kept.{Kept}
-use Rattle.desk.specs.Desk.{Desk, Cells, Effect, Request, refuse, make, ledgerOf, benchIn, replied}
+use Rattle.desk.specs.Desk.{Desk, Cells, Effect, Request, outside, make, ledgerOf, benchIn, replied}
 use Rattle.desk.specs.Lends.{lendings, lendingOf, lendEdit, lendConstraint, lendNothing, lendBench, lendSeat, lendNoRoll, lendName, lendNoRow}
 use Rattle.desk.specs.Requests.{requests, requestOf, mergeOf, hideOf, showOf, forwardOf, backOf, adoptOf, addEditOf, addConstraintOf}
 
@@ -81,9 +81,9 @@ module _ (D : Desk) (kind : ℕ) (c : Cells) where
 
 -- a request, and what the code gives for it
 module _ (D : Desk) (bench : Bench) (r : Outcome) (b : bench ≡ benchIn D) where
-  pub reply-refused : (n : ℕ) → r ≡ refusedWith bench n → r ≡ replied D (refuse n)
+  pub reply-outside : r ≡ refusedWith bench 2 → r ≡ replied D outside
   unfolding replied
-  reply-refused n q = q ∙ ap (λ (x : Bench). refusedWith x n) b
+  reply-outside q = q ∙ ap (λ (x : Bench). refusedWith x 2) b
 
   pub reply-made : (call : Call) → Answers bench call r → r ≡ replied D (make call)
   unfolding replied Answers ledgerOf benchIn
@@ -98,7 +98,7 @@ module _ (D : Desk) (bench : Bench) (r : Outcome) (b : bench ≡ benchIn D) wher
     unfolding requestOf requests mergeOf
     merge-reply e f g =
         reply-as 0 e (le-by 9 (cell c 0)
-        (λ h. let q : ltb (cell c 0) 9 ≡ false = le-ltb (cell c 0) 9 h in rw q (reply-refused 2 (f (omega arith))))
+        (λ h. let q : ltb (cell c 0) 9 ≡ false = le-ltb (cell c 0) 9 h in rw q (reply-outside (f (omega arith))))
         (λ h. let q : ltb (cell c 0) 9 ≡ true = lt-ltb (cell c 0) 9 h in rw q (reply-made (merge (D .lent .edits (cell c 0)) (D .lent .constraints (cell c 0))) (g h))))
 
     pub hide-reply : which ≡ 1 → Answers bench (hide (cell c 0)) r → r ≡ replied D (requestOf which D c)
@@ -133,11 +133,11 @@ module _ (D : Desk) (bench : Bench) (r : Outcome) (b : bench ≡ benchIn D) wher
   module _ (c : Cells) (pages : ℕ) (p : cell c 0 ≡ pages) where
     pub far-forward : 2147483647 < pages → r ≡ refusedWith bench 2 → r ≡ replied D (forwardOf D c)
     unfolding forwardOf
-    far-forward h q = let e : ltb (cell c 0) 2147483648 ≡ false = le-ltb (cell c 0) 2147483648 (omega arith) in rw e (reply-refused 2 q)
+    far-forward h q = let e : ltb (cell c 0) 2147483648 ≡ false = le-ltb (cell c 0) 2147483648 (omega arith) in rw e (reply-outside q)
 
     pub far-back : 2147483647 < pages → r ≡ refusedWith bench 2 → r ≡ replied D (backOf D c)
     unfolding backOf
-    far-back h q = let e : ltb (cell c 0) 2147483648 ≡ false = le-ltb (cell c 0) 2147483648 (omega arith) in rw e (reply-refused 2 q)
+    far-back h q = let e : ltb (cell c 0) 2147483648 ≡ false = le-ltb (cell c 0) 2147483648 (omega arith) in rw e (reply-outside q)
 
     pub turned-forward : pages ≤ 2147483647 → {n : ℤ} → n ≡ pos pages → Answers bench (turn n) r → r ≡ replied D (forwardOf D c)
     unfolding forwardOf

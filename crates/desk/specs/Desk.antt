@@ -48,13 +48,13 @@ tells D n text = record { number = n; after = D; text = text }
 abbrev pub noEffect : Desk → Cells → Effect
 noEffect D c = tells D 1 []
 
--- a call that is made on the bench, or refused because of what its line names
+-- a call that is made on the bench; or a number of its line is outside its range, and none is made
 pub data Request : Type 0 where
-  refuse : ℕ → Request
+  outside : Request
   make : Call → Request
 
 unfoldable pub requested : Desk → (Answer → Ledger → List ℕ) → Request → Effect
-requested D text (refuse n) = tells D n []
+requested D text outside = tells D 2 []
 requested D text (make call) =
     let reply = step (ledgerOf D) call in
     record {
@@ -65,7 +65,7 @@ requested D text (make call) =
 
 -- what the code of a call gives for it
 unfoldable pub replied : Desk → Request → Outcome
-replied D (refuse n) = refusedWith (benchIn D) n
+replied D outside = refusedWith (benchIn D) 2
 replied D (make call) = outcome (step (ledgerOf D) call)
 
 -- what is printed of a line: its answer, or its refusal with the line's number

@@ -9,10 +9,10 @@ use Rattle.row.specs.Row.{cell}
 use Rattle.ledger.specs.Ledger.{addEdit, addConstraint, merge, hide, show, turn, adopt}
 use Rattle.lending.specs.Lent.{isLent}
 use Rattle.lent_calls.specs.Calls.{proposalsOf}
-use Rattle.desk.specs.Desk.{Desk, Cells, Request, refuse, make}
+use Rattle.desk.specs.Desk.{Desk, Cells, Request, outside, make}
 
 unfoldable pub mergeOf : Desk → Cells → Request
-mergeOf D c = cond (isLent (cell c 0)) (make (merge (D .lent .edits (cell c 0)) (D .lent .constraints (cell c 0)))) (refuse 2)
+mergeOf D c = cond (isLent (cell c 0)) (make (merge (D .lent .edits (cell c 0)) (D .lent .constraints (cell c 0)))) outside
 
 unfoldable pub hideOf : Desk → Cells → Request
 hideOf D c = make (hide (cell c 0))
@@ -25,10 +25,10 @@ abbrev pub isTurn : ℕ → Bool
 isTurn n = ltb n 2147483648
 
 unfoldable pub forwardOf : Desk → Cells → Request
-forwardOf D c = cond (isTurn (cell c 0)) (make (turn (pos (cell c 0)))) (refuse 2)
+forwardOf D c = cond (isTurn (cell c 0)) (make (turn (pos (cell c 0)))) outside
 
 unfoldable pub backOf : Desk → Cells → Request
-backOf D c = cond (isTurn (cell c 0)) (make (turn (negℤ (pos (cell c 0))))) (refuse 2)
+backOf D c = cond (isTurn (cell c 0)) (make (turn (negℤ (pos (cell c 0))))) outside
 
 unfoldable pub adoptOf : Desk → Cells → Request
 adoptOf D c = make (adopt (cell c 0) (proposalsOf (D .lent)) (D .lent .roll))
@@ -43,7 +43,7 @@ unfoldable pub requests : List (Desk → Cells → Request)
 requests = mergeOf ∷ hideOf ∷ showOf ∷ forwardOf ∷ backOf ∷ adoptOf ∷ addEditOf ∷ addConstraintOf ∷ []
 
 abbrev pub noRequest : Desk → Cells → Request
-noRequest D c = refuse 1
+noRequest D c = outside
 
 unfoldable pub requestOf : ℕ → Desk → Cells → Request
 requestOf which = getD requests which noRequest
