@@ -4,6 +4,10 @@ use mathlib.Core.List.{List, [], _∷_, _++_}
 use lib.ListN.{length, getD, take, drop, set}
 use native.Mathlib.Omega.{arith}
 use borrow.Author.Needs.{needs}
+use Rattle.ledger.specs.declared.Bench.{Bench}
+use Rattle.desk.specs.Desk.{ledgerOf}
+use Rattle.desk.proofs.Cases.{ledger-valid, multilog-is}
+use Rattle.desk_asks.proofs.Answered.{text-asked, report-asked, hidden-asked, schedule-asked, catalogue-asked, journal-asked, page-asked, last-question}
 use Rattle.desk_asks.proofs.print_ask.Statement.{statement}
 use Rattle.desk_asks.proofs.print_ask.Tie as tie
 use Rattle.desk_asks.proofs.print_ask.Reads as reads
@@ -50,7 +54,7 @@ same-length c = search needs
 
 -- src/lib.rt:22:1
 returns : tie.Need-returns
-returns c = search needs
+returns c = λ D e w. text-asked D _ _ e (c .before .before .before .before .match .keys1) (c .before .before .print-record .ensures)
 
 -- src/lib.rt:22:1
 same-length-2 : tie.Need-same-length-2
@@ -58,7 +62,7 @@ same-length-2 c = search needs
 
 -- src/lib.rt:22:1
 returns-2 : tie.Need-returns-2
-returns-2 c = search needs
+returns-2 c = λ D e w. report-asked D _ (c .before .before .before .before .match .keys2) (c .before .before .print-report .ensures (ledgerOf D .multilog) (ap (λ (x : Bench). x .multilog) e ∙ multilog-is D) (ledger-valid D .checked))
 
 -- src/lib.rt:22:1
 same-length-3 : tie.Need-same-length-3
@@ -66,7 +70,7 @@ same-length-3 c = search needs
 
 -- src/lib.rt:22:1
 returns-3 : tie.Need-returns-3
-returns-3 c = search needs
+returns-3 c = λ D e w. hidden-asked D _ _ e (c .before .before .before .before .match .keys3) (c .before .before .print-hidden .ensures)
 
 -- src/lib.rt:22:1
 same-length-4 : tie.Need-same-length-4
@@ -74,7 +78,7 @@ same-length-4 c = search needs
 
 -- src/lib.rt:22:1
 returns-4 : tie.Need-returns-4
-returns-4 c = search needs
+returns-4 c = λ D e w. schedule-asked D _ _ e (c .before .before .before .before .match .keys4) (c .before .before .print-schedule .ensures)
 
 -- src/lib.rt:22:1
 same-length-5 : tie.Need-same-length-5
@@ -82,7 +86,7 @@ same-length-5 c = search needs
 
 -- src/lib.rt:22:1
 returns-5 : tie.Need-returns-5
-returns-5 c = search needs
+returns-5 c = λ D e w. catalogue-asked D _ _ e (c .before .before .before .before .match .keys5) (c .before .before .print-catalogue .ensures)
 
 -- src/lib.rt:22:1
 same-length-6 : tie.Need-same-length-6
@@ -90,7 +94,7 @@ same-length-6 c = search needs
 
 -- src/lib.rt:22:1
 returns-6 : tie.Need-returns-6
-returns-6 c = search needs
+returns-6 c = λ D e w. journal-asked D _ _ e (c .before .before .before .before .match .keys6) (c .before .before .print-journal .ensures)
 
 -- src/lib.rt:22:1
 same-length-7 : tie.Need-same-length-7
@@ -98,7 +102,7 @@ same-length-7 c = search needs
 
 -- src/lib.rt:22:1
 returns-7 : tie.Need-returns-7
-returns-7 c = search needs
+returns-7 c = λ D e w. page-asked D _ _ e (last-question _ w (c .before .before .before .before .match .rest .0 .0 .0 .0 .0 .1) (c .before .before .before .before .match .rest .0 .0 .0 .0 .1) (c .before .before .before .before .match .rest .0 .0 .0 .1) (c .before .before .before .before .match .rest .0 .0 .1) (c .before .before .before .before .match .rest .0 .1) (c .before .before .before .before .match .rest .1)) (c .before .before .print-page .ensures)
 
 pub print-ask-spec : {M : Type 1} → statement M
 print-ask-spec =

@@ -4,6 +4,8 @@ use mathlib.Core.List.{List, [], _∷_, _++_}
 use lib.ListN.{length, getD, take, drop, set}
 use native.Mathlib.Omega.{arith}
 use borrow.Author.Needs.{needs}
+use Rattle.forms.proofs.Printing.{printed-both}
+use Rattle.desk_asks.specs.Questions.{textIn}
 use Rattle.desk_asks.proofs.print_record.Statement.{statement}
 use Rattle.desk_asks.proofs.print_record.Tie as tie
 use Rattle.desk_asks.proofs.print_record.Reads as reads
@@ -29,7 +31,8 @@ same-length c = search needs
 
 -- src/lib.rt:12:1
 returns : tie.Need-returns
-returns c = search needs
+unfolding textIn
+returns c = printed-both _ _ _ _ (c .before .before .before .before .before .before .tell .ensures) (c .before .before .print-text .ensures)
 
 pub print-record-spec : {M : Type 1} → statement M
 print-record-spec =
