@@ -10,6 +10,8 @@ use Rattle.row.specs.Row.{Row, cell}
 use Rattle.text.specs.Text.{textOf}
 use Rattle.vote.specs.declared.Election.{Election}
 use Rattle.election.specs.Election.{electionOf}
+use Rattle.bundle.specs.declared.BundleAnswer.{BundleAnswer}
+use Rattle.lent.specs.declared.RowAnswer.{RowAnswer}
 use Rattle.suggest.specs.declared.Suggested.{Suggested}
 use Rattle.answers.specs.Answers.{answerLine}
 use Rattle.lending.specs.Lent.{withRecord}
@@ -21,6 +23,10 @@ use Rattle.desk.specs.Desk.{Desk, Cells, Effect, ledgerOf, tells, noEffect}
 abbrev pub bit : Bool → ℕ
 bit b = cond b 1 0
 
+-- the answer, or the refusal with the line's number
+abbrev pub answered : ℕ → List ℕ → ℕ → List ℕ
+answered number text line = cond (eqb number 0) text (answerLine 0 (number ∷ line ∷ []))
+
 unfoldable pub electionLine : Election → List ℕ
 electionLine E = answerLine 2 (bit (E .won) ∷ E .greatest ∷ E .silent ∷ E .total ∷ [])
 
@@ -31,10 +37,11 @@ electEdit D c = let E = electionOf (cell c 0) (proposalsOf (D .lent)) (D .lent .
 abbrev pub storedText : declared.Record → List ℕ
 storedText r = textOf (recordOf r)
 
+unfoldable pub bundleText : BundleAnswer → List ℕ
+bundleText b = answerLine 4 (bit (b .eligible) ∷ b .bundle .editcount ∷ b .bundle .constraintcount ∷ []) ++ storedText (b .bundle)
+
 unfoldable pub askBundle : Desk → Cells → Effect
-askBundle D c =
-    let b = bundleIn (D .lent) (cell c 1) (cell c 0) in
-    tells D (b .number) (answerLine 4 (bit (b .eligible) ∷ b .bundle .editcount ∷ b .bundle .constraintcount ∷ []) ++ storedText (b .bundle))
+askBundle D c = let b = bundleIn (D .lent) (cell c 1) (cell c 0) in tells D (b .number) (bundleText b)
 
 unfoldable pub recordText : declared.Record → List ℕ
 recordText r = answerLine 5 (r .editcount ∷ r .constraintcount ∷ []) ++ storedText r
@@ -62,8 +69,11 @@ suggestionText s =
 unfoldable pub askSuggestion : Desk → Cells → Effect
 askSuggestion D c = let s = suggestedIn (ledgerOf D .multilog) (cell c 0) (cell c 1) (cell c 2) in tells D (s .number) (suggestionText s)
 
+unfoldable pub testLine : RowAnswer → List ℕ
+testLine a = answerLine 7 (bit (a .sound) ∷ [])
+
 unfoldable pub testRow : Desk → Cells → Effect
-testRow D c = let a = rowIn (D .lent) (cell c 0) in tells D (a .number) (answerLine 7 (bit (a .sound) ∷ []))
+testRow D c = let a = rowIn (D .lent) (cell c 0) in tells D (a .number) (testLine a)
 
 unfoldable pub votes : List (Desk → Cells → Effect)
 votes = electEdit ∷ askBundle ∷ makeProposal ∷ askSuggestion ∷ testRow ∷ []
