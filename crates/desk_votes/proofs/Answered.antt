@@ -1,20 +1,20 @@
 -- Answers about votes, printed or refused. Assumes nothing.
-use mathlib.Core.Path.{_≡_, refl, sym, ap, _∙_}
+use mathlib.Core.Path.{_≡_}
 use mathlib.Core.Bool.{true, false, cond}
 use mathlib.Core.List.{List, [], _∷_, _++_, append-nil}
-use Prim.Native.Nat.{ℕ, suc, _+_, _≤_, _<_}
+use Prim.Native.Nat.{ℕ, _+_, _≤_, _<_}
 use native.Mathlib.Omega.{arith}
 use lib.Dec.{eqb, leb}
-use lib.ListN.{length}
 use borrow.Author.Tests.{eq-eqb, ne-eqb, le-leb, lt-leb}
 use Rattle.vote.specs.declared.Election.{Election}
 use Rattle.bundle.specs.declared.BundleAnswer.{BundleAnswer}
+use Rattle.join.specs.declared.Joined.{Joined}
 use Rattle.lent.specs.declared.RowAnswer.{RowAnswer}
 use Rattle.suggest.specs.declared.Suggested.{Suggested}
 use Rattle.answers.specs.Answers.{answerLine}
 use Rattle.forms.specs.Printed.{Printed}
 use Rattle.forms.proofs.Printing.{printed-both}
-use Rattle.desk_votes.specs.Votes.{answered, electionLine, storedText, bundleText, ruleLine, suggestionText, testLine}
+use Rattle.desk_votes.specs.Votes.{answered, electionLine, storedText, bundleText, recordText, ruleLine, suggestionText, testLine}
 
 module _ (number line : ℕ) (text before : List ℕ) (at : ℕ) {after : List ℕ} {end : ℕ} where
   pub refused-so : (number ≡ 0 → ⊥) → Printed (answerLine 0 (number ∷ line ∷ [])) before at after end → Printed (answered number text line) before at after end
@@ -39,6 +39,15 @@ module _ (line : ℕ) (before : List ℕ) (at : ℕ) {after : List ℕ} {end : �
       let head = answerLine 4 (cond (b .eligible) 1 0 ∷ b .bundle .editcount ∷ b .bundle .constraintcount ∷ []) in
       let h : Printed head before at middle place = rw q at p in
       answered-so (b .number) line (bundleText b) before at z (printed-both head (storedText (b .bundle)) before at h r)
+
+  pub record-answered : (made : Joined) → made .number ≡ 0 → {middle : List ℕ} {place : ℕ}
+      → Printed (answerLine 5 (made .after .editcount ∷ made .after .constraintcount ∷ [])) before at middle place
+      → Printed (storedText (made .after)) middle place after end
+      → Printed (answered (made .number) (recordText (made .after)) line) before at after end
+  unfolding recordText
+  record-answered made z p r =
+      answered-so (made .number) line (recordText (made .after)) before at z
+      (printed-both (answerLine 5 (made .after .editcount ∷ made .after .constraintcount ∷ [])) (storedText (made .after)) before at p r)
 
   pub test-answered : (a : RowAnswer) → a .number ≡ 0 → {sound : ℕ} → sound ≡ cond (a .sound) 1 0
       → Printed (answerLine 7 (sound ∷ [])) before at after end → Printed (answered (a .number) (testLine a) line) before at after end

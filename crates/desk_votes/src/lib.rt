@@ -1,5 +1,6 @@
 // The lines of a call log about votes, proposals, suggestions and the test of a row: what each prints.
 use bundle::BundleAnswer;
+use join::Joined;
 use lending::Lending;
 use lent::RowAnswer;
 use record::Record;
@@ -13,7 +14,7 @@ ghost use Rattle.answers.specs.Answers.{answerLine};
 ghost use Rattle.forms.specs.Printed.{Printed};
 ghost use Rattle.lending.specs.Kept.{Kept};
 ghost use Rattle.desk.specs.Desk.{Desk, benchIn, printedOf};
-ghost use Rattle.desk_votes.specs.Votes.{answered, electionLine, bundleText, ruleLine, suggestionText, testLine, voteOf};
+ghost use Rattle.desk_votes.specs.Votes.{answered, electionLine, bundleText, recordText, ruleLine, suggestionText, testLine, voteOf};
 
 fn bit(b: bool) -> u64
     ensures { λ r. ⌜ r ≡ cond b 1 0 ⌝ }
@@ -167,5 +168,80 @@ pub fn print_vote(
             &mut out[..],
             at,
         ),
+    }
+}
+
+// A new proposal, or why there is none.
+fn print_made(made: Joined, line: usize, out: &mut [u8], at: usize) -> usize
+    ensures { λ r. ⌜ Printed (answered (made .number) (recordText (made .after)) line) (now (out .entry)) at (now (out .exit)) r ⌝ }
+{
+    if made.number != 0 {
+        return print_refusal(made.number, line, &mut out[..], at);
+    }
+    let after = made.after;
+    let head = answers::tell(
+        &mut out[..],
+        at,
+        5,
+        &[after.editcount as u64, after.constraintcount as u64],
+    );
+    answers::print_text(&mut out[..], head, after)
+}
+
+// What is lent after a proposal was made, and the place after what was printed.
+pub struct Proposing {
+    pub lending: Lending,
+    pub at: usize,
+}
+
+// Makes a proposal from what is lent and prints it; kept, it takes the place of the old one.
+pub fn print_proposal(
+    lending: Lending,
+    edits: &mut [[u32; 5]],
+    constraints: &mut [[u32; 3]],
+    cells: [u32; 8],
+    line: usize,
+    out: &mut [u8],
+    at: usize,
+) -> Proposing
+    ensures { λ r. ⌜ ((D : Desk) → Kept (D .lent) lending (now (edits .entry)) (now (constraints .entry))
+        → Kept (voteOf 2 D cells .after .lent) (r .lending) (now (edits .exit)) (now (constraints .exit))
+        × Printed (printedOf (voteOf 2 D cells) line) (now (out .entry)) at (now (out .exit)) (r .at)) ⌝ }
+{
+    let made = lent_proposals::propose_lent(
+        lending,
+        &edits[..],
+        &constraints[..],
+        cells[0],
+        cells[1],
+        cells[2],
+        cells[3],
+    );
+    let end = print_made(made, line, &mut out[..], at);
+    if made.number != 0 {
+        return Proposing {
+            lending: lending,
+            at: end,
+        };
+    }
+    let keep = cells[4];
+    if keep != 1 {
+        return Proposing {
+            lending: lending,
+            at: end,
+        };
+    }
+    let new = made.after;
+    let setting = lending::lend_record(
+        lending,
+        &mut edits[..],
+        &mut constraints[..],
+        cells[1],
+        new,
+    );
+    let lent = setting.lending;
+    Proposing {
+        lending: lent,
+        at: end,
     }
 }
