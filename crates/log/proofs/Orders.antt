@@ -13,13 +13,21 @@ use Rattle.forms.specs.declared.Order.{Order}
 use Rattle.forms.specs.Printed.{Printed}
 use Rattle.answers.specs.Answers.{answerLine}
 use Rattle.lending.specs.declared.Lending.{Lending}
-use Rattle.desk.specs.Desk.{Desk, Cells, Effect, Request, outside, requested, printedOf, tells}
+use Rattle.record.proofs.Lists.{is-by}
+use Rattle.lending.specs.Kept.{Kept}
+use Rattle.desk.specs.Desk.{Desk, Cells, Effect, Request, outside, ledgerOf, benchIn, requested, printedOf, tells}
 use Rattle.desk.specs.Lends.{lendingOf}
 use Rattle.desk.specs.Requests.{requests, requestOf, noRequest}
 use Rattle.desk_calls.specs.Lines.{Holds, callOf}
-use Rattle.desk_votes.specs.Votes.{voteOf}
+use Rattle.desk_votes.specs.Votes.{votes, voteOf, electEdit, askBundle, makeProposal, askSuggestion, testRow}
 use Rattle.desk_asks.specs.Questions.{askOf}
 use Rattle.log.specs.Effects.{effectOf, orderEffect}
+
+no-request : (which : ℕ) (D : Desk) (c : Cells) → 8 ≤ which → callOf which D c ≡ tells D 2 []
+unfolding callOf requestOf requests requested
+no-request which D c h =
+    let q : requestOf which D c ≡ outside = ap (λ (f : Desk → Cells → Request). f D c) (List·getD-eq-default requests noRequest {n = which} h) in
+    rw q refl
 
 -- an effect, in memory and printed
 abbrev pub Done : ℕ → Bench → Lending → Rows → Rows → List ℕ → ℕ → List ℕ → ℕ → Effect → Type 0
@@ -67,13 +75,7 @@ module _ (D : Desk) (line : ℕ) {bench : Bench} {lending : Lending} {edits cons
     -- no line has such a kind
     pub no-kind : 28 ≤ kind → Holds D bench lending edits constraints → Printed (answerLine 0 (2 ∷ line ∷ [])) before at after end
         → Done line bench lending edits constraints before at after end (effectOf D kind c)
-    no-kind h k p = add-kind (omega arith) (rw none (refused-done 2 (λ z. omega arith) k p))
-      where
-        none : callOf (kind - 20) D c ≡ tells D 2 []
-        unfolding callOf requestOf requests requested
-        none =
-            let q : requestOf (kind - 20) D c ≡ outside = ap (λ (f : Desk → Cells → Request). f D c) (List·getD-eq-default requests noRequest {n = kind - 20} (let l : 8 ≤ kind - 20 = omega arith in l)) in
-            rw q refl
+    no-kind h k p = add-kind (omega arith) (rw (no-request (kind - 20) D c (let l : 8 ≤ kind - 20 = omega arith in l)) (refused-done 2 (λ z. omega arith) k p))
 
   module _ (order : Order) where
     pub order-refused : (order .number ≡ 0 → ⊥) → Holds D bench lending edits constraints → Printed (answerLine 0 (order .number ∷ line ∷ [])) before at after end
@@ -85,3 +87,27 @@ module _ (D : Desk) (line : ℕ) {bench : Bench} {lending : Lending} {edits cons
         → Done line bench lending edits constraints before at after end (orderEffect D order)
     unfolding orderEffect
     order-done z d = let e : eqb (order .number) 0 ≡ true = eq-eqb (order .number) 0 z in rw e d
+
+-- a line about votes: a proposal may be lent afterwards, the others leave the desk
+module _ (D : Desk) (which : ℕ) (c : Cells) where
+  pub vote-made : (line : ℕ) → which ≡ 2 → {bench : Bench} {lending : Lending} {edits constraints : Rows} {before after : List ℕ} {at end : ℕ} → bench ≡ benchIn D
+      → Kept (voteOf 2 D c .after .lent) lending edits constraints × Printed (printedOf (voteOf 2 D c) line) before at after end
+      → Done line bench lending edits constraints before at after end (voteOf which D c)
+  unfolding voteOf votes makeProposal benchIn ledgerOf
+  vote-made line e b p = rw e (record { benched = b; kept = p .0 }, p .1)
+
+  same-desk : which < 5 → (which ≡ 2 → ⊥) → voteOf which D c .after ≡ D
+  unfolding voteOf votes electEdit askBundle askSuggestion testRow
+  same-desk h n =
+      is-by which 0 (λ e. rw e refl) (λ a.
+      is-by which 1 (λ e. rw e refl) (λ b.
+      is-by which 3 (λ e. rw e refl) (λ d.
+      let e : which ≡ 4 = last-vote which h a b n d in rw e refl)))
+    where
+      last-vote : (k : ℕ) → k < 5 → (k ≡ 0 → ⊥) → (k ≡ 1 → ⊥) → (k ≡ 2 → ⊥) → (k ≡ 3 → ⊥) → k ≡ 4
+      last-vote k h a b c d = omega arith
+
+  pub vote-told : (line : ℕ) → which < 5 → (which ≡ 2 → ⊥) → {bench : Bench} {lending : Lending} {edits constraints : Rows} {before after : List ℕ} {at end : ℕ}
+      → Holds D bench lending edits constraints → Printed (printedOf (voteOf which D c) line) before at after end
+      → Done line bench lending edits constraints before at after end (voteOf which D c)
+  vote-told line h n k p = (rw (same-desk h n) k, p)

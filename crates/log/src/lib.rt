@@ -35,11 +35,20 @@ fn run_vote(
 {
     let multilog = bench.multilog;
     if which == 2 {
-        let lent = lending;
+        let proposing = desk_votes::print_proposal(
+            lending,
+            &mut edits[..],
+            &mut constraints[..],
+            cells,
+            line,
+            &mut out[..],
+            at,
+        );
+        let lent = proposing.lending;
         return Ran {
             bench: bench,
             lending: lent,
-            at: at,
+            at: proposing.at,
         };
     }
     let place = desk_votes::print_vote(
