@@ -111,3 +111,7 @@ module _ (D : Desk) (which : ℕ) (c : Cells) where
       → Holds D bench lending edits constraints → Printed (printedOf (voteOf which D c) line) before at after end
       → Done line bench lending edits constraints before at after end (voteOf which D c)
   vote-told line h n k p = (rw (same-desk h n) k, p)
+
+pub line-done : (D : Desk) (line : ℕ) (other : Order) {order : Order} → order ≡ other → {bench : Bench} {lending : Lending} {edits constraints : Rows} {before after : List ℕ} {at end : ℕ}
+    → Done line bench lending edits constraints before at after end (orderEffect D order) → Done line bench lending edits constraints before at after end (orderEffect D other)
+line-done D line other e d = rw e at d

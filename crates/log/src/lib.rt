@@ -8,6 +8,7 @@ ghost use Prim.Native.Nat.{ℕ, suc, _+_, _<_, _≤_};
 ghost use lib.ListN.{length};
 ghost use Rattle.forms.specs.Printed.{Printed};
 ghost use Rattle.line.specs.Lines.{lines};
+ghost use Rattle.orders.specs.Orders.{orderRead};
 ghost use mathlib.Core.List.{[], _∷_};
 ghost use Rattle.answers.specs.Answers.{answerLine};
 ghost use Rattle.desk.specs.Desk.{Desk, Cells, printedOf};
@@ -225,4 +226,98 @@ fn run_order(
         &mut out[..],
         at,
     )
+}
+
+// A line with its end, the line's number given.
+fn run_line(
+    bench: Bench,
+    lending: Lending,
+    edits: &mut [[u32; 5]],
+    constraints: &mut [[u32; 3]],
+    line: &[u8],
+    number: usize,
+    out: &mut [u8],
+    at: usize,
+) -> Ran
+    ensures { λ r. ⌜ ((D : Desk) → Holds D bench lending (now (edits .entry)) (now (constraints .entry)) → at ≤ suc (length (now (out .entry)))
+        → Holds (orderEffect D (orderRead (now (line .entry))) .after) (r .bench) (r .lending) (now (edits .exit)) (now (constraints .exit))
+        × Printed (printedOf (orderEffect D (orderRead (now (line .entry)))) number) (now (out .entry)) at (now (out .exit)) (r .at)) ⌝ }
+{
+    let order = orders::read_order(line);
+    run_order(
+        bench,
+        lending,
+        &mut edits[..],
+        &mut constraints[..],
+        order,
+        number,
+        &mut out[..],
+        at,
+    )
+}
+
+// The number of the next line. Past 2^62 lines it stays, which no log reaches.
+fn next(n: usize) -> usize
+    ensures { λ r. ⌜ (n < 4611686018427387904 → r ≡ suc n) ⌝ }
+{
+    if n < 4611686018427387904 {
+        return n + 1;
+    }
+    n
+}
+
+// The desk after a log, how many lines were run, and the place after what they printed.
+pub struct Logged {
+    pub bench: Bench,
+    pub lending: Lending,
+    pub count: usize,
+    pub at: usize,
+}
+
+// THE RUN of the lines of a log on a desk, after so many lines.
+pub fn run_log(
+    bench: Bench,
+    lending: Lending,
+    edits: &mut [[u32; 5]],
+    constraints: &mut [[u32; 3]],
+    log: &[u8],
+    count: usize,
+    out: &mut [u8],
+    at: usize,
+) -> Logged
+    ensures { λ r. ⌜ ((D : Desk) → Holds D bench lending (now (edits .entry)) (now (constraints .entry)) → at ≤ suc (length (now (out .entry)))
+        → count + length (now (log .entry)) ≤ 4611686018427387904
+        → Holds (runLines (begun D count) (lines (now (log .entry))) .desk) (r .bench) (r .lending) (now (edits .exit)) (now (constraints .exit))
+        × (r .count ≡ runLines (begun D count) (lines (now (log .entry))) .count)
+        × Printed (runLines (begun D count) (lines (now (log .entry))) .printed) (now (out .entry)) at (now (out .exit)) (r .at)) ⌝ }
+{
+    let mut held = bench;
+    let mut lent = lending;
+    let mut n = count;
+    let mut place = at;
+    let mut from = 0;
+    while from < log.len() {
+        let end = line::line_end(log, from);
+        n = next(n);
+        let ran = run_line(
+            held,
+            lent,
+            &mut edits[..],
+            &mut constraints[..],
+            &log[from..end],
+            n,
+            &mut out[..],
+            place,
+        );
+        held = ran.bench;
+        lent = ran.lending;
+        place = ran.at;
+        from = end;
+    }
+    Logged {
+        bench: held,
+        lending: lent,
+        count: n,
+        at: place,
+    }
 }
