@@ -51,7 +51,8 @@ fn least(a: usize, b: usize) -> usize
     if a < b { a } else { b }
 }
 
-fn place_of(body: Body) -> u8
+// The place of the entry that an edit touches. Pub for the crate of questions.
+pub fn place_of(body: Body) -> u8
     ensures { λ r. ⌜ r ≡ placeOf body ⌝ }
 {
     match body {

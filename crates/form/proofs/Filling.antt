@@ -6,6 +6,8 @@ use mathlib.Core.List.{List, [], _∷_, _++_, append-assoc, append-nil}
 use native.Mathlib.Numerals.{add-one}
 use native.Mathlib.Nat.{add-zero}
 use native.Mathlib.Omega.{arith}
+use borrow.Author.Tests.{le-leb, lt-leb}
+use lib.Dec.{leb}
 use lib.ListN.{length, getD, take, drop, set, length-append, length-drop, drop-of-length-le, take-append-drop}
 use lib.Seq.{drop-cons, drop-drop, getD-drop, length-take-le, take-append-add, drop-append-add, take-append-seam, drop-append-seam, set-split}
 use Rattle.decimal.specs.Written.{Written}
@@ -56,10 +58,46 @@ module _ (form ns : List ℕ) where
     pub counting-end : length form ≤ i → total ≡ length (fill form ns)
     counting-end h = omega (arith, w .all, ap length (end-fill form ns i k h))
 
-front-of : (n : ℕ) (a b c : List ℕ) → length a ≡ n → take (n + length b) (a ++ (b ++ c)) ≡ a ++ b
+-- fitting: what is left of the room and what the whole takes are the room and what is left of the form
+pub record Fitting (form ns : List ℕ) (room left i k : ℕ) : Type 0 where
+  pub all : left + length (fill form ns) ≡ room + length (fill (drop i form) (drop k ns))
+  pub within : i ≤ length form
+  pub used : k ≤ i
+
+module _ (form ns : List ℕ) (room : ℕ) where
+  pub fitting-start : Fitting form ns room room 0 0
+  fitting-start = record { all = refl; within = omega arith; used = omega arith }
+
+  module _ (left i k : ℕ) (w : Fitting form ns room left i k) where
+    module _ (h : i < length form) where
+      module _ {r n : ℕ} (m : isMark (getD form i 0) ≡ true) (q : n ≡ getD ns k 0) (e : r ≡ length ((spelling (getD form i 0)) .write n)) where
+        mark-size : length (fill (drop i form) (drop k ns)) ≡ r + length (fill (drop (i + 1) form) (drop (k + 1) ns))
+        mark-size = ap length (mark-fill form ns i k h m) ∙ rw (e, q, length-append)
+
+        pub fitting-mark : r ≤ left → Fitting form ns room (left - r) (i + 1) (k + 1)
+        fitting-mark l = record { all = omega (arith, mark-size, w .all); within = omega arith; used = omega (arith, w .used) }
+
+        pub mark-over : left < r → false ≡ leb (length (fill form ns)) room
+        mark-over l = sym (lt-leb (length (fill form ns)) room (omega (arith, mark-size, w .all)))
+
+      module _ (m : isMark (getD form i 0) ≡ false) where
+        byte-size : length (fill (drop i form) (drop k ns)) ≡ 1 + length (fill (drop (i + 1) form) (drop k ns))
+        byte-size = ap length (byte-fill form ns i k h m) ∙ omega arith
+
+        pub fitting-byte : 1 ≤ left → Fitting form ns room (left - 1) (i + 1) k
+        fitting-byte l = record { all = omega (arith, byte-size, w .all); within = omega arith; used = omega (arith, w .used) }
+
+        pub byte-over : left < 1 → false ≡ leb (length (fill form ns)) room
+        byte-over l = sym (lt-leb (length (fill form ns)) room (omega (arith, byte-size, w .all)))
+
+    pub fitting-end : length form ≤ i → true ≡ leb (length (fill form ns)) room
+    fitting-end h = sym (le-leb (length (fill form ns)) room (omega (arith, w .all, ap length (end-fill form ns i k h))))
+
+-- two pieces in front
+pub front-of : (n : ℕ) (a b c : List ℕ) → length a ≡ n → take (n + length b) (a ++ (b ++ c)) ≡ a ++ b
 front-of n a b c e = rw (← e) (take-append-add a (b ++ c) (length b) ∙ rw take-append-seam)
 
-back-of : (n : ℕ) (a b c : List ℕ) → length a ≡ n → drop (n + length b) (a ++ (b ++ c)) ≡ c
+pub back-of : (n : ℕ) (a b c : List ℕ) → length a ≡ n → drop (n + length b) (a ++ (b ++ c)) ≡ c
 back-of n a b c e = rw (← e) (drop-append-add a (b ++ c) (length b) ∙ drop-append-seam b c)
 
 -- writing: what is written and what is left are the whole, and from `at` on nothing has changed

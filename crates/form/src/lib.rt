@@ -3,6 +3,7 @@
 ghost use mathlib.Core.Path.{_≡_};
 ghost use Prim.Native.Nat.{_≤_};
 ghost use mathlib.Core.Option.{none};
+ghost use lib.Dec.{leb};
 ghost use lib.ListN.{length, getD, set};
 ghost use Rattle.decimal.specs.Written.{Written};
 ghost use Rattle.form.specs.Spelling.{nameSpelling, answerSpelling, startsWith, numeralOf};
@@ -161,6 +162,34 @@ pub fn form_length(form: &[u8], numbers: &[u64]) -> usize
         }
     }
     total
+}
+
+// Whether the form with these numbers takes at most so many bytes.
+pub fn form_fits(form: &[u8], numbers: &[u64], room: usize) -> bool
+    ensures { λ r. ⌜ r ≡ leb (length (fill (now (form .entry)) (now (numbers .entry)))) room ⌝ }
+{
+    let mut left = room;
+    let mut i = 0;
+    let mut k = 0;
+    while i < form.len() {
+        let c = form[i];
+        i += 1;
+        if is_mark(c) {
+            let n = number_at(numbers, k);
+            let size = mark_length(c, n);
+            if left < size {
+                return false;
+            }
+            left -= size;
+            k += 1;
+        } else {
+            if left < 1 {
+                return false;
+            }
+            left -= 1;
+        }
+    }
+    true
 }
 
 // Writes the form with these numbers to the start of out, and answers how many bytes that took.

@@ -39,8 +39,10 @@ none-kept s edits constraints e c = record {
     no-zeros zero k = refl
     no-zeros (suc n) zero = refl
     no-zeros (suc n) (suc k) = no-zeros n k
+
     no-count : (k : ℕ) → _≡_ {A = ℕ} (getD (replicate 9 0) k 0) 0
     no-count k = no-zeros 9 k
+
     zeros : {places : ℕ} (k : ℕ) → getD (replicate 9 0) k 0 ≤ places
     zeros k = rw (no-count k) (omega arith)
 
@@ -49,18 +51,18 @@ module _ {L : Lent} {lending : Lending} {edits constraints : Rows} (K : Kept L l
       → (number ≡ rowsFault 128 (L .edits) k) × Tables 128 (added 128 (L .edits) k row) counts after
       → (number ≡ rowsFault 128 (L .edits) k) × Kept (withEdit L k row) (record { editcounts = counts; constraintcounts = lending .constraintcounts; roll = lending .roll; row = lending .row; rowcount = lending .rowcount }) after constraints
   unfolding withEdit
-  edit-lent k row p = (p .0 , record { edits = p .1; constraints = K .constraints; roll = K .roll; row = K .row; rowsize = K .rowsize; rowfew = K .rowfew })
+  edit-lent k row p = (p .0, record { edits = p .1; constraints = K .constraints; roll = K .roll; row = K .row; rowsize = K .rowsize; rowfew = K .rowfew })
 
   pub constraint-lent : (k : ℕ) (row : Row) {number : ℕ} {counts : List ℕ} {after : Rows}
       → (number ≡ rowsFault 513 (L .constraints) k) × Tables 513 (added 513 (L .constraints) k row) counts after
       → (number ≡ rowsFault 513 (L .constraints) k) × Kept (withConstraint L k row) (record { editcounts = lending .editcounts; constraintcounts = counts; roll = lending .roll; row = lending .row; rowcount = lending .rowcount }) edits after
   unfolding withConstraint
-  constraint-lent k row p = (p .0 , record { edits = K .edits; constraints = p .1; roll = K .roll; row = K .row; rowsize = K .rowsize; rowfew = K .rowfew })
+  constraint-lent k row p = (p .0, record { edits = K .edits; constraints = p .1; roll = K .roll; row = K .row; rowsize = K .rowsize; rowfew = K .rowfew })
 
   module _ (k : ℕ) (R : Record) where
     pub no-such-record : 8 < k → (2 ≡ recordNumber k) × Kept (withRecord L k R) lending edits constraints
     unfolding withRecord
-    no-such-record h = let e : ltb k 9 ≡ false = le-ltb k 9 (omega arith) in rw e (refl , K)
+    no-such-record h = let e : ltb k 9 ≡ false = le-ltb k 9 (omega arith) in rw e (refl, K)
 
     module _ (multilog : declared.Record) (q : multilog ≡ stored R) where
       pub edits-many {ℓ} : {P : Type ℓ} → length (R .edits) ≤ 127 → 127 < multilog .editcount → P
@@ -89,23 +91,26 @@ module _ {L : Lent} {lending : Lending} {edits constraints : Rows} (K : Kept L l
       unfolding withRecord
       record-lent h S T =
           let e : ltb k 9 ≡ true = lt-ltb k 9 (omega arith) in
-          rw e (refl , record {
-            edits = tables-same (twice (L .edits) _ (editRows R) (ap (map editRow) edits-held)) S;
-            constraints = tables-same (twice (L .constraints) _ (constraintRows R) (ap (map constraintRow) constraints-held)) T;
-            roll = K .roll;
-            row = K .row;
-            rowsize = K .rowsize;
-            rowfew = K .rowfew;
-          })
+          rw e (
+            refl,
+            record {
+              edits = tables-same (twice (L .edits) _ (editRows R) (ap (map editRow) edits-held)) S;
+              constraints = tables-same (twice (L .constraints) _ (constraintRows R) (ap (map constraintRow) constraints-held)) T;
+              roll = K .roll;
+              row = K .row;
+              rowsize = K .rowsize;
+              rowfew = K .rowfew;
+            },
+          )
 
   module _ (bench weight : ℕ) where
     pub seat-bench : 255 < bench → (2 ≡ seatNumber bench weight) × Kept (withSeat L bench weight) lending edits constraints
     unfolding withSeat seatNumber
-    seat-bench h = let e : ltb bench 256 ≡ false = le-ltb bench 256 (omega arith) in rw e (refl , K)
+    seat-bench h = let e : ltb bench 256 ≡ false = le-ltb bench 256 (omega arith) in rw e (refl, K)
 
     pub seat-weight : 65535 < weight → (2 ≡ seatNumber bench weight) × Kept (withSeat L bench weight) lending edits constraints
     unfolding withSeat seatNumber
-    seat-weight h = let e : ltb weight 65536 ≡ false = le-ltb weight 65536 (omega arith) in rw (e, and-false (ltb bench 256)) (refl , K)
+    seat-weight h = let e : ltb weight 65536 ≡ false = le-ltb weight 65536 (omega arith) in rw (e, and-false (ltb bench 256)) (refl, K)
 
     pub seat-lent : bench ≤ 255 → weight ≤ 65535 → {seats : Roll}
         → ((rows : List RollRow) → lending .roll ≡ rollOf rows → seats ≡ rollOf (rows ++ (record { bench = bench; weight = weight } ∷ [])))
@@ -114,7 +119,7 @@ module _ {L : Lent} {lending : Lending} {edits constraints : Rows} (K : Kept L l
     seat-lent a b f =
         let d : ltb bench 256 ≡ true = lt-ltb bench 256 (omega arith) in
         let e : ltb weight 65536 ≡ true = lt-ltb weight 65536 (omega arith) in
-        rw (d, e) (refl , record { edits = K .edits; constraints = K .constraints; roll = f (L .roll) (K .roll); row = K .row; rowsize = K .rowsize; rowfew = K .rowfew })
+        rw (d, e) (refl, record { edits = K .edits; constraints = K .constraints; roll = f (L .roll) (K .roll); row = K .row; rowsize = K .rowsize; rowfew = K .rowfew })
 
   pub no-roll-lent : {seats : Roll} → seats ≡ rollOf []
       → Kept (withoutRoll L) (record { editcounts = lending .editcounts; constraintcounts = lending .constraintcounts; roll = seats; row = lending .row; rowcount = lending .rowcount }) edits constraints
@@ -131,19 +136,22 @@ module _ {L : Lent} {lending : Lending} {edits constraints : Rows} (K : Kept L l
   module _ (name : ℕ) where
     pub row-full : 129 ≤ lending .rowcount → (3 ≡ nameNumber L) × Kept (withName L name) lending edits constraints
     unfolding withName nameNumber
-    row-full h = let e : leb 129 (length (L .row)) ≡ true = rw row-length (le-leb 129 (lending .rowcount) h) in rw e (refl , K)
+    row-full h = let e : leb 129 (length (L .row)) ≡ true = rw row-length (le-leb 129 (lending .rowcount) h) in rw e (refl, K)
 
     pub name-lent : lending .rowcount < 129 → (0 ≡ nameNumber L)
         × Kept (withName L name) (record { editcounts = lending .editcounts; constraintcounts = lending .constraintcounts; roll = lending .roll; row = set (lending .row) (lending .rowcount) name; rowcount = lending .rowcount + 1 }) edits constraints
     unfolding withName nameNumber
     name-lent h =
         let e : leb 129 (length (L .row)) ≡ false = rw row-length (lt-leb 129 (lending .rowcount) h) in
-        rw e (refl , record {
-          edits = K .edits;
-          constraints = K .constraints;
-          roll = K .roll;
-          row = let n : lending .rowcount + 1 ≡ suc (lending .rowcount) = omega arith in
-              rw (n, take-suc-set (lending .row) (lending .rowcount) name (rw (K .rowsize) h), K .row) refl;
-          rowsize = length-set (lending .row) (lending .rowcount) name ∙ K .rowsize;
-          rowfew = omega arith;
-        })
+        rw e (
+          refl,
+          record {
+            edits = K .edits;
+            constraints = K .constraints;
+            roll = K .roll;
+            row = let n : lending .rowcount + 1 ≡ suc (lending .rowcount) = omega arith in
+                rw (n, take-suc-set (lending .row) (lending .rowcount) name (rw (K .rowsize) h), K .row) refl;
+            rowsize = length-set (lending .row) (lending .rowcount) name ∙ K .rowsize;
+            rowfew = omega arith;
+          },
+        )

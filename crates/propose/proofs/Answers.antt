@@ -135,16 +135,16 @@ further a b c d f =
     by (eqb a 0) (λ p. by (eqb b 0) (λ q. by (eqb c 0) (λ r. rw (p, q, r)) (λ r. rw (p, q, r, r))) (λ q. rw (p, q, q))) (λ p. rw (p, p))
 
 module _ (t : Lent) where
-  abbrev fault : ℕ
+  abbrev pub fault : ℕ
   fault = newFault (t .edits) (t .constraints) (t .oldedits) (t .oldconstraints)
 
-  abbrev new : Record
+  abbrev pub new : Record
   new = proposed (recordM t) (proposalQ t)
 
-  abbrev short : ℕ
+  abbrev pub short : ℕ
   short = 12 given tooShort (length (t .newedits)) (length (t .newconstraints)) new
 
-  fault-is : proposalFault t ≡ (fault orelse short)
+  pub fault-is : proposalFault t ≡ (fault orelse short)
   unfolding proposalFault
   fault-is =
       further (lentFault emptyTables (t .edits) (t .constraints)) (lentFault (recordM t) (t .oldedits) (t .oldconstraints)) (draftFault (recordM t) (proposalQ t)) (11 given unkept (recordM t) (proposalQ t)) short
@@ -163,10 +163,10 @@ module _ (t : Lent) where
         refused-is (made .number) (fault-is ∙ orelse-first fault short (λ q. z (n ∙ q)) ∙ sym n) z f
 
     module _ (z : made .number ≡ 0) where
-      none-new : fault ≡ 0
+      pub none-new : fault ≡ 0
       none-new = sym (number-is fault new made e) ∙ z
 
-      new-held : made .after ≡ stored new
+      pub new-held : made .after ≡ stored new
       new-held = after-is fault new made e z
 
       checked-new : Checked new
@@ -176,10 +176,10 @@ module _ (t : Lent) where
           let d = orelse-none (draftFault (recordM t) (proposalQ t)) _ (b .1) in
           drafted-checked (recordM t) (proposalQ t) (joined-checked (recordM t) (t .oldedits) (t .oldconstraints) (lent-checked (t .edits) (t .constraints) (a .0)) (b .0)) (d .0)
 
-      editcount-is : made .after .editcount ≡ length (new .edits)
+      pub editcount-is : made .after .editcount ≡ length (new .edits)
       editcount-is = ap (λ (r : declared.Record). r .editcount) new-held
 
-      constraintcount-is : made .after .constraintcount ≡ length (new .constraints)
+      pub constraintcount-is : made .after .constraintcount ≡ length (new .constraints)
       constraintcount-is = ap (λ (r : declared.Record). r .constraintcount) new-held
 
       pub new-few : (made .after .editcount ≤ 127) × (made .after .constraintcount ≤ 512)
@@ -203,13 +203,13 @@ module _ (t : Lent) where
             refused-is 12 (fault-is ∙ orelse-second fault short none-new ∙ rw (enough, l)) (λ q. omega arith) f
 
         module _ (i : made .after .constraintcount ≤ length (t .newconstraints)) where
-          accepted : proposalFault t ≡ 0
+          pub accepted : proposalFault t ≡ 0
           unfolding tooShort
           accepted =
               let l : ltb (length (t .newconstraints)) (length (new .constraints)) ≡ false = le-ltb (length (t .newconstraints)) (length (new .constraints)) (let q = constraintcount-is in omega arith) in
               fault-is ∙ orelse-second fault short none-new ∙ rw (enough, l)
 
-          given-new : newProposal t ≡ new
+          pub given-new : newProposal t ≡ new
           unfolding newProposal
           given-new = rw accepted
 

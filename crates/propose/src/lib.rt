@@ -23,7 +23,7 @@ pub struct Proposed {
 }
 
 // A refusal before anything is written.
-fn stopped(number: u32) -> Joined
+pub fn stopped(number: u32) -> Joined
     ensures { λ r. ⌜ r ≡ record { number = number; after = stored emptyTables } ⌝ }
 {
     Joined {
@@ -77,8 +77,8 @@ fn made(both: Record, old: Record) -> Joined
     }
 }
 
-// The new proposal of four lent tables.
-fn new_proposal(
+// The new proposal of four lent tables, before an output is looked at. Pub for the crates of this workspace that make proposals without lent outputs.
+pub fn new_proposal(
     edits: &[[u32; 5]],
     constraints: &[[u32; 3]],
     oldedits: &[[u32; 5]],

@@ -53,7 +53,7 @@ same-length-2 c = search needs
 
 -- src/lib.rt:253:1
 returns-4 : tie.Need-returns-4
-returns-4 c = 
+returns-4 c =
     let w = c .before .before .before .before .before .before in
     let h = w .before .before .before .before .before .before .before .before .if1 .left in
     λ L R K q a b.

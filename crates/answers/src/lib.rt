@@ -1,0 +1,81 @@
+// The answers of a call log, printed one after the other into one buffer.
+use record::Record;
+ghost use mathlib.Core.Path.{_≡_};
+ghost use Rattle.record.specs.Record as theory;
+ghost use Rattle.record.specs.Stored.{recordOf, stored};
+ghost use Rattle.table.specs.Checked.{Checked};
+ghost use Rattle.text.specs.Text.{textOf};
+ghost use Rattle.form.specs.Form.{fill};
+ghost use Rattle.forms.specs.Printed.{Printed};
+ghost use Rattle.report.specs.Report.{reportOf};
+ghost use Rattle.answers.specs.Answers.{answerForm};
+
+// Prints the line of a kind with these numbers, and answers the place after it. specs/Answers.antt has the same lines.
+pub fn tell(out: &mut [u8], at: usize, kind: usize, numbers: &[u64]) -> usize
+    ensures { λ r. ⌜ Printed (fill (answerForm kind) (now (numbers .entry))) (now (out .entry)) at (now (out .exit)) r ⌝ }
+{
+    forms::print_form(
+        &mut out[..],
+        at,
+        b"refused=# line=#\n\
+          undone=# redone=# open=# last=#\n\
+          won=? greatest=# silent=# total=#\n\
+          won=? greatest=# silent=# total=# undone=# redone=# open=# last=#\n\
+          eligible=? edits=# rules=#\n\
+          edits=# rules=#\n\
+          rules=#\n\
+          sound=?\n\
+          hidden=#\n\
+          edit=@\n\
+          last=#\n\
+          page=# edit=@\n\
+          chips=#\n\
+          chip=#\n\
+          chip=# field=id value=#\n\
+          chip=# field=size value=#\n\
+          chip=# field=erase value=#\n\
+          chip=# field=page value=#\n\
+          open=#\n\
+          page=# chip=# present=?\n\
+          page=# field=id value=#\n\
+          page=# field=size value=#\n\
+          page=# field=erase value=#\n\
+          page=# field=page value=#\n\
+          open=# last=#\n\
+          left=@ rule=notafter right=@\n\
+          left=@ rule=enables right=@\n\
+          left=@ rule=noncommuting right=@\n",
+        kind,
+        numbers,
+    )
+}
+
+// Prints the text of a record.
+pub fn print_text(out: &mut [u8], at: usize, content: Record) -> usize
+    ensures { λ r. ⌜ Printed (textOf (recordOf content)) (now (out .entry)) at (now (out .exit)) r ⌝ }
+{
+    let size = out.len();
+    let written = writer::write_text(content, &mut out[..], at);
+    if written.number != 0 {
+        return size + 1;
+    }
+    written.end
+}
+
+// Prints the report of a sound record.
+pub fn print_report(out: &mut [u8], at: usize, content: Record) -> usize
+    ensures { λ r. ⌜ ((R : theory.Record) → content ≡ stored R → Checked R → Printed (reportOf R) (now (out .entry)) at (now (out .exit)) r) ⌝ }
+{
+    let size = out.len();
+    if size < at {
+        return size + 1;
+    }
+    let written = report::report_record(content, &mut out[at..]);
+    if written.number != 0 {
+        return size + 1;
+    }
+    if size - at < written.end {
+        return size + 1;
+    }
+    at + written.end
+}

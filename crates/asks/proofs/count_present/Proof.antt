@@ -1,0 +1,62 @@
+-- `asks::count_present` meets its contract. Assumes nothing.
+use borrow.Author.Needs.{needs}
+use native.Mathlib.Omega.{arith}
+use Prim.Native.Nat.{_-_}
+use mathlib.Core.Path.{_≡_, _∙_, ap}
+use lib.ListN.{length}
+use Rattle.asks.proofs.Counts.{Counting, counting-start, counting-next, counting-end}
+use Rattle.asks.specs.Asks.{isPresent}
+use Rattle.asks.proofs.Questions.{all-of}
+use Rattle.record.specs.Lists.{sift}
+use Rattle.catalogue.proofs.Entries.{length-mapped}
+use Rattle.asks.proofs.count_present.Statement.{statement}
+use Rattle.asks.proofs.count_present.Tie as tie
+
+abbrev Inv-loop : tie.InvT-loop
+Inv-loop entries count₀ i₀ count i = Counting isPresent entries 64 count i
+
+abbrev μ-loop : tie.MeasureT-loop
+μ-loop entries count₀ i₀ count i = 64 - i
+
+loop-holds : tie.Need-loop-holds Inv-loop μ-loop
+loop-holds c = let s : length (c .args .t1) ≡ 64 = search (needs, length-mapped) in counting-start isPresent (c .args .t1) 64 (omega arith)
+
+mul-entry : tie.Need-mul-entry Inv-loop μ-loop
+mul-entry c = search needs
+
+array-copy-out-entry : tie.Need-array-copy-out-entry Inv-loop μ-loop
+array-copy-out-entry c = search needs
+
+flag-requires : tie.Need-flag-requires Inv-loop μ-loop
+flag-requires c κs = search needs
+
+add-count : tie.Need-add-count Inv-loop μ-loop
+add-count c = omega (arith, (counting-next isPresent (c .before .before .before .before .args .t1) 64 (c .before .before .before .loop .inv) _ (c .before .before .loop-test .taken) (c .flag .ensures)) .small, c .before .before .loop-test .taken)
+
+add-i : tie.Need-add-i Inv-loop μ-loop
+add-i c = search needs
+
+loop-less : tie.Need-loop-less Inv-loop μ-loop
+loop-less c = search needs
+
+loop-again : tie.Need-loop-again Inv-loop μ-loop
+loop-again c = counting-next isPresent (c .before .before .before .before .args .t1) 64 (c .before .before .before .loop .inv) _ (c .before .before .loop-test .taken) (c .flag .ensures)
+
+returns : tie.Need-returns Inv-loop μ-loop
+returns c = let s : length (c .before .before .args .t1) ≡ 64 = search (needs, length-mapped) in counting-end isPresent (c .before .before .args .t1) 64 (c .before .loop .inv) (c .loop-test .left) ∙ ap (λ l. length (sift isPresent l)) (all-of (c .before .before .args .t1) 64 s)
+
+pub count-present-spec : {M : Type 1} → statement M
+count-present-spec =
+    tie.close
+    (tie.spec
+    Inv-loop
+    μ-loop
+    loop-holds
+    mul-entry
+    array-copy-out-entry
+    flag-requires
+    add-count
+    add-i
+    loop-less
+    loop-again
+    returns)

@@ -1,0 +1,170 @@
+// A desk: one bench, and what the lines of a call log have lent. Here are the lines that lend, and those that make a call on the bench.
+use ledger::Bench;
+use ledger::Outcome;
+use lending::Lending;
+use lending::Setting;
+use record::Record;
+ghost use mathlib.Core.Path.{_≡_};
+ghost use Prim.Native.Nat.{ℕ, _<_, _≤_};
+ghost use lib.IntN.{pos, negℤ};
+ghost use Rattle.lending.specs.Kept.{Kept};
+ghost use Rattle.row.specs.Row.{cell};
+ghost use Rattle.ground.specs.Ground.{Rows};
+ghost use Rattle.desk.specs.Desk.{Desk, Cells, benchIn, replied};
+ghost use Rattle.desk.specs.Lends.{lendingOf};
+ghost use Rattle.desk.specs.Requests.{forwardOf, backOf, requestOf};
+
+// A row, no rows or the bench's record for one of the lent records: kinds 0 to 3.
+fn lend_rows(
+    lending: Lending,
+    edits: &mut [[u32; 5]],
+    constraints: &mut [[u32; 3]],
+    multilog: Record,
+    kind: usize,
+    cells: [u32; 8],
+) -> Setting
+    ensures { λ r. ⌜ ((D : Desk) → Kept (D .lent) lending (now (edits .entry)) (now (constraints .entry)) → multilog ≡ benchIn D .multilog → kind < 4
+        → (r .number ≡ lendingOf kind D cells .number) × Kept (lendingOf kind D cells .after .lent) (r .lending) (now (edits .exit)) (now (constraints .exit))) ⌝ }
+{
+    match kind {
+        0 => lending::lend_edit(
+            lending,
+            &mut edits[..],
+            cells[0],
+            [cells[1], cells[2], cells[3], cells[4], cells[5]],
+        ),
+        1 => lending::lend_constraint(
+            lending,
+            &mut constraints[..],
+            cells[0],
+            [cells[1], cells[2], cells[3]],
+        ),
+        2 => lending::lend_record(
+            lending,
+            &mut edits[..],
+            &mut constraints[..],
+            cells[0],
+            record::empty(),
+        ),
+        _ => lending::lend_record(
+            lending,
+            &mut edits[..],
+            &mut constraints[..],
+            cells[0],
+            multilog,
+        ),
+    }
+}
+
+fn set(lending: Lending) -> Setting
+    ensures { λ r. ⌜ r ≡ record { number = 0; lending = lending } ⌝ }
+{
+    Setting {
+        number: 0,
+        lending: lending,
+    }
+}
+
+// A row of the roll, a name of the row to be tested, or none of them: kinds 4 to 7.
+fn lend_names(lending: Lending, kind: usize, cells: [u32; 8]) -> Setting
+    ensures { λ r. ⌜ ((D : Desk) (edits constraints : Rows) → Kept (D .lent) lending edits constraints → 4 ≤ kind → kind < 8
+        → (r .number ≡ lendingOf kind D cells .number) × Kept (lendingOf kind D cells .after .lent) (r .lending) edits constraints) ⌝ }
+{
+    match kind {
+        4 => lending::lend_seat(lending, cells[0], cells[1]),
+        5 => set(lending::lend_no_roll(lending)),
+        6 => lending::lend_name(lending, cells[0]),
+        _ => set(lending::lend_no_row(lending)),
+    }
+}
+
+// A line that lends, by its kind.
+pub fn lend(
+    lending: Lending,
+    edits: &mut [[u32; 5]],
+    constraints: &mut [[u32; 3]],
+    multilog: Record,
+    kind: usize,
+    cells: [u32; 8],
+) -> Setting
+    ensures { λ r. ⌜ ((D : Desk) → Kept (D .lent) lending (now (edits .entry)) (now (constraints .entry)) → multilog ≡ benchIn D .multilog → kind < 8
+        → (r .number ≡ lendingOf kind D cells .number) × Kept (lendingOf kind D cells .after .lent) (r .lending) (now (edits .exit)) (now (constraints .exit))) ⌝ }
+{
+    if kind < 4 {
+        return lend_rows(
+            lending,
+            &mut edits[..],
+            &mut constraints[..],
+            multilog,
+            kind,
+            cells,
+        );
+    }
+    lend_names(lending, kind, cells)
+}
+
+fn forward(pages: u32) -> i32
+    requires { ⌜ pages < 2147483648 ⌝ }
+    ensures { λ r. ⌜ r ≡ pos pages ⌝ }
+{
+    pages as i32
+}
+
+fn back(pages: u32) -> i32
+    requires { ⌜ pages < 2147483648 ⌝ }
+    ensures { λ r. ⌜ r ≡ negℤ (pos pages) ⌝ }
+{
+    0 - (pages as i32)
+}
+
+// A turn of so many pages, which have 31 bits.
+fn turn_forward(bench: Bench, pages: u32) -> Outcome
+    ensures { λ r. ⌜ ((D : Desk) (c : Cells) → bench ≡ benchIn D → cell c 0 ≡ pages → r ≡ replied D (forwardOf D c)) ⌝ }
+{
+    if 2147483647 < pages {
+        return bench::refused(bench, 2);
+    }
+    bench::turn(bench, forward(pages))
+}
+
+fn turn_back(bench: Bench, pages: u32) -> Outcome
+    ensures { λ r. ⌜ ((D : Desk) (c : Cells) → bench ≡ benchIn D → cell c 0 ≡ pages → r ≡ replied D (backOf D c)) ⌝ }
+{
+    if 2147483647 < pages {
+        return bench::refused(bench, 2);
+    }
+    bench::turn(bench, back(pages))
+}
+
+// A call on the bench that is lent nothing, by its place among the requests.
+fn call_alone(bench: Bench, which: usize, cells: [u32; 8]) -> Outcome
+    ensures { λ r. ⌜ ((D : Desk) → bench ≡ benchIn D → which < 8 → (which ≡ 0 → ⊥) → (which ≡ 5 → ⊥) → r ≡ replied D (requestOf which D cells)) ⌝ }
+{
+    match which {
+        1 => visibility::hide(bench, cells[0]),
+        2 => visibility::show(bench, cells[0]),
+        3 => turn_forward(bench, cells[0]),
+        4 => turn_back(bench, cells[0]),
+        6 => merge::add_edit(bench, [cells[0], cells[1], cells[2], cells[3], cells[4]]),
+        _ => merge::add_constraint(bench, [cells[0], cells[1], cells[2]]),
+    }
+}
+
+// A call on the bench, by its place among the requests.
+pub fn call(
+    bench: Bench,
+    lending: Lending,
+    edits: &[[u32; 5]],
+    constraints: &[[u32; 3]],
+    which: usize,
+    cells: [u32; 8],
+) -> Outcome
+    ensures { λ r. ⌜ ((D : Desk) → bench ≡ benchIn D → Kept (D .lent) lending (now (edits .entry)) (now (constraints .entry)) → which < 8
+        → r ≡ replied D (requestOf which D cells)) ⌝ }
+{
+    match which {
+        0 => lent_calls::merge_lent(bench, lending, edits, constraints, cells[0]),
+        5 => lent_calls::adopt_lent(bench, lending, edits, constraints, cells[0]),
+        _ => call_alone(bench, which, cells),
+    }
+}

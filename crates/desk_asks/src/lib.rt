@@ -1,0 +1,35 @@
+// The questions of a call log, answered.
+use ledger::Bench;
+use record::Record;
+ghost use mathlib.Core.Path.{_≡_};
+ghost use Prim.Native.Nat.{ℕ, suc, _<_, _≤_};
+ghost use lib.ListN.{length};
+ghost use Rattle.forms.specs.Printed.{Printed};
+ghost use Rattle.desk.specs.Desk.{Desk, benchIn};
+ghost use Rattle.desk_asks.specs.Questions.{textIn, askText};
+
+// The counts of the bench's record, and its text.
+fn print_record(bench: Bench, out: &mut [u8], at: usize) -> usize
+    ensures { λ r. ⌜ Printed (textIn bench) (now (out .entry)) at (now (out .exit)) r ⌝ }
+{
+    let multilog = bench.multilog;
+    let numbers = [multilog.editcount as u64, multilog.constraintcount as u64];
+    let place = answers::tell(&mut out[..], at, 5, &numbers);
+    answers::print_text(&mut out[..], place, multilog)
+}
+
+// What a question prints, by its place among the questions.
+pub fn print_ask(bench: Bench, which: usize, out: &mut [u8], at: usize) -> usize
+    ensures { λ r. ⌜ ((D : Desk) → bench ≡ benchIn D → which < 7 → Printed (askText which D) (now (out .entry)) at (now (out .exit)) r) ⌝ }
+{
+    let multilog = bench.multilog;
+    match which {
+        0 => print_record(bench, &mut out[..], at),
+        1 => answers::print_report(&mut out[..], at, multilog),
+        2 => asks::print_hidden(&mut out[..], at, bench),
+        3 => asks::print_schedule(&mut out[..], at, bench),
+        4 => asks::print_catalogue(&mut out[..], at, bench),
+        5 => asks::print_journal(&mut out[..], at, bench),
+        _ => asks::print_page(&mut out[..], at, bench),
+    }
+}

@@ -1,0 +1,46 @@
+-- A desk in memory, and what a line that lends or makes a call prints. Assumes nothing.
+use mathlib.Core.Path.{_≡_}
+use mathlib.Core.Bool.{Bool, cond}
+use mathlib.Core.List.{List, [], _∷_}
+use Prim.Native.Nat.{ℕ}
+use lib.Dec.{eqb}
+use Rattle.ground.specs.Ground.{Rows}
+use Rattle.turner.specs.declared.Turner.{Turner}
+use Rattle.ledger.specs.declared.Answer.{Answer}
+use Rattle.ledger.specs.declared.Bench.{Bench}
+use Rattle.ledger.specs.declared.Outcome.{Outcome}
+use Rattle.ledger.specs.Ledger.{Ledger, last}
+use Rattle.answers.specs.Answers.{answerLine}
+use Rattle.lending.specs.declared.Lending.{Lending}
+use Rattle.lending.specs.Kept.{Kept}
+use Rattle.desk.specs.Desk.{Desk, Cells, Effect, benchIn, requested, printedOf}
+use Rattle.desk.specs.Requests.{requestOf}
+
+-- what is in memory for a desk
+pub record Holds (D : Desk) (bench : Bench) (lending : Lending) (edits constraints : Rows) : Type 0 where
+  pub benched : bench ≡ benchIn D
+  pub kept : Kept (D .lent) lending edits constraints
+
+-- yes is 1 and no is 0
+abbrev pub bit : Bool → ℕ
+bit b = cond b 1 0
+
+-- what an accepted call prints, and an accepted adoption: pages undone and redone, the open and the last page
+unfoldable pub pagesText : Answer → ℕ → ℕ → List ℕ
+pagesText a opened last = answerLine 1 (a .undone ∷ a .redone ∷ opened ∷ last ∷ [])
+
+unfoldable pub adoptionText : Answer → ℕ → ℕ → List ℕ
+adoptionText a opened last = answerLine 3 (bit (a .won) ∷ a .greatest ∷ a .silent ∷ a .total ∷ a .undone ∷ a .redone ∷ opened ∷ last ∷ [])
+
+-- request 5 is adoption
+unfoldable pub callText : ℕ → Answer → ℕ → ℕ → List ℕ
+callText which = cond (eqb which 5) adoptionText pagesText
+
+-- THE EFFECT of a line that makes a call
+unfoldable pub callOf : ℕ → Desk → Cells → Effect
+callOf which D c = requested D (λ a L. callText which a (L .opened) (last L)) (requestOf which D c)
+
+-- the same from the answer and the bench that the code has
+unfoldable pub outcomeText : ℕ → Outcome → ℕ → List ℕ
+outcomeText which r line =
+    cond (eqb (r .answer .number) 0) (callText which (r .answer) (r .bench .turner .opened) (r .bench .turner .last)) (answerLine 0 (r .answer .number ∷ line ∷ []))

@@ -1,0 +1,156 @@
+// The lines of a call log that lend and those that make a call, run and printed.
+use ledger::Answer;
+use ledger::Bench;
+use ledger::Outcome;
+use lending::Lending;
+use turner::Turner;
+ghost use mathlib.Core.Path.{_≡_};
+ghost use mathlib.Core.Bool.{cond};
+ghost use mathlib.Core.List.{[], _∷_};
+ghost use Prim.Native.Nat.{ℕ, suc, _<_, _≤_};
+ghost use lib.Dec.{eqb};
+ghost use lib.ListN.{length};
+ghost use Rattle.forms.specs.Printed.{Printed};
+ghost use Rattle.answers.specs.Answers.{answerLine};
+ghost use Rattle.desk.specs.Desk.{Desk, printedOf};
+ghost use Rattle.desk.specs.Lends.{lendingOf};
+ghost use Rattle.desk_calls.specs.Lines.{Holds, bit, pagesText, adoptionText, callOf, outcomeText};
+
+// The desk after a line, and the place after what it printed.
+pub struct Ran {
+    pub bench: Bench,
+    pub lending: Lending,
+    pub at: usize,
+}
+
+// The line of a refusal.
+pub fn print_refusal(number: u32, line: usize, out: &mut [u8], at: usize) -> usize
+    ensures { λ r. ⌜ Printed (answerLine 0 (number ∷ line ∷ [])) (now (out .entry)) at (now (out .exit)) r ⌝ }
+{
+    let numbers = [number as u64, line as u64];
+    answers::tell(&mut out[..], at, 0, &numbers)
+}
+
+// An accepted line that lends prints nothing.
+fn print_setting(number: u32, line: usize, out: &mut [u8], at: usize) -> usize
+    ensures { λ r. ⌜ (at ≤ suc (length (now (out .entry))) → Printed (cond (eqb number 0) [] (answerLine 0 (number ∷ line ∷ []))) (now (out .entry)) at (now (out .exit)) r) ⌝ }
+{
+    if number == 0 {
+        return at;
+    }
+    print_refusal(number, line, &mut out[..], at)
+}
+
+fn bit_of(b: bool) -> u64
+    ensures { λ r. ⌜ r ≡ bit b ⌝ }
+{
+    if b {
+        return 1;
+    }
+    0
+}
+
+fn print_pages(answer: Answer, turner: Turner, out: &mut [u8], at: usize) -> usize
+    ensures { λ r. ⌜ Printed (pagesText answer (turner .opened) (turner .last)) (now (out .entry)) at (now (out .exit)) r ⌝ }
+{
+    let numbers = [
+        answer.undone as u64,
+        answer.redone as u64,
+        turner.opened as u64,
+        turner.last as u64,
+    ];
+    answers::tell(&mut out[..], at, 1, &numbers)
+}
+
+fn print_adoption(answer: Answer, turner: Turner, out: &mut [u8], at: usize) -> usize
+    ensures { λ r. ⌜ Printed (adoptionText answer (turner .opened) (turner .last)) (now (out .entry)) at (now (out .exit)) r ⌝ }
+{
+    let won = bit_of(answer.won);
+    let numbers = [
+        won,
+        answer.greatest as u64,
+        answer.silent as u64,
+        answer.total as u64,
+        answer.undone as u64,
+        answer.redone as u64,
+        turner.opened as u64,
+        turner.last as u64,
+    ];
+    answers::tell(&mut out[..], at, 3, &numbers)
+}
+
+// What a call answers, or its refusal.
+fn print_outcome(outcome: Outcome, which: usize, line: usize, out: &mut [u8], at: usize) -> usize
+    ensures { λ r. ⌜ Printed (outcomeText which outcome line) (now (out .entry)) at (now (out .exit)) r ⌝ }
+{
+    let answer = outcome.answer;
+    let bench = outcome.bench;
+    let turner = bench.turner;
+    if answer.number != 0 {
+        return print_refusal(answer.number, line, &mut out[..], at);
+    }
+    if which == 5 {
+        return print_adoption(answer, turner, &mut out[..], at);
+    }
+    print_pages(answer, turner, &mut out[..], at)
+}
+
+// A line that lends.
+pub fn run_lend(
+    bench: Bench,
+    lending: Lending,
+    edits: &mut [[u32; 5]],
+    constraints: &mut [[u32; 3]],
+    kind: usize,
+    cells: [u32; 8],
+    line: usize,
+    out: &mut [u8],
+    at: usize,
+) -> Ran
+    ensures { λ r. ⌜ ((D : Desk) → Holds D bench lending (now (edits .entry)) (now (constraints .entry)) → kind < 8 → at ≤ suc (length (now (out .entry)))
+        → Holds (lendingOf kind D cells .after) (r .bench) (r .lending) (now (edits .exit)) (now (constraints .exit))
+        × Printed (printedOf (lendingOf kind D cells) line) (now (out .entry)) at (now (out .exit)) (r .at)) ⌝ }
+{
+    let multilog = bench.multilog;
+    let setting = desk::lend(
+        lending,
+        &mut edits[..],
+        &mut constraints[..],
+        multilog,
+        kind,
+        cells,
+    );
+    let place = print_setting(setting.number, line, &mut out[..], at);
+    let lent = setting.lending;
+    Ran {
+        bench: bench,
+        lending: lent,
+        at: place,
+    }
+}
+
+// A line that makes a call.
+pub fn run_call(
+    bench: Bench,
+    lending: Lending,
+    edits: &[[u32; 5]],
+    constraints: &[[u32; 3]],
+    which: usize,
+    cells: [u32; 8],
+    line: usize,
+    out: &mut [u8],
+    at: usize,
+) -> Ran
+    ensures { λ r. ⌜ ((D : Desk) → Holds D bench lending (now (edits .entry)) (now (constraints .entry)) → which < 8
+        → Holds (callOf which D cells .after) (r .bench) (r .lending) (now (edits .entry)) (now (constraints .entry))
+        × Printed (printedOf (callOf which D cells) line) (now (out .entry)) at (now (out .exit)) (r .at)) ⌝ }
+{
+    let outcome = desk::call(bench, lending, edits, constraints, which, cells);
+    let place = print_outcome(outcome, which, line, &mut out[..], at);
+    let after = outcome.bench;
+    Ran {
+        bench: after,
+        lending: lending,
+        at: place,
+    }
+}

@@ -1,0 +1,82 @@
+-- The lines of a call log about votes, proposals, suggestions and the test of a row, in the order of the log's forms. Assumes nothing.
+use mathlib.Core.Bool.{Bool, cond, _&&_}
+use mathlib.Core.List.{List, [], _∷_, _++_}
+use Prim.Native.Nat.{ℕ, _+_}
+use lib.Dec.{eqb, leb}
+use lib.ListN.{getD}
+use Rattle.record.specs.declared.Record as declared
+use Rattle.record.specs.Stored.{recordOf}
+use Rattle.row.specs.Row.{Row, cell}
+use Rattle.text.specs.Text.{textOf}
+use Rattle.vote.specs.declared.Election.{Election}
+use Rattle.election.specs.Election.{electionOf}
+use Rattle.bundle.specs.declared.BundleAnswer.{BundleAnswer}
+use Rattle.lent.specs.declared.RowAnswer.{RowAnswer}
+use Rattle.suggest.specs.declared.Suggested.{Suggested}
+use Rattle.answers.specs.Answers.{answerLine}
+use Rattle.lending.specs.Lent.{withRecord}
+use Rattle.lent_calls.specs.Calls.{proposalsOf, bundleIn, rowIn, suggestedIn}
+use Rattle.lent_proposals.specs.Made.{proposalIn}
+use Rattle.desk.specs.Desk.{Desk, Cells, Effect, ledgerOf, tells, noEffect}
+
+-- yes is 1 and no is 0
+abbrev pub bit : Bool → ℕ
+bit b = cond b 1 0
+
+-- the answer, or the refusal with the line's number
+abbrev pub answered : ℕ → List ℕ → ℕ → List ℕ
+answered number text line = cond (eqb number 0) text (answerLine 0 (number ∷ line ∷ []))
+
+unfoldable pub electionLine : Election → List ℕ
+electionLine E = answerLine 2 (bit (E .won) ∷ E .greatest ∷ E .silent ∷ E .total ∷ [])
+
+unfoldable pub electEdit : Desk → Cells → Effect
+electEdit D c = let E = electionOf (cell c 0) (proposalsOf (D .lent)) (D .lent .roll) in tells D (E .number) (electionLine E)
+
+-- the counts of a record and its text
+abbrev pub storedText : declared.Record → List ℕ
+storedText r = textOf (recordOf r)
+
+unfoldable pub bundleText : BundleAnswer → List ℕ
+bundleText b = answerLine 4 (bit (b .eligible) ∷ b .bundle .editcount ∷ b .bundle .constraintcount ∷ []) ++ storedText (b .bundle)
+
+unfoldable pub askBundle : Desk → Cells → Effect
+askBundle D c = let b = bundleIn (D .lent) (cell c 1) (cell c 0) in tells D (b .number) (bundleText b)
+
+unfoldable pub recordText : declared.Record → List ℕ
+recordText r = answerLine 5 (r .editcount ∷ r .constraintcount ∷ []) ++ storedText r
+
+-- kept, an accepted proposal takes the place of the old one
+unfoldable pub makeProposal : Desk → Cells → Effect
+makeProposal D c =
+    let p = proposalIn (D .lent) (cell c 0) (cell c 1) (cell c 2) (cell c 3) in
+    record {
+      number = p .number;
+      after = record {
+        calls = D .calls;
+        lent = cond (eqb (p .number) 0 && eqb (cell c 4) 1) (withRecord (D .lent) (cell c 1) (recordOf (p .after))) (D .lent);
+      };
+      text = recordText (p .after);
+    }
+
+abbrev pub ruleLine : Row → List ℕ
+ruleLine row = answerLine (25 + cell row 1) (cell row 0 ∷ cell row 2 ∷ [])
+
+unfoldable pub suggestionText : Suggested → List ℕ
+suggestionText s =
+    answerLine 6 (s .count ∷ []) ++ (cond (leb 1 (s .count)) (ruleLine (s .first)) [] ++ cond (leb 2 (s .count)) (ruleLine (s .second)) [])
+
+unfoldable pub askSuggestion : Desk → Cells → Effect
+askSuggestion D c = let s = suggestedIn (ledgerOf D .multilog) (cell c 0) (cell c 1) (cell c 2) in tells D (s .number) (suggestionText s)
+
+unfoldable pub testLine : RowAnswer → List ℕ
+testLine a = answerLine 7 (bit (a .sound) ∷ [])
+
+unfoldable pub testRow : Desk → Cells → Effect
+testRow D c = let a = rowIn (D .lent) (cell c 0) in tells D (a .number) (testLine a)
+
+unfoldable pub votes : List (Desk → Cells → Effect)
+votes = electEdit ∷ askBundle ∷ makeProposal ∷ askSuggestion ∷ testRow ∷ []
+
+unfoldable pub voteOf : ℕ → Desk → Cells → Effect
+voteOf which = getD votes which noEffect

@@ -1,0 +1,196 @@
+-- The laws of the loops over a table of forms. Assumes nothing.
+use mathlib.Core.Path.{_≡_, refl, ap, sym, _∙_}
+use mathlib.Core.Bool.{true, false}
+use mathlib.Core.List.{List, [], _∷_, _++_, map, map-append}
+use mathlib.Core.Option.{Option, none, some}
+use Prim.Native.Nat.{ℕ, zero, suc, _+_, _-_, _≤_, _<_}
+use native.Mathlib.Numerals.{add-one}
+use native.Mathlib.Omega.{arith}
+use borrow.Author.Tests.{lt-ltb, le-ltb, ltb-true}
+use lib.ListN.{length, getD, take, drop, set, replicate, length-set, drop-of-length-le}
+use lib.Seq.{drop-cons, take-all, take-nil, take-suc, take-suc-set}
+use Rattle.record.specs.Lists.{all}
+use Rattle.record.proofs.Lists.{by, le-by, clash, and-l, and-r}
+use Rattle.decimal.specs.Decimal.{saturated}
+use Rattle.decimal.proofs.RoundTrip.{saturated-test, saturated-same}
+use Rattle.form.specs.Form.{fill, taken, told}
+use Rattle.form.specs.declared.Filled.{Filled}
+use Rattle.line.specs.Line.{fitsWord}
+use Rattle.line.specs.Lines.{lines, firstLine}
+use Rattle.line.proofs.Ends.{NextLine, next-line, no-lines}
+use Rattle.forms.specs.declared.Order.{Order}
+use Rattle.forms.specs.Forms.{formAt, noOrder, cellsOf, ordered, orderOr, orderFrom, orderBy}
+use Rattle.forms.specs.Printed.{Printed}
+
+-- numbers kept as cells while each fits 32 bits
+pub record Keeping (numbers cells : List ℕ) (i : ℕ) : Type 0 where
+  pub all-but : all fitsWord numbers ≡ all fitsWord (drop i numbers)
+  pub kept : take i cells ≡ take i numbers
+  pub near : i ≤ 8
+  pub cells-size : length cells ≡ 8
+  pub numbers-size : length numbers ≡ 8
+
+module _ (kind : ℕ) (numbers : List ℕ) where
+  pub keeping-start : length numbers ≡ 8 → Keeping numbers (replicate 8 0) 0
+  keeping-start h = record { all-but = refl; kept = refl; near = omega arith; cells-size = refl; numbers-size = h }
+
+  module _ (cells : List ℕ) (i : ℕ) (w : Keeping numbers cells i) where
+    next-number : i < 8 → drop i numbers ≡ getD numbers i 0 ∷ drop (i + 1) numbers
+    next-number h = rw add-one (drop-cons numbers i 0 (omega (arith, w .numbers-size)))
+
+    pub keeping-next : i < 8 → getD numbers i 0 ≤ 4294967295 → Keeping numbers (set cells i (getD numbers i 0)) (i + 1)
+    unfolding all
+    keeping-next h l = record {
+      all-but = w .all-but ∙ rw (next-number h, lt-ltb (getD numbers i 0) 4294967296 (omega arith));
+      kept = rw (add-one, take-suc-set cells i (getD numbers i 0) (omega (arith, w .cells-size)), take-suc numbers i 0 (omega (arith, w .numbers-size)), w .kept);
+      near = omega arith;
+      cells-size = length-set cells i (getD numbers i 0) ∙ w .cells-size;
+      numbers-size = w .numbers-size;
+    }
+
+    pub keeping-large : {r : Order} → i < 8 → 4294967295 < getD numbers i 0 → r ≡ noOrder 2 → r ≡ ordered kind numbers
+    unfolding ordered all
+    keeping-large h l e = e ∙ rw (w .all-but, next-number h, le-ltb (getD numbers i 0) 4294967296 (omega arith))
+
+    pub keeping-end : 8 ≤ i → record { number = 0; kind = kind; cells = cells } ≡ ordered kind numbers
+    unfolding ordered all
+    keeping-end h =
+        let e : cells ≡ numbers = sym (take-all i cells (omega (arith, w .cells-size))) ∙ w .kept ∙ take-all i numbers (omega (arith, w .numbers-size)) in
+        rw (w .all-but, drop-of-length-le numbers {i = i} (omega (arith, w .numbers-size)), e)
+
+-- numbers cut off at 2^32 say the same
+saturated-all : (ns : List ℕ) → all fitsWord (map saturated ns) ≡ all fitsWord ns
+unfolding all
+saturated-all [] = refl
+saturated-all (n ∷ ns) = rw (saturated-test n, saturated-all ns)
+
+saturated-fit : (ns : List ℕ) → all fitsWord ns ≡ true → map saturated ns ≡ ns
+unfolding all
+saturated-fit [] h = refl
+saturated-fit (n ∷ ns) h =
+    rw (saturated-same n (ltb-true n 4294967296 (and-l (fitsWord n) (all fitsWord ns) h)), saturated-fit ns (and-r (fitsWord n) (all fitsWord ns) h))
+
+saturated-ordered : (kind : ℕ) (ns : List ℕ) → ordered kind (map saturated ns) ≡ ordered kind ns
+unfolding ordered
+saturated-ordered kind ns =
+    by (all fitsWord ns)
+    (λ (e : all fitsWord ns ≡ true). rw (saturated-fit ns e))
+    (λ (e : all fitsWord ns ≡ false). rw (saturated-all ns, e))
+
+take-map : (n : ℕ) (ns : List ℕ) → take n (map saturated ns) ≡ map saturated (take n ns)
+take-map zero ns = refl
+take-map (suc n) [] = refl
+take-map (suc n) (x ∷ ns) = ap (λ (l : List ℕ). saturated x ∷ l) (take-map n ns)
+
+told-cells : (ns : List ℕ) → take 8 (map saturated ns ++ replicate 8 0) ≡ map saturated (cellsOf ns)
+told-cells ns = sym (ap (take 8) (map-append saturated ns (replicate 8 0))) ∙ take-map 8 (ns ++ replicate 8 0)
+
+-- a form that takes the bytes, and one that does not
+told-fits : (kind : ℕ) (o : Option (List ℕ)) (other : Order) {t : Filled} {r : Order} → t ≡ told o → t .fits ≡ true → r ≡ ordered kind (t .numbers) → r ≡ orderOr kind o other
+told-fits kind none other e h q = clash h (ap (λ (x : Filled). x .fits) e)
+told-fits kind (some ns) other e h q =
+    q ∙ ap (ordered kind) (ap (λ (x : Filled). x .numbers) e ∙ told-cells ns) ∙ saturated-ordered kind (cellsOf ns)
+
+told-none : (kind : ℕ) (o : Option (List ℕ)) (other : Order) {t : Filled} → t ≡ told o → t .fits ≡ false → orderOr kind o other ≡ other
+told-none kind none other e h = refl
+told-none kind (some ns) other e h = clash (ap (λ (x : Filled). x .fits) e) h
+
+-- the loop over the forms of a table
+pub record Reading (table bytes : List ℕ) (at kind : ℕ) : Type 0 where
+  pub all-but : orderBy table bytes ≡ orderFrom kind (lines (drop at table)) bytes
+  pub near : at ≤ length table
+  pub counted : kind ≤ at
+
+module _ (table bytes : List ℕ) where
+  pub reading-start : Reading table bytes 0 0
+  unfolding orderBy
+  reading-start = record { all-but = refl; near = omega arith; counted = omega arith }
+
+  module _ (at kind : ℕ) (w : Reading table bytes at kind) where
+    pub reading-end : {r : Order} → length table ≤ at → r ≡ noOrder 1 → r ≡ orderBy table bytes
+    unfolding orderFrom
+    reading-end h e = e ∙ sym (w .all-but ∙ rw (no-lines table at h))
+
+    module _ {end : ℕ} (h : at < length table) (e : end ≡ at + length (firstLine (drop at table))) where
+      line-is : NextLine table at end
+      line-is = next-line table at h e
+
+      pub end-forward : at < end
+      end-forward = line-is .forward
+
+      pub end-inside : end ≤ length table
+      end-inside = line-is .inside
+
+      first-form : orderBy table bytes ≡ orderOr kind (taken (take (end - at) (drop at table)) bytes) (orderFrom (suc kind) (lines (drop end table)) bytes)
+      unfolding orderFrom
+      first-form = w .all-but ∙ rw (line-is .lines-are)
+
+      module _ {t : Filled} (p : t ≡ told (taken (take (end - at) (drop at table)) bytes)) where
+        pub reading-takes : {r : Order} → t .fits ≡ true → r ≡ ordered kind (t .numbers) → r ≡ orderBy table bytes
+        reading-takes f q = told-fits kind (taken (take (end - at) (drop at table)) bytes) (orderFrom (suc kind) (lines (drop end table)) bytes) p f q ∙ sym first-form
+
+        pub reading-on : t .fits ≡ false → Reading table bytes end (kind + 1)
+        reading-on f = record {
+          all-but = rw add-one (first-form ∙ told-none kind (taken (take (end - at) (drop at table)) bytes) (orderFrom (suc kind) (lines (drop end table)) bytes) p f);
+          near = end-inside;
+          counted = omega (arith, end-forward, w .counted);
+        }
+
+-- the form of a kind
+at-nothing : (k : ℕ) → getD {A = List ℕ} [] k [] ≡ []
+at-nothing zero = refl
+at-nothing (suc k) = refl
+
+no-form : (table : List ℕ) (at kind : ℕ) → length table ≤ at → formAt (drop at table) kind ≡ []
+unfolding formAt
+no-form table at kind h = rw (no-lines table at h) (at-nothing kind)
+
+ends-there : (table : List ℕ) (at : ℕ) {end : ℕ} → length table ≤ at → end ≡ at + length (firstLine (drop at table)) → end ≡ at
+unfolding firstLine
+ends-there table at h e = e ∙ rw (drop-of-length-le table {i = at} h) (omega arith)
+
+module _ (table : List ℕ) (at : ℕ) {end : ℕ} (e : end ≡ at + length (firstLine (drop at table))) where
+  pub form-inside : at ≤ length table → end ≤ length table
+  form-inside near =
+      le-by (length table) at
+      (λ (h : length table ≤ at). omega (arith, ends-there table at h e))
+      (λ (h : at < length table). next-line table at h e .inside)
+
+  -- the line that starts there, and the lines after it
+  pub form-here : formAt (drop at table) 0 ≡ take (end - at) (drop at table)
+  unfolding formAt
+  form-here =
+      le-by (length table) at
+      (λ (h : length table ≤ at). no-form table at 0 h ∙ sym (ap (take (end - at)) (drop-of-length-le table {i = at} h) ∙ take-nil (end - at)))
+      (λ (h : at < length table). rw (next-line table at h e .lines-are))
+
+  form-later : (kind : ℕ) → formAt (drop at table) (suc kind) ≡ formAt (drop end table) kind
+  unfolding formAt
+  form-later kind =
+      le-by (length table) at
+      (λ (h : length table ≤ at). no-form table at (suc kind) h ∙ sym (no-form table end kind (omega (arith, ends-there table at h e))))
+      (λ (h : at < length table). rw (next-line table at h e .lines-are))
+
+pub record Finding (table : List ℕ) (kind at left : ℕ) : Type 0 where
+  pub all-but : formAt table kind ≡ formAt (drop at table) left
+  pub near : at ≤ length table
+
+module _ (table : List ℕ) (kind : ℕ) where
+  pub finding-start : Finding table kind 0 kind
+  finding-start = record { all-but = refl; near = omega arith }
+
+  same : (n : ℕ) → n ≡ suc n - 1
+  same n = omega arith
+
+  pub finding-next : (at left : ℕ) {end : ℕ} → Finding table kind at left → 0 < left → end ≡ at + length (firstLine (drop at table)) → Finding table kind end (left - 1)
+  finding-next at zero w h e = absurd (omega arith)
+  finding-next at (suc left) {end} w h e = record { all-but = w .all-but ∙ form-later table at e left ∙ ap (formAt (drop end table)) (same left); near = form-inside table at e (w .near) }
+
+  pub finding-end : (at left : ℕ) → Finding table kind at left → left ≤ 0 → (at ≤ length table) × (formAt table kind ≡ formAt (drop at table) 0)
+  finding-end at zero w h = (w .near, w .all-but)
+  finding-end at (suc left) w h = absurd (omega arith)
+
+-- what is printed of a kind
+pub printed-kind : (table : List ℕ) (kind : ℕ) (numbers before : List ℕ) (at start : ℕ) {end : ℕ} {after : List ℕ} {r : ℕ} → formAt table kind ≡ formAt (drop start table) 0
+    → end ≡ start + length (firstLine (drop start table)) → Printed (fill (take (end - start) (drop start table)) numbers) before at after r → Printed (fill (formAt table kind) numbers) before at after r
+printed-kind table kind numbers before at start f e p = rw (f ∙ form-here table start e) p

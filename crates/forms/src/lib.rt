@@ -1,0 +1,102 @@
+// Tables of forms (the call log): a text is read by the first form of a table that takes it, and printed by the form of a kind. Public for the
+// crates of the call log.
+ghost use mathlib.Core.Path.{_≡_};
+ghost use Prim.Native.Nat.{_≤_};
+ghost use lib.ListN.{length, drop};
+ghost use Rattle.form.specs.Form.{fill};
+ghost use Rattle.forms.specs.Forms.{formAt, noOrder, ordered, orderBy};
+ghost use Rattle.forms.specs.Printed.{Printed};
+
+// Number 0: an order of this kind, with its numbers. 1: not in form. 2: a number does not fit 32 bits. Cells that say nothing hold 0.
+pub struct Order {
+    pub number: u32,
+    pub kind: usize,
+    pub cells: [u32; 8],
+}
+
+// Pub for the crates that read orders.
+pub fn no_order(number: u32) -> Order
+    ensures { λ r. ⌜ r ≡ noOrder number ⌝ }
+{
+    let cells = [0; 8];
+    Order {
+        number: number,
+        kind: 0,
+        cells: cells,
+    }
+}
+
+// The order of these numbers, where each fits 32 bits.
+fn order_of(kind: usize, numbers: [u64; 8]) -> Order
+    ensures { λ r. ⌜ r ≡ ordered kind numbers ⌝ }
+{
+    let mut cells = [0u32; 8];
+    let mut i = 0;
+    while i < 8 {
+        let n = numbers[i];
+        if 4294967295 < n {
+            return no_order(2);
+        }
+        cells[i] = n as u32;
+        i += 1;
+    }
+    Order {
+        number: 0,
+        kind: kind,
+        cells: cells,
+    }
+}
+
+// What the bytes say by the first form of the table that takes them.
+pub fn order_by(table: &[u8], bytes: &[u8]) -> Order
+    ensures { λ r. ⌜ r ≡ orderBy (now (table .entry)) (now (bytes .entry)) ⌝ }
+{
+    let mut at = 0;
+    let mut kind = 0;
+    while at < table.len() {
+        let end = line::line_end(table, at);
+        let filled = form::read_form(&table[at..end], bytes);
+        if filled.fits {
+            let numbers = filled.numbers;
+            return order_of(kind, numbers);
+        }
+        at = end;
+        kind += 1;
+    }
+    no_order(1)
+}
+
+// Where the form of a kind starts; a table that has no such form ends there.
+fn form_start(table: &[u8], kind: usize) -> usize
+    ensures { λ r. ⌜ (r ≤ length (now (table .entry))) × (formAt (now (table .entry)) kind ≡ formAt (drop r (now (table .entry))) 0) ⌝ }
+{
+    let mut at = 0;
+    let mut left = kind;
+    while 0 < left {
+        at = line::line_end(table, at);
+        left -= 1;
+    }
+    at
+}
+
+fn print_filled(out: &mut [u8], at: usize, form: &[u8], numbers: &[u64]) -> usize
+    ensures { λ r. ⌜ Printed (fill (now (form .entry)) (now (numbers .entry))) (now (out .entry)) at (now (out .exit)) r ⌝ }
+{
+    let size = out.len();
+    if size < at {
+        return size + 1;
+    }
+    if !form::form_fits(form, numbers, size - at) {
+        return size + 1;
+    }
+    at + form::write_form(&mut out[at..], form, numbers)
+}
+
+// Prints the form of a kind with these numbers, and answers the place after it.
+pub fn print_form(out: &mut [u8], at: usize, table: &[u8], kind: usize, numbers: &[u64]) -> usize
+    ensures { λ r. ⌜ Printed (fill (formAt (now (table .entry)) kind) (now (numbers .entry))) (now (out .entry)) at (now (out .exit)) r ⌝ }
+{
+    let start = form_start(table, kind);
+    let end = line::line_end(table, start);
+    print_filled(&mut out[..], at, &table[start..end], numbers)
+}

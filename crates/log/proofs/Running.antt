@@ -1,0 +1,69 @@
+-- The loop over the lines of a log. Assumes nothing.
+use mathlib.Core.Path.{_≡_, refl, sym, ap, _∙_}
+use mathlib.Core.List.{List, [], _∷_, _++_}
+use Prim.Native.Nat.{ℕ, suc, _+_, _-_, _≤_, _<_}
+use native.Mathlib.Omega.{arith}
+use lib.ListN.{length, take, drop}
+use Rattle.ground.specs.Ground.{Rows}
+use Rattle.ledger.specs.declared.Bench.{Bench}
+use Rattle.line.specs.Lines.{lines, firstLine}
+use Rattle.line.proofs.Ends.{next-line, no-lines}
+use Rattle.forms.specs.Printed.{Printed}
+use Rattle.forms.proofs.Printing.{printed-nothing, printed-both, printed-end}
+use Rattle.orders.specs.Orders.{orderRead}
+use Rattle.lending.specs.declared.Lending.{Lending}
+use Rattle.desk.specs.Desk.{Desk, printedOf}
+use Rattle.desk_calls.specs.Lines.{Holds}
+use Rattle.log.specs.Effects.{orderEffect}
+use Rattle.log.specs.Log.{Run, begun, runLine, runLines}
+
+-- the lines before a place were run
+pub record Running (log : List ℕ) (D : Desk) (count : ℕ) (before : List ℕ) (start from : ℕ) (bench : Bench) (lending : Lending) (edits constraints : Rows) (n : ℕ) (out : List ℕ) (at : ℕ) : Type 0 where
+  pub run : Run
+  pub rest : runLines (begun D count) (lines log) ≡ runLines run (lines (drop from log))
+  pub held : Holds (run .desk) bench lending edits constraints
+  pub counted : n ≡ run .count
+  pub told : Printed (run .printed) before start out at
+  pub few : n + (length log - from) ≤ count + length log
+
+module _ (log : List ℕ) (D : Desk) (count : ℕ) (before : List ℕ) (start : ℕ) where
+  pub running-start : {bench : Bench} {lending : Lending} {edits constraints : Rows} → Holds D bench lending edits constraints → start ≤ suc (length before)
+      → Running log D count before start 0 bench lending edits constraints count before start
+  running-start h s = record { run = begun D count; rest = refl; held = h; counted = refl; told = printed-nothing before start s; few = omega arith }
+
+  module _ {from : ℕ} {bench : Bench} {lending : Lending} {edits constraints : Rows} {n : ℕ} {out : List ℕ} {at : ℕ}
+      (R : Running log D count before start from bench lending edits constraints n out at) where
+    pub running-few : from < length log → count + length log ≤ 4611686018427387904 → n < 4611686018427387904
+    running-few h k = let f = R .few in omega arith
+
+    pub running-place : at ≤ suc (length out)
+    running-place = printed-end (R .run .printed) before start (R .told)
+
+    pub running-next : (h : from < length log) {end : ℕ} → end ≡ from + length (firstLine (drop from log)) → {m : ℕ} → m ≡ suc n
+        → {held : Bench} {lent : Lending} {editsafter constraintsafter : Rows} {after : List ℕ} {place : ℕ}
+        → ((E : Desk) → Holds E bench lending edits constraints → at ≤ suc (length out)
+        → Holds (orderEffect E (orderRead (take (end - from) (drop from log))) .after) held lent editsafter constraintsafter
+        × Printed (printedOf (orderEffect E (orderRead (take (end - from) (drop from log)))) m) out at after place)
+        → Running log D count before start end held lent editsafter constraintsafter m after place
+    unfolding runLines runLine
+    running-next h {end} e {m} q {after = after} {place = place} f =
+        let x = next-line log from h e in
+        let p = f (R .run .desk) (R .held) running-place in
+        let c : m ≡ suc (R .run .count) = q ∙ ap suc (R .counted) in
+        let t : Printed (printedOf (orderEffect (R .run .desk) (orderRead (take (end - from) (drop from log)))) (suc (R .run .count))) out at after place = rw c at (p .1) in
+        record {
+          run = runLine (R .run) (take (end - from) (drop from log));
+          rest = R .rest ∙ ap (runLines (R .run)) (x .lines-are);
+          held = p .0;
+          counted = c;
+          told = printed-both (R .run .printed) (printedOf (orderEffect (R .run .desk) (orderRead (take (end - from) (drop from log)))) (suc (R .run .count))) before start (R .told) t;
+          few = let g = R .few in let i = x .forward in let j = x .inside in omega arith;
+        }
+
+    pub running-end : length log ≤ from
+        → Holds (runLines (begun D count) (lines log) .desk) bench lending edits constraints × (n ≡ runLines (begun D count) (lines log) .count)
+        × Printed (runLines (begun D count) (lines log) .printed) before start out at
+    unfolding runLines
+    running-end h =
+        let e : runLines (begun D count) (lines log) ≡ R .run = R .rest ∙ ap (runLines (R .run)) (no-lines log from h) in
+        rw e (R .held, R .counted, R .told)

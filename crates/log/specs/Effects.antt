@@ -1,0 +1,23 @@
+-- What each line of a call log comes to, by its kind (orders/specs/Orders.antt has the lines). Assumes nothing.
+use mathlib.Core.Bool.{cond}
+use mathlib.Core.List.{[]}
+use Prim.Native.Nat.{ℕ, _-_}
+use lib.Dec.{eqb, ltb}
+use Rattle.forms.specs.declared.Order.{Order}
+use Rattle.desk.specs.Desk.{Desk, Cells, Effect, tells}
+use Rattle.desk.specs.Lends.{lendingOf}
+use Rattle.desk_calls.specs.Lines.{callOf}
+use Rattle.desk_votes.specs.Votes.{voteOf}
+use Rattle.desk_asks.specs.Questions.{askOf}
+
+-- 0 to 7 lend; 8 to 13 call; 14 to 18 are about votes; 19 to 25 ask; 26 and 27 are the adds, the last two requests
+unfoldable pub effectOf : Desk → ℕ → Cells → Effect
+effectOf D kind c =
+    cond (ltb kind 8) (lendingOf kind D c)
+    (cond (ltb kind 14) (callOf (kind - 8) D c)
+    (cond (ltb kind 19) (voteOf (kind - 14) D c)
+    (cond (ltb kind 26) (askOf (kind - 19) D c) (callOf (kind - 20) D c))))
+
+-- a line that is not in form, or has too large a number, is refused
+unfoldable pub orderEffect : Desk → Order → Effect
+orderEffect D order = cond (eqb (order .number) 0) (effectOf D (order .kind) (order .cells)) (tells D (order .number) [])
