@@ -1,0 +1,9 @@
+//! A second implementation of document 01, written from the document alone,
+//! and what is needed to compare another implementation with it.
+
+pub mod compare;
+pub mod coverage;
+mod form;
+pub mod log;
+pub mod model;
+pub mod random;

@@ -1,0 +1,509 @@
+//! The call log: calls on one bench, one to a line, and their answers.
+
+use crate::form::{self, Line};
+use crate::model::text::{
+    put, write_constraint, write_counts, write_report, write_text, yes_or_no,
+};
+use crate::model::{
+    election, is_eligible, is_sound_schedule, propose, suggest, Bench, Bundles, Case,
+    ConstraintRow, EditRow, Election, Entry, Ground, Pages, Record, RollRow, Room, Sound, Tables,
+    BENCHES, CONSTRAINT_LIMIT, EDIT_LIMIT,
+};
+
+/// One row more than a record can take in, so that a table that is too long has
+/// its fault among the rows that are kept.
+pub const LENT_EDIT_LIMIT: usize = EDIT_LIMIT + 1;
+pub const LENT_CONSTRAINT_LIMIT: usize = CONSTRAINT_LIMIT + 1;
+/// One name more than any schedule has.
+pub const ROW_LIMIT: usize = EDIT_LIMIT + 2;
+/// A roll of nine rows has a fault; further rows can't change that.
+const ROLL_LIMIT: usize = BENCHES + 1;
+
+/// The forms of the log's lines.
+#[derive(Clone, Copy, PartialEq, Eq, PartialOrd, Ord, Debug)]
+pub enum Kind {
+    LentEdit,
+    LentConstraint,
+    LentNone,
+    LentBench,
+    Roll,
+    RollNone,
+    Row,
+    RowNone,
+    Insert,
+    Set,
+    Remove,
+    Constraint,
+    Merge,
+    Hide,
+    Show,
+    TurnForward,
+    TurnBack,
+    Adopt,
+    Elect,
+    Bundle,
+    Propose,
+    Suggest,
+    Test,
+    AskText,
+    AskReport,
+    AskHidden,
+    AskSchedule,
+    AskCatalogue,
+    AskJournal,
+    AskPage,
+}
+
+pub const FORMS: [(Kind, &str); 30] = [
+    (Kind::LentEdit, "lent=# edit=# kind=# chip=# field=# value=#"),
+    (Kind::LentConstraint, "lent=# left=# rule=# right=#"),
+    (Kind::LentNone, "lent=# rows=none"),
+    (Kind::LentBench, "lent=# rows=bench"),
+    (Kind::Roll, "roll=# weight=#"),
+    (Kind::RollNone, "roll=none"),
+    (Kind::Row, "row=#"),
+    (Kind::RowNone, "row=none"),
+    (Kind::Insert, "edit=@ do=insert chip=#"),
+    (Kind::Set, "edit=@ do=set chip=# field=F value=#"),
+    (Kind::Remove, "edit=@ do=remove chip=#"),
+    (Kind::Constraint, "left=@ rule=R right=@"),
+    (Kind::Merge, "do=merge lent=#"),
+    (Kind::Hide, "do=hide edit=#"),
+    (Kind::Show, "do=show edit=#"),
+    (Kind::TurnForward, "do=turn pages=#"),
+    (Kind::TurnBack, "do=turn pages=-#"),
+    (Kind::Adopt, "do=adopt edit=#"),
+    (Kind::Elect, "do=elect edit=#"),
+    (Kind::Bundle, "do=bundle edit=# lent=#"),
+    (Kind::Propose, "do=propose lent=# old=# edits=# rules=# keep=?"),
+    (Kind::Suggest, "do=suggest first=# second=# case=#"),
+    (Kind::Test, "do=test lent=#"),
+    (Kind::AskText, "ask=text"),
+    (Kind::AskReport, "ask=report"),
+    (Kind::AskHidden, "ask=hidden"),
+    (Kind::AskSchedule, "ask=schedule"),
+    (Kind::AskCatalogue, "ask=catalogue"),
+    (Kind::AskJournal, "ask=journal"),
+    (Kind::AskPage, "ask=page"),
+];
+
+/// What became of a line.
+#[derive(Clone, Copy, PartialEq, Eq, Debug)]
+pub struct Outcome {
+    /// None if the line is in no form.
+    pub kind: Option<Kind>,
+    /// None if it was accepted.
+    pub refused: Option<Ground>,
+}
+
+/// The answers to a log.
+pub fn run(log: &[u8]) -> Vec<u8> {
+    let mut answers = Vec::new();
+    let mut session = Session::default();
+    for line in form::lines(log) {
+        session.line(line, &mut answers);
+    }
+    answers
+}
+
+/// A bench and what is lent to its calls.
+#[derive(Clone, Default)]
+pub struct Session {
+    pub bench: Bench,
+    /// 1 to 8 are the proposals by bench, 0 is loose.
+    pub lent: [Tables; BENCHES + 1],
+    roll: Vec<RollRow>,
+    row: Vec<u32>,
+    lines: u64,
+}
+
+impl Session {
+    /// Runs one line and appends its answer.
+    pub fn line(&mut self, line: Line, answers: &mut Vec<u8>) -> Outcome {
+        self.lines += 1;
+        let found = form::find(&FORMS, line.bytes).filter(|_| line.ended);
+        let kind = found.as_ref().map(|(kind, _)| *kind);
+        let result = match found {
+            Some((kind, numbers)) => numbers.and_then(|numbers| self.call(kind, numbers, answers)),
+            None => Err(Ground::Form),
+        };
+        if let Err(ground) = result {
+            put(answers, format_args!("refused={} line={}", ground.number(), self.lines));
+        }
+        Outcome { kind, refused: result.err() }
+    }
+
+    /// Runs every line of some bytes.
+    pub fn feed(&mut self, bytes: &[u8]) {
+        let mut answers = Vec::new();
+        for line in form::lines(bytes) {
+            answers.clear();
+            self.line(line, &mut answers);
+        }
+    }
+
+    /// Runs a line in form. Nothing is written before it is accepted.
+    fn call(&mut self, kind: Kind, numbers: [u32; 6], out: &mut Vec<u8>) -> Result<(), Ground> {
+        let [first, second, third, fourth, ..] = numbers;
+        let edit = EditRow { name: first, kind: 0, place: second, field: 0, value: 0 };
+        match kind {
+            Kind::LentEdit | Kind::LentConstraint | Kind::LentNone | Kind::LentBench => {
+                self.lend(kind, numbers)
+            }
+            Kind::Roll => self.push_roll(first, second),
+            Kind::RollNone => {
+                self.roll.clear();
+                Ok(())
+            }
+            Kind::Row => push_within(&mut self.row, first, ROW_LIMIT),
+            Kind::RowNone => {
+                self.row.clear();
+                Ok(())
+            }
+            Kind::Insert => self.add_edit(edit, out),
+            Kind::Set => {
+                self.add_edit(EditRow { kind: 1, field: third, value: fourth, ..edit }, out)
+            }
+            Kind::Remove => self.add_edit(EditRow { kind: 2, ..edit }, out),
+            Kind::Constraint => {
+                let row = ConstraintRow { left: first, rule: second, right: third };
+                let pages = self.bench.add_constraint(row)?;
+                self.write_change(pages, out)
+            }
+            Kind::Merge => {
+                let pages = self.bench.merge(&self.lent[record_number(first)?])?;
+                self.write_change(pages, out)
+            }
+            Kind::Hide => {
+                let pages = self.bench.hide(first)?;
+                self.write_change(pages, out)
+            }
+            Kind::Show => {
+                let pages = self.bench.show(first)?;
+                self.write_change(pages, out)
+            }
+            Kind::TurnForward => self.turn(first, 1, out),
+            Kind::TurnBack => self.turn(first, -1, out),
+            Kind::Adopt => self.adopt(first, out),
+            Kind::Elect => self.elect(first, out),
+            Kind::Bundle => self.bundle(first, second, out),
+            Kind::Propose => self.propose(numbers, out),
+            Kind::Suggest => self.suggest(first, second, third, out),
+            Kind::Test => self.test(first, out),
+            _ => {
+                self.answer(kind, out);
+                Ok(())
+            }
+        }
+    }
+
+    /// Answers a question.
+    fn answer(&self, kind: Kind, out: &mut Vec<u8>) {
+        match kind {
+            Kind::AskText => write_record(self.bench.record(), out),
+            Kind::AskReport => self.write_report(out),
+            Kind::AskHidden => self.write_hidden(out),
+            Kind::AskSchedule => self.write_schedule(out),
+            Kind::AskCatalogue => self.write_catalogue(out),
+            Kind::AskJournal => self.write_journal(out),
+            Kind::AskPage => put(out, format_args!("{}", self.place())),
+            _ => unreachable!("{kind:?} is no question"),
+        }
+    }
+
+    /// Changes a lent record.
+    fn lend(&mut self, kind: Kind, numbers: [u32; 6]) -> Result<(), Ground> {
+        let [number, second, third, fourth, fifth, sixth] = numbers;
+        let lent = &mut self.lent[record_number(number)?];
+        match kind {
+            Kind::LentEdit => {
+                let (name, kind, place, field, value) = (second, third, fourth, fifth, sixth);
+                let row = EditRow { name, kind, place, field, value };
+                push_within(&mut lent.edits, row, LENT_EDIT_LIMIT)?;
+            }
+            Kind::LentConstraint => {
+                let row = ConstraintRow { left: second, rule: third, right: fourth };
+                push_within(&mut lent.constraints, row, LENT_CONSTRAINT_LIMIT)?;
+            }
+            Kind::LentBench => *lent = Tables::from(self.bench.record()),
+            _ => *lent = Tables::default(),
+        }
+        Ok(())
+    }
+
+    fn push_roll(&mut self, bench: u32, weight: u32) -> Result<(), Ground> {
+        let bench = u8::try_from(bench).map_err(|_| Ground::Range)?;
+        let weight = u16::try_from(weight).map_err(|_| Ground::Range)?;
+        if self.roll.len() < ROLL_LIMIT {
+            self.roll.push(RollRow { bench, weight });
+        }
+        Ok(())
+    }
+
+    fn add_edit(&mut self, row: EditRow, out: &mut Vec<u8>) -> Result<(), Ground> {
+        let pages = self.bench.add_edit(row)?;
+        self.write_change(pages, out)
+    }
+
+    fn write_change(&self, pages: Pages, out: &mut Vec<u8>) -> Result<(), Ground> {
+        put(out, format_args!("{} {}", show_pages(pages), self.place()));
+        Ok(())
+    }
+
+    fn place(&self) -> String {
+        format!("open={} last={}", self.bench.open_page(), self.bench.last_page())
+    }
+
+    fn turn(&mut self, pages: u32, direction: i32, out: &mut Vec<u8>) -> Result<(), Ground> {
+        let pages = i32::try_from(pages).map_err(|_| Ground::Range)?;
+        self.bench.turn(pages * direction)?;
+        self.write_change(Pages::default(), out)
+    }
+
+    fn adopt(&mut self, edit: u32, out: &mut Vec<u8>) -> Result<(), Ground> {
+        let (election, pages) = self.bench.adopt(proposals(&self.lent), &self.roll, edit)?;
+        let (election, pages) = (show_election(&election), show_pages(pages));
+        put(out, format_args!("{election} {pages} {}", self.place()));
+        Ok(())
+    }
+
+    fn elect(&self, edit: u32, out: &mut Vec<u8>) -> Result<(), Ground> {
+        let election = election(proposals(&self.lent), &self.roll, edit)?;
+        put(out, format_args!("{}", show_election(&election)));
+        Ok(())
+    }
+
+    fn bundle(&self, edit: u32, lent: u32, out: &mut Vec<u8>) -> Result<(), Ground> {
+        let record = Record::lent(&self.lent[record_number(lent)?])?;
+        let edit = record.named(edit)?;
+        Sound::new(&record)?;
+        let bundle = Bundles::new(&record).of(edit);
+        out.extend_from_slice(format!("eligible={} ", yes_or_no(is_eligible(&bundle))).as_bytes());
+        write_record(&bundle, out);
+        Ok(())
+    }
+
+    fn propose(&mut self, numbers: [u32; 6], out: &mut Vec<u8>) -> Result<(), Ground> {
+        let [from, old, edits, constraints, keep, _] = numbers;
+        let (from, old) = (record_number(from)?, record_number(old)?);
+        let room = Room { edits: edits as usize, constraints: constraints as usize };
+        let proposal = propose(&self.lent[from], &self.lent[old], room)?;
+        write_record(&proposal, out);
+        if keep == 1 {
+            self.lent[old] = Tables::from(&proposal);
+        }
+        Ok(())
+    }
+
+    fn suggest(&self, first: u32, second: u32, case: u32, out: &mut Vec<u8>) -> Result<(), Ground> {
+        let record = self.bench.record();
+        let case = match case {
+            0 => Ok(Case::After),
+            1 => Ok(Case::Concurrent),
+            _ => Err(Ground::Range),
+        };
+        // Of several faults the lowest number is given, whichever edit has it.
+        let (first, second) = (record.named(first), record.named(second));
+        let grounds = [first.err(), second.err(), case.err()];
+        if let Some(&ground) = grounds.iter().flatten().min() {
+            return Err(ground);
+        }
+        let edit = |index: usize| record.edits[index - 1];
+        let rows = suggest(edit(first?), edit(second?), case?);
+        put(out, format_args!("rules={}", rows.len()));
+        rows.into_iter().for_each(|row| write_constraint(row, out));
+        Ok(())
+    }
+
+    fn test(&self, lent: u32, out: &mut Vec<u8>) -> Result<(), Ground> {
+        let record = Record::lent(&self.lent[record_number(lent)?])?;
+        Sound::new(&record)?;
+        let sound = is_sound_schedule(&record, &self.row);
+        put(out, format_args!("sound={}", yes_or_no(sound)));
+        Ok(())
+    }
+
+    fn write_report(&self, out: &mut Vec<u8>) {
+        let record = self.bench.record();
+        let sound = Sound::new(record).expect("the bench's record is sound");
+        write_report(record, &sound, out);
+    }
+
+    fn write_hidden(&self, out: &mut Vec<u8>) {
+        put(out, format_args!("hidden={}", self.bench.hidden().len()));
+        for name in self.bench.hidden() {
+            put(out, format_args!("edit={name}"));
+        }
+    }
+
+    fn write_schedule(&self, out: &mut Vec<u8>) {
+        put(out, format_args!("last={}", self.bench.last_page()));
+        for (place, edit) in self.bench.schedule().iter().enumerate() {
+            put(out, format_args!("page={} edit={}", place + 1, edit.name));
+        }
+    }
+
+    fn write_catalogue(&self, out: &mut Vec<u8>) {
+        let entries = || self.bench.catalogue().entries.iter().enumerate();
+        let present = || entries().filter(|(_, entry)| entry.present);
+        put(out, format_args!("chips={}", present().count()));
+        for (chip, entry) in present() {
+            put(out, format_args!("chip={chip}"));
+            write_cells(&format!("chip={chip}"), entry, out);
+        }
+    }
+
+    fn write_journal(&self, out: &mut Vec<u8>) {
+        put(out, format_args!("open={}", self.bench.open_page()));
+        let pages = self.bench.schedule().iter().zip(self.bench.journal());
+        for (place, (edit, before)) in pages.enumerate() {
+            let (page, chip) = (place + 1, edit.body.place);
+            let present = yes_or_no(before.present);
+            put(out, format_args!("page={page} chip={chip} present={present}"));
+            write_cells(&format!("page={page}"), before, out);
+        }
+    }
+}
+
+fn record_number(number: u32) -> Result<usize, Ground> {
+    let number = number as usize;
+    (number <= BENCHES).then_some(number).ok_or(Ground::Range)
+}
+
+/// All lent records but the loose one.
+fn proposals(lent: &[Tables; BENCHES + 1]) -> &[Tables; BENCHES] {
+    lent.last_chunk().expect("the proposals are all but the first")
+}
+
+fn push_within<Row>(rows: &mut Vec<Row>, row: Row, limit: usize) -> Result<(), Ground> {
+    if rows.len() >= limit {
+        return Err(Ground::NoPlace);
+    }
+    rows.push(row);
+    Ok(())
+}
+
+fn show_pages(pages: Pages) -> String {
+    format!("undone={} redone={}", pages.undone, pages.redone)
+}
+
+fn show_election(election: &Election) -> String {
+    let Election { won, greatest, silent, total } = election;
+    let won = yes_or_no(won.is_some());
+    format!("won={won} greatest={greatest} silent={silent} total={total}")
+}
+
+fn write_record(record: &Record, out: &mut Vec<u8>) {
+    write_counts(record, out);
+    write_text(record, out);
+}
+
+fn write_cells(begin: &str, entry: &Entry, out: &mut Vec<u8>) {
+    for (field, value) in entry.filled() {
+        put(out, format_args!("{begin} field={} value={value}", field.word()));
+    }
+}
+
+#[cfg(test)]
+mod tests {
+    use super::*;
+
+    fn answers(log: &str) -> String {
+        String::from_utf8(run(log.as_bytes())).unwrap()
+    }
+
+    #[test]
+    fn calls_and_questions() {
+        let log = "edit=257 do=insert chip=5\n\
+                   edit=258 do=set chip=5 field=size value=8192\n\
+                   left=257 rule=enables right=258\n\
+                   do=turn pages=-1\n\
+                   ask=catalogue\n\
+                   do=turn pages=1\n\
+                   ask=catalogue\n\
+                   ask=journal\n\
+                   do=hide edit=258\n\
+                   ask=hidden\n\
+                   ask=schedule\n\
+                   do=suggest first=257 second=258 case=0\n\
+                   ask=page\n";
+        let expected = "undone=0 redone=1 open=1 last=1\n\
+                        undone=0 redone=1 open=2 last=2\n\
+                        undone=0 redone=0 open=2 last=2\n\
+                        undone=0 redone=0 open=1 last=2\n\
+                        chips=1\nchip=5\n\
+                        undone=0 redone=0 open=2 last=2\n\
+                        chips=1\nchip=5\nchip=5 field=size value=8192\n\
+                        open=2\npage=1 chip=5 present=no\npage=2 chip=5 present=yes\n\
+                        undone=1 redone=0 open=1 last=1\n\
+                        hidden=1\nedit=258\n\
+                        last=1\npage=1 edit=257\n\
+                        rules=2\nleft=257 rule=notafter right=258\nleft=257 rule=enables right=258\n\
+                        open=1 last=1\n";
+        assert_eq!(answers(log), expected);
+    }
+
+    #[test]
+    fn a_vote_from_proposal_to_adoption() {
+        let log = "lent=0 edit=257 kind=0 chip=5 field=0 value=0\n\
+                   do=propose lent=0 old=3 edits=1 rules=1 keep=yes\n\
+                   do=bundle edit=257 lent=3\n\
+                   roll=3 weight=2\n\
+                   roll=4 weight=1\n\
+                   do=elect edit=257\n\
+                   do=adopt edit=257\n\
+                   ask=text\n\
+                   row=0\n\
+                   do=test lent=3\n\
+                   row=257\n\
+                   do=test lent=3\n";
+        let text = "edits=1 rules=1\nedit=257 do=insert chip=5\nleft=257 rule=enables right=0\n";
+        let expected = format!(
+            "{text}eligible=yes {text}\
+             won=yes greatest=2 silent=1 total=3\n\
+             won=yes greatest=2 silent=1 total=3 undone=0 redone=1 open=1 last=1\n\
+             {text}sound=no\nsound=yes\n"
+        );
+        assert_eq!(answers(log), expected);
+    }
+
+    #[test]
+    fn refusals_name_their_line() {
+        let cases = [
+            ("", ""),
+            ("\n", "refused=1 line=1\n"),
+            ("ask=page", "refused=1 line=1\n"),
+            ("ask=page\nask=pages\n", "open=0 last=0\nrefused=1 line=2\n"),
+            ("row=4294967296\n", "refused=2 line=1\n"),
+            ("lent=9 rows=none\n", "refused=2 line=1\n"),
+            ("do=turn pages=2147483647\n", "refused=10 line=1\n"),
+            ("do=turn pages=2147483648\n", "refused=2 line=1\n"),
+            ("do=turn pages=-2147483648\n", "refused=2 line=1\n"),
+            ("do=turn pages=-0\n", "undone=0 redone=0 open=0 last=0\n"),
+            ("roll=256 weight=0\n", "refused=2 line=1\n"),
+            ("roll=9 weight=0\ndo=elect edit=0\n", "refused=14 line=2\n"),
+            ("do=elect edit=0\n", "refused=2 line=1\n"),
+            ("do=elect edit=257\n", "refused=5 line=1\n"),
+            ("do=suggest first=257 second=0 case=0\n", "refused=2 line=1\n"),
+            ("do=suggest first=257 second=258 case=2\n", "refused=2 line=1\n"),
+            ("do=suggest first=257 second=258 case=1\n", "refused=5 line=1\n"),
+        ];
+        for (log, expected) in cases {
+            assert_eq!(answers(log), expected, "{log}");
+        }
+    }
+
+    #[test]
+    fn what_is_lent_has_its_limits() {
+        let count_refused = |line: &str, times: usize| {
+            let answers = answers(&line.repeat(times));
+            assert!(answers.lines().all(|answer| answer.starts_with("refused=3 ")));
+            answers.lines().count()
+        };
+        let edit = "lent=8 edit=1 kind=2 chip=3 field=4 value=5\n";
+        assert_eq!(count_refused(edit, 130), 2);
+        assert_eq!(count_refused("lent=0 left=1 rule=2 right=3\n", 515), 2);
+        assert_eq!(count_refused("row=7\n", 131), 2);
+        assert_eq!(count_refused("roll=1 weight=1\n", 100), 0);
+    }
+}
