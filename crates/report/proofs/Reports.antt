@@ -55,7 +55,7 @@ count-small content R e k h = let n : content .editcount ≡ length (R .edits) =
 
 module _ (text : List ℕ) {reading : Reading} (e : reading ≡ readingOf (length (lines text)) (readText text)) where
   -- a refused text
-  refused : {P : Type 0} → (reading .number ≡ 0 → ⊥) → (readText text ≡ Refused (reading .number) (reading .line) → P) → P
+  pub refused : {P : Type 0} → (reading .number ≡ 0 → ⊥) → (readText text ≡ Refused (reading .number) (reading .line) → P) → P
   refused {P} z k = go (readText text) refl
     where
       go : (a : Answer) → readText text ≡ a → P
@@ -67,7 +67,7 @@ module _ (text : List ℕ) {reading : Reading} (e : reading ≡ readingOf (lengt
           k (q ∙ rw (a, b))
 
   -- an accepted one
-  accepted : {P : Type 0} → reading .number ≡ 0 → ((R : Record) → readText text ≡ Accepted R → reading .content ≡ stored R → Checked R → P) → P
+  pub accepted : {P : Type 0} → reading .number ≡ 0 → ((R : Record) → readText text ≡ Accepted R → reading .content ≡ stored R → Checked R → P) → P
   accepted {P} z k = go (readText text) refl
     where
       go : (a : Answer) → readText text ≡ a → P
