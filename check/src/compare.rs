@@ -61,7 +61,7 @@ fn run(path: &PathBuf, input: &[u8]) -> std::io::Result<Vec<u8>> {
 /// Where two implementations part.
 #[derive(Debug, PartialEq, Eq)]
 pub struct Difference {
-    /// The line of the log, from 1; of a text, the line of what is printed.
+    /// The line of the log, from 1; otherwise the line of what is printed.
     pub line: usize,
     pub model: Vec<u8>,
     pub other: Vec<u8>,
@@ -93,28 +93,42 @@ pub fn compare_log(log: &[u8], other: &[u8], coverage: &mut Coverage) -> Option<
 
 /// The other's answer is cut to as many lines as the model's has, and one more.
 fn parted(line: usize, model: &[u8], rest: &[u8]) -> Difference {
-    let count = form::lines(model).count() + 1;
-    let other =
-        rest.split_inclusive(|&byte| byte == b'\n').take(count).collect::<Vec<_>>().concat();
-    Difference { line, model: model.to_vec(), other }
+    let count = whole_lines(model).count() + 1;
+    Difference { line, model: model.to_vec(), other: some_lines(rest, 0, count) }
 }
 
 /// Reads a text with the model, counts it, and compares what is printed.
 pub fn compare_text(text: &[u8], other: &[u8], coverage: &mut Coverage) -> Option<Difference> {
     let (model, fault) = text::shelf(text);
-    coverage.count_text(fault.map(|fault| fault.ground));
-    if model == other {
-        return None;
-    }
-    let same = form::lines(&model).zip(form::lines(other));
-    let same = same.take_while(|(one, other)| one.bytes == other.bytes).count();
-    Some(Difference { line: same + 1, model, other: other.to_vec() })
+    coverage.count_text(fault.map(|fault| fault.ground), &model);
+    difference(&model, other)
+}
+
+/// The line in which two answers part, and a few more.
+pub fn difference(model: &[u8], other: &[u8]) -> Option<Difference> {
+    const SHOWN: usize = 3;
+    let same = whole_lines(model).zip(whole_lines(other)).take_while(|(one, other)| one == other);
+    let same = same.count();
+    (model != other).then(|| Difference {
+        line: same + 1,
+        model: some_lines(model, same, SHOWN),
+        other: some_lines(other, same, SHOWN),
+    })
+}
+
+/// The lines with their ends.
+fn whole_lines(bytes: &[u8]) -> impl Iterator<Item = &[u8]> {
+    bytes.split_inclusive(|&byte| byte == b'\n')
+}
+
+fn some_lines(bytes: &[u8], skipped: usize, count: usize) -> Vec<u8> {
+    whole_lines(bytes).skip(skipped).take(count).collect::<Vec<_>>().concat()
 }
 
 /// Cuts a log or text down: lines are dropped, many at a time first, as long as
 /// the difference stays.
 pub fn cut_down(input: &[u8], mut differs: impl FnMut(&[u8]) -> bool) -> Vec<u8> {
-    let mut lines: Vec<&[u8]> = input.split_inclusive(|&byte| byte == b'\n').collect();
+    let mut lines: Vec<&[u8]> = whole_lines(input).collect();
     let mut size = lines.len().next_power_of_two();
     loop {
         let before = lines.len();

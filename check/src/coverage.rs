@@ -2,6 +2,7 @@
 
 use crate::log::{self, Kind};
 use crate::model::Ground;
+use crate::trial::{Outcome, Trial};
 use std::collections::BTreeMap;
 use std::fmt;
 
@@ -9,27 +10,46 @@ use std::fmt;
 const NO_FORM: &str = "(no form)";
 /// The name of a whole text.
 const TEXT: &str = "(text)";
+/// How the answer on a record begins that can take in nothing more.
+const FULL: &str = "edits=127 rules=512";
+
+/// What is compared: logs, texts, and both once more in rooms of several sizes.
+#[derive(Clone, Copy)]
+pub struct Parts {
+    pub logs: bool,
+    pub texts: bool,
+    pub rooms: bool,
+}
 
 /// How often each kind of line had each outcome. An outcome is `accepted`, the
-/// answer's first word where answers differ in that, or `refused=N`.
+/// answer's first word where answers differ in that, the counts of a full record,
+/// or `refused=N`.
 #[derive(Default)]
 pub struct Coverage {
     counts: BTreeMap<(&'static str, String), u64>,
+    trials: BTreeMap<(Trial, Outcome), u64>,
+    lines: u64,
+    texts: u64,
 }
 
 impl Coverage {
     pub fn count_line(&mut self, outcome: log::Outcome, answer: &[u8]) {
         let line = outcome.kind.map_or(NO_FORM, form_of);
         let result = match outcome.refused {
-            Some(ground) => refused(ground),
             None if tells_by_first_word(outcome.kind) => first_word(answer),
-            None => "accepted".to_string(),
+            refused => result(refused, answer),
         };
         self.add(line, result);
+        self.lines += 1;
     }
 
-    pub fn count_text(&mut self, fault: Option<Ground>) {
-        self.add(TEXT, fault.map_or("accepted".to_string(), refused));
+    pub fn count_text(&mut self, fault: Option<Ground>, report: &[u8]) {
+        self.add(TEXT, result(fault, report));
+        self.texts += 1;
+    }
+
+    pub fn count_trial(&mut self, trial: Trial, outcome: Outcome) {
+        *self.trials.entry((trial, outcome)).or_default() += 1;
     }
 
     fn add(&mut self, line: &'static str, result: String) {
@@ -40,37 +60,72 @@ impl Coverage {
         self.counts.get(&(line, result.to_string())).copied().unwrap_or(0)
     }
 
-    /// What must occur and did not, of logs or of texts or of both.
-    pub fn missing(&self, logs: bool, texts: bool) -> Vec<String> {
-        let wanted = logs.then(wanted_of_logs).into_iter().flatten();
-        let wanted = wanted.chain(texts.then(wanted_of_texts).into_iter().flatten());
+    /// What must occur in these parts and did not.
+    pub fn missing(&self, parts: Parts) -> Vec<String> {
+        let wanted = parts.logs.then(wanted_of_logs).into_iter().flatten();
+        let wanted = wanted.chain(parts.texts.then(wanted_of_texts).into_iter().flatten());
         let missing = wanted.filter(|(line, result)| self.count(line, result) == 0);
-        missing.map(|(line, result)| format!("{line}: {result}")).collect()
+        let missing = missing.map(|(line, result)| format!("{line}: {result}"));
+        let trials = parts.rooms.then(Trial::all).into_iter().flatten();
+        let trials = trials.filter(|key| !self.trials.contains_key(key));
+        let trials = trials.map(|(trial, outcome)| format!("{trial}: {}", outcome.word()));
+        missing.chain(trials).collect()
     }
 
     fn of_number(&self, number: u8) -> u64 {
         let result = format!("refused={number}");
         self.counts.iter().filter(|(key, _)| key.1 == result).map(|(_, count)| count).sum()
     }
+
+    fn too_short(&self) -> u64 {
+        let trials = self.trials.iter().filter(|(key, _)| key.1 == Outcome::TooShort);
+        trials.map(|(_, count)| count).sum()
+    }
+
+    /// Everything that was counted: its title, what it is, how often.
+    fn rows(&self) -> Vec<(String, String, u64)> {
+        let row = |title: &str, name: &str, count| (title.to_string(), name.to_string(), count);
+        let mut rows = Vec::new();
+        rows.extend(self.counts.iter().map(|((line, result), &count)| row(line, result, count)));
+        let number =
+            |ground: Ground| row("by number", &refused(ground), self.of_number(ground.number()));
+        rows.extend(Ground::ALL.map(number));
+        rows.extend(
+            self.trials
+                .iter()
+                .map(|((trial, outcome), &count)| row(&trial.to_string(), outcome.word(), count)),
+        );
+        rows.push(row("in all", "lines of logs", self.lines));
+        rows.push(row("in all", "texts", self.texts));
+        rows.push(row("in all", "too short", self.too_short()));
+        rows
+    }
 }
 
 impl fmt::Display for Coverage {
     fn fmt(&self, out: &mut fmt::Formatter) -> fmt::Result {
-        let mut last = "";
-        for ((line, result), count) in &self.counts {
-            if last != *line {
-                writeln!(out, "{line}")?;
-                last = line;
+        let mut last = String::new();
+        for (title, name, count) in self.rows() {
+            if last != title {
+                writeln!(out, "{title}")?;
+                last = title;
             }
-            writeln!(out, "    {result:<14}{count:>10}")?;
-        }
-        writeln!(out, "by number")?;
-        for ground in Ground::ALL {
-            let number = ground.number();
-            writeln!(out, "    {:<14}{:>10}", refused(ground), self.of_number(number))?;
+            writeln!(out, "    {name:<20}{count:>10}")?;
         }
         Ok(())
     }
+}
+
+fn result(fault: Option<Ground>, answer: &[u8]) -> String {
+    match fault {
+        Some(ground) => refused(ground),
+        None if is_full(answer) => FULL.to_string(),
+        None => "accepted".to_string(),
+    }
+}
+
+fn is_full(answer: &[u8]) -> bool {
+    answer.strip_prefix(FULL.as_bytes()).is_some_and(|rest| rest.starts_with(b"\n"))
 }
 
 fn refused(ground: Ground) -> String {
@@ -103,7 +158,8 @@ fn wanted_of_logs() -> Vec<(&'static str, String)> {
 
 fn wanted_of_texts() -> Vec<(&'static str, String)> {
     let refused = [1, 2, 3, 5, 6, 8, 13].map(|number| format!("refused={number}"));
-    refused.into_iter().chain(["accepted".to_string()]).map(|result| (TEXT, result)).collect()
+    let accepted = ["accepted", FULL].map(str::to_string);
+    refused.into_iter().chain(accepted).map(|result| (TEXT, result)).collect()
 }
 
 fn accepted_results(kind: Kind) -> &'static [&'static str] {
@@ -111,6 +167,7 @@ fn accepted_results(kind: Kind) -> &'static [&'static str] {
         Kind::Adopt | Kind::Elect => &["won=yes", "won=no"],
         Kind::Bundle => &["eligible=yes", "eligible=no"],
         Kind::Test => &["sound=yes", "sound=no"],
+        Kind::AskReport => &["accepted", FULL],
         _ => &["accepted"],
     }
 }
@@ -139,5 +196,44 @@ fn numbers(kind: Kind) -> &'static [u8] {
         | Kind::AskCatalogue
         | Kind::AskJournal
         | Kind::AskPage => &[],
+    }
+}
+
+#[cfg(test)]
+mod tests {
+    use super::*;
+    use crate::trial::Room;
+
+    const NOTHING: Parts = Parts { logs: false, texts: false, rooms: false };
+
+    #[test]
+    fn what_did_not_occur_is_missing_in_its_part_alone() {
+        let mut coverage = Coverage::default();
+        let rooms = Parts { rooms: true, ..NOTHING };
+        assert_eq!(coverage.missing(NOTHING), [""; 0]);
+        assert!(coverage.missing(Parts { logs: true, ..NOTHING }).len() > 100);
+        assert_eq!(coverage.missing(Parts { texts: true, ..NOTHING }).len(), 9);
+        assert_eq!(coverage.missing(rooms).len(), Trial::all().len());
+        coverage.count_trial(Trial::Check, Outcome::Accepted);
+        assert_eq!(coverage.missing(rooms).len(), Trial::all().len() - 1);
+    }
+
+    #[test]
+    fn a_full_record_is_an_outcome_of_its_own() {
+        let mut coverage = Coverage::default();
+        coverage.count_text(None, b"edits=127 rules=512\nedit=257 must=no");
+        coverage.count_text(None, b"edits=127 rules=5120\n");
+        assert_eq!(coverage.count(TEXT, FULL), 1);
+        assert_eq!(coverage.count(TEXT, "accepted"), 1);
+        assert_eq!(coverage.texts, 2);
+    }
+
+    #[test]
+    fn a_lack_of_room_is_not_counted_among_the_numbers() {
+        let mut coverage = Coverage::default();
+        coverage.count_trial(Trial::Report { out: Room::Short }, Outcome::TooShort);
+        coverage.count_trial(Trial::Report { out: Room::Exact }, Outcome::Accepted);
+        assert_eq!(coverage.too_short(), 1);
+        assert_eq!(coverage.of_number(12), 0);
     }
 }

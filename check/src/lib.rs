@@ -4,6 +4,8 @@
 pub mod compare;
 pub mod coverage;
 mod form;
+pub mod library;
 pub mod log;
 pub mod model;
 pub mod random;
+pub mod trial;

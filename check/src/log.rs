@@ -98,8 +98,14 @@ pub struct Outcome {
 
 /// The answers to a log.
 pub fn run(log: &[u8]) -> Vec<u8> {
+    run_after(b"", log)
+}
+
+/// The answers to a log alone, on the bench that a kept log made.
+pub fn run_after(kept: &[u8], log: &[u8]) -> Vec<u8> {
     let mut answers = Vec::new();
     let mut session = Session::default();
+    session.feed(kept);
     for line in form::lines(log) {
         session.line(line, &mut answers);
     }

@@ -30,9 +30,10 @@ pub fn text(seed: u64) -> Vec<u8> {
 /// Records of every size, those at the limits among them.
 fn any_recipe(world: &World, random: &mut Random) -> Recipe {
     let full = world.edits.len() > 100;
-    let edits = if full { random.between(120, world.edits.len()) } else { world.edits.len() };
+    let many = random.pick(&[120, 126, 127, 127, 127, 128, 135]);
+    let edits = if full { many.min(world.edits.len()) } else { world.edits.len() };
     let constraints = match random.below(4) {
-        0 if full => random.between(500, 530),
+        0 | 1 if full => random.pick(&[505, 511, 512, 512, 512, 513, 520]),
         1 => 0,
         _ => random.below(edits * 3),
     };
