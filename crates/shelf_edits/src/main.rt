@@ -1,4 +1,0 @@
-// `shelf` on a text with a 128th edit.
-fn main() {
-    console::show_input();
-}
