@@ -12,8 +12,8 @@ use decimal::Numeral;
 
 // The numbers with which a form gives a text, cut off at 2^32, or that it does not. Places past the form's own numbers hold 0.
 pub struct Filled {
-    pub fits: bool,
     pub numbers: [u64; 8],
+    pub fits: bool,
 }
 
 // The spelling of an edit's name.
@@ -215,22 +215,22 @@ pub fn write_form(out: &mut [u8], form: &[u8], numbers: &[u64]) -> usize
     at
 }
 
-fn stored(numbers: [u64; 8], k: usize, n: u64) -> [u64; 8]
-    ensures { λ r. ⌜ r ≡ set numbers k n ⌝ }
+// In place, since a copy that is read right after a single number was stored waits for it.
+fn store(numbers: &mut [u64; 8], k: usize, n: u64)
+    requires { ⌜ length (now numbers) ≡ 8 ⌝ }
+    ensures { λ _. ⌜ now (numbers .exit) ≡ set (now (numbers .entry)) k n ⌝ }
 {
-    let mut changed = numbers;
     if k < 8 {
-        changed[k] = n;
+        numbers[k] = n;
     }
-    changed
 }
 
 fn no_fit() -> Filled
     ensures { λ r. ⌜ r ≡ told none ⌝ }
 {
     Filled {
-        fits: false,
         numbers: [0; 8],
+        fits: false,
     }
 }
 
@@ -251,8 +251,7 @@ pub fn read_form(form: &[u8], bytes: &[u8]) -> Filled
             if size == 0 {
                 return no_fit();
             }
-            let changed = stored(numbers, k, numeral.value);
-            numbers = changed;
+            store(&mut numbers, k, numeral.value);
             at += size;
             k += 1;
         } else {
@@ -269,7 +268,7 @@ pub fn read_form(form: &[u8], bytes: &[u8]) -> Filled
         return no_fit();
     }
     Filled {
-        fits: true,
         numbers: numbers,
+        fits: true,
     }
 }

@@ -6,7 +6,7 @@ use mathlib.Core.Logic.{_≢_}
 use mathlib.Core.List.{List, [], _∷_, _++_, map}
 use mathlib.Core.Option.{Option, none, some}
 use native.Mathlib.Omega.{arith}
-use borrow.Author.Tests.{lt-ltb, le-ltb, eq-eqb, ne-eqb}
+use borrow.Author.Tests.{lt-ltb, le-ltb, eqb-true, eq-eqb, ne-eqb}
 use lib.Dec.{eqb}
 use lib.ListN.{length, getD, take, drop, replicate, drop-of-length-le}
 use Rattle.record.specs.Lists.{all}
@@ -16,7 +16,7 @@ use Rattle.decimal.proofs.RoundTrip.{saturated-same}
 use Rattle.form.specs.Spelling.{bytes}
 use Rattle.form.specs.Form.{isMark, taken, told}
 use Rattle.form.specs.declared.Filled.{Filled}
-use Rattle.form.proofs.Forms.{slots, fill-taken}
+use Rattle.form.proofs.Forms.{slots, fill-taken, byte-missing}
 use Rattle.line.specs.Line.{setForm, editForm, ruleForm, editSaid, constraintSaid, faulty, Shape, editShape, ruleShape, setShapes, ruleShapes, shapes, fitsWord, readAs, orElse, readBy, lineRead}
 use Rattle.line.specs.declared.Line.{Line}
 
@@ -229,10 +229,43 @@ pub too-long : (s : List ℕ) {r : Line} → 101 < length s → r ≡ faulty 1 �
 unfolding lineRead
 too-long s h e = rw (lt-ltb 101 (length s) h) e
 
+-- an edit's line begins with another letter than a constraint's
+module _ (s : List ℕ) where
+  other-form : (shape : Shape) → taken (shape .form) (108 ∷ s) ≡ none → (readAs shape (108 ∷ s)) .number ≡ 1
+  unfolding readAs
+  other-form shape q = rw q refl
+
+  passed-over : (shape : Shape) (rest : List Shape) → shape .form ≡ 101 ∷ drop 1 (shape .form) → readBy (shape ∷ rest) (108 ∷ s) ≡ readBy rest (108 ∷ s)
+  unfolding isMark
+  passed-over shape rest e =
+      found-later shape rest (108 ∷ s) refl
+      (other-form shape (ap (λ (form : List ℕ). taken form (108 ∷ s)) e ∙ byte-missing 101 (drop 1 (shape .form)) refl (108 ∷ s) refl))
+
+  rule-begun : readBy shapes (108 ∷ s) ≡ readBy ruleShapes (108 ∷ s)
+  unfolding shapes setShapes editForm setForm bytes
+  rule-begun =
+      passed-over (editShape 0 0) (editShape 2 0 ∷ (setShapes ++ ruleShapes)) refl ∙ passed-over (editShape 2 0) (setShapes ++ ruleShapes) refl
+      ∙ passed-over (editShape 1 0) (editShape 1 1 ∷ editShape 1 2 ∷ editShape 1 3 ∷ ruleShapes) refl
+      ∙ passed-over (editShape 1 1) (editShape 1 2 ∷ editShape 1 3 ∷ ruleShapes) refl
+      ∙ passed-over (editShape 1 2) (editShape 1 3 ∷ ruleShapes) refl ∙ passed-over (editShape 1 3) ruleShapes refl
+
+no-edit : (s : List ℕ) → eqb (getD s 0 0) 108 ≡ true → readBy shapes s ≡ readBy ruleShapes s
+no-edit [] e = clash e refl
+no-edit (c ∷ s) e =
+    let q : c ≡ 108 = eqb-true c 108 e in
+    ap (λ (x : ℕ). readBy shapes (x ∷ s)) q ∙ rule-begun s ∙ sym (ap (λ (x : ℕ). readBy ruleShapes (x ∷ s)) q)
+
+pub nothing-begun : (s : List ℕ) → length s ≡ 0 → false ≡ eqb (getD s 0 0) 108
+nothing-begun [] h = refl
+nothing-begun (c ∷ s) h = absurd (omega arith)
+
 module _ (s : List ℕ) (h : length s ≤ 101) where
   short : readBy shapes s ≡ lineRead s
   unfolding lineRead
   short = rw (le-ltb 101 (length s) h)
+
+  pub rule-first : {d : Line} → eqb (getD s 0 0) 108 ≡ true → d ≡ readBy ruleShapes s → d ≡ lineRead s
+  rule-first e q = q ∙ sym (no-edit s e) ∙ short
 
   module _ {a : Line} (p : a ≡ readAs (editShape 0 0) s) where
     pub is-insert : a .number ≢ 1 → a ≡ lineRead s

@@ -3,7 +3,8 @@
 ghost use mathlib.Core.Path.{_≡_};
 ghost use mathlib.Core.List.{[], _∷_};
 ghost use Prim.Native.Nat.{_+_, _≤_};
-ghost use lib.ListN.{length, drop};
+ghost use lib.Dec.{eqb};
+ghost use lib.ListN.{length, drop, getD};
 ghost use Rattle.decimal.specs.Written.{Written};
 ghost use Rattle.form.specs.Form.{fill, taken, told};
 ghost use Rattle.line.specs.Line.{setForm, editForm, ruleForm, editLine, constraintLine, faulty, editShape, ruleShape, setShapes, ruleShapes, readAs, readBy, lineRead};
@@ -14,9 +15,9 @@ use form::Filled;
 // Cells that say nothing hold 0.
 pub struct Line {
     pub number: u32,
-    pub isedit: bool,
     pub edit: [u32; 5],
     pub constraint: [u32; 3],
+    pub isedit: bool,
 }
 
 fn fault(number: u32) -> Line
@@ -26,9 +27,9 @@ fn fault(number: u32) -> Line
     let constraint = [0; 3];
     Line {
         number: number,
-        isedit: false,
         edit: edit,
         constraint: constraint,
+        isedit: false,
     }
 }
 
@@ -88,9 +89,9 @@ fn read_edit_as(kind: u32, field: u32, bytes: &[u8]) -> Line
     let constraint = [0; 3];
     Line {
         number: 0,
-        isedit: true,
         edit: edit,
         constraint: constraint,
+        isedit: true,
     }
 }
 
@@ -115,9 +116,9 @@ fn read_rule_as(rule: u32, bytes: &[u8]) -> Line
     let constraint = [left as u32, rule, right as u32];
     Line {
         number: 0,
-        isedit: false,
         edit: edit,
         constraint: constraint,
+        isedit: false,
     }
 }
 
@@ -149,12 +150,25 @@ fn read_rule(bytes: &[u8]) -> Line
     fault(1)
 }
 
+// No edit's line begins with this letter.
+fn begins_rule(bytes: &[u8]) -> bool
+    ensures { λ r. ⌜ r ≡ eqb (getD (now (bytes .entry)) 0 0) 108 ⌝ }
+{
+    if bytes.len() == 0 {
+        return false;
+    }
+    bytes[0] == b'l'
+}
+
 // What a line with its end says.
 pub fn read_line(bytes: &[u8]) -> Line
     ensures { λ r. ⌜ r ≡ lineRead (now (bytes .entry)) ⌝ }
 {
     if 101 < bytes.len() {
         return fault(1);
+    }
+    if begins_rule(bytes) {
+        return read_rule(bytes);
     }
     let insert = read_edit_as(0, 0, bytes);
     if insert.number != 1 {
