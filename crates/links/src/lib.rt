@@ -152,3 +152,17 @@ pub fn has_ring(
     }
     false
 }
+
+// All of n edits.
+pub fn all_marks(n: usize) -> [u8; 128]
+    requires { ⌜ n ≤ 128 ⌝ }
+    ensures { λ r. ⌜ (length r ≡ 128) × ((R : Record) → n ≡ length (names R) → r ≡ marksOf R (λ y. mem y (names R))) ⌝ }
+{
+    let mut marks = [0u8; 128];
+    let mut x: usize = 0;
+    while x < n {
+        marks[x] = 1;
+        x += 1;
+    }
+    marks
+}
