@@ -142,3 +142,13 @@ marks-same R p q few h = values-same R _ _ few (λ x i. ap (λ b. cond b 1 0) (h
 pub none-marked : (R : Record) → length (names R) ≤ 128 → replicate 128 0 ≡ marksOf R (λ y. mem y [])
 unfolding marksOf mem
 none-marked R few = values-are R _ (replicate 128 0) few refl (λ y h. zeros-get 128 y) (λ y h. zeros-get 128 y)
+
+-- what a loop that marks all keeps
+pub all-step : (R : Record) (x : ℕ) (r : List ℕ) → x < length r → x < length (names R) → Filled R (λ y. cond (mem y (names R)) 1 0) x r
+    → Filled R (λ y. cond (mem y (names R)) 1 0) (x + 1) (set r x 1)
+all-step R x r l h = filled-step R (λ y. cond (mem y (names R)) 1 0) x r 1 l (rw (getD-among (names R) x h))
+
+pub all-end : (R : Record) (x : ℕ) (r : List ℕ) → length r ≡ 128 → length (names R) ≤ 128 → x ≡ length (names R) → Filled R (λ y. cond (mem y (names R)) 1 0) x r
+    → r ≡ marksOf R (λ y. mem y (names R))
+unfolding marksOf
+all-end R x r size few = filled-end R (λ y. cond (mem y (names R)) 1 0) x r few size

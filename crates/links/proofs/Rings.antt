@@ -1,19 +1,19 @@
 -- The search finds a ring just where the marked set holds one. Assumes nothing.
 use mathlib.Core.Path.{_≡_, refl, sym, ap, _∙_}
 use mathlib.Core.Bool.{Bool, true, false, not}
-use mathlib.Core.List.{List}
-use Prim.Native.Nat.{ℕ, _+_, _≤_, _<_}
+use mathlib.Core.List.{List, []}
+use Prim.Native.Nat.{ℕ, zero, suc, _+_, _≤_, _<_}
 use native.Mathlib.Omega.{arith}
 use lib.ListN.{length, getD}
 use borrow.Author.Tests.{not-true}
-use Rattle.record.specs.Lists.{mem, at, _among_, _within_}
+use Rattle.record.specs.Lists.{any, mem, at, _among_, _within_}
 use Rattle.record.specs.Record.{Record, names, notafter}
 use Rattle.record.specs.Schedule.{order, ring}
 use Rattle.record.proofs.Lists.{by, clash, any-by, le-by, mem-at}
 use Rattle.record.proofs.Order.{Placed, order-placed, ring-order, left-by}
 use Rattle.links.specs.Marks.{nameAt, marksOf}
 use Rattle.links.specs.Links.{Leads, RowOf}
-use Rattle.links.specs.Reach.{On}
+use Rattle.links.specs.Reach.{On, Off}
 use Rattle.links.specs.Search.{Is, Held, Rising, Follows, NoRank}
 use Rattle.links.proofs.Names.{getD-place, place-getD}
 use Rattle.links.proofs.Marks.{marks-low, marks-on, on-marks, marks-past}
@@ -22,6 +22,27 @@ use Rattle.links.proofs.Search.{Searching, Searched}
 -- one of a set whose predecessors in it are placed is placed
 order-next : (R : Record) (t : List ℕ) → t within names R → (x : ℕ) → x among t → ((a : ℕ) → notafter R a x ≡ true → a among t → a among order R t) → x among order R t
 order-next R t k x i h = by (mem x (order R t)) (λ m. m) (λ m. left-by R t k x i m (λ a j p e. clash (h a e j) p))
+
+-- where a part u holds no ring, and all besides u are placed, there is none
+module _ (R : Record) (u t : List ℕ) (k : t within names R) (calm : ring R u ≡ false) (new : (x : ℕ) → x among t → mem x u ≡ false → x among order R t) where
+  old-placed : (n x : ℕ) → at x (order R u) < n → x among u → x among t → x among order R t
+  old-placed zero x l i j = absurd (omega arith)
+  old-placed (suc n) x l i j =
+      by (mem x (order R t)) (λ m. m)
+      (λ m. left-by R t k x j m (λ a q p e. by (mem a u)
+      (λ v. clash (old-placed n a (omega (arith, order-placed R u .orders a x e v (ring-order R u calm x i))) v q) p)
+      (λ v. clash (new a q v) p)))
+
+  ring-new : ring R t ≡ false
+  unfolding ring
+  ring-new =
+      by (ring R t)
+      (λ r. any-by _ t r (λ x i m. clash (by (mem x u) (λ v. old-placed (suc (at x (order R u))) x (omega arith) v i) (λ v. new x i v)) (not-true _ m)))
+      (λ r. r)
+
+pub no-ring-none : (R : Record) → ring R [] ≡ false
+unfolding ring any
+no-ring-none R = refl
 
 module _ (R : Record) (t s heads links lefts : List ℕ) (g : Leads (notafter R) R 0 heads links lefts) (sub : t within names R)
     (e : s ≡ marksOf R (λ y. mem y t)) where
@@ -55,17 +76,16 @@ module _ (R : Record) (t s heads links lefts : List ℕ) (g : Leads (notafter R)
       (λ i y l q h k. let a = held-in y h in
       order-placed R t .orders (nameAt R (getD lefts i 0)) (nameAt R y) (g .holds i y l (a .0) (omega (arith, q))) (held-in _ k .1) (ring-order R t r (nameAt R y) (a .1))))))
 
-  pub ring-none : (n : ℕ) (w : List ℕ) → n ≡ length (names R) → Searching heads links lefts s n w → false ≡ ring R t
-  unfolding ring
-  ring-none n w q k =
+  pub ring-none : (u old : List ℕ) (n : ℕ) (w : List ℕ) → n ≡ length (names R) → old ≡ marksOf R (λ y. mem y u) → ring R u ≡ false
+      → Searching heads links lefts old s n w → false ≡ ring R t
+  ring-none u old n w q o calm k =
       let d = k .search (g .keys) (g .linked) low in
-      sym (by (ring R t)
-      (λ r. any-by _ t r (λ a i m. clash
-      (rw (getD-place a (names R) (sub a i)) at
-      (d .placed (λ y. mem (nameAt R y) (order R t)) follows (λ y h. absurd (omega (arith, low y, h))) (at a (names R))
-      (d .done (at a (names R)) (omega (arith, mem-at a (names R) (sub a i))) (in-held a i))))
-      (not-true _ m)))
-      (λ r. r))
+      sym (ring-new R u t sub calm
+      (λ a i m. let x = at a (names R) in
+      let f : Off old (at a (names R)) = λ z. clash (rw (getD-place a (names R) (sub a i)) at (marks-on R (λ y. mem y u) x (rw (← o) z) .1)) m in
+      rw (getD-place a (names R) (sub a i)) at
+      (d .placed (λ y. mem (nameAt R y) (order R t)) follows (λ y h. absurd (omega (arith, low y, h))) x
+      (d .done x (omega (arith, mem-at a (names R) (sub a i))) f (in-held a i)))))
 
   pub ring-low : (y : ℕ) → getD s y 0 ≤ 1
   ring-low = low

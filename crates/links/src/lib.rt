@@ -1,7 +1,7 @@
 // Linked rows: closures, rings and single rows of a relation between the edits of a record, by index. Functions are pub for the crates
 // that judge records and bundles; these meet each `requires` by the way in which they link their rows.
 ghost use mathlib.Core.Path.{_≡_};
-ghost use mathlib.Core.Bool.{Bool, true};
+ghost use mathlib.Core.Bool.{Bool, true, false};
 ghost use mathlib.Core.List.{List, _∷_};
 ghost use Prim.Native.Nat.{ℕ, _<_, _≤_, _+_};
 ghost use lib.ListN.{length, getD, set};
@@ -11,7 +11,7 @@ ghost use Rattle.record.specs.Schedule.{ring};
 ghost use Rattle.links.specs.Marks.{nameAt, marksOf};
 ghost use Rattle.links.specs.Links.{Safe, Leads};
 ghost use Rattle.links.specs.Reach.{Marked};
-ghost use Rattle.links.specs.Search.{Visited};
+ghost use Rattle.links.specs.Search.{Visited, VisitedNew};
 
 pub fn wide8(x: u8) -> usize
     ensures { λ r. ⌜ r ≡ x ⌝ }
@@ -130,6 +130,48 @@ fn visit(
     false
 }
 
+// The same where x is new; an old one stays as it is.
+fn visit_new(
+    head: &[u16; 384],
+    link: &[u16; 1024],
+    left: &[u8; 1024],
+    old: &[u8; 128],
+    states: &mut [u8; 128],
+    x: usize,
+) -> bool
+    requires { ⌜ Safe (now head) (now link) (now left) × (x < 128) × (length (now states) ≡ 128) ⌝ }
+    ensures { λ r. ⌜ VisitedNew (now (head .entry)) (now (link .entry)) (now (left .entry)) (now (old .entry)) (now (states .entry)) x r (now (states .exit)) ⌝ }
+{
+    if old[x] == 1 {
+        return false;
+    }
+    visit(head, link, left, states, x)
+}
+
+// Whether the marked set holds a ring of notafter, where the old set holds none: a ring then has one that is new, and the search starts from these.
+pub fn has_new_ring(
+    n: usize,
+    head: &[u16; 384],
+    link: &[u16; 1024],
+    left: &[u8; 1024],
+    old: &[u8; 128],
+    marks: [u8; 128],
+) -> bool
+    requires { ⌜ Safe (now head) (now link) (now left) × (n ≤ 128) × (length marks ≡ 128) ⌝ }
+    ensures { λ r. ⌜ ((R : Record) (u t : List ℕ) → Leads (notafter R) R 0 (now (head .entry)) (now (link .entry)) (now (left .entry))
+        → n ≡ length (names R) → t within names R → now (old .entry) ≡ marksOf R (λ y. mem y u) → ring R u ≡ false → marks ≡ marksOf R (λ y. mem y t) → r ≡ ring R t) ⌝ }
+{
+    let mut states = marks;
+    let mut x: usize = 0;
+    while x < n {
+        if visit_new(head, link, left, old, &mut states, x) {
+            return true;
+        }
+        x += 1;
+    }
+    false
+}
+
 // Whether the marked set holds a ring of notafter.
 pub fn has_ring(
     n: usize,
@@ -142,13 +184,20 @@ pub fn has_ring(
     ensures { λ r. ⌜ ((R : Record) (t : List ℕ) → Leads (notafter R) R 0 (now (head .entry)) (now (link .entry)) (now (left .entry))
         → n ≡ length (names R) → t within names R → marks ≡ marksOf R (λ y. mem y t) → r ≡ ring R t) ⌝ }
 {
-    let mut states = marks;
+    let none = [0u8; 128];
+    has_new_ring(n, head, link, left, &none, marks)
+}
+
+// All of n edits.
+pub fn all_marks(n: usize) -> [u8; 128]
+    requires { ⌜ n ≤ 128 ⌝ }
+    ensures { λ r. ⌜ (length r ≡ 128) × ((R : Record) → n ≡ length (names R) → r ≡ marksOf R (λ y. mem y (names R))) ⌝ }
+{
+    let mut marks = [0u8; 128];
     let mut x: usize = 0;
     while x < n {
-        if visit(head, link, left, &mut states, x) {
-            return true;
-        }
+        marks[x] = 1;
         x += 1;
     }
-    false
+    marks
 }

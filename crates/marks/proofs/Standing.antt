@@ -11,9 +11,9 @@ use Rattle.record.specs.Lists.{mem, _among_, _within_, closure}
 use Rattle.record.specs.Record.{Record, names, enables, WellFormed}
 use Rattle.record.specs.Schedule.{needs, musts, order, ring}
 use Rattle.record.specs.Judgement.{must, never, serialised, settled}
-use Rattle.record.proofs.Lists.{by, is-by, same-by, mem-head, mem-tail, nil-no, nil-within, cons-within, one-within, any-same}
+use Rattle.record.proofs.Lists.{by, clash, is-by, same-by, mem-head, mem-tail, nil-no, nil-within, cons-within, one-within, any-same}
 use Rattle.record.proofs.Records.{init-known, enabler-known}
-use Rattle.record.proofs.Order.{Closed, needs-holds, needs-closed, needs-known, needs-within, order-same}
+use Rattle.record.proofs.Order.{Closed, needs-holds, needs-closed, needs-known, needs-within, order-same, ring-grows}
 use Rattle.record.proofs.Judged.{init-must}
 use Rattle.record.proofs.Scheduled.{musts-known}
 use Rattle.links.specs.Marks.{nameAt, valuesOf, marksOf}
@@ -23,6 +23,10 @@ use Rattle.links.proofs.Marks.{marks-same, marks-on, on-marks}
 pub ring-same : (R : Record) (s t : List ℕ) → ((x : ℕ) → mem x s ≡ mem x t) → ring R s ≡ ring R t
 unfolding ring
 ring-same R s t h = rw (order-same R s t h) (any-same (λ x. not (mem x (order R t))) s t h)
+
+-- a part of a set that holds no ring holds none
+pub part-ring : (R : Record) (t : List ℕ) → ring R (names R) ≡ false → t within names R → ring R t ≡ false
+part-ring R t h k = by (ring R t) (λ r. clash (ring-grows R R t (names R) (λ a b e. e) k k r) h) (λ r. r)
 
 pub none-closed : (R : Record) → Closed R []
 none-closed R a b e h = nil-no b h
@@ -62,6 +66,19 @@ module _ {R : Record} (w : WellFormed R) where
   -- the needs of a known edit are known
   pub two-known : (e : ℕ) → e among names R → needs R (0 ∷ e ∷ []) within names R
   two-known e i = needs-known R w (0 ∷ e ∷ []) (cons-within 0 (e ∷ []) (names R) (init-known R) (one-within e (names R) i))
+
+  two-musts : (e : ℕ) → musts R within needs R (0 ∷ e ∷ [])
+  unfolding musts
+  two-musts e = needs-within R w (0 ∷ []) (0 ∷ e ∷ []) (one-within 0 _ (needs-holds R (0 ∷ e ∷ []) 0 (mem-head 0 (e ∷ []))))
+
+  -- where all edits together hold no ring none is never, where what must stand holds one all are
+  pub never-nowhere : length (names R) ≤ 128 → ring R (names R) ≡ false → marksOf R (λ y. mem y []) ≡ marksOf R (never R)
+  unfolding mem never
+  never-nowhere few h = marks-same R _ _ few (λ x i. sym (part-ring R _ h (two-known x i)))
+
+  pub never-everywhere : length (names R) ≤ 128 → ring R (musts R) ≡ true → marksOf R (λ y. mem y (names R)) ≡ marksOf R (never R)
+  unfolding never
+  never-everywhere few h = marks-same R _ _ few (λ x i. i ∙ sym (ring-grows R R (musts R) _ (λ a b e. e) (musts-known R w) (two-musts x) h))
 
 pub never-ring : (R : Record) (e : ℕ) → ring R (needs R (0 ∷ e ∷ [])) ≡ never R e
 unfolding never

@@ -1,6 +1,6 @@
 // Must, never and settled of a record by index, over its linked rows. Functions are pub for the crates that judge records.
 ghost use mathlib.Core.Path.{_≡_};
-ghost use mathlib.Core.Bool.{cond, not, _&&_, _||_};
+ghost use mathlib.Core.Bool.{false, cond, not, _&&_, _||_};
 ghost use mathlib.Core.List.{[], _∷_};
 ghost use Prim.Native.Nat.{ℕ, _<_, _≤_};
 ghost use lib.Dec.{eqb};
@@ -37,25 +37,24 @@ pub fn needs_marks(
     links::closed(128, head, link, left, mustmarks, x)
 }
 
-// Whether the edit at x can never stand. The needs of one that must stand are no more than what must stand.
+// Whether the edit at x can never stand, where what must stand holds no ring.
 fn is_never(
     n: usize,
     head: &[u16; 384],
     link: &[u16; 1024],
     left: &[u8; 1024],
     mustmarks: [u8; 128],
-    unsound: bool,
     x: usize,
 ) -> bool
     requires { ⌜ Safe (now head) (now link) (now left) × (n ≤ 128) × (x < 128) × (length mustmarks ≡ 128) ⌝ }
     ensures { λ r. ⌜ ((R : Record) → Resolved R (now (head .entry)) (now (link .entry)) (now (left .entry)) → n ≡ length (names R) → x < n
-        → mustmarks ≡ marksOf R (must R) → unsound ≡ ring R (musts R) → r ≡ never R (nameAt R x)) ⌝ }
+        → mustmarks ≡ marksOf R (must R) → ring R (musts R) ≡ false → r ≡ never R (nameAt R x)) ⌝ }
 {
     if mustmarks[x] == 1 {
-        return unsound;
+        return false;
     }
     let marks = needs_marks(head, link, left, mustmarks, x);
-    links::has_ring(n, head, link, left, marks)
+    links::has_new_ring(n, head, link, left, &mustmarks, marks)
 }
 
 pub fn bit(b: bool) -> u8
@@ -64,7 +63,28 @@ pub fn bit(b: bool) -> u8
     if b { 1 } else { 0 }
 }
 
-// The edits that can never stand.
+// The edits that can never stand, where what must stand holds no ring.
+fn sound_nevers(
+    n: usize,
+    head: &[u16; 384],
+    link: &[u16; 1024],
+    left: &[u8; 1024],
+    mustmarks: [u8; 128],
+) -> [u8; 128]
+    requires { ⌜ Safe (now head) (now link) (now left) × (n ≤ 128) × (length mustmarks ≡ 128) ⌝ }
+    ensures { λ r. ⌜ (length r ≡ 128) × ((R : Record) → Resolved R (now (head .entry)) (now (link .entry)) (now (left .entry)) → n ≡ length (names R)
+        → mustmarks ≡ marksOf R (must R) → ring R (musts R) ≡ false → r ≡ marksOf R (never R)) ⌝ }
+{
+    let mut marks = [0u8; 128];
+    let mut x: usize = 0;
+    while x < n {
+        marks[x] = bit(is_never(n, head, link, left, mustmarks, x));
+        x += 1;
+    }
+    marks
+}
+
+// The edits that can never stand: none where all edits together hold no ring, all where what must stand holds one.
 pub fn never_marks(
     n: usize,
     head: &[u16; 384],
@@ -76,14 +96,16 @@ pub fn never_marks(
     ensures { λ r. ⌜ (length r ≡ 128) × ((R : Record) → Resolved R (now (head .entry)) (now (link .entry)) (now (left .entry)) → n ≡ length (names R)
         → mustmarks ≡ marksOf R (must R) → r ≡ marksOf R (never R)) ⌝ }
 {
-    let unsound = links::has_ring(n, head, link, left, mustmarks);
-    let mut marks = [0u8; 128];
-    let mut x: usize = 0;
-    while x < n {
-        marks[x] = bit(is_never(n, head, link, left, mustmarks, unsound, x));
-        x += 1;
+    let none = [0u8; 128];
+    let all = links::all_marks(n);
+    let ringed = links::has_ring(n, head, link, left, all);
+    if !ringed {
+        return none;
     }
-    marks
+    if links::has_ring(n, head, link, left, mustmarks) {
+        return all;
+    }
+    sound_nevers(n, head, link, left, mustmarks)
 }
 
 // Whether an order between the edits at a and b is recorded either way, or one of the two can never stand.

@@ -13,14 +13,15 @@ use Rattle.record.specs.Lists.{any, mem, at, _among_, _within_, closure}
 use Rattle.record.specs.Record.{Record, names, written, enables, WellFormed}
 use Rattle.record.specs.Schedule.{needs, musts, order, ring, barred, admit, admits, scheduled, schedule}
 use Rattle.record.specs.Judgement.{must}
-use Rattle.record.proofs.Lists.{by, clash, and-l, and-r, or-by, same-by, mem-head, mem-tail, cons-by, cons-within, one-within, any-by, any-in, no-any, any-no, mem-at, closure-least}
-use Rattle.record.proofs.Order.{needs-holds, needs-closed, needs-known, needs-within}
+use Rattle.record.proofs.Lists.{by, clash, and-l, and-r, or-by, or-l, or-r, same-by, mem-head, mem-tail, nil-no, cons-by, cons-within, one-within, any-by, any-in, no-any, any-no, mem-at, closure-least}
+use Rattle.record.proofs.Order.{needs-holds, needs-closed, needs-known, needs-within, ring-grows}
 use Rattle.record.proofs.Records.{written-names}
 use Rattle.record.proofs.Judged.{init-must}
 use Rattle.record.proofs.Scheduled.{musts-known}
 use Rattle.links.specs.Marks.{nameAt, marksOf}
 use Rattle.links.specs.Reach.{On, Off}
 use Rattle.links.proofs.Names.{getD-among, getD-place}
+use Rattle.links.proofs.Marks.{marks-same}
 use Rattle.marks.specs.Resolved.{Resolved}
 use Rattle.marks.proofs.Standing.{musts-closed, must-musts, marked-is}
 use Rattle.schedules.specs.Rows.{Hides, bars, Clear}
@@ -105,6 +106,11 @@ module _ (R : Record) (w : WellFormed R) (hiddens t : List ℕ) (g : Clear R hid
       (λ h. by (any (bars R hiddens) (needs R (x ∷ t))) (λ b. rw (admit-barred b) g)
       (λ b. by (ring R (needs R (x ∷ t))) (λ r. rw (admit-ring r) g) (λ r. rw (admit-new h b r) (clear-new i b))))
 
+  -- where nothing of its needs is barred or in a ring, x enters
+  pub admit-takes : any (bars R hiddens) (needs R (x ∷ t)) ≡ false → ring R (needs R (x ∷ t)) ≡ false → (x ∷ t) within admit R hiddens t x
+  admit-takes b r =
+      by (mem x t) (λ h. rw (admit-had h) (cons-within x t t h (λ y i. i))) (λ h. rw (admit-new h b r) (needs-holds R (x ∷ t)))
+
 pub clear-musts : (R : Record) → WellFormed R → (hiddens : List ℕ) → Clear R hiddens (musts R)
 unfolding bars
 clear-musts R w hiddens = record {
@@ -113,6 +119,13 @@ clear-musts R w hiddens = record {
   known = musts-known R w;
   clear = λ y i. rw i (and-false (mem y hiddens));
 }
+
+-- what does not hold of all edits together holds of no part of them
+pub part-bars : (R : Record) (hiddens t : List ℕ) → any (bars R hiddens) (names R) ≡ false → t within names R → any (bars R hiddens) t ≡ false
+part-bars R hiddens t h k = no-any (bars R hiddens) t (λ y i. any-no (bars R hiddens) (names R) h y (k y i))
+
+pub part-ring : (R : Record) (t : List ℕ) → ring R (names R) ≡ false → t within names R → ring R t ≡ false
+part-ring R t h k = by (ring R t) (λ r. clash (ring-grows R R t (names R) (λ a b e. e) k k r) h) (λ r. r)
 
 pub needs-names : (R : Record) (t : List ℕ) (x : ℕ) → marksOf R (λ y. mem y (closure (enables R) (names R) (x ∷ t))) ≡ marksOf R (λ y. mem y (needs R (x ∷ t)))
 unfolding needs
@@ -161,3 +174,23 @@ admits-clear R w hiddens t (x ∷ l) k g =
 pub scheduled-known : (R : Record) → WellFormed R → (hiddens : List ℕ) → scheduled R hiddens within names R
 unfolding scheduled
 scheduled-known R w hiddens = admits-clear R w hiddens (musts R) (written R) (written-names R) (clear-musts R w hiddens) .known
+
+-- where no edit is barred and all together hold no ring, each enters
+admits-all : (R : Record) → WellFormed R → (hiddens t l : List ℕ) → any (bars R hiddens) (names R) ≡ false → ring R (names R) ≡ false → l within names R
+    → Clear R hiddens t → (x : ℕ) → (mem x t || mem x l) ≡ true → x among admits R hiddens t l
+unfolding admits
+admits-all R w hiddens t [] b r k g x i = or-by (mem x t) _ i (λ j. j) (λ j. nil-no x j)
+admits-all R w hiddens t (y ∷ l) b r k g x i =
+    let u = needs-cons R w t y (k y (mem-head y l)) (g .known) in
+    let v = admit-takes R w hiddens t g y (part-bars R hiddens _ b u) (part-ring R _ r u) in
+    admits-all R w hiddens (admit R hiddens t y) l b r (λ z j. k z (mem-tail z y l j)) (clear-admit R w hiddens t g y (k y (mem-head y l))) x
+    (or-by (mem x t) _ i (λ j. or-l _ _ (v x (mem-tail x y t j)))
+    (λ j. cons-by x y l j (λ e. or-l _ _ (v x (rw e (mem-head y t)))) (λ q. or-r (mem x (admit R hiddens t y)) _ q)))
+
+pub all-scheduled : (R : Record) → WellFormed R → (hiddens : List ℕ) → length (names R) ≤ 128 → any (bars R hiddens) (names R) ≡ false → ring R (names R) ≡ false
+    → marksOf R (λ y. mem y (names R)) ≡ marksOf R (λ y. mem y (scheduled R hiddens))
+unfolding scheduled names
+all-scheduled R w hiddens few b r =
+    marks-same R _ _ few
+    (λ x i. i ∙ sym (admits-all R w hiddens (musts R) (written R) b r (written-names R) (clear-musts R w hiddens) x
+    (cons-by x 0 (written R) i (λ e. or-l (mem x (musts R)) (mem x (written R)) (rw e (init-must R))) (λ j. or-r (mem x (musts R)) (mem x (written R)) j))))

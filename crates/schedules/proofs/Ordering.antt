@@ -57,6 +57,16 @@ module _ (R : Record) (test : ℕ → Bool) (heads links lefts waits : List ℕ)
       at-low : (a : ℕ) → a among names R → at a (names R) < length (names R)
       at-low a i = mem-at a (names R) i
 
+-- where none waits none is free
+pub free-none : (R : Record) (test : ℕ → Bool) (waits : List ℕ) (from : ℕ) → waits ≡ marksOf R test → from ≤ length (names R) → ((y : ℕ) → y < from → Off waits y)
+    → (y : ℕ) → y < from → free R test (nameAt R y) ≡ false
+unfolding free
+free-none R test waits from e l f y h = rw (marked-off R test waits y e (omega arith) (f y h))
+
+pub still-none : (waits : List ℕ) (x from : ℕ) → x < length waits → ((y : ℕ) → y < from → Off waits y) → (y : ℕ) → y < from → Off (set waits x 0) y
+still-none waits x from l f y h o =
+    is-by y x (λ q. omega (arith, getD-set-same waits x 0 0 l, rw q at o)) (λ q. f y h (rw (getD-set-other waits x y 0 0 q) at o))
+
 -- the first of a list that passes, by places
 module _ (p : ℕ → Bool) where
   first-at : (l : List ℕ) (r : ℕ) → r < length l → p (getD l r 0) ≡ true → ((y : ℕ) → y < r → p (getD l y 0) ≡ false) → first p l ≡ some (getD l r 0)

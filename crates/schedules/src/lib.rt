@@ -1,13 +1,13 @@
 // The bench schedule of a record by index, over its linked rows. Functions are pub for the crates that judge records.
 ghost use mathlib.Core.Path.{_≡_};
-ghost use mathlib.Core.Bool.{Bool, true, _&&_};
+ghost use mathlib.Core.Bool.{Bool, true, false, _&&_};
 ghost use mathlib.Core.List.{List};
 ghost use Prim.Native.Nat.{ℕ, _<_, _≤_};
 ghost use lib.Dec.{ltb};
 ghost use lib.ListN.{length, getD};
 ghost use Rattle.record.specs.Lists.{mem, any, first, distinct, _within_};
 ghost use Rattle.record.specs.Record.{Record, names};
-ghost use Rattle.record.specs.Schedule.{order, admit, scheduled, schedule};
+ghost use Rattle.record.specs.Schedule.{order, ring, admit, scheduled, schedule};
 ghost use Rattle.record.specs.Judgement.{must};
 ghost use Rattle.links.specs.Marks.{nameAt, valuesOf, marksOf, placeIn};
 ghost use Rattle.links.specs.Links.{Safe};
@@ -45,19 +45,35 @@ fn is_free(
     true
 }
 
-// The lowest that is free; n where there is none.
+// The lowest that waits, from a place below which none does; n where there is none.
+fn waiting_from(n: usize, waits: &[u8; 128], from: usize) -> usize
+    requires { ⌜ (n ≤ 128) × (from ≤ n) × ((y : ℕ) → y < from → getD (now waits) y 0 ≡ 1 → ⊥) ⌝ }
+    ensures { λ r. ⌜ (r ≤ n) × ((y : ℕ) → y < r → getD (now (waits .entry)) y 0 ≡ 1 → ⊥) ⌝ }
+{
+    let mut x = from;
+    while x < n {
+        if waits[x] == 1 {
+            return x;
+        }
+        x += 1;
+    }
+    x
+}
+
+// The lowest that is free, from a place below which none is; n where there is none.
 fn lowest(
     n: usize,
+    from: usize,
     head: &[u16; 384],
     link: &[u16; 1024],
     left: &[u8; 1024],
     waits: &[u8; 128],
 ) -> usize
-    requires { ⌜ Safe (now head) (now link) (now left) × (n ≤ 128) ⌝ }
+    requires { ⌜ Safe (now head) (now link) (now left) × (n ≤ 128) × (from ≤ n) ⌝ }
     ensures { λ r. ⌜ ((R : Record) (test : ℕ → Bool) → Resolved R (now (head .entry)) (now (link .entry)) (now (left .entry)) → n ≡ length (names R)
-        → now (waits .entry) ≡ marksOf R test → first (free R test) (names R) ≡ foundAt R (ltb r n) r) ⌝ }
+        → now (waits .entry) ≡ marksOf R test → ((y : ℕ) → y < from → free R test (nameAt R y) ≡ false) → first (free R test) (names R) ≡ foundAt R (ltb r n) r) ⌝ }
 {
-    let mut x: usize = 0;
+    let mut x = from;
     while x < n {
         if is_free(head, link, left, waits, x) {
             return x;
@@ -83,8 +99,10 @@ fn ordered_row(
     let mut waits = marks;
     let mut indexes = [0u8; 128];
     let mut count: usize = 0;
+    let mut from: usize = 0;
     while count < n {
-        let x = lowest(n, head, link, left, &waits);
+        from = waiting_from(n, &waits, from);
+        let x = lowest(n, from, head, link, left, &waits);
         if x >= n {
             return Row {
                 indexes: indexes,
@@ -132,6 +150,43 @@ fn any_barred(n: usize, marks: &[u8; 128], hidden: &[u8; 128], mustmarks: &[u8; 
     false
 }
 
+// The same where it is known whether any edit at all is barred.
+fn is_shut(
+    n: usize,
+    marks: &[u8; 128],
+    hidden: &[u8; 128],
+    mustmarks: &[u8; 128],
+    barring: bool,
+) -> bool
+    requires { ⌜ n ≤ 128 ⌝ }
+    ensures { λ r. ⌜ ((R : Record) (hiddens t : List ℕ) → n ≡ length (names R) → t within names R → now (marks .entry) ≡ marksOf R (λ y. mem y t)
+        → now (mustmarks .entry) ≡ marksOf R (must R) → Hides R (now (hidden .entry)) hiddens → barring ≡ any (bars R hiddens) (names R) → r ≡ any (bars R hiddens) t) ⌝ }
+{
+    if barring {
+        return any_barred(n, marks, hidden, mustmarks);
+    }
+    false
+}
+
+// Whether the marked set holds a ring, where it is known whether all edits together hold one.
+fn is_ringed(
+    n: usize,
+    head: &[u16; 384],
+    link: &[u16; 1024],
+    left: &[u8; 1024],
+    marks: [u8; 128],
+    ringed: bool,
+) -> bool
+    requires { ⌜ Safe (now head) (now link) (now left) × (n ≤ 128) × (length marks ≡ 128) ⌝ }
+    ensures { λ r. ⌜ ((R : Record) (t : List ℕ) → Resolved R (now (head .entry)) (now (link .entry)) (now (left .entry)) → n ≡ length (names R)
+        → t within names R → marks ≡ marksOf R (λ y. mem y t) → ringed ≡ ring R (names R) → r ≡ ring R t) ⌝ }
+{
+    if ringed {
+        return links::has_ring(n, head, link, left, marks);
+    }
+    false
+}
+
 // One edit: taken into the marked set with all its needs, or left out. Nothing of the set is barred, so that only the new needs can be.
 fn admitted(
     n: usize,
@@ -140,28 +195,67 @@ fn admitted(
     left: &[u8; 1024],
     mustmarks: [u8; 128],
     hidden: &[u8; 128],
+    barring: bool,
+    ringed: bool,
     marks: [u8; 128],
     x: usize,
 ) -> [u8; 128]
     requires { ⌜ Safe (now head) (now link) (now left) × (n ≤ 128) × (x < 128) × (length mustmarks ≡ 128) × (length marks ≡ 128) ⌝ }
     ensures { λ r. ⌜ (length r ≡ 128) × ((R : Record) (hiddens t : List ℕ) → Resolved R (now (head .entry)) (now (link .entry)) (now (left .entry)) → n ≡ length (names R)
-        → x < n → mustmarks ≡ marksOf R (must R) → Hides R (now (hidden .entry)) hiddens → Clear R hiddens t → marks ≡ marksOf R (λ y. mem y t)
-        → r ≡ marksOf R (λ y. mem y (admit R hiddens t (nameAt R x)))) ⌝ }
+        → x < n → mustmarks ≡ marksOf R (must R) → Hides R (now (hidden .entry)) hiddens → barring ≡ any (bars R hiddens) (names R) → ringed ≡ ring R (names R)
+        → Clear R hiddens t → marks ≡ marksOf R (λ y. mem y t) → r ≡ marksOf R (λ y. mem y (admit R hiddens t (nameAt R x)))) ⌝ }
 {
     if marks[x] == 1 {
         return marks;
     }
     let more = links::closed(128, head, link, left, marks, x);
-    if any_barred(n, &more, hidden, &mustmarks) {
+    if is_shut(n, &more, hidden, &mustmarks, barring) {
         return marks;
     }
-    if links::has_ring(n, head, link, left, more) {
+    if is_ringed(n, head, link, left, more, ringed) {
         return marks;
     }
     more
 }
 
-// The set of the schedule: what must stand, then the others by ascending name.
+// What must stand, then the others by ascending name.
+fn admitted_marks(
+    n: usize,
+    head: &[u16; 384],
+    link: &[u16; 1024],
+    left: &[u8; 1024],
+    mustmarks: [u8; 128],
+    hidden: &[u8; 128],
+    barring: bool,
+    ringed: bool,
+) -> [u8; 128]
+    requires { ⌜ Safe (now head) (now link) (now left) × (n ≤ 128) × (length mustmarks ≡ 128) ⌝ }
+    ensures { λ r. ⌜ (length r ≡ 128) × ((R : Record) (hiddens : List ℕ) → Resolved R (now (head .entry)) (now (link .entry)) (now (left .entry)) → n ≡ length (names R)
+        → mustmarks ≡ marksOf R (must R) → Hides R (now (hidden .entry)) hiddens → barring ≡ any (bars R hiddens) (names R) → ringed ≡ ring R (names R)
+        → r ≡ marksOf R (λ y. mem y (scheduled R hiddens))) ⌝ }
+{
+    let mut marks = mustmarks;
+    let mut x: usize = 1;
+    while x < n {
+        let more = admitted(
+            n,
+            head,
+            link,
+            left,
+            mustmarks,
+            hidden,
+            barring,
+            ringed,
+            marks,
+            x,
+        );
+        marks = more;
+        x += 1;
+    }
+    marks
+}
+
+// The set of the schedule. Where no edit is barred and all together hold no ring, it is all of them.
 fn scheduled_marks(
     n: usize,
     head: &[u16; 384],
@@ -174,14 +268,16 @@ fn scheduled_marks(
     ensures { λ r. ⌜ (length r ≡ 128) × ((R : Record) (hiddens : List ℕ) → Resolved R (now (head .entry)) (now (link .entry)) (now (left .entry)) → n ≡ length (names R)
         → mustmarks ≡ marksOf R (must R) → Hides R (now (hidden .entry)) hiddens → r ≡ marksOf R (λ y. mem y (scheduled R hiddens))) ⌝ }
 {
-    let mut marks = mustmarks;
-    let mut x: usize = 1;
-    while x < n {
-        let more = admitted(n, head, link, left, mustmarks, hidden, marks, x);
-        marks = more;
-        x += 1;
+    let all = links::all_marks(n);
+    let barring = any_barred(n, &all, hidden, &mustmarks);
+    let ringed = links::has_ring(n, head, link, left, all);
+    if barring {
+        return admitted_marks(n, head, link, left, mustmarks, hidden, barring, ringed);
     }
-    marks
+    if ringed {
+        return admitted_marks(n, head, link, left, mustmarks, hidden, barring, ringed);
+    }
+    all
 }
 
 // The bench schedule.

@@ -15,14 +15,14 @@ use Rattle.schedules.proofs.lowest.Statement.{statement}
 use Rattle.schedules.proofs.lowest.Tie as tie
 
 abbrev Inv-loop : tie.InvT-loop
-Inv-loop n head link left waits x₀ x =
-    (x ≤ n) × ((R : Record) (test : ℕ → Bool) → Resolved R head link left → n ≡ length (names R) → waits ≡ marksOf R test → (y : ℕ) → y < x → free R test (nameAt R y) ≡ false)
+Inv-loop n from head link left waits x₀ x =
+    (x ≤ n) × ((R : Record) (test : ℕ → Bool) → Resolved R head link left → n ≡ length (names R) → waits ≡ marksOf R test → ((y : ℕ) → y < from → free R test (nameAt R y) ≡ false) → (y : ℕ) → y < x → free R test (nameAt R y) ≡ false)
 
 abbrev μ-loop : tie.MeasureT-loop
-μ-loop n head link left waits x₀ x = n - x
+μ-loop n from head link left waits x₀ x = n - x
 
 loop-holds : tie.Need-loop-holds Inv-loop μ-loop
-loop-holds c = (omega arith, λ R p g q e y k. absurd (omega arith))
+loop-holds c = (omega arith, λ R p g q e f. f)
 
 is-free-requires : tie.Need-is-free-requires Inv-loop μ-loop
 is-free-requires c κs = search needs
@@ -31,7 +31,7 @@ returns : tie.Need-returns Inv-loop μ-loop
 returns c =
     let s = c .before .before .before .before in
     let l = c .before .before .before .loop in
-    λ R p g q e. lowest-found R p (s .args .n) q (l .x) (omega arith) (sym (c .if1 .taken) ∙ c .before .is-free .ensures R p g (omega arith) e) (l .inv .1 R p g q e)
+    λ R p g q e f. lowest-found R p (s .args .n) q (l .x) (omega arith) (sym (c .if1 .taken) ∙ c .before .is-free .ensures R p g (omega arith) e) (l .inv .1 R p g q e f)
 
 add-x : tie.Need-add-x Inv-loop μ-loop
 add-x c = search needs
@@ -42,13 +42,13 @@ loop-less c = search needs
 loop-again : tie.Need-loop-again Inv-loop μ-loop
 loop-again c =
     let l = c .before .before .before .loop in
-    (omega arith, λ R p g q e. below-more _ _ (l .inv .1 R p g q e) (sym (c .before .is-free .ensures R p g (omega arith) e) ∙ c .if1 .left))
+    (omega arith, λ R p g q e f. below-more _ _ (l .inv .1 R p g q e f) (sym (c .before .is-free .ensures R p g (omega arith) e) ∙ c .if1 .left))
 
 returns-2 : tie.Need-returns-2 Inv-loop μ-loop
 returns-2 c =
     let s = c .before .before in
     let l = c .before .loop in
-    λ R p g q e. lowest-none R p (s .args .n) q (s .args .n) (omega arith) (λ y k. l .inv .1 R p g q e y (omega arith))
+    λ R p g q e f. lowest-none R p (s .args .n) q (s .args .n) (omega arith) (λ y k. l .inv .1 R p g q e f y (omega arith))
 
 pub lowest-spec : {M : Type 1} → statement M
 lowest-spec =

@@ -5,9 +5,10 @@ use mathlib.Core.List.{List}
 use lib.ListN.{length, getD, length-set}
 use native.Mathlib.Omega.{arith}
 use borrow.Author.Needs.{needs}
-use Rattle.schedules.proofs.Ordering.{Ordering, ordering-start, ordering-step, ordering-stop, ordering-end}
+use Rattle.schedules.proofs.Ordering.{Ordering, ordering-start, ordering-step, ordering-stop, ordering-end, free-none, still-none}
 use Rattle.marks.specs.Resolved.{Resolved}
 use Rattle.links.specs.Marks.{marksOf}
+use Rattle.links.specs.Reach.{Off}
 use Rattle.links.proofs.Marks.{zeros-get, set-below}
 use Rattle.record.specs.Lists.{mem, _within_}
 use Rattle.record.specs.Record.{Record, names}
@@ -15,28 +16,35 @@ use Rattle.schedules.proofs.ordered_row.Statement.{statement}
 use Rattle.schedules.proofs.ordered_row.Tie as tie
 
 abbrev Inv-loop : tie.InvT-loop
-Inv-loop n head link left waits₀ indexes₀ count₀ waits indexes count =
-    (count ≤ n) × (length indexes ≡ 128) × (length waits ≡ 128) × ((q : ℕ) → getD indexes q 0 < 128) × ((R : Record) (t : List ℕ) → Resolved R head link left → n ≡ length (names R) → t within names R → waits₀ ≡ marksOf R (λ y. mem y t) → Ordering R t indexes waits count (n - count))
+Inv-loop n head link left waits₀ indexes₀ count₀ from₀ waits indexes count from =
+    (count ≤ n) × (length indexes ≡ 128) × (length waits ≡ 128) × ((q : ℕ) → getD indexes q 0 < 128) × ((R : Record) (t : List ℕ) → Resolved R head link left → n ≡ length (names R) → t within names R → waits₀ ≡ marksOf R (λ y. mem y t) → Ordering R t indexes waits count (n - count)) × (from ≤ n) × ((y : ℕ) → y < from → Off waits y)
 
 abbrev μ-loop : tie.MeasureT-loop
-μ-loop n head link left waits₀ indexes₀ count₀ waits indexes count = n - count
+μ-loop n head link left waits₀ indexes₀ count₀ from₀ waits indexes count from = n - count
 
 loop-holds : tie.Need-loop-holds Inv-loop μ-loop
 loop-holds c =
     let s = c in
-    (omega arith, refl, s .pre .2, λ q. omega (arith, zeros-get 128 q), λ R t g q sub e. ordering-start R t sub (g .notafters .apart) (g .notafters .few) (s .args .n) q _ e)
+    (omega arith, refl, s .pre .2, λ q. omega (arith, zeros-get 128 q), λ R t g q sub e. ordering-start R t sub (g .notafters .apart) (g .notafters .few) (s .args .n) q _ e, omega arith, λ y h. absurd (omega arith))
+
+waiting-from-requires : tie.Need-waiting-from-requires Inv-loop μ-loop
+waiting-from-requires c κs =
+    let s = c .before .before .before in
+    let l = c .before .before .loop in
+    (s .pre .1, l .inv .5, l .inv .6)
 
 lowest-requires : tie.Need-lowest-requires Inv-loop μ-loop
 lowest-requires c κs = search needs
 
 returns : tie.Need-returns Inv-loop μ-loop
 returns c =
-    let s = c .before .before .before .before .before in
-    let l = c .before .before .before .before .loop in (
+    let s = c .before .before .before .before .before .before .before in
+    let l = c .before .before .before .before .before .before .loop in
+    let f = c .before .before .before .waiting-from in (
       l .inv .1,
       omega arith,
       l .inv .3,
-      λ R t g q sub e. let w = l .inv .4 R t g q sub e in ordering-stop R t sub (g .notafters .apart) (g .notafters .few) (s .args .n) q (l .indexes) (l .waits) (l .count) (c .before .lowest .result) (c .if1 .taken) (c .before .lowest .ensures R _ g q (w .marks)) w,
+      λ R t g q sub e. let w = l .inv .4 R t g q sub e in ordering-stop R t sub (g .notafters .apart) (g .notafters .few) (s .args .n) q (l .indexes) (l .waits) (l .count) (c .before .lowest .result) (c .if1 .taken) (c .before .lowest .ensures R _ g q (w .marks) (free-none R _ (l .waits) (f .result) (w .marks) (omega arith) (f .ensures .1))) w,
     )
 
 array-write-waits : tie.Need-array-write-waits Inv-loop μ-loop
@@ -56,13 +64,16 @@ loop-less c = search needs
 
 loop-again : tie.Need-loop-again Inv-loop μ-loop
 loop-again c =
-    let s = c .before .before .before .before .before in
-    let l = c .before .before .before .before .loop in (
+    let s = c .before .before .before .before .before .before .before in
+    let l = c .before .before .before .before .before .before .loop in
+    let f = c .before .before .before .waiting-from in (
       omega arith,
       length-set (l .indexes) (l .count) (c .before .lowest .result) ∙ l .inv .1,
       length-set (l .waits) (c .before .lowest .result) 0 ∙ l .inv .2,
       set-below (l .indexes) (l .count) (c .before .lowest .result) 128 (omega arith) (l .inv .3),
-      λ R t g q sub e. let w = l .inv .4 R t g q sub e in ordering-step R t sub (g .notafters .apart) (g .notafters .few) (s .args .n) q (l .indexes) (l .waits) (l .count) (c .before .lowest .result) (omega arith) (omega arith) (omega arith) (c .before .lowest .ensures R _ g q (w .marks)) w,
+      λ R t g q sub e. let w = l .inv .4 R t g q sub e in ordering-step R t sub (g .notafters .apart) (g .notafters .few) (s .args .n) q (l .indexes) (l .waits) (l .count) (c .before .lowest .result) (omega arith) (omega arith) (omega arith) (c .before .lowest .ensures R _ g q (w .marks) (free-none R _ (l .waits) (f .result) (w .marks) (omega arith) (f .ensures .1))) w,
+      f .ensures .0,
+      still-none (l .waits) (c .before .lowest .result) (f .result) (omega arith) (f .ensures .1),
     )
 
 returns-2 : tie.Need-returns-2 Inv-loop μ-loop
@@ -82,6 +93,7 @@ ordered-row-spec =
     Inv-loop
     μ-loop
     loop-holds
+    waiting-from-requires
     lowest-requires
     returns
     array-write-waits

@@ -1,54 +1,63 @@
 -- `schedules::scheduled_marks` meets its contract. Assumes nothing.
-use Prim.Native.Nat.{ℕ, _-_, _≤_}
-use mathlib.Core.Path.{_≡_}
-use mathlib.Core.List.{List}
-use lib.ListN.{length}
-use native.Mathlib.Omega.{arith}
+use mathlib.Core.Path.{sym, _∙_}
 use borrow.Author.Needs.{needs}
-use Rattle.schedules.specs.Rows.{Hides}
-use Rattle.schedules.proofs.Admitting.{Admitting, admitting-start, admitting-step, admitting-end}
-use Rattle.marks.specs.Resolved.{Resolved}
-use Rattle.links.specs.Marks.{marksOf}
-use Rattle.record.specs.Judgement.{must}
-use Rattle.record.specs.Record.{Record, names}
+use Rattle.schedules.proofs.Admitting.{all-scheduled}
+use Rattle.record.specs.Record.{names}
 use Rattle.schedules.proofs.scheduled_marks.Statement.{statement}
 use Rattle.schedules.proofs.scheduled_marks.Tie as tie
 
-abbrev Inv-loop : tie.InvT-loop
-Inv-loop n head link left mustmarks hidden marks₀ x₀ marks x =
-    (1 ≤ x) × (length marks ≡ 128) × ((R : Record) (hiddens : List ℕ) → Resolved R head link left → n ≡ length (names R) → mustmarks ≡ marksOf R (must R) → Hides R hidden hiddens → Admitting R hiddens marks x)
+all-marks-requires : tie.Need-all-marks-requires
+all-marks-requires c κs = search needs
 
-abbrev μ-loop : tie.MeasureT-loop
-μ-loop n head link left mustmarks hidden marks₀ x₀ marks x = n - x
+any-barred-requires : tie.Need-any-barred-requires
+any-barred-requires c κs = search needs
 
-loop-holds : tie.Need-loop-holds Inv-loop μ-loop
-loop-holds c =
-    let s = c in
-    (omega arith, s .pre .2, λ R h g q m i. admitting-start R (g .formed) h _ m)
+has-ring-requires : tie.Need-has-ring-requires
+has-ring-requires c κs = search needs
 
-admitted-requires : tie.Need-admitted-requires Inv-loop μ-loop
-admitted-requires c κs =
-    let s = c .before .before in
-    let l = c .before .loop in
-    (s .pre .0, s .pre .1, omega arith, s .pre .2, l .inv .1)
+admitted-marks-requires : tie.Need-admitted-marks-requires
+admitted-marks-requires c κs = search needs
 
-add-x : tie.Need-add-x Inv-loop μ-loop
-add-x c = search needs
-
-loop-less : tie.Need-loop-less Inv-loop μ-loop
-loop-less c = search needs
-
-loop-again : tie.Need-loop-again Inv-loop μ-loop
-loop-again c =
-    let l = c .before .before .loop in
-    (omega arith, c .admitted .ensures .0, λ R h g q m i. admitting-step R (g .formed) h (l .marks) _ (l .x) (omega arith) (λ t k e. c .admitted .ensures .1 R h t g q (omega arith) m i k e) (l .inv .2 R h g q m i))
-
-returns : tie.Need-returns Inv-loop μ-loop
+returns : tie.Need-returns
 returns c =
-    let l = c .before .loop in
-    (l .inv .1, λ R h g q m i. admitting-end R h (l .marks) (l .x) (omega arith) (l .inv .2 R h g q m i))
+    let a = c .before .before .before .before .before .before .all-marks in (
+      c .admitted-marks .ensures .0,
+      λ R h g q m i. let e = a .ensures .1 R q in
+          c .admitted-marks .ensures .1 R h g q m i (c .before .before .before .any-barred .ensures R h (names R) q (λ x k. k) e m i)
+          (c .before .before .has-ring .ensures R (names R) (g .notafters) q (λ x k. k) e),
+    )
+
+admitted-marks-requires-2 : tie.Need-admitted-marks-requires-2
+admitted-marks-requires-2 c κs = search needs
+
+returns-2 : tie.Need-returns-2
+returns-2 c =
+    let a = c .before .before .before .before .before .before .before .all-marks in (
+      c .admitted-marks2 .ensures .0,
+      λ R h g q m i. let e = a .ensures .1 R q in
+          c .admitted-marks2 .ensures .1 R h g q m i (c .before .before .before .before .any-barred .ensures R h (names R) q (λ x k. k) e m i)
+          (c .before .before .before .has-ring .ensures R (names R) (g .notafters) q (λ x k. k) e),
+    )
+
+returns-3 : tie.Need-returns-3
+returns-3 c =
+    let a = c .before .before .before .before .before .before .all-marks in (
+      a .ensures .0,
+      λ R h g q m i. let e = a .ensures .1 R q in
+          e ∙ all-scheduled R (g .formed) h (g .notafters .few)
+          (sym (c .before .before .before .any-barred .ensures R h (names R) q (λ x k. k) e m i) ∙ c .before .if1 .left)
+          (sym (c .before .before .has-ring .ensures R (names R) (g .notafters) q (λ x k. k) e) ∙ c .if2 .left),
+    )
 
 pub scheduled-marks-spec : {M : Type 1} → statement M
 scheduled-marks-spec =
     tie.close
-    (tie.spec Inv-loop μ-loop loop-holds admitted-requires add-x loop-less loop-again returns)
+    (tie.spec
+    all-marks-requires
+    any-barred-requires
+    has-ring-requires
+    admitted-marks-requires
+    returns
+    admitted-marks-requires-2
+    returns-2
+    returns-3)
