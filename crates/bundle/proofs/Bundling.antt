@@ -54,12 +54,6 @@ module _ (R : Record) (m table marks : List ℕ) (t : (x : ℕ) → getD table x
 
 -- the bundle of a stored record
 module _ (r : declared.Record) (R : Record) (q : r ≡ stored R) (f : Fit R) (e : ℕ) (i : e among written R) (marks : List ℕ) (g : marks ≡ marksOf R (λ y. mem y (members R e))) where
-  abbrev keepsEdit : Edit → Bool
-  keepsEdit x = mem (x .name) (members R e)
-
-  abbrev keepsConstraint : Constraint → Bool
-  keepsConstraint c = between (members R e) (c .left) (c .right)
-
   pub edits-marked : (k : ℕ) → k < r .editcount → eqb (getD marks (k + 1) 0) 1 ≡ mem (getD (r .edits) k fillerEdit .name) (members R e)
   edits-marked k h =
       let l : k < length (R .edits) = omega (arith, edit-count r R q) in

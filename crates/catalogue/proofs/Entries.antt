@@ -29,10 +29,6 @@ pub getD-any : {A : Type 0} (l : List A) (i : ℕ) (d e : A) → i < length l �
 getD-any (a ∷ l) zero d e h = refl
 getD-any (a ∷ l) (suc i) d e (suc-le-suc h) = getD-any l i d e h
 
--- the length of a field that is an array of structs
-pub length-mapped : {A B : Type 0} (f : A → B) (l : List A) (n : ℕ) → length (map f l) ≡ n → length l ≡ n
-length-mapped f l n h = simp length-map at h
-
 module _ (n : ℕ) (body : Body) (entry : Entry) where
   pub ran-insert : (place : ℕ) (made : Entry) → body ≡ Insert place → entry .present ≡ false → made ≡ absentEntry n
       → record { present = true; cells = made .cells } ≡ runBody n body entry

@@ -17,7 +17,7 @@ use Rattle.record.specs.Record.{Record, names, written, nameOf, WellFormed}
 use Rattle.record.specs.Stored.{stored}
 use Rattle.record.specs.Schedule.{schedule}
 use Rattle.record.specs.Judgement.{sound}
-use Rattle.record.proofs.Lists.{by, is-by, clash}
+use Rattle.record.proofs.Lists.{by, is-by, clash, getD-mapped}
 use Rattle.record.proofs.Records.{written-names, right-written, not-init}
 use Rattle.record.proofs.Scheduled.{schedule-sound}
 use Rattle.keyed.specs.Keyed.{Ascending, inserted, united}
@@ -25,7 +25,7 @@ use Rattle.keyed.proofs.Logic.{Has, has-getD}
 use Rattle.table.specs.Table.{constraintKey}
 use Rattle.table.proofs.Tables.{held}
 use Rattle.links.specs.Marks.{nameAt, placeIn}
-use Rattle.links.proofs.Marks.{values-at, getD-mapped}
+use Rattle.links.proofs.Marks.{values-at}
 use Rattle.links.proofs.Names.{getD-among, place-known}
 use Rattle.proposal.specs.Proposal.{withConstraints, before, unordered, decisions, orders, finished}
 use Rattle.proposal.proofs.Finished.{unordered-from}

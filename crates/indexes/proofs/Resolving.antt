@@ -12,12 +12,12 @@ use Rattle.record.specs.declared.Record as declared
 use Rattle.record.specs.Lists.{any, mem, at, _among_}
 use Rattle.record.specs.Record.{Record, names, written, is, has, WellFormed}
 use Rattle.record.specs.Stored.{fillerConstraint, stored}
-use Rattle.record.proofs.Lists.{clash, is-by, or-by, mem-at}
+use Rattle.record.proofs.Lists.{clash, is-by, or-by, mem-at, getD-mapped}
 use Rattle.record.proofs.Records as records
 use Rattle.links.specs.Marks.{nameAt, placeIn}
 use Rattle.links.specs.Links.{Linked, Leads, RowOf}
 use Rattle.links.proofs.Names.{getD-place, ascending-distinct, place-known}
-use Rattle.links.proofs.Marks.{length-mapped, getD-mapped}
+use Rattle.links.proofs.Marks.{length-mapped}
 use Rattle.links.proofs.Links.{Linking, linking-start, linking-step, linking-end}
 use Rattle.marks.specs.Resolved.{Resolved}
 use Rattle.indexes.specs.Fit.{Fit}

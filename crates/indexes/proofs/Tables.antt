@@ -16,10 +16,10 @@ use Rattle.record.specs.declared.Record as declared
 use Rattle.record.specs.Lists.{mem, at, _among_}
 use Rattle.record.specs.Record.{Record, nameOf, written, names}
 use Rattle.record.specs.Stored.{padded, fillerEdit, fillerConstraint, stored}
-use Rattle.record.proofs.Lists.{by, is-by}
+use Rattle.record.proofs.Lists.{by, is-by, getD-mapped}
 use Rattle.links.specs.Marks.{nameAt, placeIn}
 use Rattle.links.proofs.Names.{getD-among, place-snoc, later-not, ascending-distinct}
-use Rattle.links.proofs.Marks.{zeros-get, length-mapped, getD-mapped}
+use Rattle.links.proofs.Marks.{zeros-get, length-mapped}
 use Rattle.indexes.specs.Fit.{Fit}
 
 pub length-names : (R : Record) → length (names R) ≡ suc (length (R .edits))

@@ -8,8 +8,9 @@ use native.Mathlib.Numerals.{add-one}
 use native.Mathlib.Omega.{arith}
 use lib.ListN.{length, take, drop, getD, drop-of-length-le}
 use lib.Seq.{take-suc, drop-cons, length-take-le, getD-take}
+use Rattle.record.proofs.Lists.{by, clash}
 use Rattle.keyed.specs.Keyed.{precedes, Ascending, inserted}
-use Rattle.keyed.proofs.Logic.{by, clash, Has, has-getD}
+use Rattle.keyed.proofs.Logic.{Has, has-getD}
 use Rattle.keyed.proofs.Order.{less-irrefl, less-trans}
 use Rattle.keyed.proofs.Union.{below-has}
 use Rattle.insertion.specs.Insertion.{Place}

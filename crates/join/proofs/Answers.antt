@@ -10,10 +10,10 @@ use borrow.Author.Tests.{ne-eqb, eqb-true}
 use lib.Dec.{eqb}
 use lib.ListN.{length, take, getD, set}
 use lib.Seq.{take-suc, take-suc-set}
+use Rattle.record.proofs.Lists.{by}
 use Rattle.record.specs.declared.Record as declared
 use Rattle.record.specs.Record.{Record}
 use Rattle.record.specs.Stored.{padded, stored, recordOf, fillerEdit, fillerConstraint}
-use Rattle.keyed.proofs.Logic.{by}
 use Rattle.ground.specs.Ground.{Rows}
 use Rattle.table.specs.Table.{editRows, constraintRows, decoded, emptyTables, joinFault, namesOf, lentFault, recordFault, editKey, constraintKey, unite}
 use Rattle.table.specs.Checked.{Checked}

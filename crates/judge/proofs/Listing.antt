@@ -15,13 +15,13 @@ use Rattle.record.specs.Lists.{mem, _among_, distinct}
 use Rattle.record.specs.Record.{Record, nameOf, names, written}
 use Rattle.record.specs.Stored.{padded, fillerEdit, stored, editNamed}
 use Rattle.record.specs.Schedule.{scheduled, schedule}
-use Rattle.record.proofs.Lists.{by, clash, and-l, and-r}
+use Rattle.record.proofs.Lists.{by, clash, and-l, and-r, getD-mapped}
 use Rattle.record.proofs.Order.{Placed, order-placed, order-starts}
 use Rattle.record.proofs.Judged.{init-must}
 use Rattle.record.proofs.Scheduled.{musts-scheduled}
 use Rattle.links.specs.Marks.{nameAt}
 use Rattle.links.proofs.Names.{getD-among, place-same, ascending-distinct}
-use Rattle.links.proofs.Marks.{length-mapped, getD-mapped}
+use Rattle.links.proofs.Marks.{length-mapped}
 use Rattle.schedules.specs.declared.Row.{Row}
 use Rattle.schedules.specs.Rows.{RowIs}
 use Rattle.schedules.proofs.Paging.{list-length, list-at}

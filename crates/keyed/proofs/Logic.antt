@@ -1,4 +1,4 @@
--- Tests by their outcomes, membership in a list of any type, and tests of some or every element. Assumes nothing.
+-- Membership in a list of any type, and tests of some or every element. Assumes nothing.
 use mathlib.Core.Path.{_≡_, refl}
 use mathlib.Core.Bool.{Bool, true, false, _&&_, _||_}
 use mathlib.Core.Logic.{_⊎_, inl, inr}
@@ -7,29 +7,7 @@ use Prim.Native.Nat.{ℕ, zero, suc, _<_}
 use native.Mathlib.Omega.{arith}
 use lib.ListN.{length, getD}
 use Rattle.record.specs.Lists.{any, all}
-
-pub by {ℓ} : {P : Type ℓ} (b : Bool) → (b ≡ true → P) → (b ≡ false → P) → P
-by true f g = f refl
-by false f g = g refl
-
-pub clash {ℓ} : {P : Type ℓ} {b : Bool} → b ≡ true → b ≡ false → P
-clash p q = absurd (let z : _≡_ {A = ℕ} 0 1 = cc in omega arith)
-
-pub and-l : (a b : Bool) → (a && b) ≡ true → a ≡ true
-and-l true b h = refl
-and-l false b h = h
-
-pub and-r : (a b : Bool) → (a && b) ≡ true → b ≡ true
-and-r true b h = h
-and-r false b h = clash h refl
-
-pub or-no-l : (a b : Bool) → (a || b) ≡ false → a ≡ false
-or-no-l true b h = h
-or-no-l false b h = refl
-
-pub or-no-r : (a b : Bool) → (a || b) ≡ false → b ≡ false
-or-no-r true b h = clash refl h
-or-no-r false b h = h
+use Rattle.record.proofs.Lists.{by, clash, or-no-l, or-no-r, and-l, and-r}
 
 -- membership: the library's List·Memᴰ as a type that computes
 abbrev pub Has : {A : Type 0} → A → List A → Type 0

@@ -101,12 +101,3 @@ drafted-checked M Q k h =
     let c = orelse-none (8 given not (sound (started M Q))) _ (b .1) in
     let s : Checked (started M Q) = started-checked M Q k (ltb-false 512 (length (started M Q .constraints)) (given-none 2 (ltb 512 (length (started M Q .constraints))) (b .0))) in
     finished-checked (started M Q) s (ltb-false 512 (length (finished (started M Q) .constraints)) (given-none 2 (ltb 512 (length (finished (started M Q) .constraints))) (c .1)))
-
--- and its soundness and the old proposal's are known
-pub drafted-sound : (M Q : Record) → draftFault M Q ≡ 0 → (sound Q ≡ true) × (sound (started M Q) ≡ true)
-unfolding draftFault
-drafted-sound M Q h =
-    let a = orelse-none (8 given not (sound Q)) _ h in
-    let b = orelse-none (3 given overfull (started M Q)) _ (a .1) in
-    let c = orelse-none (8 given not (sound (started M Q))) _ (b .1) in
-    (not-false (sound Q) (given-none 7 (not (sound Q)) (a .0)), not-false (sound (started M Q)) (given-none 7 (not (sound (started M Q))) (c .0)))

@@ -12,9 +12,9 @@ use Rattle.record.specs.Lists.{mem}
 use Rattle.record.specs.Record.{Record, nameOf, written}
 use Rattle.record.specs.Schedule.{schedule}
 use Rattle.record.specs.Judgement.{sound, must, never, settled}
-use Rattle.record.proofs.Lists.{mem-at}
+use Rattle.record.proofs.Lists.{mem-at, by}
 use Rattle.record.proofs.Scheduled.{schedule-length}
-use Rattle.keyed.proofs.Logic.{by, Has, has-mapped, all-has}
+use Rattle.keyed.proofs.Logic.{Has, has-mapped, all-has}
 use Rattle.row.specs.Row.{editInRange, editRow}
 use Rattle.table.specs.Checked.{Checked}
 use Rattle.table.proofs.Marks.{edit-small}

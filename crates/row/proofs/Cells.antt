@@ -8,6 +8,7 @@ use native.Mathlib.Nat.{div-lt-iff-lt-mul}
 use borrow.Author.Tests.{eqb-true, eq-eqb, ne-eqb, lt-ltb, le-ltb, le-leb, lt-leb, leb-true, ltb-true}
 use lib.Dec.{leb, ltb, eqb}
 use lib.ListN.{length}
+use Rattle.record.proofs.Lists.{by, clash, and-l, and-r}
 use Rattle.record.specs.declared.Field.{Field}
 use Rattle.record.specs.declared.Field.the-variants.{Id, Size, Erase, Page}
 use Rattle.record.specs.declared.Body.{Body}
@@ -15,7 +16,6 @@ use Rattle.record.specs.declared.Body.the-variants.{Insert, Set, Remove}
 use Rattle.record.specs.declared.Edit.{Edit}
 use Rattle.record.specs.declared.Constraint.{Constraint}
 use Rattle.record.specs.Stored.{fillerEdit, fillerConstraint}
-use Rattle.keyed.proofs.Logic.{by, clash, and-l, and-r}
 use Rattle.row.specs.Row.{Row, cell, isName, bodyInRange, editInRange, isSide, constraintInRange, fieldOf, bodyOf, editOf, constraintOf, fieldNumber, bodyCells, editRow, constraintRow}
 
 -- what holds of every number from n on holds of a number that is none below: the last arm of a match

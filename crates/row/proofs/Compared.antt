@@ -9,8 +9,8 @@ use borrow.Author.Tests.{eqb-true, eq-eqb, ne-eqb, lt-ltb, le-ltb}
 use lib.Dec.{eqb}
 use lib.ListN.{length, getD, take, drop, drop-of-length-le}
 use lib.Seq.{drop-cons, getD-take, length-take-le}
+use Rattle.record.proofs.Lists.{by, clash, and-l, and-r}
 use Rattle.keyed.specs.Keyed.{precedes}
-use Rattle.keyed.proofs.Logic.{by, clash, and-l, and-r}
 use Rattle.keyed.proofs.Order.{less-irrefl, less-total}
 use Rattle.row.specs.Row.{same}
 

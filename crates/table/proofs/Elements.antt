@@ -43,7 +43,3 @@ edit-rows-ascend l a = ascending-map editKey (take 1) editRow l (λ e m. edit-ke
 
 pub constraint-rows-ascend : (l : List Constraint) → Ascending constraintKey l → Ascending (take 3) (map constraintRow l)
 constraint-rows-ascend l a = ascending-map constraintKey (take 3) constraintRow l (λ c m. constraint-key c) a
-
--- the length of a field that is an array, out of what is known of its struct: `search (needs, length-mapped)`
-pub length-mapped : {A B : Type 0} (f : A → B) (l : List A) (n : ℕ) → length (map f l) ≡ n → length l ≡ n
-length-mapped f l n h = simp length-map at h

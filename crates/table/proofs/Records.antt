@@ -8,12 +8,13 @@ use native.Mathlib.Omega.{arith}
 use borrow.Author.Tests.{eqb-true, not-true, not-false, lt-ltb}
 use lib.Dec.{ltb, eqb}
 use lib.ListN.{length, length-map}
+use Rattle.record.proofs.Lists.{by, and-l, and-r, or-no-l, or-no-r}
 use Rattle.record.specs.declared.Edit.{Edit}
 use Rattle.record.specs.declared.Constraint.{Constraint}
 use Rattle.record.specs.Lists.{all, mem, ascending}
 use Rattle.record.specs.Record.{Record, written, names, nameOf, is, has, WellFormed}
 use Rattle.keyed.specs.Keyed.{Below, Ascending, united}
-use Rattle.keyed.proofs.Logic.{by, and-l, and-r, or-no-l, or-no-r, Has, has-map, any-by, all-has, all-by}
+use Rattle.keyed.proofs.Logic.{Has, has-map, any-by, all-has, all-by}
 use Rattle.keyed.proofs.Order.{less-one}
 use Rattle.keyed.proofs.Union.{ascending-united, united-has, united-new, agree-self}
 use Rattle.row.specs.Row.{Row, cell, isName, editInRange, constraintInRange, editOf, constraintOf, editRow, constraintRow}

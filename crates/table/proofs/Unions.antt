@@ -6,12 +6,13 @@ use mathlib.Core.List.{List, [], _∷_, map}
 use Prim.Native.Nat.{ℕ}
 use borrow.Author.Tests.{eqb-true, eq-eqb}
 use lib.Dec.{eqb}
+use Rattle.record.proofs.Lists.{by, clash}
 use Rattle.record.specs.declared.Edit.{Edit}
 use Rattle.record.specs.declared.Constraint.{Constraint}
 use Rattle.record.specs.Lists.{mem}
 use Rattle.record.specs.Record.{Record, written, nameOf, is, has, Extends}
 use Rattle.keyed.specs.Keyed.{Ascending, united}
-use Rattle.keyed.proofs.Logic.{by, clash, Has, any-by, any-has}
+use Rattle.keyed.proofs.Logic.{Has, any-by, any-has}
 use Rattle.keyed.proofs.Union.{united-old, united-key, united-part, united-alone}
 use Rattle.table.specs.Table.{unite, editKey, constraintKey, emptyTables}
 
@@ -64,9 +65,6 @@ united-within R S a b f g =
     let p : united editKey (R .edits) (S .edits) ≡ R .edits = united-part editKey (R .edits) (S .edits) a f in
     let q : united constraintKey (R .constraints) (S .constraints) ≡ R .constraints = united-part constraintKey (R .constraints) (S .constraints) b g in
     λ i. record { edits = p i; constraints = q i }
-
-pub united-itself : (R : Record) → Ascending editKey (R .edits) → Ascending constraintKey (R .constraints) → unite R R ≡ R
-united-itself R a b = united-within R R a b (λ e m. m) (λ c m. m)
 
 -- and with the empty record
 pub united-empty : (S : Record) → Ascending editKey (S .edits) → Ascending constraintKey (S .constraints) → unite emptyTables S ≡ S

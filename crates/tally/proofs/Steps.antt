@@ -14,7 +14,7 @@ use Rattle.record.specs.declared.Record as declared
 use Rattle.record.specs.Lists.{any}
 use Rattle.record.specs.Record.{Record}
 use Rattle.record.specs.Stored.{padded, stored, emptyRecord}
-use Rattle.record.proofs.Lists.{by, clash, and-l, and-r, or-no-l, or-no-r}
+use Rattle.record.proofs.Lists.{by, clash, and-l, and-r, or-no-l, or-no-r, getD-mapped}
 use Rattle.pages.proofs.Padded.{length-padded, take-padded, padded-more, getD-padded, padded-past}
 use Rattle.vote.specs.declared.Election.{Election}
 use Rattle.vote.specs.Tally.{Ballot, sameBundle, total, weigh, isSilent, votesFor, group, greatestOf, greatest, silent, won, counted}
@@ -108,11 +108,6 @@ getD-within (x ∷ s) (suc i) d f h = getD-within s i d f (omega arith)
 
 abbrev pub none-yet : Record
 none-yet = record { edits = []; constraints = [] }
-
-pub getD-mapped : {A B : Type 0} (f : A → B) (s : List A) (i : ℕ) (a : A) (b : B) → i < length s → getD (map f s) i b ≡ f (getD s i a)
-getD-mapped f [] i a b h = absurd (omega arith)
-getD-mapped f (x ∷ s) zero a b h = refl
-getD-mapped f (x ∷ s) (suc i) a b h = getD-mapped f s i a b (omega arith)
 
 module _ (groups : List Group) (n : ℕ) (w : n ≤ length groups) (l : List Ballot) (s : List Record) (C : Record) (g : take n groups ≡ map (groupIn l) s) where
   groups-length : length s ≡ n

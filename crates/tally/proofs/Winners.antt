@@ -12,14 +12,14 @@ use borrow.Author.Tests.{ltb-true, lt-ltb}
 use Rattle.record.specs.Lists.{any}
 use Rattle.record.specs.Record.{Record}
 use Rattle.record.specs.Stored.{stored, emptyRecord}
-use Rattle.record.proofs.Lists.{by, clash, le-by}
+use Rattle.record.proofs.Lists.{by, clash, le-by, getD-mapped}
 use Rattle.vote.specs.Tally.{Ballot, sameBundle, total, weigh, votesFor, group, greatestOf, greatest, wins, won, winner}
 use Rattle.vote.proofs.Elections.{same-is, one-winner, winner-wins, open-is}
 use Rattle.tally.specs.declared.Group.{Group}
 use Rattle.tally.specs.declared.Tally.{Tally}
 use Rattle.tally.specs.Groups.{bundles, groupIn, fillerGroup, tallyOf, place, WinningPlace, winnerStored}
 use Rattle.tally.proofs.Counts.{unknown-weightless}
-use Rattle.tally.proofs.Steps.{none-yet, getD-within, getD-mapped, place-known, place-stands, total-is, count-is, groups-taken}
+use Rattle.tally.proofs.Steps.{none-yet, getD-within, place-known, place-stands, total-is, count-is, groups-taken}
 
 -- a group with weight is no heavier than the greatest
 under-greatest {ℓ} : {P : Type ℓ} (B : Record) (k m : List Ballot) → (weigh (votesFor B) m ≡ 0 → P) → (weigh (votesFor B) k ≤ greatestOf k m → P) → P

@@ -11,10 +11,6 @@ use Rattle.record.specs.Lists.{any, all, sift}
 use Rattle.record.proofs.Lists.{by, clash}
 use Rattle.keyed.proofs.Logic.{any-append, any-has, all-has, has-getD}
 
--- the length of an array of structs, from that of their machine values
-pub length-mapped : {A B : Type 0} (f : A → B) (l : List A) (n : ℕ) → length (map f l) ≡ n → length l ≡ n
-length-mapped f l n h = sym (length-map l f) ∙ h
-
 pub take-more : {A : Type 0} (a : List A) (i : ℕ) (d : A) → i < length a → take (i + 1) a ≡ take i a ++ (getD a i d ∷ [])
 take-more a i d h = rw (add-one i) (take-suc a i d h)
 

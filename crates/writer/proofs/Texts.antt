@@ -8,9 +8,9 @@ use borrow.Author.Tests.{le-leb, lt-leb, leb-true, leb-false}
 use lib.Dec.{leb}
 use lib.ListN.{length, take, drop, length-take, length-drop, length-append}
 use lib.Seq.{take-all}
+use Rattle.record.proofs.Lists.{by}
 use Rattle.record.specs.declared.Record as declared
 use Rattle.record.specs.Stored.{recordOf}
-use Rattle.keyed.proofs.Logic.{by}
 use Rattle.row.specs.Row.{editRow, constraintRow}
 use Rattle.decimal.specs.Written.{Written}
 use Rattle.decimal.proofs.Parts.{part-written, part-to-end}

@@ -3,10 +3,10 @@ use borrow.Author.Needs.{needs}
 use native.Mathlib.Omega.{arith}
 use mathlib.Core.Path.{_∙_}
 use mathlib.Core.List.{[], _∷_}
+use Rattle.record.proofs.Lists.{length-mapped}
 use Rattle.forms.proofs.Printing.{printed-end}
 use Rattle.asks.proofs.Questions.{hidden-printed}
 use Rattle.answers.specs.Answers.{answerLine}
-use Rattle.catalogue.proofs.Entries.{length-mapped}
 use Rattle.asks.proofs.print_hidden.Statement.{statement}
 use Rattle.asks.proofs.print_hidden.Tie as tie
 

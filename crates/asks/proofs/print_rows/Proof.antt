@@ -4,10 +4,10 @@ use native.Mathlib.Omega.{arith}
 use Prim.Native.Nat.{_-_, _+_}
 use mathlib.Core.Path.{_≡_}
 use lib.ListN.{length}
+use Rattle.record.proofs.Lists.{length-mapped}
 use Rattle.forms.proofs.Printing.{Printing, printing-start, printing-next, printing-end, printed-as}
 use Rattle.asks.specs.Asks.{rowAt}
 use Rattle.asks.proofs.Questions.{row-before}
-use Rattle.catalogue.proofs.Entries.{length-mapped}
 use Rattle.asks.proofs.print_rows.Statement.{statement}
 use Rattle.asks.proofs.print_rows.Tie as tie
 

@@ -7,9 +7,9 @@ use lib.ListN.{length-set, length, getD}
 use lib.Dec.{eqb}
 use borrow.Author.Tests.{eq-eqb, ne-eqb}
 use borrow.Author.Needs.{needs}
+use Rattle.record.proofs.Lists.{length-mapped}
 use Rattle.record.specs.Stored.{fillerEdit}
 use Rattle.record.specs.declared.Edit.{Edit}
-use Rattle.vote.proofs.Front.{length-mapped}
 use Rattle.bundle.proofs.Sifting.{Sifting, sifting-start, sifting-kept, sifting-skip}
 use Rattle.bundle.proofs.sift_edits.Statement.{statement}
 use Rattle.bundle.proofs.sift_edits.Tie as tie

@@ -5,12 +5,12 @@ use lib.ListN.{length, take}
 use native.Mathlib.Omega.{arith}
 use mathlib.Core.Bool.{true}
 use borrow.Author.Tests.{not-true, not-false}
+use Rattle.record.proofs.Lists.{length-mapped}
 use Rattle.record.specs.Lists.{all, _within_}
 use Rattle.record.specs.Record.{Record, written}
 use Rattle.record.specs.Stored.{stored, fillerEdit}
 use Rattle.indexes.specs.Fit.{Fit}
 use Rattle.indexes.proofs.Tables.{few-left}
-use Rattle.table.proofs.Elements.{length-mapped}
 use Rattle.keeping.proofs.Keeping.{isKept, name-known, keeps-stop, keeps-next, keeps-start, keeps-end}
 use borrow.Author.Needs.{needs}
 use Rattle.keeping.proofs.keeps.Statement.{statement}

@@ -3,12 +3,12 @@ use Prim.Native.Nat.{ℕ, _-_, _≤_}
 use mathlib.Core.Path.{_≡_}
 use lib.ListN.{length, getD, take}
 use native.Mathlib.Omega.{arith}
+use Rattle.record.proofs.Lists.{length-mapped}
 use Rattle.record.specs.Lists.{sift}
 use Rattle.record.specs.Record.{Record, names}
 use Rattle.record.specs.Stored.{fillerConstraint}
 use Rattle.links.specs.Marks.{placeIn}
 use Rattle.marks.specs.Resolved.{Resolved}
-use Rattle.table.proofs.Elements.{length-mapped}
 use Rattle.pairs.proofs.Unordered.{isUnordered, left-known, right-known, here, pairs-next, pairs-end, pairs-start, bit-low, held-constraints, within-limit}
 use borrow.Author.Needs.{needs}
 use Rattle.pairs.proofs.unordered_pairs.Statement.{statement}

@@ -5,10 +5,11 @@ use mathlib.Core.List.{List}
 use lib.ListN.{length, take}
 use native.Mathlib.Omega.{arith}
 use borrow.Author.Tests.{not-true, not-false}
+use Rattle.record.proofs.Lists.{length-mapped}
 use Rattle.ground.proofs.Walks.{bounds}
 use Rattle.ground.proofs.Loop.{State, state-start, state-end, state-outside, state-late, state-goes, state-stops, later-none}
 use Rattle.table.specs.Checked.{Marked}
-use Rattle.table.proofs.Elements.{constraintElements, constraint-rows-ascend, length-mapped}
+use Rattle.table.proofs.Elements.{constraintElements, constraint-rows-ascend}
 use borrow.Author.Needs.{needs}
 use Rattle.refusal.proofs.constraint_fault.Statement.{statement}
 use Rattle.refusal.proofs.constraint_fault.Tie as tie

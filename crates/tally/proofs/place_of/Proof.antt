@@ -5,9 +5,9 @@ use Prim.Native.Nat.{_+_, _-_, _≤_}
 use native.Mathlib.Omega.{arith}
 use lib.ListN.{length, getD, take, drop}
 use borrow.Author.Needs.{needs}
+use Rattle.record.proofs.Lists.{length-mapped}
 use Rattle.record.specs.Stored.{stored}
 use Rattle.record.specs.Record.{Record}
-use Rattle.vote.proofs.Front.{length-mapped}
 use Rattle.vote.specs.Tally.{Ballot}
 use Rattle.tally.specs.Groups.{groupIn, place}
 use Rattle.tally.proofs.Steps.{none-yet, bundle-at, place-hit, place-miss, place-end}

@@ -1,6 +1,6 @@
 -- `writer::text_fit` meets its contract. Assumes nothing.
+use Rattle.record.proofs.Lists.{length-mapped}
 use Rattle.writer.proofs.Texts.{text-fit-none, text-fit-both}
-use Rattle.table.proofs.Elements.{length-mapped}
 use borrow.Author.Tests.{not-true, not-false}
 use mathlib.Core.Path.{_≡_}
 use lib.ListN.{length}

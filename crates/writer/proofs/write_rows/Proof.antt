@@ -1,6 +1,6 @@
 -- `writer::write_rows` meets its contract. Assumes nothing.
+use Rattle.record.proofs.Lists.{length-mapped}
 use Rattle.writer.proofs.Texts.{edits-fit, edits-inside, constraints-fit, both-at, both-written}
-use Rattle.table.proofs.Elements.{length-mapped}
 use mathlib.Core.Path.{_≡_}
 use lib.ListN.{length}
 use native.Mathlib.Omega.{arith}
