@@ -1,0 +1,246 @@
+//! The lines of a call log and of the exchanged text.
+
+use super::row::{ConstraintRow, EditRow};
+use check::model::{Field, Ground, Rule};
+
+/// No line is longer than this before its end.
+const LINE_LIMIT: usize = 100;
+
+/// What a line says.
+#[derive(Clone, Copy)]
+pub enum Order {
+    LendEdit { lent: u32, row: EditRow },
+    LendConstraint { lent: u32, row: ConstraintRow },
+    LendNone { lent: u32 },
+    LendBench { lent: u32 },
+    Roll { bench: u32, weight: u32 },
+    RollNone,
+    Row { name: u32 },
+    RowNone,
+    Edit { row: EditRow },
+    Constraint { row: ConstraintRow },
+    Merge { lent: u32 },
+    Hide { edit: u32 },
+    Show { edit: u32 },
+    Turn { pages: u32, back: bool },
+    Adopt { edit: u32 },
+    Elect { edit: u32 },
+    Bundle { edit: u32, lent: u32 },
+    Propose { lent: u32, old: u32, room: (u32, u32), keep: bool },
+    Suggest { first: u32, second: u32, case: u32 },
+    Test { lent: u32 },
+    Ask { question: Question },
+}
+
+#[derive(Clone, Copy)]
+pub enum Question {
+    Text,
+    Report,
+    Hidden,
+    Schedule,
+    Catalogue,
+    Journal,
+    Page,
+}
+
+/// Reads a line, its end included.
+pub fn read(line: &[u8]) -> Result<Order, Ground> {
+    let bytes = line.strip_suffix(b"\n").ok_or(Ground::Form)?;
+    if bytes.len() > LINE_LIMIT {
+        return Err(Ground::Form);
+    }
+    let mut reader = Reader { rest: bytes, fits: true };
+    let order = reader.order().filter(|_| reader.rest.is_empty()).ok_or(Ground::Form)?;
+    match reader.fits {
+        true => Ok(order),
+        false => Err(Ground::Range),
+    }
+}
+
+struct Reader<'line> {
+    rest: &'line [u8],
+    /// Whether every number so far fits 32 bits.
+    fits: bool,
+}
+
+impl<'line> Reader<'line> {
+    fn order(&mut self) -> Option<Order> {
+        match self.key()? {
+            b"lent" => self.lend(),
+            b"roll" => self.roll(),
+            b"row" if self.take(b"none") => Some(Order::RowNone),
+            b"row" => Some(Order::Row { name: self.number()? }),
+            b"edit" => self.edit(),
+            b"left" => self.constraint(),
+            b"do" => self.call(),
+            b"ask" => Some(Order::Ask { question: self.question()? }),
+            _ => None,
+        }
+    }
+
+    /// What stands before the next `=`.
+    fn key(&mut self) -> Option<&'line [u8]> {
+        let length = self.rest.iter().position(|&byte| byte == b'=')?;
+        let (key, rest) = self.rest.split_at(length);
+        self.rest = &rest[1..];
+        Some(key)
+    }
+
+    /// What stands before the next space or the line's end.
+    fn word(&mut self) -> &'line [u8] {
+        let length = self.rest.iter().position(|&byte| byte == b' ');
+        let (word, rest) = self.rest.split_at(length.unwrap_or(self.rest.len()));
+        self.rest = rest;
+        word
+    }
+
+    /// Takes these bytes if they come next.
+    fn take(&mut self, bytes: &[u8]) -> bool {
+        let rest = self.rest.strip_prefix(bytes);
+        self.rest = rest.unwrap_or(self.rest);
+        rest.is_some()
+    }
+
+    /// Decimal digits without leading zeros.
+    fn number(&mut self) -> Option<u32> {
+        let length = self.rest.iter().take_while(|byte| byte.is_ascii_digit()).count();
+        let (digits, rest) = self.rest.split_at(length);
+        if digits.is_empty() || digits.len() > 1 && digits[0] == b'0' {
+            return None;
+        }
+        self.rest = rest;
+        let append = |value: u64, digit: &u8| {
+            value.saturating_mul(10).saturating_add(u64::from(digit - b'0'))
+        };
+        let number = u32::try_from(digits.iter().fold(0, append));
+        self.fits &= number.is_ok();
+        Some(number.unwrap_or(0))
+    }
+
+    /// A key and its number.
+    fn number_of(&mut self, key: &[u8]) -> Option<u32> {
+        match self.take(key) {
+            true => self.number(),
+            false => None,
+        }
+    }
+
+    fn lend(&mut self) -> Option<Order> {
+        let lent = self.number()?;
+        if !self.take(b" ") {
+            return None;
+        }
+        match self.key()? {
+            b"edit" => {
+                let name = self.number()?;
+                let kind = self.number_of(b" kind=")?;
+                let place = self.number_of(b" chip=")?;
+                let field = self.number_of(b" field=")?;
+                let value = self.number_of(b" value=")?;
+                Some(Order::LendEdit { lent, row: [name, kind, place, field, value] })
+            }
+            b"left" => {
+                let left = self.number()?;
+                let rule = self.number_of(b" rule=")?;
+                let right = self.number_of(b" right=")?;
+                Some(Order::LendConstraint { lent, row: [left, rule, right] })
+            }
+            b"rows" => match self.word() {
+                b"none" => Some(Order::LendNone { lent }),
+                b"bench" => Some(Order::LendBench { lent }),
+                _ => None,
+            },
+            _ => None,
+        }
+    }
+
+    fn roll(&mut self) -> Option<Order> {
+        if self.take(b"none") {
+            return Some(Order::RollNone);
+        }
+        let bench = self.number()?;
+        Some(Order::Roll { bench, weight: self.number_of(b" weight=")? })
+    }
+
+    fn edit(&mut self) -> Option<Order> {
+        let name = self.number()?;
+        if !self.take(b" do=") {
+            return None;
+        }
+        let kind = self.word();
+        let place = self.number_of(b" chip=")?;
+        let row = match kind {
+            b"insert" => [name, 0, place, 0, 0],
+            b"remove" => [name, 2, place, 0, 0],
+            b"set" if self.take(b" field=") => {
+                let word = self.word();
+                let is_word = |field: &Field| field.word().as_bytes() == word;
+                let field = Field::ALL.iter().position(is_word)?;
+                [name, 1, place, field as u32, self.number_of(b" value=")?]
+            }
+            _ => return None,
+        };
+        Some(Order::Edit { row })
+    }
+
+    fn constraint(&mut self) -> Option<Order> {
+        let left = self.number()?;
+        if !self.take(b" rule=") {
+            return None;
+        }
+        let word = self.word();
+        let rule = Rule::ALL.iter().position(|rule| rule.word().as_bytes() == word)?;
+        Some(Order::Constraint { row: [left, rule as u32, self.number_of(b" right=")?] })
+    }
+
+    fn call(&mut self) -> Option<Order> {
+        match self.word() {
+            b"merge" => Some(Order::Merge { lent: self.number_of(b" lent=")? }),
+            b"hide" => Some(Order::Hide { edit: self.number_of(b" edit=")? }),
+            b"show" => Some(Order::Show { edit: self.number_of(b" edit=")? }),
+            b"turn" if self.take(b" pages=") => {
+                let back = self.take(b"-");
+                Some(Order::Turn { pages: self.number()?, back })
+            }
+            b"adopt" => Some(Order::Adopt { edit: self.number_of(b" edit=")? }),
+            b"elect" => Some(Order::Elect { edit: self.number_of(b" edit=")? }),
+            b"bundle" => {
+                let edit = self.number_of(b" edit=")?;
+                Some(Order::Bundle { edit, lent: self.number_of(b" lent=")? })
+            }
+            b"propose" => self.propose(),
+            b"suggest" => {
+                let first = self.number_of(b" first=")?;
+                let second = self.number_of(b" second=")?;
+                Some(Order::Suggest { first, second, case: self.number_of(b" case=")? })
+            }
+            b"test" => Some(Order::Test { lent: self.number_of(b" lent=")? }),
+            _ => None,
+        }
+    }
+
+    fn propose(&mut self) -> Option<Order> {
+        let lent = self.number_of(b" lent=")?;
+        let old = self.number_of(b" old=")?;
+        let room = (self.number_of(b" edits=")?, self.number_of(b" rules=")?);
+        let keep = match self.take(b" keep=").then(|| self.word())? {
+            b"yes" => true,
+            b"no" => false,
+            _ => return None,
+        };
+        Some(Order::Propose { lent, old, room, keep })
+    }
+
+    fn question(&mut self) -> Option<Question> {
+        match self.word() {
+            b"text" => Some(Question::Text),
+            b"report" => Some(Question::Report),
+            b"hidden" => Some(Question::Hidden),
+            b"schedule" => Some(Question::Schedule),
+            b"catalogue" => Some(Question::Catalogue),
+            b"journal" => Some(Question::Journal),
+            b"page" => Some(Question::Page),
+            _ => None,
+        }
+    }
+}
