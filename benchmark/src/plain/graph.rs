@@ -151,20 +151,28 @@ impl Graph {
     /// Whether the set holds a ring of notafter. It held none before these edits
     /// were added, so a ring passes through one of them.
     pub fn has_ring(&self, mut set: Set, added: &[u8]) -> bool {
-        added.iter().any(|&edit| self.meets_ring(usize::from(edit), &mut set))
+        added.iter().any(|&edit| {
+            let edit = usize::from(edit);
+            set[edit] == State::Waiting && self.meets_ring(edit, &mut set)
+        })
     }
 
+    /// Goes on from an edit that waits to all that follow it.
     fn meets_ring(&self, edit: usize, set: &mut Set) -> bool {
-        match set[edit] {
-            State::Outside | State::Passed => return false,
-            State::OnTheWay => return true,
-            State::Waiting => {}
-        }
         set[edit] = State::OnTheWay;
-        let mut followers = self.followers[edit].iter();
-        let ring = followers.any(|&follower| self.meets_ring(usize::from(follower), set));
+        for &follower in &self.followers[edit] {
+            let follower = usize::from(follower);
+            let ring = match set[follower] {
+                State::Outside | State::Passed => false,
+                State::OnTheWay => true,
+                State::Waiting => self.meets_ring(follower, set),
+            };
+            if ring {
+                return true;
+            }
+        }
         set[edit] = State::Passed;
-        ring
+        false
     }
 
     /// The edits of a set without ring in order: next is always the lowest one
