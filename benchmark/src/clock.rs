@@ -10,13 +10,16 @@ pub struct Effort {
     pub turns: usize,
     /// About how long a turn takes.
     pub turn: Duration,
-    /// How often a process runs.
+    /// How often a process runs, and one that runs long.
     pub runs: usize,
+    pub long_runs: usize,
 }
 
 impl Effort {
-    pub const LONG: Effort = Effort { turns: 25, turn: Duration::from_millis(8), runs: 60 };
-    pub const SHORT: Effort = Effort { turns: 4, turn: Duration::from_millis(2), runs: 6 };
+    pub const LONG: Effort =
+        Effort { turns: 25, turn: Duration::from_millis(8), runs: 60, long_runs: 3 };
+    pub const SHORT: Effort =
+        Effort { turns: 4, turn: Duration::from_millis(2), runs: 6, long_runs: 1 };
 }
 
 /// The best time of each side for one call.

@@ -28,8 +28,6 @@ const HIDING_LINES: usize = 1_200;
 const QUESTION_ROUNDS: usize = 20;
 /// A log for a process that runs long.
 const LONG_LOG_SIZE: usize = 10_000_000;
-/// How often a process that runs long is run at most.
-const LONG_RUNS: usize = 3;
 
 struct Options {
     effort: Effort,
@@ -146,7 +144,6 @@ fn measure_logs(shapes: &[Shape], table: &mut Table, effort: Effort) {
 
 fn measure_processes(shapes: &[Shape], table: &mut Table, options: &Options) {
     let plain = std::env::current_exe().expect("this program has a path").with_file_name("plain");
-    assert!(plain.exists(), "{} is missing: cargo build makes it", plain.display());
     let runs = options.effort.runs;
     let program = |path: &PathBuf, arguments| Program { path: path.clone(), arguments };
     let (proved, baseline) = (program(&options.shelf, &[]), program(&plain, &["shelf"]));
@@ -163,6 +160,6 @@ fn measure_processes(shapes: &[Shape], table: &mut Table, options: &Options) {
     let row = "process replay, mix of 10 MB";
     table.measure(row, || {
         let log = logs::repeated(&logs::mix(), LONG_LOG_SIZE);
-        processes::compared(row, &log, &proved, &baseline, runs.min(LONG_RUNS))
+        processes::compared(row, &log, &proved, &baseline, options.effort.long_runs)
     });
 }

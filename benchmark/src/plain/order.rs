@@ -9,19 +9,8 @@ const LINE_LIMIT: usize = 100;
 /// What a line says.
 #[derive(Clone, Copy)]
 pub enum Order {
-    LendEdit { lent: u32, row: EditRow },
-    LendConstraint { lent: u32, row: ConstraintRow },
-    LendNone { lent: u32 },
-    LendBench { lent: u32 },
-    Roll { bench: u32, weight: u32 },
-    RollNone,
-    Row { name: u32 },
-    RowNone,
-    Edit { row: EditRow },
-    Constraint { row: ConstraintRow },
-    Merge { lent: u32 },
-    Hide { edit: u32 },
-    Show { edit: u32 },
+    Lend(Lend),
+    Change(Change),
     Turn { pages: u32, back: bool },
     Adopt { edit: u32 },
     Elect { edit: u32 },
@@ -29,7 +18,30 @@ pub enum Order {
     Propose { lent: u32, old: u32, room: (u32, u32), keep: bool },
     Suggest { first: u32, second: u32, case: u32 },
     Test { lent: u32 },
-    Ask { question: Question },
+    Ask(Question),
+}
+
+/// One row more of what is lent, or none of it.
+#[derive(Clone, Copy)]
+pub enum Lend {
+    Edit { lent: u32, row: EditRow },
+    Constraint { lent: u32, row: ConstraintRow },
+    None { lent: u32 },
+    Bench { lent: u32 },
+    Seat { bench: u32, weight: u32 },
+    NoRoll,
+    Name(u32),
+    NoRow,
+}
+
+/// A call that makes the schedule anew.
+#[derive(Clone, Copy)]
+pub enum Change {
+    Edit(EditRow),
+    Constraint(ConstraintRow),
+    Merge { lent: u32 },
+    Hide { edit: u32 },
+    Show { edit: u32 },
 }
 
 #[derive(Clone, Copy)]
@@ -66,14 +78,14 @@ struct Reader<'line> {
 impl<'line> Reader<'line> {
     fn order(&mut self) -> Option<Order> {
         match self.key()? {
-            b"lent" => self.lend(),
-            b"roll" => self.roll(),
-            b"row" if self.take(b"none") => Some(Order::RowNone),
-            b"row" => Some(Order::Row { name: self.number()? }),
-            b"edit" => self.edit(),
-            b"left" => self.constraint(),
+            b"lent" => self.lend().map(Order::Lend),
+            b"roll" => self.roll().map(Order::Lend),
+            b"row" if self.take(b"none") => Some(Order::Lend(Lend::NoRow)),
+            b"row" => Some(Order::Lend(Lend::Name(self.number()?))),
+            b"edit" => self.edit().map(|row| Order::Change(Change::Edit(row))),
+            b"left" => self.constraint().map(|row| Order::Change(Change::Constraint(row))),
             b"do" => self.call(),
-            b"ask" => Some(Order::Ask { question: self.question()? }),
+            b"ask" => self.question().map(Order::Ask),
             _ => None,
         }
     }
@@ -125,7 +137,7 @@ impl<'line> Reader<'line> {
         }
     }
 
-    fn lend(&mut self) -> Option<Order> {
+    fn lend(&mut self) -> Option<Lend> {
         let lent = self.number()?;
         if !self.take(b" ") {
             return None;
@@ -137,67 +149,66 @@ impl<'line> Reader<'line> {
                 let place = self.number_of(b" chip=")?;
                 let field = self.number_of(b" field=")?;
                 let value = self.number_of(b" value=")?;
-                Some(Order::LendEdit { lent, row: [name, kind, place, field, value] })
+                Some(Lend::Edit { lent, row: [name, kind, place, field, value] })
             }
             b"left" => {
                 let left = self.number()?;
                 let rule = self.number_of(b" rule=")?;
                 let right = self.number_of(b" right=")?;
-                Some(Order::LendConstraint { lent, row: [left, rule, right] })
+                Some(Lend::Constraint { lent, row: [left, rule, right] })
             }
             b"rows" => match self.word() {
-                b"none" => Some(Order::LendNone { lent }),
-                b"bench" => Some(Order::LendBench { lent }),
+                b"none" => Some(Lend::None { lent }),
+                b"bench" => Some(Lend::Bench { lent }),
                 _ => None,
             },
             _ => None,
         }
     }
 
-    fn roll(&mut self) -> Option<Order> {
+    fn roll(&mut self) -> Option<Lend> {
         if self.take(b"none") {
-            return Some(Order::RollNone);
+            return Some(Lend::NoRoll);
         }
         let bench = self.number()?;
-        Some(Order::Roll { bench, weight: self.number_of(b" weight=")? })
+        Some(Lend::Seat { bench, weight: self.number_of(b" weight=")? })
     }
 
-    fn edit(&mut self) -> Option<Order> {
+    fn edit(&mut self) -> Option<EditRow> {
         let name = self.number()?;
         if !self.take(b" do=") {
             return None;
         }
         let kind = self.word();
         let place = self.number_of(b" chip=")?;
-        let row = match kind {
-            b"insert" => [name, 0, place, 0, 0],
-            b"remove" => [name, 2, place, 0, 0],
+        match kind {
+            b"insert" => Some([name, 0, place, 0, 0]),
+            b"remove" => Some([name, 2, place, 0, 0]),
             b"set" if self.take(b" field=") => {
                 let word = self.word();
                 let is_word = |field: &Field| field.word().as_bytes() == word;
                 let field = Field::ALL.iter().position(is_word)?;
-                [name, 1, place, field as u32, self.number_of(b" value=")?]
+                Some([name, 1, place, field as u32, self.number_of(b" value=")?])
             }
-            _ => return None,
-        };
-        Some(Order::Edit { row })
+            _ => None,
+        }
     }
 
-    fn constraint(&mut self) -> Option<Order> {
+    fn constraint(&mut self) -> Option<ConstraintRow> {
         let left = self.number()?;
         if !self.take(b" rule=") {
             return None;
         }
         let word = self.word();
         let rule = Rule::ALL.iter().position(|rule| rule.word().as_bytes() == word)?;
-        Some(Order::Constraint { row: [left, rule as u32, self.number_of(b" right=")?] })
+        Some([left, rule as u32, self.number_of(b" right=")?])
     }
 
     fn call(&mut self) -> Option<Order> {
         match self.word() {
-            b"merge" => Some(Order::Merge { lent: self.number_of(b" lent=")? }),
-            b"hide" => Some(Order::Hide { edit: self.number_of(b" edit=")? }),
-            b"show" => Some(Order::Show { edit: self.number_of(b" edit=")? }),
+            b"merge" => Some(Order::Change(Change::Merge { lent: self.number_of(b" lent=")? })),
+            b"hide" => Some(Order::Change(Change::Hide { edit: self.number_of(b" edit=")? })),
+            b"show" => Some(Order::Change(Change::Show { edit: self.number_of(b" edit=")? })),
             b"turn" if self.take(b" pages=") => {
                 let back = self.take(b"-");
                 Some(Order::Turn { pages: self.number()?, back })

@@ -3,7 +3,7 @@
 use super::bench::{Bench, Pages};
 use super::bundle::Bundles;
 use super::election::{election, Election, RollRow, BENCHES};
-use super::order::{self, Order, Question};
+use super::order::{self, Change, Lend, Order, Question};
 use super::print::{self, Print};
 use super::proposal::propose;
 use super::record::{Record, Tables};
@@ -46,69 +46,58 @@ impl Session {
     /// Nothing is printed before the order is accepted.
     fn run(&mut self, order: Order, out: &mut Vec<u8>) -> Result<(), Ground> {
         match order {
-            Order::LendEdit { lent, row } => {
-                push_within(&mut self.lent_mut(lent)?.edits, row, LENT_EDIT_LIMIT)
-            }
-            Order::LendConstraint { lent, row } => {
-                push_within(&mut self.lent_mut(lent)?.constraints, row, LENT_CONSTRAINT_LIMIT)
-            }
-            Order::LendNone { lent } => {
-                let lent = self.lent_mut(lent)?;
-                lent.edits.clear();
-                lent.constraints.clear();
+            Order::Lend(lend) => self.lend(lend),
+            Order::Change(change) => {
+                let pages = self.change(change)?;
+                self.print_change(pages, out);
                 Ok(())
-            }
-            Order::LendBench { lent } => {
-                let tables = Tables::from(self.bench.record());
-                *self.lent_mut(lent)? = tables;
-                Ok(())
-            }
-            Order::Roll { bench, weight } => self.push_roll(bench, weight),
-            Order::RollNone => {
-                self.roll.clear();
-                Ok(())
-            }
-            Order::Row { name } => push_within(&mut self.row, name, ROW_LIMIT),
-            Order::RowNone => {
-                self.row.clear();
-                Ok(())
-            }
-            Order::Edit { row } => {
-                let pages = self.bench.add_edit(row)?;
-                self.print_change(pages, out)
-            }
-            Order::Constraint { row } => {
-                let pages = self.bench.add_constraint(row)?;
-                self.print_change(pages, out)
-            }
-            Order::Merge { lent } => {
-                let pages = self.bench.merge(&self.lent[record_number(lent)?])?;
-                self.print_change(pages, out)
-            }
-            Order::Hide { edit } => {
-                let pages = self.bench.hide(edit)?;
-                self.print_change(pages, out)
-            }
-            Order::Show { edit } => {
-                let pages = self.bench.show(edit)?;
-                self.print_change(pages, out)
             }
             Order::Turn { pages, back } => self.turn(pages, back, out),
             Order::Adopt { edit } => self.adopt(edit, out),
-            Order::Elect { edit } => {
-                let election = election(proposals(&self.lent), &self.roll, edit)?;
-                print_election(&election, out);
-                out.text("\n");
-                Ok(())
-            }
+            Order::Elect { edit } => self.elect(edit, out),
             Order::Bundle { edit, lent } => self.bundle(edit, lent, out),
             Order::Propose { lent, old, room, keep } => self.propose(lent, old, room, keep, out),
             Order::Suggest { first, second, case } => self.suggest(first, second, case, out),
             Order::Test { lent } => self.test(lent, out),
-            Order::Ask { question } => {
+            Order::Ask(question) => {
                 self.answer(question, out);
                 Ok(())
             }
+        }
+    }
+
+    fn lend(&mut self, lend: Lend) -> Result<(), Ground> {
+        match lend {
+            Lend::Edit { lent, row } => {
+                push_within(&mut self.lent_mut(lent)?.edits, row, LENT_EDIT_LIMIT)?;
+            }
+            Lend::Constraint { lent, row } => {
+                push_within(&mut self.lent_mut(lent)?.constraints, row, LENT_CONSTRAINT_LIMIT)?;
+            }
+            Lend::None { lent } => {
+                let lent = self.lent_mut(lent)?;
+                lent.edits.clear();
+                lent.constraints.clear();
+            }
+            Lend::Bench { lent } => {
+                let number = record_number(lent)?;
+                self.lent[number] = Tables::from(self.bench.record());
+            }
+            Lend::Seat { bench, weight } => self.push_roll(bench, weight)?,
+            Lend::NoRoll => self.roll.clear(),
+            Lend::Name(name) => push_within(&mut self.row, name, ROW_LIMIT)?,
+            Lend::NoRow => self.row.clear(),
+        }
+        Ok(())
+    }
+
+    fn change(&mut self, change: Change) -> Result<Pages, Ground> {
+        match change {
+            Change::Edit(row) => self.bench.add_edit(row),
+            Change::Constraint(row) => self.bench.add_constraint(row),
+            Change::Merge { lent } => self.bench.merge(&self.lent[record_number(lent)?]),
+            Change::Hide { edit } => self.bench.hide(edit),
+            Change::Show { edit } => self.bench.show(edit),
         }
     }
 
@@ -125,10 +114,9 @@ impl Session {
         Ok(())
     }
 
-    fn print_change(&self, pages: Pages, out: &mut Vec<u8>) -> Result<(), Ground> {
+    fn print_change(&self, pages: Pages, out: &mut Vec<u8>) {
         out.text("undone=").number(pages.undone).text(" redone=").number(pages.redone).text(" ");
         self.print_page(out);
-        Ok(())
     }
 
     fn print_page(&self, out: &mut Vec<u8>) {
@@ -139,14 +127,23 @@ impl Session {
     fn turn(&mut self, pages: u32, back: bool, out: &mut Vec<u8>) -> Result<(), Ground> {
         let pages = i32::try_from(pages).map_err(|_| Ground::Range)?;
         self.bench.turn(if back { -pages } else { pages })?;
-        self.print_change(Pages::default(), out)
+        self.print_change(Pages::default(), out);
+        Ok(())
     }
 
     fn adopt(&mut self, edit: u32, out: &mut Vec<u8>) -> Result<(), Ground> {
         let (election, pages) = self.bench.adopt(proposals(&self.lent), &self.roll, edit)?;
         print_election(&election, out);
         out.text(" ");
-        self.print_change(pages, out)
+        self.print_change(pages, out);
+        Ok(())
+    }
+
+    fn elect(&self, edit: u32, out: &mut Vec<u8>) -> Result<(), Ground> {
+        let election = election(proposals(&self.lent), &self.roll, edit)?;
+        print_election(&election, out);
+        out.text("\n");
+        Ok(())
     }
 
     fn bundle(&self, edit: u32, lent: u32, out: &mut Vec<u8>) -> Result<(), Ground> {

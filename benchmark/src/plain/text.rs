@@ -1,7 +1,7 @@
 //! The exchanged text and its report.
 
 use super::joining::Joining;
-use super::order::{self, Order};
+use super::order::{self, Change, Order};
 use super::print;
 use super::record::Record;
 use super::row;
@@ -32,8 +32,8 @@ pub fn report(text: &[u8], out: &mut Vec<u8>) -> Result<(), Fault> {
 
 fn read_line(line: &[u8], joining: &mut Joining) -> Result<(), Ground> {
     match order::read(line) {
-        Ok(Order::Edit { row }) => joining.edit(row::edit(row)?),
-        Ok(Order::Constraint { row }) => joining.constraint(row::constraint(row)?),
+        Ok(Order::Change(Change::Edit(row))) => joining.edit(row::edit(row)?),
+        Ok(Order::Change(Change::Constraint(row))) => joining.constraint(row::constraint(row)?),
         // Any other line of a log is not one of a text.
         Ok(_) => Err(Ground::Form),
         Err(ground) => Err(ground),
