@@ -13,7 +13,7 @@ use Rattle.record.specs.Lists.{any, mem, at, _among_, _within_, closure}
 use Rattle.record.specs.Record.{Record, names, written, enables, WellFormed}
 use Rattle.record.specs.Schedule.{needs, musts, order, ring, barred, admit, admits, scheduled, schedule}
 use Rattle.record.specs.Judgement.{must}
-use Rattle.record.proofs.Lists.{by, clash, and-l, and-r, or-by, or-l, or-r, same-by, mem-head, mem-tail, nil-no, cons-by, cons-within, one-within, any-by, any-in, no-any, any-no, mem-at, closure-least}
+use Rattle.record.proofs.Lists.{by, clash, and-l, and-r, or-by, or-l, or-r, or-no-r, same-by, mem-head, mem-tail, nil-no, cons-by, cons-within, one-within, any-by, any-in, no-any, any-no, mem-at, closure-least}
 use Rattle.record.proofs.Order.{needs-holds, needs-closed, needs-known, needs-within, ring-grows}
 use Rattle.record.proofs.Records.{written-names}
 use Rattle.record.proofs.Judged.{init-must}
@@ -23,7 +23,7 @@ use Rattle.links.specs.Reach.{On, Off}
 use Rattle.links.proofs.Names.{getD-among, getD-place}
 use Rattle.links.proofs.Marks.{marks-same}
 use Rattle.marks.specs.Resolved.{Resolved}
-use Rattle.marks.proofs.Standing.{musts-closed, must-musts, marked-is}
+use Rattle.marks.proofs.Standing.{part-ring, musts-closed, must-musts, marked-is}
 use Rattle.schedules.specs.Rows.{Hides, bars, Clear}
 
 -- barred, by marks
@@ -111,6 +111,11 @@ module _ (R : Record) (w : WellFormed R) (hiddens t : List ℕ) (g : Clear R hid
   admit-takes b r =
       by (mem x t) (λ h. rw (admit-had h) (cons-within x t t h (λ y i. i))) (λ h. rw (admit-new h b r) (needs-holds R (x ∷ t)))
 
+  -- what enters closes no ring
+  pub calm-admit : ring R t ≡ false → ring R (admit R hiddens t x) ≡ false
+  unfolding admit
+  calm-admit h = by (mem x t || barred R hiddens x || ring R (needs R (x ∷ t))) (λ e. rw e h) (λ e. rw e (or-no-r (mem x t || barred R hiddens x) _ e))
+
 pub clear-musts : (R : Record) → WellFormed R → (hiddens : List ℕ) → Clear R hiddens (musts R)
 unfolding bars
 clear-musts R w hiddens = record {
@@ -120,12 +125,9 @@ clear-musts R w hiddens = record {
   clear = λ y i. rw i (and-false (mem y hiddens));
 }
 
--- what does not hold of all edits together holds of no part of them
+-- a part of what holds nothing that is barred holds nothing that is
 pub part-bars : (R : Record) (hiddens t : List ℕ) → any (bars R hiddens) (names R) ≡ false → t within names R → any (bars R hiddens) t ≡ false
 part-bars R hiddens t h k = no-any (bars R hiddens) t (λ y i. any-no (bars R hiddens) (names R) h y (k y i))
-
-pub part-ring : (R : Record) (t : List ℕ) → ring R (names R) ≡ false → t within names R → ring R t ≡ false
-part-ring R t h k = by (ring R t) (λ r. clash (ring-grows R R t (names R) (λ a b e. e) k k r) h) (λ r. r)
 
 pub needs-names : (R : Record) (t : List ℕ) (x : ℕ) → marksOf R (λ y. mem y (closure (enables R) (names R) (x ∷ t))) ≡ marksOf R (λ y. mem y (needs R (x ∷ t)))
 unfolding needs
@@ -135,21 +137,23 @@ needs-names R t x = refl
 pub record Admitting (R : Record) (hiddens marks : List ℕ) (x : ℕ) : Type 0 where
   pub set : List ℕ
   pub clear : Clear R hiddens set
+  pub calm : ring R set ≡ false
   pub marked : marks ≡ marksOf R (λ y. mem y set)
   pub rest : scheduled R hiddens ≡ admits R hiddens set (drop x (names R))
 
-pub admitting-start : (R : Record) → WellFormed R → (hiddens marks : List ℕ) → marks ≡ marksOf R (must R) → Admitting R hiddens marks 1
+pub admitting-start : (R : Record) → WellFormed R → (hiddens marks : List ℕ) → ring R (musts R) ≡ false → marks ≡ marksOf R (must R) → Admitting R hiddens marks 1
 unfolding scheduled names
-admitting-start R w hiddens marks e = record { set = musts R; clear = clear-musts R w hiddens; marked = e ∙ must-musts R; rest = refl }
+admitting-start R w hiddens marks r e = record { set = musts R; clear = clear-musts R w hiddens; calm = r; marked = e ∙ must-musts R; rest = refl }
 
 pub admitting-step : (R : Record) → WellFormed R → (hiddens marks more : List ℕ) (x : ℕ) → x < length (names R)
-    → ((t : List ℕ) → Clear R hiddens t → marks ≡ marksOf R (λ y. mem y t) → more ≡ marksOf R (λ y. mem y (admit R hiddens t (nameAt R x))))
+    → ((t : List ℕ) → Clear R hiddens t → ring R t ≡ false → marks ≡ marksOf R (λ y. mem y t) → more ≡ marksOf R (λ y. mem y (admit R hiddens t (nameAt R x))))
     → Admitting R hiddens marks x → Admitting R hiddens more (x + 1)
 unfolding admits
 admitting-step R w hiddens marks more x l f g = record {
   set = admit R hiddens (g .set) (nameAt R x);
   clear = clear-admit R w hiddens (g .set) (g .clear) (nameAt R x) (getD-among (names R) x l);
-  marked = f (g .set) (g .clear) (g .marked);
+  calm = calm-admit R w hiddens (g .set) (g .clear) (nameAt R x) (g .calm);
+  marked = f (g .set) (g .clear) (g .calm) (g .marked);
   rest = g .rest ∙ rw (drop-cons (names R) x 0 l, add-one x);
 }
 
@@ -194,3 +198,15 @@ all-scheduled R w hiddens few b r =
     marks-same R _ _ few
     (λ x i. i ∙ sym (admits-all R w hiddens (musts R) (written R) b r (written-names R) (clear-musts R w hiddens) x
     (cons-by x 0 (written R) i (λ e. or-l (mem x (musts R)) (mem x (written R)) (rw e (init-must R))) (λ j. or-r (mem x (musts R)) (mem x (written R)) j))))
+
+-- where a set holds a ring nothing enters
+admits-ring : (R : Record) → WellFormed R → (hiddens t l : List ℕ) → Clear R hiddens t → ring R t ≡ true → admits R hiddens t l ≡ t
+unfolding admits
+admits-ring R w hiddens t [] g r = refl
+admits-ring R w hiddens t (x ∷ l) g r =
+    rw (admit-ring R w hiddens t g x (ring-grows R R t (needs R (x ∷ t)) (λ a b e. e) (g .known) (λ y i. needs-holds R (x ∷ t) y (mem-tail y x t i)) r))
+    (admits-ring R w hiddens t l g r)
+
+pub none-scheduled : (R : Record) → WellFormed R → (hiddens : List ℕ) → ring R (musts R) ≡ true → marksOf R (must R) ≡ marksOf R (λ y. mem y (scheduled R hiddens))
+unfolding scheduled
+none-scheduled R w hiddens r = must-musts R ∙ rw (admits-ring R w hiddens (musts R) (written R) (clear-musts R w hiddens) r)

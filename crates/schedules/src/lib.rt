@@ -168,21 +168,22 @@ fn is_shut(
     false
 }
 
-// Whether the marked set holds a ring, where it is known whether all edits together hold one.
+// Whether the marked set holds a ring, where the old set holds none and it is known whether all edits together hold one.
 fn is_ringed(
     n: usize,
     head: &[u16; 384],
     link: &[u16; 1024],
     left: &[u8; 1024],
+    old: &[u8; 128],
     marks: [u8; 128],
     ringed: bool,
 ) -> bool
     requires { ⌜ Safe (now head) (now link) (now left) × (n ≤ 128) × (length marks ≡ 128) ⌝ }
-    ensures { λ r. ⌜ ((R : Record) (t : List ℕ) → Resolved R (now (head .entry)) (now (link .entry)) (now (left .entry)) → n ≡ length (names R)
-        → t within names R → marks ≡ marksOf R (λ y. mem y t) → ringed ≡ ring R (names R) → r ≡ ring R t) ⌝ }
+    ensures { λ r. ⌜ ((R : Record) (u t : List ℕ) → Resolved R (now (head .entry)) (now (link .entry)) (now (left .entry)) → n ≡ length (names R)
+        → t within names R → now (old .entry) ≡ marksOf R (λ y. mem y u) → ring R u ≡ false → marks ≡ marksOf R (λ y. mem y t) → ringed ≡ ring R (names R) → r ≡ ring R t) ⌝ }
 {
     if ringed {
-        return links::has_ring(n, head, link, left, marks);
+        return links::has_new_ring(n, head, link, left, old, marks);
     }
     false
 }
@@ -203,7 +204,7 @@ fn admitted(
     requires { ⌜ Safe (now head) (now link) (now left) × (n ≤ 128) × (x < 128) × (length mustmarks ≡ 128) × (length marks ≡ 128) ⌝ }
     ensures { λ r. ⌜ (length r ≡ 128) × ((R : Record) (hiddens t : List ℕ) → Resolved R (now (head .entry)) (now (link .entry)) (now (left .entry)) → n ≡ length (names R)
         → x < n → mustmarks ≡ marksOf R (must R) → Hides R (now (hidden .entry)) hiddens → barring ≡ any (bars R hiddens) (names R) → ringed ≡ ring R (names R)
-        → Clear R hiddens t → marks ≡ marksOf R (λ y. mem y t) → r ≡ marksOf R (λ y. mem y (admit R hiddens t (nameAt R x)))) ⌝ }
+        → Clear R hiddens t → ring R t ≡ false → marks ≡ marksOf R (λ y. mem y t) → r ≡ marksOf R (λ y. mem y (admit R hiddens t (nameAt R x)))) ⌝ }
 {
     if marks[x] == 1 {
         return marks;
@@ -212,13 +213,13 @@ fn admitted(
     if is_shut(n, &more, hidden, &mustmarks, barring) {
         return marks;
     }
-    if is_ringed(n, head, link, left, more, ringed) {
+    if is_ringed(n, head, link, left, &marks, more, ringed) {
         return marks;
     }
     more
 }
 
-// What must stand, then the others by ascending name.
+// What must stand, then the others by ascending name; where what must stand holds a ring, so does all that has more, and nothing else enters.
 fn admitted_marks(
     n: usize,
     head: &[u16; 384],
@@ -234,6 +235,10 @@ fn admitted_marks(
         → mustmarks ≡ marksOf R (must R) → Hides R (now (hidden .entry)) hiddens → barring ≡ any (bars R hiddens) (names R) → ringed ≡ ring R (names R)
         → r ≡ marksOf R (λ y. mem y (scheduled R hiddens))) ⌝ }
 {
+    let none = [0u8; 128];
+    if is_ringed(n, head, link, left, &none, mustmarks, ringed) {
+        return mustmarks;
+    }
     let mut marks = mustmarks;
     let mut x: usize = 1;
     while x < n {
