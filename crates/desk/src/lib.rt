@@ -14,6 +14,12 @@ ghost use Rattle.desk.specs.Desk.{Desk, Cells, benchIn, replied};
 ghost use Rattle.desk.specs.Lends.{lendingOf};
 ghost use Rattle.desk.specs.Requests.{forwardOf, backOf, requestOf};
 
+// What is lent after a line that makes no call, and the place after what it printed. Such a line hands back no bench, which is long to copy.
+pub struct Told {
+    pub lending: Lending,
+    pub at: usize,
+}
+
 // A row, no rows or the bench's record for one of the lent records: kinds 0 to 3.
 fn lend_rows(
     lending: Lending,

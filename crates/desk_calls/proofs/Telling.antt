@@ -9,6 +9,7 @@ use lib.ListN.{length}
 use borrow.Author.Tests.{eq-eqb, ne-eqb}
 use Rattle.ground.specs.Ground.{Rows}
 use Rattle.record.proofs.Lists.{by}
+use Rattle.turner.specs.declared.Turner.{Turner}
 use Rattle.ledger.specs.declared.Answer.{Answer}
 use Rattle.ledger.specs.declared.Bench.{Bench}
 use Rattle.ledger.specs.declared.Outcome.{Outcome}
@@ -39,22 +40,18 @@ module _ {before : List ℕ} {at : ℕ} where
     unfolding adoptionText
     adoption-told a opened last e p = rw e at p
 
-    module _ (which : ℕ) (r : Outcome) (line : ℕ) where
-      pub outcome-refused : (r .answer .number ≡ 0 → ⊥) → Printed (answerLine 0 (r .answer .number ∷ line ∷ [])) before at after end → Printed (outcomeText which r line) before at after end
+    module _ (which : ℕ) (a : Answer) (t : Turner) (line : ℕ) where
+      pub outcome-refused : (a .number ≡ 0 → ⊥) → Printed (answerLine 0 (a .number ∷ line ∷ [])) before at after end → Printed (outcomeText which a t line) before at after end
       unfolding outcomeText
-      outcome-refused e p = let q : eqb (r .answer .number) 0 ≡ false = ne-eqb (r .answer .number) 0 e in rw q p
+      outcome-refused e p = let q : eqb (a .number) 0 ≡ false = ne-eqb (a .number) 0 e in rw q p
 
-      pub outcome-adopted : r .answer .number ≡ 0 → which ≡ 5 → Printed (adoptionText (r .answer) (r .bench .turner .opened) (r .bench .turner .last)) before at after end
-          → Printed (outcomeText which r line) before at after end
+      pub outcome-adopted : a .number ≡ 0 → which ≡ 5 → Printed (adoptionText a (t .opened) (t .last)) before at after end → Printed (outcomeText which a t line) before at after end
       unfolding outcomeText callText
-      outcome-adopted e f p =
-          let q : eqb (r .answer .number) 0 ≡ true = eq-eqb (r .answer .number) 0 e in let w : eqb which 5 ≡ true = eq-eqb which 5 f in rw (q, w) p
+      outcome-adopted e f p = let q : eqb (a .number) 0 ≡ true = eq-eqb (a .number) 0 e in let w : eqb which 5 ≡ true = eq-eqb which 5 f in rw (q, w) p
 
-      pub outcome-called : r .answer .number ≡ 0 → (which ≡ 5 → ⊥) → Printed (pagesText (r .answer) (r .bench .turner .opened) (r .bench .turner .last)) before at after end
-          → Printed (outcomeText which r line) before at after end
+      pub outcome-called : a .number ≡ 0 → (which ≡ 5 → ⊥) → Printed (pagesText a (t .opened) (t .last)) before at after end → Printed (outcomeText which a t line) before at after end
       unfolding outcomeText callText
-      outcome-called e f p =
-          let q : eqb (r .answer .number) 0 ≡ true = eq-eqb (r .answer .number) 0 e in let w : eqb which 5 ≡ false = ne-eqb which 5 f in rw (q, w) p
+      outcome-called e f p = let q : eqb (a .number) 0 ≡ true = eq-eqb (a .number) 0 e in let w : eqb which 5 ≡ false = ne-eqb which 5 f in rw (q, w) p
 
 -- each of eight kinds
 below {ℓ} : (k : ℕ) (P : ℕ → Type ℓ) → k < 8 → P 0 → P 1 → P 2 → P 3 → P 4 → P 5 → P 6 → P 7 → P k
@@ -96,10 +93,10 @@ module _ (D : Desk) (kind : ℕ) (c : Cells) (line : ℕ) (h : kind < 8) {bench 
 module _ (D : Desk) (which : ℕ) (c : Cells) (line : ℕ) (r : Outcome) where
   by-request : (q : Request) → r ≡ replied D q
       → (r .bench ≡ benchIn (requested D (λ a L. callText which a (L .opened) (last L)) q .after))
-      × (outcomeText which r line ≡ printedOf (requested D (λ a L. callText which a (L .opened) (last L)) q) line)
+      × (outcomeText which (r .answer) (r .bench .turner) line ≡ printedOf (requested D (λ a L. callText which a (L .opened) (last L)) q) line)
   unfolding replied requested benchIn ledgerOf outcomeText printedOf outcome benchOf
-  by-request outside e = (ap (λ (x : Outcome). x .bench) e, ap (λ (x : Outcome). outcomeText which x line) e)
-  by-request (make call) e = (ap (λ (x : Outcome). x .bench) e ∙ ap benchOf (sym (fed-one start (D .calls) call)), ap (λ (x : Outcome). outcomeText which x line) e)
+  by-request outside e = (ap (λ (x : Outcome). x .bench) e, ap (λ (x : Outcome). outcomeText which (x .answer) (x .bench .turner) line) e)
+  by-request (make call) e = (ap (λ (x : Outcome). x .bench) e ∙ ap benchOf (sym (fed-one start (D .calls) call)), ap (λ (x : Outcome). outcomeText which (x .answer) (x .bench .turner) line) e)
 
   same-lent : (q : Request) {lending : Lending} {edits constraints : Rows} → Kept (D .lent) lending edits constraints
       → Kept (requested D (λ a L. callText which a (L .opened) (last L)) q .after .lent) lending edits constraints
@@ -112,7 +109,7 @@ module _ (D : Desk) (which : ℕ) (c : Cells) (line : ℕ) (r : Outcome) where
   unfolding callOf
   call-held e k = record { benched = by-request (requestOf which D c) e .0; kept = same-lent (requestOf which D c) k }
 
-  pub call-printed : r ≡ replied D (requestOf which D c) → {before after : List ℕ} {at end : ℕ} → Printed (outcomeText which r line) before at after end
+  pub call-printed : r ≡ replied D (requestOf which D c) → {before after : List ℕ} {at end : ℕ} → Printed (outcomeText which (r .answer) (r .bench .turner) line) before at after end
       → Printed (printedOf (callOf which D c) line) before at after end
   unfolding callOf
   call-printed e p = rw (by-request (requestOf which D c) e .1) at p

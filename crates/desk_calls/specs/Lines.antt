@@ -8,7 +8,6 @@ use Rattle.ground.specs.Ground.{Rows}
 use Rattle.turner.specs.declared.Turner.{Turner}
 use Rattle.ledger.specs.declared.Answer.{Answer}
 use Rattle.ledger.specs.declared.Bench.{Bench}
-use Rattle.ledger.specs.declared.Outcome.{Outcome}
 use Rattle.ledger.specs.Ledger.{Ledger, last}
 use Rattle.answers.specs.Answers.{answerLine}
 use Rattle.lending.specs.declared.Lending.{Lending}
@@ -40,7 +39,6 @@ callText which = cond (eqb which 5) adoptionText pagesText
 unfoldable pub callOf : ℕ → Desk → Cells → Effect
 callOf which D c = requested D (λ a L. callText which a (L .opened) (last L)) (requestOf which D c)
 
--- the same from the answer and the bench that the code has
-unfoldable pub outcomeText : ℕ → Outcome → ℕ → List ℕ
-outcomeText which r line =
-    cond (eqb (r .answer .number) 0) (callText which (r .answer) (r .bench .turner .opened) (r .bench .turner .last)) (answerLine 0 (r .answer .number ∷ line ∷ []))
+-- the same from the answer and the open and last page that the code has
+unfoldable pub outcomeText : ℕ → Answer → Turner → ℕ → List ℕ
+outcomeText which a t line = cond (eqb (a .number) 0) (callText which a (t .opened) (t .last)) (answerLine 0 (a .number ∷ line ∷ []))

@@ -1,7 +1,7 @@
-// The lines of a call log that lend and those that make a call, run and printed.
+// The lines of a call log that lend, run and printed; and what a call prints.
+use desk::Told;
 use ledger::Answer;
 use ledger::Bench;
-use ledger::Outcome;
 use lending::Lending;
 use turner::Turner;
 ghost use mathlib.Core.Path.{_≡_};
@@ -14,14 +14,7 @@ ghost use Rattle.forms.specs.Printed.{Printed};
 ghost use Rattle.answers.specs.Answers.{answerLine};
 ghost use Rattle.desk.specs.Desk.{Desk, printedOf};
 ghost use Rattle.desk.specs.Lends.{lendingOf};
-ghost use Rattle.desk_calls.specs.Lines.{Holds, bit, pagesText, adoptionText, callOf, outcomeText};
-
-// The desk after a line, and the place after what it printed.
-pub struct Ran {
-    pub bench: Bench,
-    pub lending: Lending,
-    pub at: usize,
-}
+ghost use Rattle.desk_calls.specs.Lines.{Holds, bit, pagesText, adoptionText, outcomeText};
 
 // The line of a refusal.
 pub fn print_refusal(number: u32, line: usize, out: &mut [u8], at: usize) -> usize
@@ -79,13 +72,17 @@ fn print_adoption(answer: Answer, turner: Turner, out: &mut [u8], at: usize) -> 
     answers::tell(&mut out[..], at, 3, &numbers)
 }
 
-// What a call answers, or its refusal.
-fn print_outcome(outcome: Outcome, which: usize, line: usize, out: &mut [u8], at: usize) -> usize
-    ensures { λ r. ⌜ Printed (outcomeText which outcome line) (now (out .entry)) at (now (out .exit)) r ⌝ }
+// What a call answers, or its refusal, by its place among the requests.
+pub fn print_outcome(
+    answer: Answer,
+    turner: Turner,
+    which: usize,
+    line: usize,
+    out: &mut [u8],
+    at: usize,
+) -> usize
+    ensures { λ r. ⌜ Printed (outcomeText which answer turner line) (now (out .entry)) at (now (out .exit)) r ⌝ }
 {
-    let answer = outcome.answer;
-    let bench = outcome.bench;
-    let turner = bench.turner;
     if answer.number != 0 {
         return print_refusal(answer.number, line, &mut out[..], at);
     }
@@ -106,9 +103,9 @@ pub fn run_lend(
     line: usize,
     out: &mut [u8],
     at: usize,
-) -> Ran
+) -> Told
     ensures { λ r. ⌜ ((D : Desk) → Holds D bench lending (now (edits .entry)) (now (constraints .entry)) → kind < 8 → at ≤ suc (length (now (out .entry)))
-        → Holds (lendingOf kind D cells .after) (r .bench) (r .lending) (now (edits .exit)) (now (constraints .exit))
+        → Holds (lendingOf kind D cells .after) bench (r .lending) (now (edits .exit)) (now (constraints .exit))
         × Printed (printedOf (lendingOf kind D cells) line) (now (out .entry)) at (now (out .exit)) (r .at)) ⌝ }
 {
     let multilog = bench.multilog;
@@ -122,35 +119,8 @@ pub fn run_lend(
     );
     let place = print_setting(setting.number, line, &mut out[..], at);
     let lent = setting.lending;
-    Ran {
-        bench: bench,
+    Told {
         lending: lent,
-        at: place,
-    }
-}
-
-// A line that makes a call.
-pub fn run_call(
-    bench: Bench,
-    lending: Lending,
-    edits: &[[u32; 5]],
-    constraints: &[[u32; 3]],
-    which: usize,
-    cells: [u32; 8],
-    line: usize,
-    out: &mut [u8],
-    at: usize,
-) -> Ran
-    ensures { λ r. ⌜ ((D : Desk) → Holds D bench lending (now (edits .entry)) (now (constraints .entry)) → which < 8
-        → Holds (callOf which D cells .after) (r .bench) (r .lending) (now (edits .entry)) (now (constraints .entry))
-        × Printed (printedOf (callOf which D cells) line) (now (out .entry)) at (now (out .exit)) (r .at)) ⌝ }
-{
-    let outcome = desk::call(bench, lending, edits, constraints, which, cells);
-    let place = print_outcome(outcome, which, line, &mut out[..], at);
-    let after = outcome.bench;
-    Ran {
-        bench: after,
-        lending: lending,
         at: place,
     }
 }

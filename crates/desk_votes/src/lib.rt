@@ -1,5 +1,6 @@
 // The lines of a call log about votes, proposals, suggestions and the test of a row: what each prints.
 use bundle::BundleAnswer;
+use desk::Told;
 use join::Joined;
 use lending::Lending;
 use lent::RowAnswer;
@@ -188,12 +189,6 @@ fn print_made(made: Joined, line: usize, out: &mut [u8], at: usize) -> usize
     answers::print_text(&mut out[..], head, after)
 }
 
-// What is lent after a proposal was made, and the place after what was printed.
-pub struct Proposing {
-    pub lending: Lending,
-    pub at: usize,
-}
-
 // Makes a proposal from what is lent and prints it; kept, it takes the place of the old one.
 pub fn print_proposal(
     lending: Lending,
@@ -203,7 +198,7 @@ pub fn print_proposal(
     line: usize,
     out: &mut [u8],
     at: usize,
-) -> Proposing
+) -> Told
     ensures { λ r. ⌜ ((D : Desk) → Kept (D .lent) lending (now (edits .entry)) (now (constraints .entry))
         → Kept (voteOf 2 D cells .after .lent) (r .lending) (now (edits .exit)) (now (constraints .exit))
         × Printed (printedOf (voteOf 2 D cells) line) (now (out .entry)) at (now (out .exit)) (r .at)) ⌝ }
@@ -219,14 +214,14 @@ pub fn print_proposal(
     );
     let end = print_made(made, line, &mut out[..], at);
     if made.number != 0 {
-        return Proposing {
+        return Told {
             lending: lending,
             at: end,
         };
     }
     let keep = cells[4];
     if keep != 1 {
-        return Proposing {
+        return Told {
             lending: lending,
             at: end,
         };
@@ -240,7 +235,7 @@ pub fn print_proposal(
         new,
     );
     let lent = setting.lending;
-    Proposing {
+    Told {
         lending: lent,
         at: end,
     }

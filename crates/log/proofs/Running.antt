@@ -5,6 +5,7 @@ use Prim.Native.Nat.{ℕ, suc, _+_, _-_, _≤_, _<_}
 use native.Mathlib.Omega.{arith}
 use lib.ListN.{length, take, drop}
 use Rattle.ground.specs.Ground.{Rows}
+use Rattle.record.proofs.Lists.{is-by}
 use Rattle.ledger.specs.declared.Bench.{Bench}
 use Rattle.line.specs.Lines.{lines, firstLine}
 use Rattle.line.proofs.Ends.{next-line, no-lines}
@@ -16,15 +17,7 @@ use Rattle.desk.specs.Desk.{Desk, printedOf}
 use Rattle.desk_calls.specs.Lines.{Holds}
 use Rattle.log.specs.Effects.{orderEffect}
 use Rattle.log.specs.Log.{Run, begun, runLine, runLines}
-
--- the lines before a place were run
-pub record Running (log : List ℕ) (D : Desk) (count : ℕ) (before : List ℕ) (start from : ℕ) (bench : Bench) (lending : Lending) (edits constraints : Rows) (n : ℕ) (out : List ℕ) (at : ℕ) : Type 0 where
-  pub run : Run
-  pub rest : runLines (begun D count) (lines log) ≡ runLines run (lines (drop from log))
-  pub held : Holds (run .desk) bench lending edits constraints
-  pub counted : n ≡ run .count
-  pub told : Printed (run .printed) before start out at
-  pub few : n + (length log - from) ≤ count + length log
+use Rattle.log.specs.Running.{Running, Stops}
 
 module _ (log : List ℕ) (D : Desk) (count : ℕ) (before : List ℕ) (start : ℕ) where
   pub running-start : {bench : Bench} {lending : Lending} {edits constraints : Rows} → Holds D bench lending edits constraints → start ≤ suc (length before)
@@ -67,3 +60,16 @@ module _ (log : List ℕ) (D : Desk) (count : ℕ) (before : List ℕ) (start : 
     running-end h =
         let e : runLines (begun D count) (lines log) ≡ R .run = R .rest ∙ ap (runLines (R .run)) (no-lines log from h) in
         rw e (R .held, R .counted, R .told)
+
+-- where a run stops
+module _ (size limit : ℕ) {start from at : ℕ} (inside : from ≤ size) where
+  pub stopped-above : (from ≡ 0 → at ≡ start) → limit < at → Stops size limit start from at
+  stopped-above same h =
+      record {
+        inside = inside;
+        ended = λ l. absurd (omega arith);
+        forward = λ l z. is-by from 0 (λ e. let q = same e in absurd (omega arith)) (λ e. omega arith);
+      }
+
+  pub stopped-end : size ≤ from → Stops size limit start from at
+  stopped-end h = record { inside = inside; ended = λ l. omega arith; forward = λ l z. omega arith }

@@ -21,3 +21,10 @@ effectOf D kind c =
 -- a line that is not in form, or has too large a number, is refused
 unfoldable pub orderEffect : Desk → Order → Effect
 orderEffect D order = cond (eqb (order .number) 0) (effectOf D (order .kind) (order .cells)) (tells D (order .number) [])
+
+-- the place among the requests of the call that an order makes; 8 or more where it makes none
+unfoldable pub requestPlace : Order → ℕ
+requestPlace order =
+    cond (eqb (order .number) 0)
+    (cond (ltb (order .kind) 8) 8 (cond (ltb (order .kind) 14) (order .kind - 8) (cond (ltb (order .kind) 26) 8 (order .kind - 20))))
+    8

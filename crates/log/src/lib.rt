@@ -1,5 +1,5 @@
 // A call log, run line by line on a desk.
-use desk_calls::Ran;
+use desk::Told;
 use forms::Order;
 use ledger::Bench;
 use lending::Lending;
@@ -15,8 +15,18 @@ ghost use Rattle.desk.specs.Desk.{Desk, Cells, printedOf};
 ghost use Rattle.desk_calls.specs.Lines.{Holds};
 ghost use Rattle.desk_votes.specs.Votes.{voteOf};
 ghost use Rattle.desk_asks.specs.Questions.{askOf};
-ghost use Rattle.log.specs.Effects.{effectOf, orderEffect};
+ghost use Rattle.log.specs.Effects.{requestPlace, orderEffect};
 ghost use Rattle.log.specs.Log.{begun, runLines};
+ghost use Rattle.log.specs.Running.{Running, Stops};
+
+fn told(lending: Lending, at: usize) -> Told
+    ensures { λ r. ⌜ r ≡ record { lending = lending; at = at } ⌝ }
+{
+    Told {
+        lending: lending,
+        at: at,
+    }
+}
 
 // A line about votes.
 fn run_vote(
@@ -29,14 +39,14 @@ fn run_vote(
     line: usize,
     out: &mut [u8],
     at: usize,
-) -> Ran
+) -> Told
     ensures { λ r. ⌜ ((D : Desk) → Holds D bench lending (now (edits .entry)) (now (constraints .entry)) → which < 5
-        → Holds (voteOf which D cells .after) (r .bench) (r .lending) (now (edits .exit)) (now (constraints .exit))
+        → Holds (voteOf which D cells .after) bench (r .lending) (now (edits .exit)) (now (constraints .exit))
         × Printed (printedOf (voteOf which D cells) line) (now (out .entry)) at (now (out .exit)) (r .at)) ⌝ }
 {
     let multilog = bench.multilog;
     if which == 2 {
-        let proposing = desk_votes::print_proposal(
+        return desk_votes::print_proposal(
             lending,
             &mut edits[..],
             &mut constraints[..],
@@ -45,12 +55,6 @@ fn run_vote(
             &mut out[..],
             at,
         );
-        let lent = proposing.lending;
-        return Ran {
-            bench: bench,
-            lending: lent,
-            at: proposing.at,
-        };
     }
     let place = desk_votes::print_vote(
         lending,
@@ -63,72 +67,33 @@ fn run_vote(
         &mut out[..],
         at,
     );
-    Ran {
-        bench: bench,
-        lending: lending,
-        at: place,
-    }
+    told(lending, place)
 }
 
-// A question.
-fn run_ask(
-    bench: Bench,
-    lending: Lending,
-    edits: &[[u32; 5]],
-    constraints: &[[u32; 3]],
-    which: usize,
-    line: usize,
-    out: &mut [u8],
-    at: usize,
-) -> Ran
-    ensures { λ r. ⌜ ((D : Desk) (c : Cells) → Holds D bench lending (now (edits .entry)) (now (constraints .entry)) → which < 7
-        → Holds (askOf which D c .after) (r .bench) (r .lending) (now (edits .entry)) (now (constraints .entry))
-        × Printed (printedOf (askOf which D c) line) (now (out .entry)) at (now (out .exit)) (r .at)) ⌝ }
-{
-    let place = desk_asks::print_ask(bench, which, &mut out[..], at);
-    Ran {
-        bench: bench,
-        lending: lending,
-        at: place,
-    }
-}
-
-// A line that is refused before anything is asked of the desk.
-fn run_refused(
-    bench: Bench,
-    lending: Lending,
-    number: u32,
-    line: usize,
-    out: &mut [u8],
-    at: usize,
-) -> Ran
-    ensures { λ r. ⌜ (r .bench ≡ bench) × (r .lending ≡ lending)
-        × Printed (answerLine 0 (number ∷ line ∷ [])) (now (out .entry)) at (now (out .exit)) (r .at) ⌝ }
-{
-    let place = desk_calls::print_refusal(number, line, &mut out[..], at);
-    Ran {
-        bench: bench,
-        lending: lending,
-        at: place,
-    }
-}
-
-// An order, by its kind.
-fn run_kind(
+// A line that makes no call.
+fn run_told(
     bench: Bench,
     lending: Lending,
     edits: &mut [[u32; 5]],
     constraints: &mut [[u32; 3]],
-    kind: usize,
-    cells: [u32; 8],
+    order: Order,
     line: usize,
     out: &mut [u8],
     at: usize,
-) -> Ran
+) -> Told
+    requires { ⌜ 8 ≤ requestPlace order ⌝ }
     ensures { λ r. ⌜ ((D : Desk) → Holds D bench lending (now (edits .entry)) (now (constraints .entry)) → at ≤ suc (length (now (out .entry)))
-        → Holds (effectOf D kind cells .after) (r .bench) (r .lending) (now (edits .exit)) (now (constraints .exit))
-        × Printed (printedOf (effectOf D kind cells) line) (now (out .entry)) at (now (out .exit)) (r .at)) ⌝ }
+        → Holds (orderEffect D order .after) bench (r .lending) (now (edits .exit)) (now (constraints .exit))
+        × Printed (printedOf (orderEffect D order) line) (now (out .entry)) at (now (out .exit)) (r .at)) ⌝ }
 {
+    let kind = order.kind;
+    let cells = order.cells;
+    if order.number != 0 {
+        return told(
+            lending,
+            desk_calls::print_refusal(order.number, line, &mut out[..], at),
+        );
+    }
     if kind < 8 {
         return desk_calls::run_lend(
             bench,
@@ -136,19 +101,6 @@ fn run_kind(
             &mut edits[..],
             &mut constraints[..],
             kind,
-            cells,
-            line,
-            &mut out[..],
-            at,
-        );
-    }
-    if kind < 14 {
-        return desk_calls::run_call(
-            bench,
-            lending,
-            &edits[..],
-            &constraints[..],
-            kind - 8,
             cells,
             line,
             &mut out[..],
@@ -169,91 +121,35 @@ fn run_kind(
         );
     }
     if kind < 26 {
-        return run_ask(
-            bench,
+        return told(
             lending,
-            &edits[..],
-            &constraints[..],
-            kind - 19,
-            line,
-            &mut out[..],
-            at,
+            desk_asks::print_ask(bench, kind - 19, &mut out[..], at),
         );
     }
-    if kind < 28 {
-        return desk_calls::run_call(
-            bench,
-            lending,
-            &edits[..],
-            &constraints[..],
-            kind - 20,
-            cells,
-            line,
-            &mut out[..],
-            at,
-        );
-    }
-    run_refused(bench, lending, 2, line, &mut out[..], at)
+    told(
+        lending,
+        desk_calls::print_refusal(2, line, &mut out[..], at),
+    )
 }
 
-// An order that is in form, and one that is not.
-fn run_order(
-    bench: Bench,
-    lending: Lending,
-    edits: &mut [[u32; 5]],
-    constraints: &mut [[u32; 3]],
-    order: Order,
-    line: usize,
-    out: &mut [u8],
-    at: usize,
-) -> Ran
-    ensures { λ r. ⌜ ((D : Desk) → Holds D bench lending (now (edits .entry)) (now (constraints .entry)) → at ≤ suc (length (now (out .entry)))
-        → Holds (orderEffect D order .after) (r .bench) (r .lending) (now (edits .exit)) (now (constraints .exit))
-        × Printed (printedOf (orderEffect D order) line) (now (out .entry)) at (now (out .exit)) (r .at)) ⌝ }
+// The place among the requests of the call that an order makes; 8 or more where it makes none.
+fn request_of(order: Order) -> usize
+    ensures { λ r. ⌜ r ≡ requestPlace order ⌝ }
 {
-    let cells = order.cells;
+    let kind = order.kind;
     if order.number != 0 {
-        return run_refused(bench, lending, order.number, line, &mut out[..], at);
+        return 8;
     }
-    run_kind(
-        bench,
-        lending,
-        &mut edits[..],
-        &mut constraints[..],
-        order.kind,
-        cells,
-        line,
-        &mut out[..],
-        at,
-    )
-}
-
-// A line with its end, the line's number given.
-fn run_line(
-    bench: Bench,
-    lending: Lending,
-    edits: &mut [[u32; 5]],
-    constraints: &mut [[u32; 3]],
-    line: &[u8],
-    number: usize,
-    out: &mut [u8],
-    at: usize,
-) -> Ran
-    ensures { λ r. ⌜ ((D : Desk) → Holds D bench lending (now (edits .entry)) (now (constraints .entry)) → at ≤ suc (length (now (out .entry)))
-        → Holds (orderEffect D (orderRead (now (line .entry))) .after) (r .bench) (r .lending) (now (edits .exit)) (now (constraints .exit))
-        × Printed (printedOf (orderEffect D (orderRead (now (line .entry)))) number) (now (out .entry)) at (now (out .exit)) (r .at)) ⌝ }
-{
-    let order = orders::read_order(line);
-    run_order(
-        bench,
-        lending,
-        &mut edits[..],
-        &mut constraints[..],
-        order,
-        number,
-        &mut out[..],
-        at,
-    )
+    if kind < 8 {
+        return 8;
+    }
+    if kind < 14 {
+        return kind - 8;
+    }
+    if kind < 26 {
+        return 8;
+    }
+    kind - 20
 }
 
 // The number of the next line. Past 2^62 lines it stays, which no log reaches.
@@ -266,12 +162,72 @@ fn next(n: usize) -> usize
     n
 }
 
-// The desk after a log, how many lines were run, and the place after what they printed.
+// The desk after the lines before a place of a log, how many lines were run, and the place after what they printed.
 pub struct Logged {
     pub bench: Bench,
     pub lending: Lending,
     pub count: usize,
     pub at: usize,
+    pub from: usize,
+}
+
+// The run of lines of a log until what they print passes the limit, or the log ends. Only a call copies the bench: any other line reads it where it is.
+pub fn run_some(
+    bench: Bench,
+    lending: Lending,
+    edits: &mut [[u32; 5]],
+    constraints: &mut [[u32; 3]],
+    log: &[u8],
+    count: usize,
+    out: &mut [u8],
+    at: usize,
+    limit: usize,
+) -> Logged
+    ensures { λ r. ⌜ Stops (length (now (log .entry))) limit at (r .from) (r .at)
+        × ((D : Desk) → Holds D bench lending (now (edits .entry)) (now (constraints .entry)) → at ≤ suc (length (now (out .entry)))
+        → count + length (now (log .entry)) ≤ 4611686018427387904
+        → Running (now (log .entry)) D count (now (out .entry)) at (r .from) (r .bench) (r .lending) (now (edits .exit)) (now (constraints .exit)) (r .count) (now (out .exit)) (r .at)) ⌝ }
+{
+    let mut held = bench;
+    let mut lent = lending;
+    let mut n = count;
+    let mut place = at;
+    let mut from = 0;
+    while from < log.len() && place <= limit {
+        let end = line::line_end(log, from);
+        n = next(n);
+        let order = orders::read_order(&log[from..end]);
+        let cells = order.cells;
+        let which = request_of(order);
+        from = end;
+        if which < 8 {
+            let outcome = desk::call(held, lent, &edits[..], &constraints[..], which, cells);
+            let answer = outcome.answer;
+            held = outcome.bench;
+            let turner = held.turner;
+            place = desk_calls::print_outcome(answer, turner, which, n, &mut out[..], place);
+        } else {
+            let told = run_told(
+                held,
+                lent,
+                &mut edits[..],
+                &mut constraints[..],
+                order,
+                n,
+                &mut out[..],
+                place,
+            );
+            lent = told.lending;
+            place = told.at;
+        }
+    }
+    Logged {
+        bench: held,
+        lending: lent,
+        count: n,
+        at: place,
+        from: from,
+    }
 }
 
 // THE RUN of the lines of a log on a desk, after so many lines.
@@ -291,33 +247,16 @@ pub fn run_log(
         × (r .count ≡ runLines (begun D count) (lines (now (log .entry))) .count)
         × Printed (runLines (begun D count) (lines (now (log .entry))) .printed) (now (out .entry)) at (now (out .exit)) (r .at)) ⌝ }
 {
-    let mut held = bench;
-    let mut lent = lending;
-    let mut n = count;
-    let mut place = at;
-    let mut from = 0;
-    while from < log.len() {
-        let end = line::line_end(log, from);
-        n = next(n);
-        let ran = run_line(
-            held,
-            lent,
-            &mut edits[..],
-            &mut constraints[..],
-            &log[from..end],
-            n,
-            &mut out[..],
-            place,
-        );
-        held = ran.bench;
-        lent = ran.lending;
-        place = ran.at;
-        from = end;
-    }
-    Logged {
-        bench: held,
-        lending: lent,
-        count: n,
-        at: place,
-    }
+    // no place is above the greatest number
+    run_some(
+        bench,
+        lending,
+        &mut edits[..],
+        &mut constraints[..],
+        log,
+        count,
+        &mut out[..],
+        at,
+        18446744073709551615,
+    )
 }

@@ -23,7 +23,7 @@ same-length c = search needs
 
 -- src/lib.rt:90:9
 returns : tie.Need-returns
-returns c = outcome-refused _ _ _ (c .before .before .before .before .if1 .taken) (c .before .before .print-refusal .ensures)
+returns c = outcome-refused _ _ _ _ (c .before .before .before .before .if1 .taken) (c .before .before .print-refusal .ensures)
 
 -- src/lib.rt:93:9
 print-adoption-requires : tie.Need-print-adoption-requires
@@ -35,7 +35,7 @@ same-length-2 c = search needs
 
 -- src/lib.rt:93:9
 returns-2 : tie.Need-returns-2
-returns-2 c = outcome-adopted _ _ _ (c .before .before .before .before .before .if1 .left) (c .before .before .before .before .if2 .taken) (c .before .before .print-adoption .ensures)
+returns-2 c = outcome-adopted _ _ _ _ (c .before .before .before .before .before .if1 .left) (c .before .before .before .before .if2 .taken) (c .before .before .print-adoption .ensures)
 
 -- src/lib.rt:95:5
 print-pages-requires : tie.Need-print-pages-requires
@@ -47,7 +47,7 @@ same-length-3 c = search needs
 
 -- src/lib.rt:83:1
 returns-3 : tie.Need-returns-3
-returns-3 c = outcome-called _ _ _ (c .before .before .before .before .before .if1 .left) (c .before .before .before .before .if2 .left) (c .before .before .print-pages .ensures)
+returns-3 c = outcome-called _ _ _ _ (c .before .before .before .before .before .if1 .left) (c .before .before .before .before .if2 .left) (c .before .before .print-pages .ensures)
 
 pub print-outcome-spec : {M : Type 1} → statement M
 print-outcome-spec =
