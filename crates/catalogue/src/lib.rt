@@ -150,7 +150,7 @@ pub fn empty_view() -> View
 }
 
 // The pages after page `from` up to page `to`, run. A schedule has no page past its rows.
-pub fn forward_to(view: View, schedule: Schedule, from: usize, to: usize) -> View
+fn forward_to(view: View, schedule: Schedule, from: usize, to: usize) -> View
     ensures { λ r. ⌜ r ≡ storedView (forward chips from (slice from to (schedule .edits)) (contentOf view)) ⌝ }
 {
     let end = least(to, PAGES);
@@ -177,7 +177,7 @@ pub fn forward_to(view: View, schedule: Schedule, from: usize, to: usize) -> Vie
 }
 
 // The pages after page `to` up to page `from`, undone by the journal, the last one first.
-pub fn back_to(view: View, schedule: Schedule, from: usize, to: usize) -> View
+fn back_to(view: View, schedule: Schedule, from: usize, to: usize) -> View
     ensures { λ r. ⌜ r ≡ storedView (back chips to (slice to from (schedule .edits)) (contentOf view)) ⌝ }
 {
     let mut catalogue = view.catalogue;
@@ -211,7 +211,7 @@ pub fn turn_to(view: View, schedule: Schedule, opened: usize, page: usize) -> Vi
 }
 
 // How many pages the open part of the old schedule and the new schedule have in common at their beginning, by their names.
-pub fn common_beginning(old: Schedule, opened: usize, new: Schedule) -> usize
+fn common_beginning(old: Schedule, opened: usize, new: Schedule) -> usize
     ensures { λ r. ⌜ r ≡ common (take opened (old .edits)) (take (new .count) (new .edits)) ⌝ }
 {
     let end = least(least(opened, new.count), PAGES);

@@ -34,7 +34,7 @@ pub struct Taken {
     pub multilog: Record,
 }
 
-pub fn take_record(edits: &[[u32; 5]], constraints: &[[u32; 3]]) -> Taken
+fn take_record(edits: &[[u32; 5]], constraints: &[[u32; 3]]) -> Taken
     ensures { λ r. ⌜ (r .number ≡ recordFault (now (edits .entry)) (now (constraints .entry)))
         × (r .number ≡ 0 → Taking (now (edits .entry)) (now (constraints .entry)) (r .multilog)) ⌝ }
 {

@@ -13,7 +13,7 @@ ghost use Rattle.record.specs.Stored.{stored};
 ghost use Rattle.table.specs.Checked.{Checked};
 
 // The names of the first n edits.
-pub fn names_of(edits: [Edit; 127], n: usize) -> [u16; 127]
+fn names_of(edits: [Edit; 127], n: usize) -> [u16; 127]
     requires { ⌜ n ≤ 127 ⌝ }
     ensures { λ r. ⌜ take n r ≡ map nameOf (take n edits) ⌝ }
 {
@@ -28,7 +28,7 @@ pub fn names_of(edits: [Edit; 127], n: usize) -> [u16; 127]
 }
 
 // The place of a name among ascending names, counted from 0; their number where it does not stand.
-pub fn place(names: &[u16], name: u16) -> usize
+fn place(names: &[u16], name: u16) -> usize
     ensures { λ r. ⌜ (ascending (now (names .entry)) ≡ true → r ≡ at name (now (names .entry))) ⌝ }
 {
     let n = names.len();

@@ -162,7 +162,7 @@ fn refusal(number: u32, line: usize) -> Reading
 }
 
 // Reads the rows of a text. Each line read is a row held, so that n + m counts the lines.
-pub fn read_rows(text: &[u8]) -> Reading
+fn read_rows(text: &[u8]) -> Reading
     ensures { λ r. ⌜ r ≡ readingOf (length (lines (now (text .entry)))) (readRows (now (text .entry))) ⌝ }
 {
     let mut edits = [[0u32; 5]; 128];

@@ -61,7 +61,7 @@ fn edit_late(a: [Edit; 127], n: usize, count: usize, t: &[[u32; 5]], i: usize) -
 }
 
 // The number of the first faulty row of a table of edits that joins a record.
-pub fn edit_fault(r: Record, t: &[[u32; 5]]) -> u32
+fn edit_fault(r: Record, t: &[[u32; 5]]) -> u32
     ensures { λ q. ⌜ (Ordered r → q ≡ tableFault editKind (editRows (recordOf r)) (now (t .entry))) ⌝ }
 {
     let a = r.edits;
@@ -136,7 +136,7 @@ fn constraint_late(a: [Constraint; 512], n: usize, count: usize, t: &[[u32; 3]],
 }
 
 // The number of the first faulty row of a table of constraints that joins a record, where marks are those of the edits that it knows.
-pub fn constraint_fault(r: Record, t: &[[u32; 3]], marks: &[u8], adding: bool) -> u32
+fn constraint_fault(r: Record, t: &[[u32; 3]], marks: &[u8], adding: bool) -> u32
     ensures { λ q. ⌜ ((names : List ℕ) → Marked (now (marks .entry)) names → Ordered r → q ≡ tableFault (constraintKind names adding) (constraintRows (recordOf r)) (now (t .entry))) ⌝ }
 {
     let a = r.constraints;

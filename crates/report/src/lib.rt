@@ -227,7 +227,7 @@ fn write_refusal(out: &mut [u8], numbers: &[u64]) -> usize
 }
 
 // Writes the line of a refusal to the start of out where it fits.
-pub fn refusal_line(number: u32, line: usize, out: &mut [u8]) -> Written
+fn refusal_line(number: u32, line: usize, out: &mut [u8]) -> Written
     ensures { λ r. ⌜ (r ≡ placing (refusalLine number line) 0 (now (out .entry))) × (now (out .exit) ≡ placed (refusalLine number line) 0 (now (out .entry))) ⌝ }
 {
     let numbers = [number as u64, line as u64];

@@ -62,7 +62,7 @@ pub fn edit_in_range(row: [u32; 5]) -> bool
     body_in_range(kind, field, value)
 }
 
-pub fn field_of(n: u32) -> Field
+fn field_of(n: u32) -> Field
     ensures { λ r. ⌜ r ≡ fieldOf n ⌝ }
 {
     match n {
@@ -102,7 +102,7 @@ pub fn edit_of(row: [u32; 5]) -> Edit
     }
 }
 
-pub fn field_number(f: Field) -> u32
+fn field_number(f: Field) -> u32
     ensures { λ r. ⌜ r ≡ fieldNumber f ⌝ }
 {
     match f {
