@@ -1,44 +1,26 @@
 // Runs the call log on standard input on one bench from empty, and prints the answers as it goes (docs/CALL-LOG.md). Input of any length, bounded
-// memory: a line is gathered in 102 bytes, one more than any line in form has with its end, so that a longer one is refused by what is kept of it.
+// memory: the whole lines of what was read are run, and the rest waits at the front of the buffer for what is read next. Of a line that is too long
+// 102 bytes are kept, one more than any line in form has with its end, so that it is refused by them.
 use ledger::Bench;
 use lending::Lending;
 use libc::STDIN_FILENO;
 use libc::STDOUT_FILENO;
+ghost use Prim.Native.Nat.{_+_, _≤_};
+ghost use lib.ListN.{length};
 
-// The desk after some bytes: how much of a line is gathered, and how many lines were run.
+// How many bytes of a line that has not ended are kept.
+const KEPT: usize = 102;
+
+// Answers are printed when they pass this many bytes. The answer to one line has less than 27,000 (the text of 127 edits and 512 constraints), so
+// that a buffer of 65,536 has room for it.
+const LIMIT: usize = 32768;
+
+// The desk after some bytes: how many lines were run, and how many bytes wait for the end of their line.
 struct Fed {
     bench: Bench,
     lending: Lending,
-    gathered: usize,
     count: usize,
-}
-
-// A byte joins the line while it fits.
-fn put(line: &mut [u8], n: usize, byte: u8) -> usize {
-    if n < line.len() {
-        line[n] = byte;
-        return n + 1;
-    }
-    n
-}
-
-// The bytes that still fit join the line.
-fn gather(line: &mut [u8], gathered: usize, part: &[u8]) -> usize {
-    let mut n = gathered;
-    let mut i = 0;
-    while i < part.len() {
-        n = put(&mut line[..], n, part[i]);
-        i += 1;
-    }
-    n
-}
-
-fn is_ended(part: &[u8]) -> bool {
-    let n = part.len();
-    if n == 0 {
-        return false;
-    }
-    part[n - 1] == 10
+    rest: usize,
 }
 
 fn print(out: &[u8], at: usize) {
@@ -47,119 +29,110 @@ fn print(out: &[u8], at: usize) {
     }
 }
 
-// Runs the line that is gathered.
-fn run(
+// Runs lines and prints their answers.
+fn run_lines(
     bench: Bench,
     lending: Lending,
     edits: &mut [[u32; 5]],
     constraints: &mut [[u32; 3]],
-    line: &[u8],
+    log: &[u8],
     count: usize,
     out: &mut [u8],
 ) -> Fed {
-    let logged = log::run_log(
-        bench,
-        lending,
-        &mut edits[..],
-        &mut constraints[..],
-        line,
-        count,
-        &mut out[..],
-        0,
-    );
-    print(out, logged.at);
-    let after = logged.bench;
-    let lent = logged.lending;
+    let mut held = bench;
+    let mut lent = lending;
+    let mut lines = count;
+    let mut from = 0;
+    while from < log.len() {
+        let logged = log::run_some(
+            held,
+            lent,
+            &mut edits[..],
+            &mut constraints[..],
+            &log[from..],
+            lines,
+            &mut out[..],
+            0,
+            LIMIT,
+        );
+        print(out, logged.at);
+        held = logged.bench;
+        lent = logged.lending;
+        lines = logged.count;
+        from += logged.from;
+    }
     Fed {
-        bench: after,
+        bench: held,
         lending: lent,
-        gathered: 0,
-        count: logged.count,
+        count: lines,
+        rest: 0,
     }
 }
 
-// Runs the line if it has ended.
-fn run_ended(
-    bench: Bench,
-    lending: Lending,
-    edits: &mut [[u32; 5]],
-    constraints: &mut [[u32; 3]],
-    line: &[u8],
-    gathered: usize,
-    ended: bool,
-    count: usize,
-    out: &mut [u8],
-) -> Fed {
-    if !ended {
-        return Fed {
-            bench: bench,
-            lending: lending,
-            gathered: gathered,
-            count: count,
-        };
+// The place after the last line that has ended.
+fn last_end(bytes: &[u8]) -> usize
+    ensures { λ r. ⌜ r ≤ length (now (bytes .entry)) ⌝ }
+{
+    let mut n = bytes.len();
+    while 0 < n {
+        if bytes[n - 1] == 10 {
+            return n;
+        }
+        n -= 1;
     }
-    if line.len() < gathered {
-        return Fed {
-            bench: bench,
-            lending: lending,
-            gathered: 0,
-            count: count,
-        };
-    }
-    run(
-        bench,
-        lending,
-        &mut edits[..],
-        &mut constraints[..],
-        &line[0..gathered],
-        count,
-        &mut out[..],
-    )
+    0
 }
 
-// The lines of a chunk of the input.
+// The n bytes after a place move to the front.
+fn move_front(bytes: &mut [u8], from: usize, n: usize)
+    requires { ⌜ from + n ≤ length (now bytes) ⌝ }
+{
+    let mut i = 0;
+    while i < n {
+        bytes[i] = bytes[from + i];
+        i += 1;
+    }
+}
+
+fn least(a: usize, b: usize) -> usize
+    ensures { λ r. ⌜ r ≤ a ⌝ }
+{
+    if a < b { a } else { b }
+}
+
+// The whole lines of the first bytes of a chunk are run, and the rest moves to the front.
 fn feed(
     bench: Bench,
     lending: Lending,
     edits: &mut [[u32; 5]],
     constraints: &mut [[u32; 3]],
-    line: &mut [u8],
-    gathered: usize,
+    chunk: &mut [u8],
+    filled: usize,
     count: usize,
-    chunk: &[u8],
     out: &mut [u8],
-) -> Fed {
-    let mut held = bench;
-    let mut lent = lending;
-    let mut n = gathered;
-    let mut lines = count;
-    let mut from = 0;
-    while from < chunk.len() {
-        let end = line::line_end(chunk, from);
-        let kept = gather(&mut line[..], n, &chunk[from..end]);
-        let ended = is_ended(&chunk[from..end]);
-        let fed = run_ended(
-            held,
-            lent,
-            &mut edits[..],
-            &mut constraints[..],
-            &line[..],
-            kept,
-            ended,
-            lines,
-            &mut out[..],
-        );
-        held = fed.bench;
-        lent = fed.lending;
-        n = fed.gathered;
-        lines = fed.count;
-        from = end;
-    }
+) -> Fed
+    requires { ⌜ filled ≤ length (now chunk) ⌝ }
+    ensures { λ r. ⌜ r .rest ≤ length (now (chunk .entry)) ⌝ }
+{
+    let whole = last_end(&chunk[0..filled]);
+    let ran = run_lines(
+        bench,
+        lending,
+        &mut edits[..],
+        &mut constraints[..],
+        &chunk[0..whole],
+        count,
+        &mut out[..],
+    );
+    let rest = least(filled - whole, KEPT);
+    move_front(&mut chunk[..], whole, rest);
+    let held = ran.bench;
+    let lent = ran.lending;
     Fed {
         bench: held,
         lending: lent,
-        gathered: n,
-        count: lines,
+        count: ran.count,
+        rest: rest,
     }
 }
 
@@ -167,17 +140,19 @@ fn feed(
 fn read_all(
     edits: &mut [[u32; 5]],
     constraints: &mut [[u32; 3]],
-    line: &mut [u8],
-    out: &mut [u8],
     chunk: &mut [u8],
-) -> Fed {
+    out: &mut [u8],
+) -> Fed
+    ensures { λ r. ⌜ r .rest ≤ length (now (chunk .entry)) ⌝ }
+{
     let mut held = bench::empty_bench();
     let mut lent = lending::nothing_lent();
-    let mut n = 0;
     let mut lines = 0;
+    let mut rest = 0;
     let mut chunks: usize = 0;
     while chunks < 4611686018427387904 {
-        let got = io::count(libc::read(STDIN_FILENO, &mut chunk[..]), chunk);
+        let read = libc::read(STDIN_FILENO, &mut chunk[rest..]);
+        let got = io::count(read, &chunk[rest..]);
         if got == 0 {
             break;
         }
@@ -186,23 +161,22 @@ fn read_all(
             lent,
             &mut edits[..],
             &mut constraints[..],
-            &mut line[..],
-            n,
+            &mut chunk[..],
+            rest + got,
             lines,
-            &chunk[0..got],
             &mut out[..],
         );
         held = fed.bench;
         lent = fed.lending;
-        n = fed.gathered;
         lines = fed.count;
+        rest = fed.rest;
         chunks += 1;
     }
     Fed {
         bench: held,
         lending: lent,
-        gathered: n,
         count: lines,
+        rest: rest,
     }
 }
 
@@ -210,27 +184,19 @@ fn read_all(
 pub fn replay_input() {
     let mut edits = [[0u32; 5]; 1152];
     let mut constraints = [[0u32; 3]; 4617];
-    let mut line = [0u8; 102];
-    let mut out = io::large_buffer();
     let mut chunk = io::large_buffer();
-    let fed = read_all(
-        &mut edits,
-        &mut constraints,
-        &mut line,
-        &mut out,
-        &mut chunk,
-    );
+    let mut out = io::large_buffer();
+    let fed = read_all(&mut edits, &mut constraints, &mut chunk, &mut out);
     let held = fed.bench;
     let lent = fed.lending;
+    let rest = fed.rest;
     // A last line without its end.
-    run_ended(
+    run_lines(
         held,
         lent,
         &mut edits,
         &mut constraints,
-        &line,
-        fed.gathered,
-        0 < fed.gathered,
+        &chunk[0..rest],
         fed.count,
         &mut out,
     );
