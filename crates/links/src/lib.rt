@@ -3,14 +3,15 @@
 ghost use mathlib.Core.Path.{_≡_};
 ghost use mathlib.Core.Bool.{Bool, true, false};
 ghost use mathlib.Core.List.{List, _∷_};
-ghost use Prim.Native.Nat.{ℕ, _<_, _≤_, _+_};
-ghost use lib.ListN.{length, getD, set};
+ghost use Prim.Native.Nat.{ℕ, max, _<_, _≤_, _+_};
+ghost use lib.ListN.{length, getD, set, take};
 ghost use Rattle.record.specs.Lists.{mem, _among_, _within_, closure};
 ghost use Rattle.record.specs.Record.{Record, names, notafter};
 ghost use Rattle.record.specs.Schedule.{ring};
 ghost use Rattle.links.specs.Marks.{nameAt, marksOf};
-ghost use Rattle.links.specs.Links.{Safe, Leads};
+ghost use Rattle.links.specs.Links.{Safe, Linked, NoRow, Leads};
 ghost use Rattle.links.specs.Reach.{Marked};
+ghost use Rattle.links.specs.Turns.{Turning, Turns};
 ghost use Rattle.links.specs.Search.{Visited, VisitedNew};
 
 pub fn wide8(x: u8) -> usize
@@ -200,4 +201,96 @@ pub fn all_marks(n: usize) -> [u8; 128]
         x += 1;
     }
     marks
+}
+
+// Whether some row of the key has a left with this mark.
+pub fn any_row(
+    head: &[u16; 384],
+    link: &[u16; 1024],
+    left: &[u8; 1024],
+    key: usize,
+    marks: &[u8; 128],
+    mark: u8,
+) -> bool
+    requires { ⌜ Safe (now head) (now link) (now left) × (key < 384) ⌝ }
+    ensures { λ r. ⌜ (r ≡ false → NoRow (now (head .entry)) (now (link .entry)) (now (left .entry)) key (λ y. getD (now (marks .entry)) y 0 ≡ mark)) ⌝ }
+{
+    let mut j = wide16(head[key]);
+    while j != 0 {
+        if marks[wide8(left[j - 1])] == mark {
+            return true;
+        }
+        j = wide16(link[j - 1]);
+    }
+    false
+}
+
+// The rows of notafter by their left edit, from key 0: to each edit those that come after it.
+pub struct TurnedRows {
+    pub head: [u16; 384],
+    pub link: [u16; 1024],
+    pub right: [u8; 1024],
+}
+
+// Notes the left and the right edit of each row of notafter to the edit at b.
+fn turn_rows(
+    head: &[u16; 384],
+    link: &[u16; 1024],
+    left: &[u8; 1024],
+    keys: &mut [u8; 1024],
+    right: &mut [u8; 1024],
+    b: usize,
+)
+    requires { ⌜ Safe (now head) (now link) (now left) × (b < 128) × (length (now keys) ≡ 1024) × (length (now right) ≡ 1024) ⌝ }
+    ensures { λ _. ⌜ Turning (now (head .entry)) (now (link .entry)) (now (left .entry)) b (now (keys .entry)) (now (right .entry)) (now (keys .exit)) (now (right .exit)) ⌝ }
+{
+    let mut j = wide16(head[b]);
+    while j != 0 {
+        keys[j - 1] = left[j - 1];
+        right[j - 1] = b as u8;
+        j = wide16(link[j - 1]);
+    }
+}
+
+// The first rows linked by these keys.
+fn linked_rows(rows: usize, keys: [u8; 1024], right: [u8; 1024]) -> TurnedRows
+    requires { ⌜ (rows ≤ 1024) × (length keys ≡ 1024) × (length right ≡ 1024) × ((i : ℕ) → getD keys i 0 < 384) × ((i : ℕ) → getD right i 0 < 128) ⌝ }
+    ensures { λ r. ⌜ Safe (r .head) (r .link) (r .right) × Linked (take rows keys) (r .head) (r .link) × (r .right ≡ right) ⌝ }
+{
+    let mut head = [0u16; 384];
+    let mut link = [0u16; 1024];
+    let mut j: usize = 0;
+    while j < rows {
+        link_row(j, wide8(keys[j]), &mut head, &mut link);
+        j += 1;
+    }
+    TurnedRows {
+        head: head,
+        link: link,
+        right: right,
+    }
+}
+
+fn greater(a: usize, b: usize) -> usize
+    ensures { λ r. ⌜ r ≡ max a b ⌝ }
+{
+    if a < b { b } else { a }
+}
+
+// The rows of notafter turned. A row that is none has the key 255, which is no edit's.
+pub fn turned(n: usize, head: &[u16; 384], link: &[u16; 1024], left: &[u8; 1024]) -> TurnedRows
+    requires { ⌜ Safe (now head) (now link) (now left) × (n ≤ 128) ⌝ }
+    ensures { λ r. ⌜ Safe (r .head) (r .link) (r .right) × ((R : Record) → Leads (notafter R) R 0 (now (head .entry)) (now (link .entry)) (now (left .entry))
+        → n ≡ length (names R) → Turns R (r .head) (r .link) (r .right)) ⌝ }
+{
+    let mut keys = [255u8; 1024];
+    let mut right = [0u8; 1024];
+    let mut rows: usize = 0;
+    let mut b: usize = 0;
+    while b < n {
+        turn_rows(head, link, left, &mut keys, &mut right, b);
+        rows = greater(rows, wide16(head[b]));
+        b += 1;
+    }
+    linked_rows(rows, keys, right)
 }

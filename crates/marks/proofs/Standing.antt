@@ -55,6 +55,14 @@ module _ {R : Record} (w : WellFormed R) where
   unfolding needs
   needs-closure x few = marks-same R _ _ few (λ y i. needs-two x y)
 
+  -- the same of the ring
+  pub entering-two : (x : ℕ) → length (names R) ≤ 128 → marksOf R (λ y. mem y (needs R (0 ∷ x ∷ []))) ≡ marksOf R (λ y. mem y (needs R (x ∷ musts R)))
+  entering-two x few = marks-same R _ _ few (λ y i. sym (needs-two x y))
+
+  pub never-entering : (x : ℕ) → ring R (needs R (x ∷ musts R)) ≡ never R x
+  unfolding never
+  never-entering x = ring-same R _ _ (needs-two x)
+
   -- of one that must stand nothing more is needed
   pub never-must : (e : ℕ) → e among musts R → ring R (musts R) ≡ never R e
   unfolding never musts

@@ -1,16 +1,17 @@
 // Must, never and settled of a record by index, over its linked rows. Functions are pub for the crates that judge records.
 ghost use mathlib.Core.Path.{_≡_};
-ghost use mathlib.Core.Bool.{false, cond, not, _&&_, _||_};
-ghost use mathlib.Core.List.{[], _∷_};
+ghost use mathlib.Core.Bool.{true, false, cond, not, _&&_, _||_};
+ghost use mathlib.Core.List.{List, [], _∷_};
 ghost use Prim.Native.Nat.{ℕ, _<_, _≤_};
 ghost use lib.Dec.{eqb};
 ghost use lib.ListN.{length, set};
-ghost use Rattle.record.specs.Lists.{mem};
-ghost use Rattle.record.specs.Record.{Record, names};
+ghost use Rattle.record.specs.Lists.{mem, _among_, _within_};
+ghost use Rattle.record.specs.Record.{Record, names, enables};
 ghost use Rattle.record.specs.Schedule.{needs, musts, ring};
 ghost use Rattle.record.specs.Judgement.{must, never, ordered, serialised, settled};
 ghost use Rattle.links.specs.Marks.{nameAt, marksOf};
 ghost use Rattle.links.specs.Links.{Safe};
+ghost use Rattle.links.specs.Turns.{Turns};
 ghost use Rattle.marks.specs.Resolved.{Resolved, Opened};
 
 // The edits that must stand.
@@ -37,24 +38,68 @@ pub fn needs_marks(
     links::closed(128, head, link, left, mustmarks, x)
 }
 
+// Whether an edit at x closes a ring when it enters a closed set without one, with its needs. It closes none where it enters alone and comes
+// before none of the set.
+pub fn closes_ring(
+    n: usize,
+    head: &[u16; 384],
+    link: &[u16; 1024],
+    left: &[u8; 1024],
+    turnhead: &[u16; 384],
+    turnlink: &[u16; 1024],
+    right: &[u8; 1024],
+    old: &[u8; 128],
+    marks: [u8; 128],
+    x: usize,
+) -> bool
+    requires { ⌜ Safe (now head) (now link) (now left) × Safe (now turnhead) (now turnlink) (now right) × (n ≤ 128) × (x < 128) × (length marks ≡ 128) ⌝ }
+    ensures { λ r. ⌜ ((R : Record) (s : List ℕ) → Resolved R (now (head .entry)) (now (link .entry)) (now (left .entry))
+        → Turns R (now (turnhead .entry)) (now (turnlink .entry)) (now (right .entry)) → n ≡ length (names R) → x < n
+        → ((a b : ℕ) → enables R a b ≡ true → b among s → a among s) → s within names R → now (old .entry) ≡ marksOf R (λ y. mem y s) → ring R s ≡ false
+        → marks ≡ marksOf R (λ y. mem y (needs R (nameAt R x ∷ s))) → r ≡ ring R (needs R (nameAt R x ∷ s))) ⌝ }
+{
+    if links::any_row(head, link, left, 128 + x, old, 0) {
+        return links::has_new_ring(n, head, link, left, old, marks);
+    }
+    if links::any_row(turnhead, turnlink, right, x, &marks, 1) {
+        return links::has_new_ring(n, head, link, left, old, marks);
+    }
+    false
+}
+
 // Whether the edit at x can never stand, where what must stand holds no ring.
 fn is_never(
     n: usize,
     head: &[u16; 384],
     link: &[u16; 1024],
     left: &[u8; 1024],
+    turnhead: &[u16; 384],
+    turnlink: &[u16; 1024],
+    right: &[u8; 1024],
     mustmarks: [u8; 128],
     x: usize,
 ) -> bool
-    requires { ⌜ Safe (now head) (now link) (now left) × (n ≤ 128) × (x < 128) × (length mustmarks ≡ 128) ⌝ }
-    ensures { λ r. ⌜ ((R : Record) → Resolved R (now (head .entry)) (now (link .entry)) (now (left .entry)) → n ≡ length (names R) → x < n
+    requires { ⌜ Safe (now head) (now link) (now left) × Safe (now turnhead) (now turnlink) (now right) × (n ≤ 128) × (x < 128) × (length mustmarks ≡ 128) ⌝ }
+    ensures { λ r. ⌜ ((R : Record) → Resolved R (now (head .entry)) (now (link .entry)) (now (left .entry)) → Turns R (now (turnhead .entry)) (now (turnlink .entry)) (now (right .entry))
+        → n ≡ length (names R) → x < n
         → mustmarks ≡ marksOf R (must R) → ring R (musts R) ≡ false → r ≡ never R (nameAt R x)) ⌝ }
 {
     if mustmarks[x] == 1 {
         return false;
     }
     let marks = needs_marks(head, link, left, mustmarks, x);
-    links::has_new_ring(n, head, link, left, &mustmarks, marks)
+    closes_ring(
+        n,
+        head,
+        link,
+        left,
+        turnhead,
+        turnlink,
+        right,
+        &mustmarks,
+        marks,
+        x,
+    )
 }
 
 pub fn bit(b: bool) -> u8
@@ -75,10 +120,24 @@ fn sound_nevers(
     ensures { λ r. ⌜ (length r ≡ 128) × ((R : Record) → Resolved R (now (head .entry)) (now (link .entry)) (now (left .entry)) → n ≡ length (names R)
         → mustmarks ≡ marksOf R (must R) → ring R (musts R) ≡ false → r ≡ marksOf R (never R)) ⌝ }
 {
+    let rows = links::turned(n, head, link, left);
+    let turnhead = rows.head;
+    let turnlink = rows.link;
+    let right = rows.right;
     let mut marks = [0u8; 128];
     let mut x: usize = 0;
     while x < n {
-        marks[x] = bit(is_never(n, head, link, left, mustmarks, x));
+        marks[x] = bit(is_never(
+            n,
+            head,
+            link,
+            left,
+            &turnhead,
+            &turnlink,
+            &right,
+            mustmarks,
+            x,
+        ));
         x += 1;
     }
     marks

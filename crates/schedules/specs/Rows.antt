@@ -9,12 +9,18 @@ use lib.ListN.{length, getD, take}
 use Rattle.record.specs.Lists.{any, mem, _among_, _within_}
 use Rattle.record.specs.Record.{Record, names, notafter, enables}
 use Rattle.record.specs.Schedule.{musts}
-use Rattle.links.specs.Marks.{nameAt}
+use Rattle.links.specs.Marks.{nameAt, marksOf}
+use Rattle.marks.specs.Resolved.{Resolved}
 use Rattle.schedules.specs.declared.Row.{Row}
 
 -- x waits, and none that waits comes before it
 unfoldable pub free : Record → (ℕ → Bool) → ℕ → Bool
 free R waits x = waits x && not (any (λ a. notafter R a x && waits a) (names R))
+
+-- the edit at y is not free, whichever record and test the rows and the marks of what waits are of
+abbrev pub Held : List ℕ → List ℕ → List ℕ → List ℕ → ℕ → Type 0
+Held heads links lefts waits y =
+    (R : Record) (test : ℕ → Bool) → Resolved R heads links lefts → y < length (names R) → waits ≡ marksOf R test → free R test (nameAt R y) ≡ false
 
 -- what a search among n indexes found: the name at r, or none where r is n
 abbrev pub foundAt : Record → Bool → ℕ → Option ℕ

@@ -1,18 +1,19 @@
 // The bench schedule of a record by index, over its linked rows. Functions are pub for the crates that judge records.
 ghost use mathlib.Core.Path.{_≡_};
 ghost use mathlib.Core.Bool.{Bool, true, false, _&&_};
-ghost use mathlib.Core.List.{List};
+ghost use mathlib.Core.List.{List, _∷_};
 ghost use Prim.Native.Nat.{ℕ, _<_, _≤_};
 ghost use lib.Dec.{ltb};
 ghost use lib.ListN.{length, getD};
 ghost use Rattle.record.specs.Lists.{mem, any, first, distinct, _within_};
-ghost use Rattle.record.specs.Record.{Record, names};
-ghost use Rattle.record.specs.Schedule.{order, ring, admit, scheduled, schedule};
+ghost use Rattle.record.specs.Record.{Record, names, notafter};
+ghost use Rattle.record.specs.Schedule.{needs, musts, order, ring, admit, scheduled, schedule};
 ghost use Rattle.record.specs.Judgement.{must};
 ghost use Rattle.links.specs.Marks.{nameAt, valuesOf, marksOf, placeIn};
 ghost use Rattle.links.specs.Links.{Safe};
+ghost use Rattle.links.specs.Turns.{Turns};
 ghost use Rattle.marks.specs.Resolved.{Resolved};
-ghost use Rattle.schedules.specs.Rows.{free, foundAt, Hides, bars, Clear, RowIs};
+ghost use Rattle.schedules.specs.Rows.{free, Held, foundAt, Hides, bars, Clear, RowIs};
 
 // Edits in order, by index.
 pub struct Row {
@@ -45,21 +46,6 @@ fn is_free(
     true
 }
 
-// The lowest that waits, from a place below which none does; n where there is none.
-fn waiting_from(n: usize, waits: &[u8; 128], from: usize) -> usize
-    requires { ⌜ (n ≤ 128) × (from ≤ n) × ((y : ℕ) → y < from → getD (now waits) y 0 ≡ 1 → ⊥) ⌝ }
-    ensures { λ r. ⌜ (r ≤ n) × ((y : ℕ) → y < r → getD (now (waits .entry)) y 0 ≡ 1 → ⊥) ⌝ }
-{
-    let mut x = from;
-    while x < n {
-        if waits[x] == 1 {
-            return x;
-        }
-        x += 1;
-    }
-    x
-}
-
 // The lowest that is free, from a place below which none is; n where there is none.
 fn lowest(
     n: usize,
@@ -71,7 +57,8 @@ fn lowest(
 ) -> usize
     requires { ⌜ Safe (now head) (now link) (now left) × (n ≤ 128) × (from ≤ n) ⌝ }
     ensures { λ r. ⌜ ((R : Record) (test : ℕ → Bool) → Resolved R (now (head .entry)) (now (link .entry)) (now (left .entry)) → n ≡ length (names R)
-        → now (waits .entry) ≡ marksOf R test → ((y : ℕ) → y < from → free R test (nameAt R y) ≡ false) → first (free R test) (names R) ≡ foundAt R (ltb r n) r) ⌝ }
+        → now (waits .entry) ≡ marksOf R test → ((y : ℕ) → y < from → free R test (nameAt R y) ≡ false)
+        → (first (free R test) (names R) ≡ foundAt R (ltb r n) r) × ((y : ℕ) → y < r → free R test (nameAt R y) ≡ false)) ⌝ }
 {
     let mut x = from;
     while x < n {
@@ -83,17 +70,66 @@ fn lowest(
     n
 }
 
-// The marked set in order.
+// The lower of best and the edit at y, where that is free.
+fn lower_free(
+    head: &[u16; 384],
+    link: &[u16; 1024],
+    left: &[u8; 1024],
+    waits: &[u8; 128],
+    y: usize,
+    best: usize,
+) -> usize
+    requires { ⌜ Safe (now head) (now link) (now left) × (y < 128) ⌝ }
+    ensures { λ r. ⌜ (r ≤ best) × (y < r → Held (now (head .entry)) (now (link .entry)) (now (left .entry)) (now (waits .entry)) y) ⌝ }
+{
+    if y >= best {
+        return best;
+    }
+    if is_free(head, link, left, waits, y) {
+        return y;
+    }
+    best
+}
+
+// The lowest that is free of those that come after the edit at x, where it lies below x; otherwise x.
+fn lowest_freed(
+    head: &[u16; 384],
+    link: &[u16; 1024],
+    left: &[u8; 1024],
+    turnhead: &[u16; 384],
+    turnlink: &[u16; 1024],
+    right: &[u8; 1024],
+    waits: &[u8; 128],
+    x: usize,
+) -> usize
+    requires { ⌜ Safe (now head) (now link) (now left) × Safe (now turnhead) (now turnlink) (now right) × (x < 128) ⌝ }
+    ensures { λ r. ⌜ (r ≤ x) × ((R : Record) (y : ℕ) → Turns R (now (turnhead .entry)) (now (turnlink .entry)) (now (right .entry)) → distinct (names R) ≡ true → x < length (names R) → y < length (names R)
+        → notafter R (nameAt R x) (nameAt R y) ≡ true → y < r → Held (now (head .entry)) (now (link .entry)) (now (left .entry)) (now (waits .entry)) y) ⌝ }
+{
+    let mut best = x;
+    let mut j = links::wide16(turnhead[x]);
+    while j != 0 {
+        best = lower_free(head, link, left, waits, links::wide8(right[j - 1]), best);
+        j = links::wide16(turnlink[j - 1]);
+    }
+    best
+}
+
+// The marked set in order. None below the last placed was free before it was, so that the next is one that it held back, or lies above it.
 fn ordered_row(
     n: usize,
     head: &[u16; 384],
     link: &[u16; 1024],
     left: &[u8; 1024],
+    turnhead: &[u16; 384],
+    turnlink: &[u16; 1024],
+    right: &[u8; 1024],
     marks: [u8; 128],
 ) -> Row
-    requires { ⌜ Safe (now head) (now link) (now left) × (n ≤ 128) × (length marks ≡ 128) ⌝ }
+    requires { ⌜ Safe (now head) (now link) (now left) × Safe (now turnhead) (now turnlink) (now right) × (n ≤ 128) × (length marks ≡ 128) ⌝ }
     ensures { λ r. ⌜ (length (r .indexes) ≡ 128) × (r .count ≤ 128) × ((q : ℕ) → getD (r .indexes) q 0 < 128)
-        × ((R : Record) (t : List ℕ) → Resolved R (now (head .entry)) (now (link .entry)) (now (left .entry)) → n ≡ length (names R) → t within names R
+        × ((R : Record) (t : List ℕ) → Resolved R (now (head .entry)) (now (link .entry)) (now (left .entry)) → Turns R (now (turnhead .entry)) (now (turnlink .entry)) (now (right .entry))
+        → n ≡ length (names R) → t within names R
         → marks ≡ marksOf R (λ y. mem y t) → RowIs R r (order R t)) ⌝ }
 {
     let mut waits = marks;
@@ -101,7 +137,6 @@ fn ordered_row(
     let mut count: usize = 0;
     let mut from: usize = 0;
     while count < n {
-        from = waiting_from(n, &waits, from);
         let x = lowest(n, from, head, link, left, &waits);
         if x >= n {
             return Row {
@@ -112,6 +147,7 @@ fn ordered_row(
         waits[x] = 0;
         indexes[count] = x as u8;
         count += 1;
+        from = lowest_freed(head, link, left, turnhead, turnlink, right, &waits, x);
     }
     Row {
         indexes: indexes,
@@ -168,22 +204,38 @@ fn is_shut(
     false
 }
 
-// Whether the marked set holds a ring, where the old set holds none and it is known whether all edits together hold one.
+// Whether the edit at x closes a ring when it enters the old set, which holds none; and it is known whether all edits together hold one.
 fn is_ringed(
     n: usize,
     head: &[u16; 384],
     link: &[u16; 1024],
     left: &[u8; 1024],
+    turnhead: &[u16; 384],
+    turnlink: &[u16; 1024],
+    right: &[u8; 1024],
     old: &[u8; 128],
     marks: [u8; 128],
+    x: usize,
     ringed: bool,
 ) -> bool
-    requires { ⌜ Safe (now head) (now link) (now left) × (n ≤ 128) × (length marks ≡ 128) ⌝ }
-    ensures { λ r. ⌜ ((R : Record) (u t : List ℕ) → Resolved R (now (head .entry)) (now (link .entry)) (now (left .entry)) → n ≡ length (names R)
-        → t within names R → now (old .entry) ≡ marksOf R (λ y. mem y u) → ring R u ≡ false → marks ≡ marksOf R (λ y. mem y t) → ringed ≡ ring R (names R) → r ≡ ring R t) ⌝ }
+    requires { ⌜ Safe (now head) (now link) (now left) × Safe (now turnhead) (now turnlink) (now right) × (n ≤ 128) × (x < 128) × (length marks ≡ 128) ⌝ }
+    ensures { λ r. ⌜ ((R : Record) (hiddens t : List ℕ) → Resolved R (now (head .entry)) (now (link .entry)) (now (left .entry))
+        → Turns R (now (turnhead .entry)) (now (turnlink .entry)) (now (right .entry)) → n ≡ length (names R) → x < n → Clear R hiddens t → now (old .entry) ≡ marksOf R (λ y. mem y t)
+        → ring R t ≡ false → marks ≡ marksOf R (λ y. mem y (needs R (nameAt R x ∷ t))) → ringed ≡ ring R (names R) → r ≡ ring R (needs R (nameAt R x ∷ t))) ⌝ }
 {
     if ringed {
-        return links::has_new_ring(n, head, link, left, old, marks);
+        return marks::closes_ring(
+            n,
+            head,
+            link,
+            left,
+            turnhead,
+            turnlink,
+            right,
+            old,
+            marks,
+            x,
+        );
     }
     false
 }
@@ -194,6 +246,9 @@ fn admitted(
     head: &[u16; 384],
     link: &[u16; 1024],
     left: &[u8; 1024],
+    turnhead: &[u16; 384],
+    turnlink: &[u16; 1024],
+    right: &[u8; 1024],
     mustmarks: [u8; 128],
     hidden: &[u8; 128],
     barring: bool,
@@ -201,8 +256,9 @@ fn admitted(
     marks: [u8; 128],
     x: usize,
 ) -> [u8; 128]
-    requires { ⌜ Safe (now head) (now link) (now left) × (n ≤ 128) × (x < 128) × (length mustmarks ≡ 128) × (length marks ≡ 128) ⌝ }
-    ensures { λ r. ⌜ (length r ≡ 128) × ((R : Record) (hiddens t : List ℕ) → Resolved R (now (head .entry)) (now (link .entry)) (now (left .entry)) → n ≡ length (names R)
+    requires { ⌜ Safe (now head) (now link) (now left) × Safe (now turnhead) (now turnlink) (now right) × (n ≤ 128) × (x < 128) × (length mustmarks ≡ 128) × (length marks ≡ 128) ⌝ }
+    ensures { λ r. ⌜ (length r ≡ 128) × ((R : Record) (hiddens t : List ℕ) → Resolved R (now (head .entry)) (now (link .entry)) (now (left .entry)) → Turns R (now (turnhead .entry)) (now (turnlink .entry)) (now (right .entry))
+        → n ≡ length (names R)
         → x < n → mustmarks ≡ marksOf R (must R) → Hides R (now (hidden .entry)) hiddens → barring ≡ any (bars R hiddens) (names R) → ringed ≡ ring R (names R)
         → Clear R hiddens t → ring R t ≡ false → marks ≡ marksOf R (λ y. mem y t) → r ≡ marksOf R (λ y. mem y (admit R hiddens t (nameAt R x)))) ⌝ }
 {
@@ -213,32 +269,44 @@ fn admitted(
     if is_shut(n, &more, hidden, &mustmarks, barring) {
         return marks;
     }
-    if is_ringed(n, head, link, left, &marks, more, ringed) {
+    if is_ringed(
+        n,
+        head,
+        link,
+        left,
+        turnhead,
+        turnlink,
+        right,
+        &marks,
+        more,
+        x,
+        ringed,
+    ) {
         return marks;
     }
     more
 }
 
-// What must stand, then the others by ascending name; where what must stand holds a ring, so does all that has more, and nothing else enters.
+// What must stand, which holds no ring, then the others by ascending name.
 fn admitted_marks(
     n: usize,
     head: &[u16; 384],
     link: &[u16; 1024],
     left: &[u8; 1024],
+    turnhead: &[u16; 384],
+    turnlink: &[u16; 1024],
+    right: &[u8; 1024],
     mustmarks: [u8; 128],
     hidden: &[u8; 128],
     barring: bool,
     ringed: bool,
 ) -> [u8; 128]
-    requires { ⌜ Safe (now head) (now link) (now left) × (n ≤ 128) × (length mustmarks ≡ 128) ⌝ }
-    ensures { λ r. ⌜ (length r ≡ 128) × ((R : Record) (hiddens : List ℕ) → Resolved R (now (head .entry)) (now (link .entry)) (now (left .entry)) → n ≡ length (names R)
-        → mustmarks ≡ marksOf R (must R) → Hides R (now (hidden .entry)) hiddens → barring ≡ any (bars R hiddens) (names R) → ringed ≡ ring R (names R)
+    requires { ⌜ Safe (now head) (now link) (now left) × Safe (now turnhead) (now turnlink) (now right) × (n ≤ 128) × (length mustmarks ≡ 128) ⌝ }
+    ensures { λ r. ⌜ (length r ≡ 128) × ((R : Record) (hiddens : List ℕ) → Resolved R (now (head .entry)) (now (link .entry)) (now (left .entry)) → Turns R (now (turnhead .entry)) (now (turnlink .entry)) (now (right .entry))
+        → n ≡ length (names R)
+        → mustmarks ≡ marksOf R (must R) → Hides R (now (hidden .entry)) hiddens → barring ≡ any (bars R hiddens) (names R) → ringed ≡ ring R (names R) → ring R (musts R) ≡ false
         → r ≡ marksOf R (λ y. mem y (scheduled R hiddens))) ⌝ }
 {
-    let none = [0u8; 128];
-    if is_ringed(n, head, link, left, &none, mustmarks, ringed) {
-        return mustmarks;
-    }
     let mut marks = mustmarks;
     let mut x: usize = 1;
     while x < n {
@@ -247,6 +315,9 @@ fn admitted_marks(
             head,
             link,
             left,
+            turnhead,
+            turnlink,
+            right,
             mustmarks,
             hidden,
             barring,
@@ -260,27 +331,58 @@ fn admitted_marks(
     marks
 }
 
-// The set of the schedule. Where no edit is barred and all together hold no ring, it is all of them.
+// The set of the schedule: all edits, where none is barred and all together hold no ring; what must stand, where that holds a ring.
 fn scheduled_marks(
     n: usize,
     head: &[u16; 384],
     link: &[u16; 1024],
     left: &[u8; 1024],
+    turnhead: &[u16; 384],
+    turnlink: &[u16; 1024],
+    right: &[u8; 1024],
     mustmarks: [u8; 128],
     hidden: &[u8; 128],
 ) -> [u8; 128]
-    requires { ⌜ Safe (now head) (now link) (now left) × (n ≤ 128) × (length mustmarks ≡ 128) ⌝ }
-    ensures { λ r. ⌜ (length r ≡ 128) × ((R : Record) (hiddens : List ℕ) → Resolved R (now (head .entry)) (now (link .entry)) (now (left .entry)) → n ≡ length (names R)
+    requires { ⌜ Safe (now head) (now link) (now left) × Safe (now turnhead) (now turnlink) (now right) × (n ≤ 128) × (length mustmarks ≡ 128) ⌝ }
+    ensures { λ r. ⌜ (length r ≡ 128) × ((R : Record) (hiddens : List ℕ) → Resolved R (now (head .entry)) (now (link .entry)) (now (left .entry)) → Turns R (now (turnhead .entry)) (now (turnlink .entry)) (now (right .entry))
+        → n ≡ length (names R)
         → mustmarks ≡ marksOf R (must R) → Hides R (now (hidden .entry)) hiddens → r ≡ marksOf R (λ y. mem y (scheduled R hiddens))) ⌝ }
 {
     let all = links::all_marks(n);
     let barring = any_barred(n, &all, hidden, &mustmarks);
     let ringed = links::has_ring(n, head, link, left, all);
-    if barring {
-        return admitted_marks(n, head, link, left, mustmarks, hidden, barring, ringed);
-    }
     if ringed {
-        return admitted_marks(n, head, link, left, mustmarks, hidden, barring, ringed);
+        if links::has_ring(n, head, link, left, mustmarks) {
+            return mustmarks;
+        }
+        return admitted_marks(
+            n,
+            head,
+            link,
+            left,
+            turnhead,
+            turnlink,
+            right,
+            mustmarks,
+            hidden,
+            barring,
+            ringed,
+        );
+    }
+    if barring {
+        return admitted_marks(
+            n,
+            head,
+            link,
+            left,
+            turnhead,
+            turnlink,
+            right,
+            mustmarks,
+            hidden,
+            barring,
+            ringed,
+        );
     }
     all
 }
@@ -299,8 +401,22 @@ pub fn schedule_row(
         × ((R : Record) (hiddens : List ℕ) → Resolved R (now (head .entry)) (now (link .entry)) (now (left .entry)) → n ≡ length (names R)
         → mustmarks ≡ marksOf R (must R) → Hides R (now (hidden .entry)) hiddens → RowIs R r (schedule R hiddens)) ⌝ }
 {
-    let marks = scheduled_marks(n, head, link, left, mustmarks, hidden);
-    ordered_row(n, head, link, left, marks)
+    let rows = links::turned(n, head, link, left);
+    let turnhead = rows.head;
+    let turnlink = rows.link;
+    let right = rows.right;
+    let marks = scheduled_marks(
+        n,
+        head,
+        link,
+        left,
+        &turnhead,
+        &turnlink,
+        &right,
+        mustmarks,
+        hidden,
+    );
+    ordered_row(n, head, link, left, &turnhead, &turnlink, &right, marks)
 }
 
 // The page of each edit. From the end, so that where a row had a repeat its first place would count.

@@ -16,11 +16,14 @@ use Rattle.marks.proofs.sound_nevers.Statement.{statement}
 use Rattle.marks.proofs.sound_nevers.Tie as tie
 
 abbrev Inv-loop : tie.InvT-loop
-Inv-loop n head link left mustmarks marks₀ x₀ marks x =
+Inv-loop n head link left mustmarks turnhead turnlink right marks₀ x₀ marks x =
     (x ≤ n) × (length marks ≡ 128) × ((R : Record) → Resolved R head link left → n ≡ length (names R) → mustmarks ≡ marksOf R (must R) → ring R (musts R) ≡ false → Filled R (λ e. cond (never R e) 1 0) x marks)
 
 abbrev μ-loop : tie.MeasureT-loop
-μ-loop n head link left mustmarks marks₀ x₀ marks x = n - x
+μ-loop n head link left mustmarks turnhead turnlink right marks₀ x₀ marks x = n - x
+
+turned-requires : tie.Need-turned-requires Inv-loop μ-loop
+turned-requires c κs = search needs
 
 loop-holds : tie.Need-loop-holds Inv-loop μ-loop
 loop-holds c = (omega arith, refl, λ R g q e u. filled-start R _)
@@ -42,11 +45,12 @@ loop-less c = search needs
 
 loop-again : tie.Need-loop-again Inv-loop μ-loop
 loop-again c =
-    let l = c .before .before .before .loop in (
+    let l = c .before .before .before .before .before .before .loop in
+    let t = c .before .before .before .before .before .before .before .before .before .before .turned in (
       omega arith,
       length-set (l .marks) (l .x) (c .bit .result) ∙ l .inv .1,
       λ R g q e u. filled-step R _ (l .x) (l .marks) (c .bit .result) (omega arith)
-          (c .bit .ensures ∙ ap (λ b. cond b 1 0) (c .before .is-never .ensures R g q (omega arith) e u)) (l .inv .2 R g q e u),
+          (c .bit .ensures ∙ ap (λ b. cond b 1 0) (c .before .is-never .ensures R g (t .ensures .1 R (g .notafters) q) q (omega arith) e u)) (l .inv .2 R g q e u),
     )
 
 returns : tie.Need-returns Inv-loop μ-loop
@@ -60,6 +64,7 @@ sound-nevers-spec =
     (tie.spec
     Inv-loop
     μ-loop
+    turned-requires
     loop-holds
     is-never-requires
     bit-requires

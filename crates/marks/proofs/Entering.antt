@@ -1,0 +1,50 @@
+-- An edit that enters a set alone, and comes before none of it, closes no ring. Assumes nothing.
+use mathlib.Core.Path.{_≡_, refl, sym, ap, _∙_}
+use mathlib.Core.Bool.{true, false}
+use mathlib.Core.List.{List, _∷_}
+use Prim.Native.Nat.{ℕ, _+_, _≤_, _<_}
+use native.Mathlib.Omega.{arith}
+use lib.ListN.{length, getD}
+use Rattle.record.specs.Lists.{mem, at, _among_, _within_}
+use Rattle.record.specs.Record.{Record, names, notafter, enables}
+use Rattle.record.specs.Schedule.{needs, ring}
+use Rattle.record.proofs.Lists.{by, clash, mem-tail, cons-by, cons-within, mem-at}
+use Rattle.record.proofs.Order.{Closed, needs-least, needs-known}
+use Rattle.links.specs.Marks.{nameAt, marksOf}
+use Rattle.links.specs.Links.{NoRow, RowOf}
+use Rattle.links.specs.Turns.{Turns}
+use Rattle.links.proofs.Names.{getD-among, getD-place, place-getD}
+use Rattle.links.proofs.Marks.{marks-at, on-marks}
+use Rattle.links.proofs.Rings.{ring-new}
+use Rattle.marks.specs.Resolved.{Resolved}
+
+module _ (R : Record) (s heads links lefts turnheads turnlinks rights old marks : List ℕ) (g : Resolved R heads links lefts) (h : Turns R turnheads turnlinks rights)
+    (x : ℕ) (l : x < length (names R)) (cl : Closed R s) (k : s within names R) (o : old ≡ marksOf R (λ y. mem y s))
+    (m : marks ≡ marksOf R (λ y. mem y (needs R (nameAt R x ∷ s)))) where
+  pub entering-known : needs R (nameAt R x ∷ s) within names R
+  entering-known = needs-known R (g .formed) (nameAt R x ∷ s) (cons-within (nameAt R x) s (names R) (getD-among (names R) x l) k)
+
+  module _ (alone : NoRow heads links lefts (128 + x) (λ y. getD old y 0 ≡ 0)) (free : NoRow turnheads turnlinks rights x (λ y. getD marks y 0 ≡ 1)) where
+    enabler-in : (a : ℕ) → enables R a (nameAt R x) ≡ true → a among s
+    enabler-in a e =
+        let r = g .enablers .row-of a (nameAt R x) e in
+        by (mem a s) (λ i. i)
+        (λ i. absurd (alone (g .enablers .keys) (g .enablers .linked) (r .row) (r .low) (omega (arith, r .key, place-getD (names R) x (g .enablers .apart) l))
+        (rw (r .left, o) (marks-at R (λ y. mem y s) (at a (names R)) (mem-at a (names R) (r .left-known)) ∙ rw (getD-place a (names R) (r .left-known), i)))))
+
+    only : needs R (nameAt R x ∷ s) within nameAt R x ∷ s
+    only =
+        needs-least R (nameAt R x ∷ s) (nameAt R x ∷ s)
+        (λ a b e i. mem-tail a (nameAt R x) s (cons-by b (nameAt R x) s i (λ q. enabler-in a (rw q at e)) (λ j. cl a b e j)))
+        (λ y i. i)
+
+    unfollowed : (b : ℕ) → notafter R (nameAt R x) b ≡ true → b among needs R (nameAt R x ∷ s) → ⊥
+    unfollowed b e i =
+        let r = h .row-of (nameAt R x) b e in
+        free (h .keys) (h .linked) (r .row) (r .low) (omega (arith, r .key, place-getD (names R) x (g .enablers .apart) l))
+        (rw (r .left, m) (on-marks R (λ y. mem y (needs R (nameAt R x ∷ s))) (at b (names R)) (mem-at b (names R) (r .left-known)) (rw (getD-place b (names R) (r .left-known)) i)))
+
+    pub entering-calm : ring R s ≡ false → ring R (needs R (nameAt R x ∷ s)) ≡ false
+    entering-calm calm =
+        ring-new R s (needs R (nameAt R x ∷ s)) entering-known calm
+        (λ a b e j i n. cons-by a (nameAt R x) s (only a i) (λ q. absurd (unfollowed b (rw q at e) j)) (λ q. clash q n))
