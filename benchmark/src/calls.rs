@@ -1,10 +1,11 @@
 //! Rows in which functions are called: the proved ones and the baseline's.
 
 use crate::clock::{by_turns, Effort, Times};
-use crate::proved::{self, Elected, Judged, Merged, Reply, Scheduled};
-use benchmark::plain::{self, Bench, RollRow, Tables};
+use crate::proved::{self, Elected, Judged, Merged, Scheduled};
+use benchmark::plain::{self, Bench};
 use benchmark::shapes::Shape;
-use check::model::Ground;
+use check::library::Reply;
+use check::model::{Ground, RollRow, Tables};
 use std::hint::black_box;
 
 /// One seat for each bench, of weight 1.
@@ -110,7 +111,7 @@ fn plain_election(edit: u32, first: &Tables, rival: &Tables) -> Elected {
 
 pub fn report(row: &str, shape: &Shape, effort: Effort) -> Times {
     let text = shape.text();
-    let proved = |out: &mut [u8]| proved::report(black_box(&text), out);
+    let proved = |out: &mut [u8]| proved::catalogue_report(black_box(&text), out);
     compared_outputs(row, effort, proved, |out| plain::shelf(black_box(&text), out))
 }
 
@@ -118,7 +119,7 @@ pub fn replay(row: &str, log: &[u8], effort: Effort) -> Times {
     let mut work = Vec::new();
     let proved = |out: &mut [u8]| {
         work.resize(out.len(), 0);
-        proved::replay(black_box(log), &mut work, out)
+        proved::catalogue_replay(black_box(log), &mut work, out)
     };
     compared_outputs(row, effort, proved, |out| plain::replay(black_box(log), out))
 }

@@ -1,6 +1,7 @@
 //! Document 01 and the call log in plain Rust, written for speed as a matter of
 //! course: adjacency lists, worklists, names resolved once, one buffer printed
-//! into. No tricks. Grounds, edits and entries are the types of `check`.
+//! into. No tricks. Grounds, rows, edits and the pages of a schedule are those of
+//! `check`.
 
 mod bench;
 mod bundle;
@@ -11,17 +12,15 @@ mod order;
 mod print;
 mod proposal;
 mod record;
-pub mod row;
 mod session;
 mod sound;
 #[cfg(test)]
 mod tests;
 mod text;
 
-pub use bench::{Bench, Pages};
-pub use election::{election, Election, RollRow, BENCHES};
-pub use record::{Record, Tables};
-pub use row::{ConstraintRow, EditRow};
+pub use bench::Bench;
+pub use election::{election, Election};
+pub use record::Record;
 pub use session::{replay, Session};
 pub use sound::{judgement, schedule, Judgement, Sound};
 pub use text::{report, shelf, Fault};

@@ -1,6 +1,7 @@
 //! The proved code, reached through its archives.
 
-use benchmark::plain::{ConstraintRow, EditRow, Tables};
+use check::library::Reply;
+use check::model::{ConstraintRow, EditRow, Tables};
 
 #[derive(PartialEq, Eq, Debug)]
 #[repr(C)]
@@ -38,125 +39,35 @@ pub struct Elected {
     pub total: u32,
 }
 
-#[derive(PartialEq, Eq, Debug)]
-#[repr(C)]
-pub struct Reply {
-    pub number: u32,
-    pub line: usize,
-    pub size: usize,
-}
-
-extern "C" {
-    fn measure_judgement(
-        edits: *const EditRow,
-        edit_count: usize,
-        constraints: *const ConstraintRow,
-        constraint_count: usize,
-    ) -> Judged;
-
-    fn measure_schedule(
-        edits: *const EditRow,
-        edit_count: usize,
-        constraints: *const ConstraintRow,
-        constraint_count: usize,
-    ) -> Scheduled;
-
+check::functions_of_slices! {
+    fn measure_judgement(edits: &[EditRow], constraints: &[ConstraintRow]) -> Judged;
+    fn measure_schedule(edits: &[EditRow], constraints: &[ConstraintRow]) -> Scheduled;
     fn measure_merge(
-        edits: *const EditRow,
-        edit_count: usize,
-        constraints: *const ConstraintRow,
-        constraint_count: usize,
-        other_edits: *const EditRow,
-        other_edit_count: usize,
-        other_constraints: *const ConstraintRow,
-        other_constraint_count: usize,
+        edits: &[EditRow], constraints: &[ConstraintRow],
+        other_edits: &[EditRow], other_constraints: &[ConstraintRow]
     ) -> Merged;
-
-    fn measure_election(
-        edit: u32,
-        edits: *const EditRow,
-        edit_count: usize,
-        constraints: *const ConstraintRow,
-        constraint_count: usize,
-        rival_edits: *const EditRow,
-        rival_edit_count: usize,
-        rival_constraints: *const ConstraintRow,
-        rival_constraint_count: usize,
+    fn measure_election[edit: u32](
+        edits: &[EditRow], constraints: &[ConstraintRow],
+        rival_edits: &[EditRow], rival_constraints: &[ConstraintRow]
     ) -> Elected;
-
-    fn catalogue_report(text: *const u8, text_size: usize, out: *mut u8, out_size: usize) -> Reply;
-
-    fn catalogue_replay(
-        log: *const u8,
-        log_size: usize,
-        work: *mut u8,
-        work_size: usize,
-        out: *mut u8,
-        out_size: usize,
-    ) -> Reply;
+    pub fn catalogue_report(text: &[u8]; out: &mut [u8]) -> Reply;
+    pub fn catalogue_replay(log: &[u8]; work: &mut [u8], out: &mut [u8]) -> Reply;
 }
 
-// Each call below hands over slices as their pointer and length, which live as
-// long as the call; the proved code keeps nothing of them.
-
-pub fn judgement(Tables { edits, constraints }: &Tables) -> Judged {
-    unsafe {
-        measure_judgement(edits.as_ptr(), edits.len(), constraints.as_ptr(), constraints.len())
-    }
+pub fn judgement(tables: &Tables) -> Judged {
+    measure_judgement(&tables.edits, &tables.constraints)
 }
 
-pub fn schedule(Tables { edits, constraints }: &Tables) -> Scheduled {
-    unsafe {
-        measure_schedule(edits.as_ptr(), edits.len(), constraints.as_ptr(), constraints.len())
-    }
+pub fn schedule(tables: &Tables) -> Scheduled {
+    measure_schedule(&tables.edits, &tables.constraints)
 }
 
 /// The answer to the second of two merges on an empty bench.
 pub fn merge(first: &Tables, second: &Tables) -> Merged {
-    unsafe {
-        measure_merge(
-            first.edits.as_ptr(),
-            first.edits.len(),
-            first.constraints.as_ptr(),
-            first.constraints.len(),
-            second.edits.as_ptr(),
-            second.edits.len(),
-            second.constraints.as_ptr(),
-            second.constraints.len(),
-        )
-    }
+    measure_merge(&first.edits, &first.constraints, &second.edits, &second.constraints)
 }
 
 /// Benches 1 to 4 lend the first record, 5 to 8 the rival, each of weight 1.
 pub fn election(edit: u32, first: &Tables, rival: &Tables) -> Elected {
-    unsafe {
-        measure_election(
-            edit,
-            first.edits.as_ptr(),
-            first.edits.len(),
-            first.constraints.as_ptr(),
-            first.constraints.len(),
-            rival.edits.as_ptr(),
-            rival.edits.len(),
-            rival.constraints.as_ptr(),
-            rival.constraints.len(),
-        )
-    }
-}
-
-pub fn report(text: &[u8], out: &mut [u8]) -> Reply {
-    unsafe { catalogue_report(text.as_ptr(), text.len(), out.as_mut_ptr(), out.len()) }
-}
-
-pub fn replay(log: &[u8], work: &mut [u8], out: &mut [u8]) -> Reply {
-    unsafe {
-        catalogue_replay(
-            log.as_ptr(),
-            log.len(),
-            work.as_mut_ptr(),
-            work.len(),
-            out.as_mut_ptr(),
-            out.len(),
-        )
-    }
+    measure_election(edit, &first.edits, &first.constraints, &rival.edits, &rival.constraints)
 }

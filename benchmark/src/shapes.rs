@@ -2,7 +2,6 @@
 //! 512 constraints. The shapes are those by which the notes on Rattle compare ways
 //! to judge and to schedule.
 
-use crate::plain::{self, row};
 use check::model::{
     propose, text, Body, Constraint, Deed, Edit, Field, Record, Room, Rule, Sound, Tables,
     CONSTRAINT_LIMIT, EDIT_LIMIT,
@@ -159,13 +158,13 @@ fn edit_at(index: usize) -> Edit {
 /// An election on a late edit between two rival records.
 pub struct Ballot {
     pub edit: u32,
-    pub first: plain::Tables,
-    pub rival: plain::Tables,
+    pub first: Tables,
+    pub rival: Tables,
 }
 
 impl Shape {
-    pub fn tables(&self) -> plain::Tables {
-        tables(&self.record)
+    pub fn tables(&self) -> Tables {
+        Tables::from(&self.record)
     }
 
     pub fn text(&self) -> Vec<u8> {
@@ -177,7 +176,7 @@ impl Shape {
     /// The record in two parts of which it is the union. Constraints go by turns
     /// to either; each part has the edits that its constraints speak of, and the
     /// edits that none speaks of go by turns too.
-    pub fn halves(&self) -> [plain::Tables; 2] {
+    pub fn halves(&self) -> [Tables; 2] {
         [0, 1].map(|part| {
             let rows = self.record.constraints.iter().skip(part).step_by(2);
             let constraints: Vec<Constraint> = rows.copied().collect();
@@ -186,7 +185,7 @@ impl Shape {
             let edits = self.record.edits.iter().enumerate();
             let edits =
                 edits.filter(|(place, edit)| place % 2 == part || named.contains(&edit.name));
-            tables(&Record { edits: edits.map(|(_, edit)| *edit).collect(), constraints })
+            Tables::from(&Record { edits: edits.map(|(_, edit)| *edit).collect(), constraints })
         })
     }
 
@@ -198,7 +197,7 @@ impl Shape {
         let mut rival = first.clone();
         rival.edits[place].body.deed = Deed::Set { field: Field::Id, value: u32::MAX };
         let edit = first.edits[place].name.into();
-        Ballot { edit, first: tables(&first), rival: tables(&rival) }
+        Ballot { edit, first: Tables::from(&first), rival: Tables::from(&rival) }
     }
 
     /// A proposal of the shape, all of it decided: so many constraints of the
@@ -220,13 +219,6 @@ fn last_place(record: &Record) -> usize {
     let sound = Sound::new(record).expect("a proposal is sound");
     let schedule = sound.schedule_with_nothing_hidden();
     schedule.last().expect("INIT is scheduled").checked_sub(1).expect("some edit stands")
-}
-
-fn tables(record: &Record) -> plain::Tables {
-    plain::Tables {
-        edits: record.edits.iter().map(row::of_edit).collect(),
-        constraints: record.constraints.iter().map(row::of_constraint).collect(),
-    }
 }
 
 /// So many of the rows, evenly spread over the table.

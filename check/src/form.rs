@@ -1,7 +1,7 @@
 //! Forms of lines: text with marks, `#` for a number, `@` for an edit's name,
 //! `?` for yes or no, `F` for a field's word and `R` for a rule's.
 
-use crate::model::{Field, Ground, Rule};
+use crate::model::{ConstraintRow, EditRow, Field, Ground, Rule};
 
 /// No line is longer than this before its end.
 pub const LINE_LIMIT: usize = 100;
@@ -9,6 +9,24 @@ pub const LINE_LIMIT: usize = 100;
 const MARK_LIMIT: usize = 6;
 /// What every number that doesn't fit 32 bits is read as.
 const TOO_LARGE: u64 = 1 << 32;
+
+/// The forms of the text, which the log has too.
+pub const INSERT: &str = "edit=@ do=insert chip=#";
+pub const SET: &str = "edit=@ do=set chip=# field=F value=#";
+pub const REMOVE: &str = "edit=@ do=remove chip=#";
+pub const CONSTRAINT: &str = "left=@ rule=R right=@";
+
+/// The numbers at the marks of a form, 0 where it has none.
+pub type Numbers = [u32; MARK_LIMIT];
+
+/// The row of an insert, 0, a set, 1, or a remove, 2.
+pub fn edit_row(kind: u32, [name, place, field, value, ..]: Numbers) -> EditRow {
+    EditRow { name, kind, place, field, value }
+}
+
+pub fn constraint_row([left, rule, right, ..]: Numbers) -> ConstraintRow {
+    ConstraintRow { left, rule, right }
+}
 
 /// What stands at the marks, in order; a word is read as its place in its list.
 #[derive(Clone, Copy, Debug, Default)]
@@ -24,7 +42,7 @@ impl Values {
     }
 
     /// The numbers, if each fits 32 bits.
-    fn fitting(&self) -> Result<[u32; MARK_LIMIT], Ground> {
+    fn fitting(&self) -> Result<Numbers, Ground> {
         let mut numbers = [0; MARK_LIMIT];
         for (number, &value) in numbers.iter_mut().zip(&self.values) {
             *number = u32::try_from(value).map_err(|_| Ground::Range)?;
@@ -37,7 +55,7 @@ impl Values {
 pub fn find<Kind: Copy>(
     forms: &[(Kind, &str)],
     line: &[u8],
-) -> Option<(Kind, Result<[u32; MARK_LIMIT], Ground>)> {
+) -> Option<(Kind, Result<Numbers, Ground>)> {
     if line.len() > LINE_LIMIT {
         return None;
     }

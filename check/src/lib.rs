@@ -4,8 +4,10 @@
 pub mod compare;
 pub mod coverage;
 mod form;
+pub mod lent;
 pub mod library;
 pub mod log;
 pub mod model;
 pub mod random;
+mod slices;
 pub mod trial;

@@ -8,7 +8,7 @@ use crate::compare::Other;
 
 /// What the library's functions give back.
 #[repr(C)]
-#[derive(Clone, Copy, Debug)]
+#[derive(Clone, Copy, PartialEq, Eq, Debug)]
 pub struct Reply {
     /// 0 if accepted, otherwise document 01's number.
     pub number: u32,
@@ -39,83 +39,37 @@ pub fn archive() -> Option<Box<dyn Functions>> {
 mod archive {
     use super::{Functions, Reply};
 
-    extern "C" {
-        fn catalogue_check(text: *const u8, text_size: usize) -> Reply;
-        fn catalogue_report(
-            text: *const u8,
-            text_size: usize,
-            out: *mut u8,
-            out_size: usize,
-        ) -> Reply;
-        fn catalogue_rewrite(
-            text: *const u8,
-            text_size: usize,
-            out: *mut u8,
-            out_size: usize,
-        ) -> Reply;
-        fn catalogue_replay(
-            log: *const u8,
-            log_size: usize,
-            work: *mut u8,
-            work_size: usize,
-            out: *mut u8,
-            out_size: usize,
-        ) -> Reply;
+    crate::functions_of_slices! {
+        fn catalogue_check(text: &[u8]) -> Reply;
+        fn catalogue_report(text: &[u8]; out: &mut [u8]) -> Reply;
+        fn catalogue_rewrite(text: &[u8]; out: &mut [u8]) -> Reply;
+        fn catalogue_replay(log: &[u8]; work: &mut [u8], out: &mut [u8]) -> Reply;
         fn catalogue_continue(
-            kept: *const u8,
-            kept_size: usize,
-            log: *const u8,
-            log_size: usize,
-            work: *mut u8,
-            work_size: usize,
-            out: *mut u8,
-            out_size: usize,
+            kept: &[u8], log: &[u8]; work: &mut [u8], out: &mut [u8]
         ) -> Reply;
     }
 
     pub struct Archive;
 
-    // SAFETY, of all five: each place and size is that of one slice, which lives
-    // through the call, and the library keeps nothing between calls.
     impl Functions for Archive {
         fn check(&self, text: &[u8]) -> Reply {
-            unsafe { catalogue_check(text.as_ptr(), text.len()) }
+            catalogue_check(text)
         }
 
         fn report(&self, text: &[u8], out: &mut [u8]) -> Reply {
-            unsafe { catalogue_report(text.as_ptr(), text.len(), out.as_mut_ptr(), out.len()) }
+            catalogue_report(text, out)
         }
 
         fn rewrite(&self, text: &[u8], out: &mut [u8]) -> Reply {
-            unsafe { catalogue_rewrite(text.as_ptr(), text.len(), out.as_mut_ptr(), out.len()) }
+            catalogue_rewrite(text, out)
         }
 
         fn replay(&self, log: &[u8], work: &mut [u8], out: &mut [u8]) -> Reply {
-            unsafe {
-                catalogue_replay(
-                    log.as_ptr(),
-                    log.len(),
-                    work.as_mut_ptr(),
-                    work.len(),
-                    out.as_mut_ptr(),
-                    out.len(),
-                )
-            }
+            catalogue_replay(log, work, out)
         }
 
         fn go_on(&self, kept: &[u8], log: &[u8], work: &mut [u8], out: &mut [u8]) -> Reply {
-            unsafe {
-                catalogue_continue(
-                    kept.as_ptr(),
-                    kept.len(),
-                    log.as_ptr(),
-                    log.len(),
-                    work.as_mut_ptr(),
-                    work.len(),
-                    out.as_mut_ptr(),
-                    out.len(),
-                )
-            }
+            catalogue_continue(kept, log, work, out)
         }
     }
 }

@@ -1,23 +1,17 @@
 //! The call log: calls on one bench, one to a line, and their answers.
 
-use crate::form::{self, Line};
+use crate::form::{self, constraint_row, edit_row, Line, Numbers};
+use crate::lent::{
+    push_roll, push_within, record_number, LENT_CONSTRAINT_LIMIT, LENT_EDIT_LIMIT, ROW_LIMIT,
+};
 use crate::model::text::{
     put, write_constraint, write_counts, write_report, write_text, yes_or_no,
 };
 use crate::model::{
-    election, is_eligible, is_sound_schedule, propose, suggest, Bench, Bundles, Case,
+    election, is_eligible, is_sound_schedule, propose, suggest_named, Bench, Bundles,
     ConstraintRow, EditRow, Election, Entry, Ground, Pages, Record, RollRow, Room, Sound, Tables,
-    BENCHES, CONSTRAINT_LIMIT, EDIT_LIMIT,
+    BENCHES,
 };
-
-/// One row more than a record can take in, so that a table that is too long has
-/// its fault among the rows that are kept.
-pub const LENT_EDIT_LIMIT: usize = EDIT_LIMIT + 1;
-pub const LENT_CONSTRAINT_LIMIT: usize = CONSTRAINT_LIMIT + 1;
-/// One name more than any schedule has.
-pub const ROW_LIMIT: usize = EDIT_LIMIT + 2;
-/// A roll of nine rows has a fault; further rows can't change that.
-const ROLL_LIMIT: usize = BENCHES + 1;
 
 /// The forms of the log's lines.
 #[derive(Clone, Copy, PartialEq, Eq, PartialOrd, Ord, Debug)]
@@ -63,10 +57,10 @@ pub const FORMS: [(Kind, &str); 30] = [
     (Kind::RollNone, "roll=none"),
     (Kind::Row, "row=#"),
     (Kind::RowNone, "row=none"),
-    (Kind::Insert, "edit=@ do=insert chip=#"),
-    (Kind::Set, "edit=@ do=set chip=# field=F value=#"),
-    (Kind::Remove, "edit=@ do=remove chip=#"),
-    (Kind::Constraint, "left=@ rule=R right=@"),
+    (Kind::Insert, form::INSERT),
+    (Kind::Set, form::SET),
+    (Kind::Remove, form::REMOVE),
+    (Kind::Constraint, form::CONSTRAINT),
     (Kind::Merge, "do=merge lent=#"),
     (Kind::Hide, "do=hide edit=#"),
     (Kind::Show, "do=show edit=#"),
@@ -149,14 +143,13 @@ impl Session {
     }
 
     /// Runs a line in form. Nothing is written before it is accepted.
-    fn call(&mut self, kind: Kind, numbers: [u32; 6], out: &mut Vec<u8>) -> Result<(), Ground> {
-        let [first, second, third, fourth, ..] = numbers;
-        let edit = EditRow { name: first, kind: 0, place: second, field: 0, value: 0 };
+    fn call(&mut self, kind: Kind, numbers: Numbers, out: &mut Vec<u8>) -> Result<(), Ground> {
+        let [first, second, third, ..] = numbers;
         match kind {
             Kind::LentEdit | Kind::LentConstraint | Kind::LentNone | Kind::LentBench => {
                 self.lend(kind, numbers)
             }
-            Kind::Roll => self.push_roll(first, second),
+            Kind::Roll => push_roll(&mut self.roll, first, second),
             Kind::RollNone => {
                 self.roll.clear();
                 Ok(())
@@ -166,14 +159,11 @@ impl Session {
                 self.row.clear();
                 Ok(())
             }
-            Kind::Insert => self.add_edit(edit, out),
-            Kind::Set => {
-                self.add_edit(EditRow { kind: 1, field: third, value: fourth, ..edit }, out)
-            }
-            Kind::Remove => self.add_edit(EditRow { kind: 2, ..edit }, out),
+            Kind::Insert => self.add_edit(edit_row(0, numbers), out),
+            Kind::Set => self.add_edit(edit_row(1, numbers), out),
+            Kind::Remove => self.add_edit(edit_row(2, numbers), out),
             Kind::Constraint => {
-                let row = ConstraintRow { left: first, rule: second, right: third };
-                let pages = self.bench.add_constraint(row)?;
+                let pages = self.bench.add_constraint(constraint_row(numbers))?;
                 self.write_change(pages, out)
             }
             Kind::Merge => {
@@ -218,7 +208,7 @@ impl Session {
     }
 
     /// Changes a lent record.
-    fn lend(&mut self, kind: Kind, numbers: [u32; 6]) -> Result<(), Ground> {
+    fn lend(&mut self, kind: Kind, numbers: Numbers) -> Result<(), Ground> {
         let [number, second, third, fourth, fifth, sixth] = numbers;
         let lent = &mut self.lent[record_number(number)?];
         match kind {
@@ -237,15 +227,6 @@ impl Session {
         Ok(())
     }
 
-    fn push_roll(&mut self, bench: u32, weight: u32) -> Result<(), Ground> {
-        let bench = u8::try_from(bench).map_err(|_| Ground::Range)?;
-        let weight = u16::try_from(weight).map_err(|_| Ground::Range)?;
-        if self.roll.len() < ROLL_LIMIT {
-            self.roll.push(RollRow { bench, weight });
-        }
-        Ok(())
-    }
-
     fn add_edit(&mut self, row: EditRow, out: &mut Vec<u8>) -> Result<(), Ground> {
         let pages = self.bench.add_edit(row)?;
         self.write_change(pages, out)
@@ -257,7 +238,8 @@ impl Session {
     }
 
     fn place(&self) -> String {
-        format!("open={} last={}", self.bench.open_page(), self.bench.last_page())
+        let book = self.bench.book();
+        format!("open={} last={}", book.open_page(), book.last_page())
     }
 
     fn turn(&mut self, pages: u32, direction: i32, out: &mut Vec<u8>) -> Result<(), Ground> {
@@ -289,7 +271,7 @@ impl Session {
         Ok(())
     }
 
-    fn propose(&mut self, numbers: [u32; 6], out: &mut Vec<u8>) -> Result<(), Ground> {
+    fn propose(&mut self, numbers: Numbers, out: &mut Vec<u8>) -> Result<(), Ground> {
         let [from, old, edits, constraints, keep, _] = numbers;
         let (from, old) = (record_number(from)?, record_number(old)?);
         let room = Room { edits: edits as usize, constraints: constraints as usize };
@@ -303,19 +285,8 @@ impl Session {
 
     fn suggest(&self, first: u32, second: u32, case: u32, out: &mut Vec<u8>) -> Result<(), Ground> {
         let record = self.bench.record();
-        let case = match case {
-            0 => Ok(Case::After),
-            1 => Ok(Case::Concurrent),
-            _ => Err(Ground::Range),
-        };
-        // Of several faults the lowest number is given, whichever edit has it.
-        let (first, second) = (record.named(first), record.named(second));
-        let grounds = [first.err(), second.err(), case.err()];
-        if let Some(&ground) = grounds.iter().flatten().min() {
-            return Err(ground);
-        }
-        let edit = |index: usize| record.edits[index - 1];
-        let rows = suggest(edit(first?), edit(second?), case?);
+        let edit = |number| record.named(number).map(|index| record.edits[index - 1]);
+        let rows = suggest_named(edit(first), edit(second), case)?;
         put(out, format_args!("rules={}", rows.len()));
         rows.into_iter().for_each(|row| write_constraint(row, out));
         Ok(())
@@ -343,14 +314,14 @@ impl Session {
     }
 
     fn write_schedule(&self, out: &mut Vec<u8>) {
-        put(out, format_args!("last={}", self.bench.last_page()));
-        for (place, edit) in self.bench.schedule().iter().enumerate() {
+        put(out, format_args!("last={}", self.bench.book().last_page()));
+        for (place, edit) in self.bench.book().schedule().iter().enumerate() {
             put(out, format_args!("page={} edit={}", place + 1, edit.name));
         }
     }
 
     fn write_catalogue(&self, out: &mut Vec<u8>) {
-        let entries = || self.bench.catalogue().entries.iter().enumerate();
+        let entries = || self.bench.book().catalogue().entries.iter().enumerate();
         let present = || entries().filter(|(_, entry)| entry.present);
         put(out, format_args!("chips={}", present().count()));
         for (chip, entry) in present() {
@@ -360,8 +331,9 @@ impl Session {
     }
 
     fn write_journal(&self, out: &mut Vec<u8>) {
-        put(out, format_args!("open={}", self.bench.open_page()));
-        let pages = self.bench.schedule().iter().zip(self.bench.journal());
+        let book = self.bench.book();
+        put(out, format_args!("open={}", book.open_page()));
+        let pages = book.schedule().iter().zip(book.journal());
         for (place, (edit, before)) in pages.enumerate() {
             let (page, chip) = (place + 1, edit.body.place);
             let present = yes_or_no(before.present);
@@ -371,22 +343,9 @@ impl Session {
     }
 }
 
-fn record_number(number: u32) -> Result<usize, Ground> {
-    let number = number as usize;
-    (number <= BENCHES).then_some(number).ok_or(Ground::Range)
-}
-
 /// All lent records but the loose one.
 fn proposals(lent: &[Tables; BENCHES + 1]) -> &[Tables; BENCHES] {
     lent.last_chunk().expect("the proposals are all but the first")
-}
-
-fn push_within<Row>(rows: &mut Vec<Row>, row: Row, limit: usize) -> Result<(), Ground> {
-    if rows.len() >= limit {
-        return Err(Ground::NoPlace);
-    }
-    rows.push(row);
-    Ok(())
 }
 
 fn show_pages(pages: Pages) -> String {

@@ -1,6 +1,7 @@
 //! Document 01 in plain Rust: records, what they say, the bench and the votes.
 
 mod bench;
+mod book;
 mod bundle;
 mod catalogue;
 mod graph;
@@ -14,7 +15,8 @@ mod tests;
 pub mod text;
 mod vote;
 
-pub use bench::{Bench, Pages};
+pub use bench::Bench;
+pub use book::{Book, Pages};
 pub use bundle::{is_eligible, Bundles};
 pub use catalogue::{Catalogue, Entry};
 pub use ground::Ground;
@@ -24,5 +26,5 @@ pub use record::{
     Tables, CONSTRAINT_LIMIT, EDIT_LIMIT, INIT, PLACES,
 };
 pub use sound::{is_sound_schedule, Sound};
-pub use suggestion::{suggest, Case};
+pub use suggestion::{suggest, suggest_named, Case};
 pub use vote::{election, Election, RollRow, BENCHES};

@@ -1,19 +1,13 @@
 //! The bench: a record, what is hidden of it, its pages and its catalogue.
 
-use super::election::{election, Election, RollRow, BENCHES};
+use super::election::{election, Election};
 use super::graph::SIZE_LIMIT;
 use super::joining::Joining;
-use super::record::{Record, Tables};
-use super::row::{self, ConstraintRow, EditRow};
+use super::record::Record;
 use super::sound::Sound;
-use check::model::{Catalogue, Edit, Entry, Ground, CONSTRAINT_LIMIT};
-
-/// The pages that a change undid and redid.
-#[derive(Clone, Copy, Default, PartialEq, Eq, Debug)]
-pub struct Pages {
-    pub undone: usize,
-    pub redone: usize,
-}
+use check::model::{
+    Book, ConstraintRow, Edit, EditRow, Ground, Pages, RollRow, Tables, BENCHES, CONSTRAINT_LIMIT,
+};
 
 pub struct Bench {
     record: Record,
@@ -21,25 +15,14 @@ pub struct Bench {
     sound: Sound,
     /// Names in order.
     hidden: Vec<u16>,
-    /// The edits after INIT: page 1 is the first.
-    schedule: Vec<Edit>,
-    catalogue: Catalogue,
-    /// To each open page the entry that it touched, as it was before.
-    journal: Vec<Entry>,
+    book: Book,
 }
 
 impl Default for Bench {
     fn default() -> Bench {
         let record = Record::default();
         let sound = Sound::new(&record).expect("the empty record is sound");
-        Bench {
-            record,
-            sound,
-            hidden: Vec::new(),
-            schedule: Vec::new(),
-            catalogue: Catalogue::default(),
-            journal: Vec::new(),
-        }
+        Bench { record, sound, hidden: Vec::new(), book: Book::default() }
     }
 }
 
@@ -56,28 +39,12 @@ impl Bench {
         &self.hidden
     }
 
-    pub fn schedule(&self) -> &[Edit] {
-        &self.schedule
-    }
-
-    pub fn catalogue(&self) -> &Catalogue {
-        &self.catalogue
-    }
-
-    pub fn journal(&self) -> &[Entry] {
-        &self.journal
-    }
-
-    pub fn open_page(&self) -> usize {
-        self.journal.len()
-    }
-
-    pub fn last_page(&self) -> usize {
-        self.schedule.len()
+    pub fn book(&self) -> &Book {
+        &self.book
     }
 
     pub fn add_edit(&mut self, row: EditRow) -> Result<Pages, Ground> {
-        let edit = row::edit(row)?;
+        let edit = row.edit()?;
         Joining::new(&self.record).edit(edit)?;
         if self.record.edit(edit.name).is_none() {
             self.record.insert_edit(edit);
@@ -87,7 +54,7 @@ impl Bench {
     }
 
     pub fn add_constraint(&mut self, row: ConstraintRow) -> Result<Pages, Ground> {
-        let constraint = row::constraint(row)?;
+        let constraint = row.constraint()?;
         let new_place = self.record.constraints.binary_search(&constraint).err();
         if new_place.is_some() && self.record.constraints.len() >= CONSTRAINT_LIMIT {
             return Err(Ground::NoPlace);
@@ -139,16 +106,8 @@ impl Bench {
         Ok(self.change())
     }
 
-    /// Moves by a signed number of pages.
     pub fn turn(&mut self, pages: i32) -> Result<(), Ground> {
-        let page = self.open_page() as i64 + i64::from(pages);
-        match usize::try_from(page) {
-            Ok(page) if page <= self.last_page() => {
-                self.open(page);
-                Ok(())
-            }
-            _ => Err(Ground::Turn),
-        }
+        self.book.turn(pages)
     }
 
     /// The election on an edit; a won bundle is brought into the record.
@@ -172,18 +131,9 @@ impl Bench {
         Ok((election, pages))
     }
 
-    /// Makes the schedule anew and opens the last page; the pages that the old
-    /// open part and the new schedule begin with in common stay as they are.
+    /// What every change does: the schedule is made anew.
     fn change(&mut self) -> Pages {
-        let schedule = self.scheduled();
-        let old_open = &self.schedule[..self.open_page()];
-        let same = |(old, new): &(&Edit, &Edit)| old.name == new.name;
-        let common = old_open.iter().zip(&schedule).take_while(same).count();
-        let undone = self.open_page() - common;
-        self.open(common);
-        self.schedule = schedule;
-        self.open(self.last_page());
-        Pages { undone, redone: self.last_page() - common }
+        self.book.change(self.scheduled())
     }
 
     fn scheduled(&self) -> Vec<Edit> {
@@ -191,16 +141,5 @@ impl Bench {
         self.hidden.iter().for_each(|&name| hidden[self.record.known_index(name)] = true);
         let schedule = self.sound.schedule(&hidden);
         schedule[1..].iter().map(|&edit| self.record.edits[usize::from(edit) - 1]).collect()
-    }
-
-    /// Undoes or runs edits until this page is open.
-    fn open(&mut self, page: usize) {
-        while self.journal.len() > page {
-            let before = self.journal.pop().expect("a page is open");
-            self.catalogue.undo(self.schedule[self.journal.len()].body, before);
-        }
-        for edit in &self.schedule[self.journal.len()..page] {
-            self.journal.push(self.catalogue.run(edit.body));
-        }
     }
 }

@@ -1,18 +1,9 @@
 //! Rolls, votes and elections.
 
 use super::bundle::{Bundle, Bundles};
-use super::record::{Record, Tables};
+use super::record::Record;
 use super::sound::Sound;
-use check::model::Ground;
-
-/// How many benches there are.
-pub const BENCHES: usize = 8;
-
-#[derive(Clone, Copy)]
-pub struct RollRow {
-    pub bench: u8,
-    pub weight: u16,
-}
+use check::model::{Ground, RollRow, Tables, BENCHES};
 
 pub struct Election {
     /// The bundle of the group that won; none while the election is open.

@@ -23,16 +23,16 @@ impl<'base> Joining<'base> {
 
     /// The next edit; the lowest number that applies to it is its fault.
     pub fn edit(&mut self, edit: Edit) -> Result<(), Ground> {
-        let known = self.base.edit(edit.name);
-        let repeated = self.record.index(edit.name).is_some();
-        let is_new = known.is_none() && !repeated;
-        if is_new && self.base.edits.len() + self.new_edits >= EDIT_LIMIT {
-            return Err(Ground::NoPlace);
+        // A repeated name is out of order, and neither new nor known here.
+        if self.record.index(edit.name).is_some() {
+            return Err(Ground::Order);
         }
-        // A repeated name is out of order and never "known with another body".
-        if !repeated && known.is_some_and(|known| known.body != edit.body) {
-            return Err(Ground::OtherBody);
-        }
+        let is_new = match self.base.edit(edit.name) {
+            Some(known) if known.body != edit.body => return Err(Ground::OtherBody),
+            Some(_) => false,
+            None if self.base.edits.len() + self.new_edits < EDIT_LIMIT => true,
+            None => return Err(Ground::NoPlace),
+        };
         let follows = self.record.edits.last().is_none_or(|last| last.name < edit.name);
         if !follows || !self.record.constraints.is_empty() {
             return Err(Ground::Order);

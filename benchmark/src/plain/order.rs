@@ -1,7 +1,6 @@
 //! The lines of a call log and of the exchanged text.
 
-use super::row::{ConstraintRow, EditRow};
-use check::model::{Field, Ground, Rule};
+use check::model::{ConstraintRow, EditRow, Field, Ground, Rule};
 
 /// No line is longer than this before its end.
 const LINE_LIMIT: usize = 100;
@@ -149,13 +148,13 @@ impl<'line> Reader<'line> {
                 let place = self.number_of(b" chip=")?;
                 let field = self.number_of(b" field=")?;
                 let value = self.number_of(b" value=")?;
-                Some(Lend::Edit { lent, row: [name, kind, place, field, value] })
+                Some(Lend::Edit { lent, row: EditRow { name, kind, place, field, value } })
             }
             b"left" => {
                 let left = self.number()?;
                 let rule = self.number_of(b" rule=")?;
                 let right = self.number_of(b" right=")?;
-                Some(Lend::Constraint { lent, row: [left, rule, right] })
+                Some(Lend::Constraint { lent, row: ConstraintRow { left, rule, right } })
             }
             b"rows" => match self.word() {
                 b"none" => Some(Lend::None { lent }),
@@ -181,14 +180,15 @@ impl<'line> Reader<'line> {
         }
         let kind = self.word();
         let place = self.number_of(b" chip=")?;
+        let row = EditRow { name, kind: 0, place, field: 0, value: 0 };
         match kind {
-            b"insert" => Some([name, 0, place, 0, 0]),
-            b"remove" => Some([name, 2, place, 0, 0]),
+            b"insert" => Some(row),
+            b"remove" => Some(EditRow { kind: 2, ..row }),
             b"set" if self.take(b" field=") => {
                 let word = self.word();
                 let is_word = |field: &Field| field.word().as_bytes() == word;
-                let field = Field::ALL.iter().position(is_word)?;
-                Some([name, 1, place, field as u32, self.number_of(b" value=")?])
+                let field = Field::ALL.iter().position(is_word)? as u32;
+                Some(EditRow { kind: 1, field, value: self.number_of(b" value=")?, ..row })
             }
             _ => None,
         }
@@ -200,8 +200,8 @@ impl<'line> Reader<'line> {
             return None;
         }
         let word = self.word();
-        let rule = Rule::ALL.iter().position(|rule| rule.word().as_bytes() == word)?;
-        Some([left, rule as u32, self.number_of(b" right=")?])
+        let rule = Rule::ALL.iter().position(|rule| rule.word().as_bytes() == word)? as u32;
+        Some(ConstraintRow { left, rule, right: self.number_of(b" right=")? })
     }
 
     fn call(&mut self) -> Option<Order> {

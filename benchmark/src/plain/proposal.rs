@@ -2,9 +2,9 @@
 
 use super::bundle::Bundles;
 use super::graph::Graph;
-use super::record::{Record, Tables};
+use super::record::Record;
 use super::sound::Sound;
-use check::model::{Constraint, Ground};
+use check::model::{Constraint, Ground, Tables};
 
 /// A proposal from a record and the bench's old proposal, into an output that has
 /// so many rows for edits and for constraints.

@@ -1,27 +1,10 @@
 //! Records, with the index of each name at hand.
 
 use super::joining::Joining;
-use super::row::{self, ConstraintRow, EditRow};
-use check::model::{is_name, Constraint, Edit, Ground, CONSTRAINT_LIMIT};
+use check::model::{is_name, Constraint, Edit, Ground, Tables, CONSTRAINT_LIMIT};
 
 /// One past the greatest name.
 const NAME_LIMIT: usize = 2304;
-
-/// A record as it is lent: rows with any numbers, in any order.
-#[derive(Clone, Default)]
-pub struct Tables {
-    pub edits: Vec<EditRow>,
-    pub constraints: Vec<ConstraintRow>,
-}
-
-impl From<&Record> for Tables {
-    fn from(record: &Record) -> Tables {
-        Tables {
-            edits: record.edits.iter().map(row::of_edit).collect(),
-            constraints: record.constraints.iter().map(row::of_constraint).collect(),
-        }
-    }
-}
 
 /// A checked record. Edits have the indexes from 1, INIT has 0.
 #[derive(Clone)]
@@ -48,12 +31,16 @@ impl Record {
     pub fn joining(tables: &Tables, base: &Record) -> Result<Record, Ground> {
         let mut joining = Joining::new(base);
         for &row in &tables.edits {
-            joining.edit(row::edit(row)?)?;
+            joining.edit(row.edit()?)?;
         }
         for &row in &tables.constraints {
-            joining.constraint(row::constraint(row)?)?;
+            joining.constraint(row.constraint()?)?;
         }
         Ok(joining.record)
+    }
+
+    pub fn tables(&self) -> Tables {
+        Tables::new(&self.edits, &self.constraints)
     }
 
     /// How many indexes there are.

@@ -1,18 +1,17 @@
 //! A call log on one bench.
 
-use super::bench::{Bench, Pages};
+use super::bench::Bench;
 use super::bundle::Bundles;
-use super::election::{election, Election, RollRow, BENCHES};
+use super::election::{election, Election};
 use super::order::{self, Change, Lend, Order, Question};
 use super::print::{self, Print};
 use super::proposal::propose;
-use super::record::{Record, Tables};
+use super::record::Record;
 use super::sound::{is_sound_schedule, Sound};
-use check::log::{LENT_CONSTRAINT_LIMIT, LENT_EDIT_LIMIT, ROW_LIMIT};
-use check::model::{suggest, Case, Ground};
-
-/// A roll of nine rows has a fault; further rows can't change that.
-const ROLL_LIMIT: usize = BENCHES + 1;
+use check::lent::{
+    push_roll, push_within, record_number, LENT_CONSTRAINT_LIMIT, LENT_EDIT_LIMIT, ROW_LIMIT,
+};
+use check::model::{suggest_named, Ground, Pages, RollRow, Tables, BENCHES};
 
 /// Appends the answers to a log.
 pub fn replay(log: &[u8], out: &mut Vec<u8>) {
@@ -81,9 +80,9 @@ impl Session {
             }
             Lend::Bench { lent } => {
                 let number = record_number(lent)?;
-                self.lent[number] = Tables::from(self.bench.record());
+                self.lent[number] = self.bench.record().tables();
             }
-            Lend::Seat { bench, weight } => self.push_roll(bench, weight)?,
+            Lend::Seat { bench, weight } => push_roll(&mut self.roll, bench, weight)?,
             Lend::NoRoll => self.roll.clear(),
             Lend::Name(name) => push_within(&mut self.row, name, ROW_LIMIT)?,
             Lend::NoRow => self.row.clear(),
@@ -105,23 +104,15 @@ impl Session {
         Ok(&mut self.lent[record_number(number)?])
     }
 
-    fn push_roll(&mut self, bench: u32, weight: u32) -> Result<(), Ground> {
-        let bench = u8::try_from(bench).map_err(|_| Ground::Range)?;
-        let weight = u16::try_from(weight).map_err(|_| Ground::Range)?;
-        if self.roll.len() < ROLL_LIMIT {
-            self.roll.push(RollRow { bench, weight });
-        }
-        Ok(())
-    }
-
     fn print_change(&self, pages: Pages, out: &mut Vec<u8>) {
         out.text("undone=").number(pages.undone).text(" redone=").number(pages.redone).text(" ");
         self.print_page(out);
     }
 
     fn print_page(&self, out: &mut Vec<u8>) {
-        out.text("open=").number(self.bench.open_page());
-        out.text(" last=").number(self.bench.last_page()).text("\n");
+        let book = self.bench.book();
+        out.text("open=").number(book.open_page());
+        out.text(" last=").number(book.last_page()).text("\n");
     }
 
     fn turn(&mut self, pages: u32, back: bool, out: &mut Vec<u8>) -> Result<(), Ground> {
@@ -168,26 +159,15 @@ impl Session {
         let proposal = propose(&self.lent[from], &self.lent[old], room)?;
         print::rows(&proposal.edits, &proposal.constraints, out);
         if keep {
-            self.lent[old] = Tables::from(&proposal);
+            self.lent[old] = proposal.tables();
         }
         Ok(())
     }
 
     fn suggest(&self, first: u32, second: u32, case: u32, out: &mut Vec<u8>) -> Result<(), Ground> {
         let record = self.bench.record();
-        let case = match case {
-            0 => Ok(Case::After),
-            1 => Ok(Case::Concurrent),
-            _ => Err(Ground::Range),
-        };
-        // Of several faults the lowest number is given, whichever edit has it.
-        let (first, second) = (record.named(first), record.named(second));
-        let grounds = [first.err(), second.err(), case.err()];
-        if let Some(&ground) = grounds.iter().flatten().min() {
-            return Err(ground);
-        }
-        let edit = |index: usize| record.edits[index - 1];
-        let rows = suggest(edit(first?), edit(second?), case?);
+        let edit = |number| record.named(number).map(|index| record.edits[index - 1]);
+        let rows = suggest_named(edit(first), edit(second), case)?;
         out.text("rules=").number(rows.len()).text("\n");
         rows.iter().for_each(|row| print::constraint(row, out));
         Ok(())
@@ -221,14 +201,14 @@ impl Session {
     }
 
     fn print_schedule(&self, out: &mut Vec<u8>) {
-        out.text("last=").number(self.bench.last_page()).text("\n");
-        for (place, edit) in self.bench.schedule().iter().enumerate() {
+        out.text("last=").number(self.bench.book().last_page()).text("\n");
+        for (place, edit) in self.bench.book().schedule().iter().enumerate() {
             out.text("page=").number(place + 1).text(" edit=").number(edit.name).text("\n");
         }
     }
 
     fn print_catalogue(&self, out: &mut Vec<u8>) {
-        let entries = || self.bench.catalogue().entries.iter().enumerate();
+        let entries = || self.bench.book().catalogue().entries.iter().enumerate();
         let present = || entries().filter(|(_, entry)| entry.present);
         out.text("chips=").number(present().count()).text("\n");
         for (chip, entry) in present() {
@@ -238,8 +218,9 @@ impl Session {
     }
 
     fn print_journal(&self, out: &mut Vec<u8>) {
-        out.text("open=").number(self.bench.open_page()).text("\n");
-        let pages = self.bench.schedule().iter().zip(self.bench.journal());
+        let book = self.bench.book();
+        out.text("open=").number(book.open_page()).text("\n");
+        let pages = book.schedule().iter().zip(book.journal());
         for (place, (edit, before)) in pages.enumerate() {
             out.text("page=").number(place + 1).text(" chip=").number(edit.body.place);
             out.text(" present=").yes_or_no(before.present).text("\n");
@@ -248,24 +229,9 @@ impl Session {
     }
 }
 
-fn record_number(number: u32) -> Result<usize, Ground> {
-    match number as usize {
-        number if number <= BENCHES => Ok(number),
-        _ => Err(Ground::Range),
-    }
-}
-
 /// All lent records but the loose one.
 fn proposals(lent: &[Tables; BENCHES + 1]) -> [&Tables; BENCHES] {
     std::array::from_fn(|place| &lent[place + 1])
-}
-
-fn push_within<Row>(rows: &mut Vec<Row>, row: Row, limit: usize) -> Result<(), Ground> {
-    if rows.len() >= limit {
-        return Err(Ground::NoPlace);
-    }
-    rows.push(row);
-    Ok(())
 }
 
 fn print_election(election: &Election, out: &mut Vec<u8>) {

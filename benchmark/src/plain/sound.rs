@@ -1,8 +1,8 @@
 //! Soundness, must, never, settled and the bench schedule.
 
 use super::graph::{Graph, Link, Set, State, EMPTY, SIZE_LIMIT};
-use super::record::{Record, Tables};
-use check::model::{Ground, Rule};
+use super::record::Record;
+use check::model::{Ground, Rule, Tables};
 
 /// Marks by index.
 pub type Marks = [bool; SIZE_LIMIT];

@@ -4,7 +4,6 @@ use super::joining::Joining;
 use super::order::{self, Change, Order};
 use super::print;
 use super::record::Record;
-use super::row;
 use super::sound::Sound;
 use check::model::Ground;
 
@@ -32,8 +31,8 @@ pub fn report(text: &[u8], out: &mut Vec<u8>) -> Result<(), Fault> {
 
 fn read_line(line: &[u8], joining: &mut Joining) -> Result<(), Ground> {
     match order::read(line) {
-        Ok(Order::Change(Change::Edit(row))) => joining.edit(row::edit(row)?),
-        Ok(Order::Change(Change::Constraint(row))) => joining.constraint(row::constraint(row)?),
+        Ok(Order::Change(Change::Edit(row))) => joining.edit(row.edit()?),
+        Ok(Order::Change(Change::Constraint(row))) => joining.constraint(row.constraint()?),
         // Any other line of a log is not one of a text.
         Ok(_) => Err(Ground::Form),
         Err(ground) => Err(ground),

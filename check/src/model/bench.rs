@@ -1,27 +1,14 @@
 //! The bench: a record, what is hidden of it, its pages and its catalogue.
 
 use super::vote::{election, Election, RollRow, BENCHES};
-use super::{
-    Catalogue, ConstraintRow, Edit, EditRow, Entry, Ground, Joining, Record, Sound, Tables,
-};
+use super::{Book, ConstraintRow, Edit, EditRow, Ground, Joining, Pages, Record, Sound, Tables};
 use std::collections::BTreeSet;
-
-/// The pages that a change undid and redid.
-#[derive(Clone, Copy, Default, PartialEq, Eq, Debug)]
-pub struct Pages {
-    pub undone: usize,
-    pub redone: usize,
-}
 
 #[derive(Clone, Default)]
 pub struct Bench {
     record: Record,
     hidden: BTreeSet<u16>,
-    /// The edits after INIT: page 1 is the first.
-    schedule: Vec<Edit>,
-    catalogue: Catalogue,
-    /// To each open page the entry that it touched, as it was before.
-    journal: Vec<Entry>,
+    book: Book,
 }
 
 impl Bench {
@@ -33,24 +20,8 @@ impl Bench {
         &self.hidden
     }
 
-    pub fn schedule(&self) -> &[Edit] {
-        &self.schedule
-    }
-
-    pub fn catalogue(&self) -> &Catalogue {
-        &self.catalogue
-    }
-
-    pub fn journal(&self) -> &[Entry] {
-        &self.journal
-    }
-
-    pub fn open_page(&self) -> usize {
-        self.journal.len()
-    }
-
-    pub fn last_page(&self) -> usize {
-        self.schedule.len()
+    pub fn book(&self) -> &Book {
+        &self.book
     }
 
     pub fn add_edit(&mut self, row: EditRow) -> Result<Pages, Ground> {
@@ -109,16 +80,8 @@ impl Bench {
         Ok(self.change(&Sound::new(&self.record)?))
     }
 
-    /// Moves by a signed number of pages.
     pub fn turn(&mut self, pages: i32) -> Result<(), Ground> {
-        let page = self.open_page() as i64 + i64::from(pages);
-        match usize::try_from(page) {
-            Ok(page) if page <= self.last_page() => {
-                self.open(page);
-                Ok(())
-            }
-            _ => Err(Ground::Turn),
-        }
+        self.book.turn(pages)
     }
 
     /// The election on an edit; a won bundle is brought into the record.
@@ -135,18 +98,9 @@ impl Bench {
         Ok((election, pages))
     }
 
-    /// What every change does: the schedule is made anew and the last page
-    /// opened; the pages that the old open part and the new schedule begin with
-    /// in common stay as they are.
+    /// What every change does: the schedule is made anew.
     fn change(&mut self, sound: &Sound) -> Pages {
-        let schedule = self.scheduled(sound);
-        let old_open = &self.schedule[..self.open_page()];
-        let common = old_open.iter().zip(&schedule).take_while(|(old, new)| old == new).count();
-        let undone = self.open_page() - common;
-        self.open(common);
-        self.schedule = schedule;
-        self.open(self.last_page());
-        Pages { undone, redone: self.last_page() - common }
+        self.book.change(self.scheduled(sound))
     }
 
     fn scheduled(&self, sound: &Sound) -> Vec<Edit> {
@@ -155,17 +109,5 @@ impl Bench {
             hidden[edit] = true;
         }
         sound.schedule(&hidden)[1..].iter().map(|&edit| self.record.edits[edit - 1]).collect()
-    }
-
-    /// Undoes or runs edits until this page is open.
-    fn open(&mut self, page: usize) {
-        while self.journal.len() > page {
-            let before = self.journal.pop().expect("a page is open");
-            let edit = self.schedule[self.journal.len()];
-            self.catalogue.undo(edit.body, before);
-        }
-        for edit in &self.schedule[self.journal.len()..page] {
-            self.journal.push(self.catalogue.run(edit.body));
-        }
     }
 }

@@ -118,13 +118,13 @@ pub fn is_name(number: u32) -> bool {
     (1..=8).contains(&(number >> 8)) && number & 255 != 0
 }
 
-fn name(number: u32) -> Option<u16> {
-    is_name(number).then_some(number as u16)
+fn name(number: u32) -> Result<u16, Ground> {
+    is_name(number).then_some(number as u16).ok_or(Ground::Range)
 }
 
-fn side(number: u32) -> Option<u16> {
+fn side(number: u32) -> Result<u16, Ground> {
     if number == 0 {
-        Some(INIT)
+        Ok(INIT)
     } else {
         name(number)
     }
@@ -132,6 +132,7 @@ fn side(number: u32) -> Option<u16> {
 
 /// A row of a lent table of edits, with any numbers.
 #[derive(Clone, Copy, PartialEq, Eq, Debug)]
+#[repr(C)]
 pub struct EditRow {
     pub name: u32,
     pub kind: u32,
@@ -143,19 +144,25 @@ pub struct EditRow {
 impl EditRow {
     /// The edit, if every number is in its range. The columns that an insert or
     /// a remove doesn't use have only 0 in theirs.
-    pub fn edit(self) -> Option<Edit> {
+    pub fn edit(self) -> Result<Edit, Ground> {
         let name = name(self.name)?;
         if self.place as usize >= PLACES {
-            return None;
+            return Err(Ground::Range);
         }
         let deed = match self.kind {
-            1 => Deed::Set { field: *Field::ALL.get(self.field as usize)?, value: self.value },
-            _ if self.field != 0 || self.value != 0 => return None,
-            0 => Deed::Insert,
-            2 => Deed::Remove,
-            _ => return None,
+            1 => {
+                let field = Field::ALL.get(self.field as usize).ok_or(Ground::Range)?;
+                Deed::Set { field: *field, value: self.value }
+            }
+            0 if self.has_no_cell() => Deed::Insert,
+            2 if self.has_no_cell() => Deed::Remove,
+            _ => return Err(Ground::Range),
         };
-        Some(Edit { name, body: Body { place: self.place as u8, deed } })
+        Ok(Edit { name, body: Body { place: self.place as u8, deed } })
+    }
+
+    fn has_no_cell(self) -> bool {
+        self.field == 0 && self.value == 0
     }
 }
 
@@ -173,6 +180,7 @@ impl From<Edit> for EditRow {
 
 /// A row of a lent table of constraints, with any numbers.
 #[derive(Clone, Copy, PartialEq, Eq, PartialOrd, Ord, Debug)]
+#[repr(C)]
 pub struct ConstraintRow {
     pub left: u32,
     pub rule: u32,
@@ -182,9 +190,9 @@ pub struct ConstraintRow {
 impl ConstraintRow {
     /// The constraint, if every number is in its range. 0 is in the range of
     /// either side; where it may not stand, the pair isn't allowed.
-    pub fn constraint(self) -> Option<Constraint> {
-        let rule = *Rule::ALL.get(self.rule as usize)?;
-        Some(Constraint { left: side(self.left)?, rule, right: side(self.right)? })
+    pub fn constraint(self) -> Result<Constraint, Ground> {
+        let rule = *Rule::ALL.get(self.rule as usize).ok_or(Ground::Range)?;
+        Ok(Constraint { left: side(self.left)?, rule, right: side(self.right)? })
     }
 }
 
@@ -205,12 +213,18 @@ pub struct Tables {
     pub constraints: Vec<ConstraintRow>,
 }
 
+impl Tables {
+    pub fn new(edits: &[Edit], constraints: &[Constraint]) -> Tables {
+        Tables {
+            edits: edits.iter().map(|&edit| edit.into()).collect(),
+            constraints: constraints.iter().map(|&constraint| constraint.into()).collect(),
+        }
+    }
+}
+
 impl From<&Record> for Tables {
     fn from(record: &Record) -> Tables {
-        Tables {
-            edits: record.edits.iter().map(|&edit| edit.into()).collect(),
-            constraints: record.constraints.iter().map(|&constraint| constraint.into()).collect(),
-        }
+        Tables::new(&record.edits, &record.constraints)
     }
 }
 
@@ -269,13 +283,12 @@ impl Record {
 
     /// The index of an edit that a call speaks of.
     pub fn named(&self, number: u32) -> Result<usize, Ground> {
-        let name = name(number).ok_or(Ground::Range)?;
-        self.index(name).ok_or(Ground::Unknown)
+        self.index(name(number)?).ok_or(Ground::Unknown)
     }
 
     /// What add is given: a constraint between edits of this record.
     pub fn added_constraint(&self, row: ConstraintRow) -> Result<Constraint, Ground> {
-        let constraint = row.constraint().ok_or(Ground::Range)?;
+        let constraint = row.constraint()?;
         let room = self.constraints.len() < CONSTRAINT_LIMIT;
         if !room && !self.has(constraint) {
             return Err(Ground::NoPlace);
@@ -359,7 +372,7 @@ impl<'base> Joining<'base> {
     }
 
     pub fn edit(&mut self, row: EditRow) -> Result<(), Ground> {
-        let edit = row.edit().ok_or(Ground::Range)?;
+        let edit = row.edit()?;
         let known = self.base.edit(edit.name);
         let repeated = self.table.edit(edit.name).is_some();
         let is_new = known.is_none() && !repeated;
@@ -385,7 +398,7 @@ impl<'base> Joining<'base> {
     }
 
     pub fn constraint(&mut self, row: ConstraintRow) -> Result<(), Ground> {
-        let constraint = row.constraint().ok_or(Ground::Range)?;
+        let constraint = row.constraint()?;
         let is_new = !self.base.has(constraint) && !self.table.has(constraint);
         if is_new && self.base.constraints.len() + self.new_constraints >= CONSTRAINT_LIMIT {
             return Err(Ground::NoPlace);

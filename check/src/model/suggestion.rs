@@ -1,12 +1,31 @@
 //! Constraints that are suggested for two edits.
 
-use super::{Constraint, Deed, Edit};
+use super::{Constraint, Deed, Edit, Ground};
 
 #[derive(Clone, Copy, PartialEq, Eq, Debug)]
 pub enum Case {
     /// The second was written after the first by one author.
     After,
     Concurrent,
+}
+
+/// What a call suggests: its edits, if it has them, and the number of the case.
+/// Of several faults the lowest number is given, whichever edit has it.
+pub fn suggest_named(
+    first: Result<Edit, Ground>,
+    second: Result<Edit, Ground>,
+    case: u32,
+) -> Result<Vec<Constraint>, Ground> {
+    let case = match case {
+        0 => Ok(Case::After),
+        1 => Ok(Case::Concurrent),
+        _ => Err(Ground::Range),
+    };
+    let grounds = [first.err(), second.err(), case.err()];
+    match grounds.into_iter().flatten().min() {
+        Some(ground) => Err(ground),
+        None => Ok(suggest(first?, second?, case?)),
+    }
 }
 
 /// Two edits of one name or of different places give nothing.

@@ -35,7 +35,7 @@ fn bench(names: &[u16], constraints: &[Constraint]) -> Bench {
 }
 
 fn pages(bench: &Bench) -> Vec<u16> {
-    bench.schedule().iter().map(|edit| edit.name).collect()
+    bench.book().schedule().iter().map(|edit| edit.name).collect()
 }
 
 fn report(record: &Record) -> String {
@@ -63,6 +63,13 @@ fn both_ways(one: u16, other: u16) -> [Constraint; 2] {
 mod specimens {
     use super::*;
 
+    /// The report has the counts and, to each name, this.
+    fn assert_judged(names: &[u16], rows: &[Constraint], judged: &[&str]) {
+        let counts = format!("edits={} rules={}\n", names.len(), rows.len());
+        let lines = names.iter().zip(judged).map(|(name, said)| format!("edit={name} {said}\n"));
+        assert_eq!(report(&record(names, rows)), counts + &lines.collect::<String>());
+    }
+
     #[test]
     fn p1_the_empty_record() {
         assert_eq!(printed(""), "edits=0 rules=0\n");
@@ -72,26 +79,23 @@ mod specimens {
 
     #[test]
     fn p2_aborted() {
-        let report = report(&record(&[257], &[Constraint::aborted(257)]));
-        assert_eq!(report, "edits=1 rules=1\nedit=257 must=no never=yes settled=yes place=0\n");
+        let rows = [Constraint::aborted(257)];
+        assert_judged(&[257], &rows, &["must=no never=yes settled=yes place=0"]);
     }
 
     #[test]
     fn p3_notafter_each_other() {
-        let report = report(&record(&[257, 258], &both_ways(257, 258)));
-        let lines = "edit=257 must=no never=no settled=no place=1\n\
-                     edit=258 must=no never=no settled=no place=0\n";
-        assert_eq!(report, format!("edits=2 rules=2\n{lines}"));
+        let judged = ["must=no never=no settled=no place=1", "must=no never=no settled=no place=0"];
+        assert_judged(&[257, 258], &both_ways(257, 258), &judged);
     }
 
     #[test]
     fn p4_one_of_them_required() {
         let [there, back] = both_ways(257, 258);
         let rows = [there, back, Constraint::required(258)];
-        let report = report(&record(&[257, 258], &rows));
-        let lines = "edit=257 must=no never=yes settled=yes place=0\n\
-                     edit=258 must=yes never=no settled=yes place=1\n";
-        assert_eq!(report, format!("edits=2 rules=3\n{lines}"));
+        let judged =
+            ["must=no never=yes settled=yes place=0", "must=yes never=no settled=yes place=1"];
+        assert_judged(&[257, 258], &rows, &judged);
     }
 
     #[test]
@@ -106,10 +110,12 @@ mod specimens {
     fn p6_never_without_being_in_a_ring() {
         let [there, back] = both_ways(257, 258);
         let rows = [there, back, enables(257, 259), enables(258, 259)];
-        let report = report(&record(&[257, 258, 259], &rows));
-        assert!(report.contains("edit=257 must=no never=no settled=no place=1\n"));
-        assert!(report.contains("edit=258 must=no never=no settled=no place=0\n"));
-        assert!(report.contains("edit=259 must=no never=yes settled=yes place=0\n"));
+        let judged = [
+            "must=no never=no settled=no place=1",
+            "must=no never=no settled=no place=0",
+            "must=no never=yes settled=yes place=0",
+        ];
+        assert_judged(&[257, 258, 259], &rows, &judged);
     }
 
     #[test]
@@ -148,14 +154,14 @@ mod specimens {
     #[test]
     fn p10_turns() {
         let mut bench = bench(&[257, 258, 259], &[]);
-        assert_eq!((bench.open_page(), bench.last_page()), (3, 3));
+        assert_eq!((bench.book().open_page(), bench.book().last_page()), (3, 3));
         assert_eq!(bench.turn(1), Err(Ground::Turn));
         assert_eq!(bench.turn(-4), Err(Ground::Turn));
         assert_eq!(bench.turn(i32::MIN), Err(Ground::Turn));
         assert_eq!(bench.turn(i32::MAX), Err(Ground::Turn));
-        assert_eq!(bench.open_page(), 3);
+        assert_eq!(bench.book().open_page(), 3);
         assert_eq!(bench.turn(-3), Ok(()));
-        assert_eq!((bench.open_page(), bench.last_page()), (0, 3));
+        assert_eq!((bench.book().open_page(), bench.book().last_page()), (0, 3));
         assert_eq!(bench.turn(0), Ok(()));
     }
 
@@ -201,7 +207,7 @@ mod examples {
         assert_eq!(bench.add_edit(insert(384, 5).into()), Err(Ground::NoPlace));
         assert_eq!(bench.add_edit(insert(383, 6).into()), Err(Ground::OtherBody));
         assert!(bench.add_edit(insert(383, 5).into()).is_ok());
-        assert_eq!(bench.last_page(), 127);
+        assert_eq!(bench.book().last_page(), 127);
     }
 
     #[test]
@@ -370,7 +376,7 @@ mod limits {
     #[test]
     fn columns_that_are_not_used_are_0() {
         let row = |kind, field, value| EditRow { name: 257, kind, place: 0, field, value };
-        let fits = |kind, field, value| row(kind, field, value).edit().is_some();
+        let fits = |kind, field, value| row(kind, field, value).edit().is_ok();
         assert!(fits(0, 0, 0) && fits(2, 0, 0) && fits(1, 3, u32::MAX));
         assert!(!fits(0, 1, 0) && !fits(0, 0, 1) && !fits(2, 1, 0) && !fits(2, 0, 1));
         assert!(!fits(1, 4, 0) && !fits(3, 0, 0));
@@ -468,10 +474,10 @@ mod changes {
         for edit in [insert(257, 5), set(258, 5, Field::Size, 8192), remove(259, 5)] {
             bench.add_edit(edit.into()).unwrap();
         }
-        assert_eq!(bench.catalogue(), &Catalogue::default());
+        assert_eq!(bench.book().catalogue(), &Catalogue::default());
         bench.turn(-1).unwrap();
         let entry = Entry { present: true, cells: [None, Some(8192), None, None] };
-        assert_eq!(bench.catalogue().entries[5], entry);
+        assert_eq!(bench.book().catalogue().entries[5], entry);
     }
 
     #[test]
@@ -482,7 +488,7 @@ mod changes {
         assert_eq!(pages, Ok(Pages { undone: 2, redone: 4 }));
         bench.turn(-2).unwrap();
         assert_eq!(bench.merge(&Tables::default()), Ok(Pages { undone: 0, redone: 2 }));
-        assert_eq!(bench.open_page(), 4);
+        assert_eq!(bench.book().open_page(), 4);
     }
 
     #[test]
@@ -509,7 +515,7 @@ mod changes {
         bench.turn(-1).unwrap();
         let (election, pages) = bench.adopt(&proposals, &[], 257).unwrap();
         assert_eq!((election.won, pages), (None, Pages::default()));
-        assert_eq!(bench.open_page(), 0);
+        assert_eq!(bench.book().open_page(), 0);
     }
 }
 
@@ -721,11 +727,11 @@ mod definitions {
             for _ in 0..40 {
                 any_call(&mut bench, &mut random);
                 let mut catalogue = Catalogue::default();
-                let open = &bench.schedule()[..bench.open_page()];
+                let open = &bench.book().schedule()[..bench.book().open_page()];
                 let journal: Vec<Entry> =
                     open.iter().map(|edit| catalogue.run(edit.body)).collect();
-                assert_eq!(bench.catalogue(), &catalogue);
-                assert_eq!(bench.journal(), journal);
+                assert_eq!(bench.book().catalogue(), &catalogue);
+                assert_eq!(bench.book().journal(), journal);
             }
         }
     }

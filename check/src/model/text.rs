@@ -1,7 +1,7 @@
 //! The exchanged text: its reader, its writer and the report on it.
 
-use super::{Constraint, ConstraintRow, Deed, Edit, EditRow, Ground, Joining, Record, Sound};
-use crate::form;
+use super::{Constraint, Deed, Edit, Ground, Joining, Record, Sound};
+use crate::form::{self, constraint_row, edit_row};
 use std::io::Write;
 
 /// What a line of the text says.
@@ -14,10 +14,10 @@ enum Kind {
 }
 
 const FORMS: [(Kind, &str); 4] = [
-    (Kind::Insert, "edit=@ do=insert chip=#"),
-    (Kind::Set, "edit=@ do=set chip=# field=F value=#"),
-    (Kind::Remove, "edit=@ do=remove chip=#"),
-    (Kind::Constraint, "left=@ rule=R right=@"),
+    (Kind::Insert, form::INSERT),
+    (Kind::Set, form::SET),
+    (Kind::Remove, form::REMOVE),
+    (Kind::Constraint, form::CONSTRAINT),
 ];
 
 /// Why a text is turned away, and at which line, from 1.
@@ -48,15 +48,12 @@ fn read_sound(text: &[u8]) -> Result<(Record, Sound), Fault> {
 fn read_line(line: form::Line, joining: &mut Joining) -> Result<(), Ground> {
     let found = form::find(&FORMS, line.bytes).filter(|_| line.ended);
     let (kind, numbers) = found.ok_or(Ground::Form)?;
-    let [first, second, third, fourth, ..] = numbers?;
-    let edit = EditRow { name: first, kind: 0, place: second, field: 0, value: 0 };
+    let numbers = numbers?;
     match kind {
-        Kind::Insert => joining.edit(edit),
-        Kind::Set => joining.edit(EditRow { kind: 1, field: third, value: fourth, ..edit }),
-        Kind::Remove => joining.edit(EditRow { kind: 2, ..edit }),
-        Kind::Constraint => {
-            joining.constraint(ConstraintRow { left: first, rule: second, right: third })
-        }
+        Kind::Insert => joining.edit(edit_row(0, numbers)),
+        Kind::Set => joining.edit(edit_row(1, numbers)),
+        Kind::Remove => joining.edit(edit_row(2, numbers)),
+        Kind::Constraint => joining.constraint(constraint_row(numbers)),
     }
 }
 

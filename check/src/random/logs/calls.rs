@@ -71,8 +71,8 @@ impl Maker {
 
     /// Within the pages, to both ends, one page past them, and far away.
     fn turn(&mut self) {
-        let open = self.session.bench.open_page() as i64;
-        let last = self.session.bench.last_page() as i64;
+        let open = self.session.bench.book().open_page() as i64;
+        let last = self.session.bench.book().last_page() as i64;
         let far = [2_147_483_647, 2_147_483_648, 2_147_483_649, 4_294_967_295, 4_294_967_296];
         let pages = match self.random.below(12) {
             0 => -open,

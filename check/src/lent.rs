@@ -1,0 +1,35 @@
+//! What is lent to the calls of a log: its limits.
+
+use crate::model::{Ground, RollRow, BENCHES, CONSTRAINT_LIMIT, EDIT_LIMIT};
+
+/// One row more than a record can take in, so that a table that is too long has
+/// its fault among the rows that are kept.
+pub const LENT_EDIT_LIMIT: usize = EDIT_LIMIT + 1;
+pub const LENT_CONSTRAINT_LIMIT: usize = CONSTRAINT_LIMIT + 1;
+/// One name more than any schedule has.
+pub const ROW_LIMIT: usize = EDIT_LIMIT + 2;
+/// A roll of nine rows has a fault; further rows can't change that.
+const ROLL_LIMIT: usize = BENCHES + 1;
+
+/// 1 to 8 are the proposals by bench, 0 is loose.
+pub fn record_number(number: u32) -> Result<usize, Ground> {
+    let number = number as usize;
+    (number <= BENCHES).then_some(number).ok_or(Ground::Range)
+}
+
+pub fn push_within<Row>(rows: &mut Vec<Row>, row: Row, limit: usize) -> Result<(), Ground> {
+    if rows.len() >= limit {
+        return Err(Ground::NoPlace);
+    }
+    rows.push(row);
+    Ok(())
+}
+
+pub fn push_roll(roll: &mut Vec<RollRow>, bench: u32, weight: u32) -> Result<(), Ground> {
+    let bench = u8::try_from(bench).map_err(|_| Ground::Range)?;
+    let weight = u16::try_from(weight).map_err(|_| Ground::Range)?;
+    if roll.len() < ROLL_LIMIT {
+        roll.push(RollRow { bench, weight });
+    }
+    Ok(())
+}
