@@ -1,7 +1,5 @@
-use Prim.Native.Nat.{ℕ, zero, suc, _+_, _-_, _*_, _≤_, _<_}
-use mathlib.Core.Path.{_≡_, refl, ap, sym, _∙_}
-use mathlib.Core.List.{List, [], _∷_, _++_}
-use lib.ListN.{length, getD, take, drop, set}
+-- `desk::lend_rows` meets its contract. Assumes nothing.
+use mathlib.Core.Path.{_∙_}
 use native.Mathlib.Omega.{arith}
 use borrow.Author.Needs.{needs}
 use Rattle.desk.specs.Lends.{lendEdit, lendConstraint, lendNothing, lendBench}
@@ -11,121 +9,88 @@ use Rattle.table.proofs.Tables.{empty-stored}
 use Rattle.desk.specs.Desk.{ledgerOf}
 use Rattle.desk.proofs.lend_rows.Statement.{statement}
 use Rattle.desk.proofs.lend_rows.Tie as tie
-use Rattle.desk.proofs.lend_rows.Reads as reads
-use Rattle.desk.proofs.lend_rows.Lts as lts
-use Rattle.lending.proofs.lend_constraint.Reads as lend-constraint-reads
-use Rattle.lending.proofs.lend_edit.Reads as lend-edit-reads
-use Rattle.lending.proofs.lend_record.Reads as lend-record-reads
-use Rattle.record.proofs.empty.Reads as empty-reads
 
--- src/lib.rt:33:13
 array-read-lend-edit : tie.Need-array-read-lend-edit
 array-read-lend-edit c = search needs
 
--- src/lib.rt:34:14
 array-read-t16 : tie.Need-array-read-t16
 array-read-t16 c = search needs
 
--- src/lib.rt:34:24
 array-read-t19 : tie.Need-array-read-t19
 array-read-t19 c = search needs
 
--- src/lib.rt:34:34
 array-read-t22 : tie.Need-array-read-t22
 array-read-t22 c = search needs
 
--- src/lib.rt:34:44
 array-read-t25 : tie.Need-array-read-t25
 array-read-t25 c = search needs
 
--- src/lib.rt:34:54
 array-read-t28 : tie.Need-array-read-t28
 array-read-t28 c = search needs
 
--- src/lib.rt:30:14
 lend-edit-requires : tie.Need-lend-edit-requires
 lend-edit-requires c κs = search needs
 
--- src/lib.rt:39:13
 array-read-lend-constraint : tie.Need-array-read-lend-constraint
 array-read-lend-constraint c = search needs
 
--- src/lib.rt:40:14
 array-read-t37 : tie.Need-array-read-t37
 array-read-t37 c = search needs
 
--- src/lib.rt:40:24
 array-read-t40 : tie.Need-array-read-t40
 array-read-t40 c = search needs
 
--- src/lib.rt:40:34
 array-read-t43 : tie.Need-array-read-t43
 array-read-t43 c = search needs
 
--- src/lib.rt:36:14
 lend-constraint-requires : tie.Need-lend-constraint-requires
 lend-constraint-requires c κs = search needs
 
--- src/lib.rt:46:13
 array-read-lend-record : tie.Need-array-read-lend-record
 array-read-lend-record c = search needs
 
--- src/lib.rt:47:13
 empty-requires : tie.Need-empty-requires
 empty-requires c κs = search needs
 
--- src/lib.rt:42:14
 lend-record-requires : tie.Need-lend-record-requires
 lend-record-requires c κs = search needs
 
--- src/lib.rt:53:13
 array-read-lend-record-2 : tie.Need-array-read-lend-record-2
 array-read-lend-record-2 c = search needs
 
--- src/lib.rt:49:14
 lend-record-requires-2 : tie.Need-lend-record-requires-2
 lend-record-requires-2 c κs = search needs
 
--- src/lib.rt:18:1
 same-length : tie.Need-same-length
 same-length c = search needs
 
--- src/lib.rt:18:1
 returns : tie.Need-returns
 unfolding lendEdit
 returns c = λ D K m h. lent-edit D _ _ (c .before .before .before .match .keys1) (c .before .lend-edit .ensures (D .lent) _ K)
 
--- src/lib.rt:18:1
 same-length-2 : tie.Need-same-length-2
 same-length-2 c = search needs
 
--- src/lib.rt:18:1
 returns-2 : tie.Need-returns-2
 unfolding lendConstraint
 returns-2 c = λ D K m h. lent-constraint D _ _ (c .before .before .before .match .keys2) (c .before .lend-constraint .ensures (D .lent) _ K)
 
--- src/lib.rt:18:1
 same-length-3 : tie.Need-same-length-3
 same-length-3 c = search needs
 
--- src/lib.rt:18:1
 same-length-4 : tie.Need-same-length-4
 same-length-4 c = search needs
 
--- src/lib.rt:18:1
 returns-3 : tie.Need-returns-3
 unfolding lendNothing
 returns-3 c = λ D K m h. lent-nothing D _ _ (c .before .before .before .before .before .before .match .keys3) (c .before .before .lend-record .ensures (D .lent) emptyTables K (c .before .before .before .empty .ensures ∙ empty-stored) (omega arith) (omega arith))
 
--- src/lib.rt:18:1
 same-length-5 : tie.Need-same-length-5
 same-length-5 c = search needs
 
--- src/lib.rt:18:1
 same-length-6 : tie.Need-same-length-6
 same-length-6 c = search needs
 
--- src/lib.rt:18:1
 returns-4 : tie.Need-returns-4
 unfolding lendBench
 returns-4 c = λ D K m h. let v = ledger-valid D .checked in lent-bench D _ _ (third-kind _ h (c .before .before .before .before .before .match .rest .0 .0 .1) (c .before .before .before .before .before .match .rest .0 .1) (c .before .before .before .before .before .match .rest .1)) (c .before .before .lend-record2 .ensures (D .lent) (ledgerOf D .multilog) K (m ∙ multilog-is D) (v .editplaces) (v .constraintplaces))

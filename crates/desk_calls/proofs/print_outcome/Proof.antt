@@ -1,51 +1,33 @@
-use Prim.Native.Nat.{ℕ, zero, suc, _+_, _-_, _*_, _≤_, _<_}
-use mathlib.Core.Path.{_≡_, refl, ap, sym, _∙_}
-use mathlib.Core.List.{List, [], _∷_, _++_}
-use lib.ListN.{length, getD, take, drop, set}
-use native.Mathlib.Omega.{arith}
+-- `desk_calls::print_outcome` meets its contract. Assumes nothing.
 use borrow.Author.Needs.{needs}
 use Rattle.desk_calls.proofs.Telling.{outcome-refused, outcome-adopted, outcome-called}
 use Rattle.desk_calls.proofs.print_outcome.Statement.{statement}
 use Rattle.desk_calls.proofs.print_outcome.Tie as tie
-use Rattle.desk_calls.proofs.print_outcome.Reads as reads
-use Rattle.desk_calls.proofs.print_outcome.Lts as lts
-use Rattle.desk_calls.proofs.print_adoption.Reads as print-adoption-reads
-use Rattle.desk_calls.proofs.print_pages.Reads as print-pages-reads
-use Rattle.desk_calls.proofs.print_refusal.Reads as print-refusal-reads
 
--- src/lib.rt:90:9
 print-refusal-requires : tie.Need-print-refusal-requires
 print-refusal-requires c κs = search needs
 
--- src/lib.rt:90:9
 same-length : tie.Need-same-length
 same-length c = search needs
 
--- src/lib.rt:90:9
 returns : tie.Need-returns
 returns c = outcome-refused _ _ _ _ (c .before .before .before .before .if1 .taken) (c .before .before .print-refusal .ensures)
 
--- src/lib.rt:93:9
 print-adoption-requires : tie.Need-print-adoption-requires
 print-adoption-requires c κs = search needs
 
--- src/lib.rt:93:9
 same-length-2 : tie.Need-same-length-2
 same-length-2 c = search needs
 
--- src/lib.rt:93:9
 returns-2 : tie.Need-returns-2
 returns-2 c = outcome-adopted _ _ _ _ (c .before .before .before .before .before .if1 .left) (c .before .before .before .before .if2 .taken) (c .before .before .print-adoption .ensures)
 
--- src/lib.rt:95:5
 print-pages-requires : tie.Need-print-pages-requires
 print-pages-requires c κs = search needs
 
--- src/lib.rt:83:1
 same-length-3 : tie.Need-same-length-3
 same-length-3 c = search needs
 
--- src/lib.rt:83:1
 returns-3 : tie.Need-returns-3
 returns-3 c = outcome-called _ _ _ _ (c .before .before .before .before .before .if1 .left) (c .before .before .before .before .if2 .left) (c .before .before .print-pages .ensures)
 

@@ -1,39 +1,26 @@
-use Prim.Native.Nat.{ℕ, zero, suc, _+_, _-_, _*_, _≤_, _<_}
-use mathlib.Core.Path.{_≡_, refl, ap, sym, _∙_}
-use mathlib.Core.List.{List, [], _∷_, _++_}
-use lib.ListN.{length, getD, take, drop, set}
-use native.Mathlib.Omega.{arith}
+-- `desk_calls::run_lend` meets its contract. Assumes nothing.
+use mathlib.Core.Path.{ap}
 use borrow.Author.Needs.{needs}
 use Rattle.desk_calls.proofs.Telling.{lend-holds, lend-printed}
 use Rattle.ledger.specs.declared.Bench.{Bench}
 use Rattle.desk_calls.proofs.run_lend.Statement.{statement}
 use Rattle.desk_calls.proofs.run_lend.Tie as tie
-use Rattle.desk_calls.proofs.run_lend.Reads as reads
-use Rattle.desk_calls.proofs.run_lend.Lts as lts
-use Rattle.desk.proofs.lend.Reads as lend-reads
-use Rattle.desk_calls.proofs.print_setting.Reads as print-setting-reads
 
--- src/lib.rt:115:9
 lend-requires : tie.Need-lend-requires
 lend-requires c κs = search needs
 
--- src/lib.rt:123:9
 print-setting-requires : tie.Need-print-setting-requires
 print-setting-requires c κs = search needs
 
--- src/lib.rt:99:1
 same-length : tie.Need-same-length
 same-length c = search needs
 
--- src/lib.rt:99:1
 same-length-2 : tie.Need-same-length-2
 same-length-2 c = search needs
 
--- src/lib.rt:99:1
 same-length-3 : tie.Need-same-length-3
 same-length-3 c = search needs
 
--- src/lib.rt:99:1
 returns : tie.Need-returns
 returns c =
     λ D H h a.

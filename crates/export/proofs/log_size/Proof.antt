@@ -1,47 +1,30 @@
-use Prim.Native.Nat.{ℕ, zero, suc, _+_, _-_, _*_, _≤_, _<_}
-use mathlib.Core.Path.{_≡_, refl, ap, sym, _∙_}
-use mathlib.Core.List.{List, [], _∷_, _++_}
-use lib.ListN.{length, getD, take, drop, set}
-use native.Mathlib.Omega.{arith}
+-- `export::log_size` meets its contract. Assumes nothing.
 use borrow.Author.Needs.{needs}
 use Rattle.export.proofs.Parts.{two-logs}
 use Rattle.export.proofs.log_size.Statement.{statement}
 use Rattle.export.proofs.log_size.Tie as tie
-use Rattle.export.proofs.log_size.Reads as reads
-use Rattle.export.proofs.log_size.Lts as lts
-use Rattle.bench.proofs.empty_bench.Reads as empty-bench-reads
-use Rattle.lending.proofs.nothing_lent.Reads as nothing-lent-reads
-use Rattle.log.proofs.run_log.Reads as run-log-reads
 
--- src/lib.rt:98:9
 empty-bench-requires : tie.Need-empty-bench-requires
 empty-bench-requires c κs = search needs
 
--- src/lib.rt:99:9
 nothing-lent-requires : tie.Need-nothing-lent-requires
 nothing-lent-requires c κs = search needs
 
--- src/lib.rt:100:9
 run-log-requires : tie.Need-run-log-requires
 run-log-requires c κs = search needs
 
--- src/lib.rt:110:9
 run-log-requires-2 : tie.Need-run-log-requires-2
 run-log-requires-2 c κs = search needs
 
--- src/lib.rt:87:1
 same-length : tie.Need-same-length
 same-length c = search needs
 
--- src/lib.rt:87:1
 same-length-2 : tie.Need-same-length-2
 same-length-2 c = search needs
 
--- src/lib.rt:87:1
 same-length-3 : tie.Need-same-length-3
 same-length-3 c = search needs
 
--- src/lib.rt:87:1
 returns : tie.Need-returns
 returns c =
     let s = c .before .before .before .before .before .before .before .before .before .before .before .before .before .before .before .before .before .before .before .before .before in

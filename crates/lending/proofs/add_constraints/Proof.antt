@@ -1,7 +1,8 @@
-use Prim.Native.Nat.{ℕ, zero, suc, _+_, _-_, _*_, _≤_, _<_}
-use mathlib.Core.Path.{_≡_, refl, ap, sym, _∙_}
-use mathlib.Core.List.{List, [], _∷_, _++_}
-use lib.ListN.{length, getD, take, drop, set}
+-- `lending::add_constraints` meets its contract. Assumes nothing.
+use Prim.Native.Nat.{ℕ, _-_, _≤_, _<_}
+use mathlib.Core.Path.{_≡_}
+use mathlib.Core.List.{[]}
+use lib.ListN.{length, take}
 use native.Mathlib.Omega.{arith}
 use borrow.Author.Needs.{needs}
 use mathlib.Core.List.{map}
@@ -13,10 +14,6 @@ use Rattle.lending.specs.Kept.{Tables}
 use Rattle.lending.proofs.Rows.{rows-none, rows-next}
 use Rattle.lending.proofs.add_constraints.Statement.{statement}
 use Rattle.lending.proofs.add_constraints.Tie as tie
-use Rattle.lending.proofs.add_constraints.Reads as reads
-use Rattle.lending.proofs.add_constraints.Lts as lts
-use Rattle.lending.proofs.add_constraint.Reads as add-constraint-reads
-use Rattle.row.proofs.constraint_row.Reads as constraint-row-reads
 
 abbrev Inv-loop : tie.InvT-loop
 Inv-loop kept₀ k n constraints more₀ i₀ kept more i =
@@ -26,35 +23,27 @@ Inv-loop kept₀ k n constraints more₀ i₀ kept more i =
 abbrev μ-loop : tie.MeasureT-loop
 μ-loop kept₀ k n constraints more₀ i₀ kept more i = n - i
 
--- src/lib.rt:154:5
 loop-holds : tie.Need-loop-holds Inv-loop μ-loop
 loop-holds c = (search needs, c .pre, search needs, search needs, λ tables T e h. rows-none constraintRow [] tables _ h e T)
 
--- src/lib.rt:155:17
 mul-c : tie.Need-mul-c Inv-loop μ-loop
 mul-c c = search needs
 
--- src/lib.rt:155:17
 array-copy-out-c : tie.Need-array-copy-out-c Inv-loop μ-loop
 array-copy-out-c c = search needs
 
--- src/lib.rt:156:13
 constraint-row-requires : tie.Need-constraint-row-requires Inv-loop μ-loop
 constraint-row-requires c κs = search needs
 
--- src/lib.rt:157:13
 add-constraint-requires : tie.Need-add-constraint-requires Inv-loop μ-loop
 add-constraint-requires c κs = search needs
 
--- src/lib.rt:159:9
 add-i : tie.Need-add-i Inv-loop μ-loop
 add-i c = search needs
 
--- src/lib.rt:154:5
 loop-less : tie.Need-loop-less Inv-loop μ-loop
 loop-less c = search needs
 
--- src/lib.rt:154:5
 loop-again : tie.Need-loop-again Inv-loop μ-loop
 loop-again c =
     let o = c .before .before .before .before .before .before .before in
@@ -66,11 +55,9 @@ loop-again c =
       λ tables T e h. rows-next constraintRow _ tables _ h (o .loop .i) fillerConstraint (omega arith) (omega arith) (c .before .before .before .before .constraint-row .ensures) (c .before .before .add-constraint .ensures _ (v .4 tables T e h) .1),
     )
 
--- src/lib.rt:141:1
 same-length : tie.Need-same-length Inv-loop μ-loop
 same-length c = c .before .loop .inv .3
 
--- src/lib.rt:141:1
 returns : tie.Need-returns Inv-loop μ-loop
 returns c = let v = c .before .loop .inv in λ tables T e h. let q : c .before .loop .i ≡ c .before .before .args .n = omega arith in rw q at (v .4 tables T e h)
 

@@ -1,7 +1,8 @@
-use Prim.Native.Nat.{ℕ, zero, suc, _+_, _-_, _*_, _≤_, _<_}
-use mathlib.Core.Path.{_≡_, refl, ap, sym, _∙_}
-use mathlib.Core.List.{List, [], _∷_, _++_}
-use lib.ListN.{length, getD, take, drop, set}
+-- `lending::add_edits` meets its contract. Assumes nothing.
+use Prim.Native.Nat.{ℕ, _-_, _≤_, _<_}
+use mathlib.Core.Path.{_≡_}
+use mathlib.Core.List.{[]}
+use lib.ListN.{length, take}
 use native.Mathlib.Omega.{arith}
 use borrow.Author.Needs.{needs}
 use mathlib.Core.List.{map}
@@ -13,10 +14,6 @@ use Rattle.lending.specs.Kept.{Tables}
 use Rattle.lending.proofs.Rows.{rows-none, rows-next}
 use Rattle.lending.proofs.add_edits.Statement.{statement}
 use Rattle.lending.proofs.add_edits.Tie as tie
-use Rattle.lending.proofs.add_edits.Reads as reads
-use Rattle.lending.proofs.add_edits.Lts as lts
-use Rattle.lending.proofs.add_edit.Reads as add-edit-reads
-use Rattle.row.proofs.edit_row.Reads as edit-row-reads
 
 abbrev Inv-loop : tie.InvT-loop
 Inv-loop kept₀ k n edits more₀ i₀ kept more i =
@@ -26,35 +23,27 @@ Inv-loop kept₀ k n edits more₀ i₀ kept more i =
 abbrev μ-loop : tie.MeasureT-loop
 μ-loop kept₀ k n edits more₀ i₀ kept more i = n - i
 
--- src/lib.rt:130:5
 loop-holds : tie.Need-loop-holds Inv-loop μ-loop
 loop-holds c = (search needs, c .pre, search needs, search needs, λ tables T e h. rows-none editRow [] tables _ h e T)
 
--- src/lib.rt:131:17
 mul-e : tie.Need-mul-e Inv-loop μ-loop
 mul-e c = search needs
 
--- src/lib.rt:131:17
 array-copy-out-e : tie.Need-array-copy-out-e Inv-loop μ-loop
 array-copy-out-e c = search needs
 
--- src/lib.rt:132:13
 edit-row-requires : tie.Need-edit-row-requires Inv-loop μ-loop
 edit-row-requires c κs = search needs
 
--- src/lib.rt:133:13
 add-edit-requires : tie.Need-add-edit-requires Inv-loop μ-loop
 add-edit-requires c κs = search needs
 
--- src/lib.rt:135:9
 add-i : tie.Need-add-i Inv-loop μ-loop
 add-i c = search needs
 
--- src/lib.rt:130:5
 loop-less : tie.Need-loop-less Inv-loop μ-loop
 loop-less c = search needs
 
--- src/lib.rt:130:5
 loop-again : tie.Need-loop-again Inv-loop μ-loop
 loop-again c =
     let o = c .before .before .before .before .before .before .before in
@@ -66,11 +55,9 @@ loop-again c =
       λ tables T e h. rows-next editRow _ tables _ h (o .loop .i) fillerEdit (omega arith) (omega arith) (c .before .before .before .before .edit-row .ensures) (c .before .before .add-edit .ensures _ (v .4 tables T e h) .1),
     )
 
--- src/lib.rt:117:1
 same-length : tie.Need-same-length Inv-loop μ-loop
 same-length c = c .before .loop .inv .3
 
--- src/lib.rt:117:1
 returns : tie.Need-returns Inv-loop μ-loop
 returns c = let v = c .before .loop .inv in λ tables T e h. let q : c .before .loop .i ≡ c .before .before .args .n = omega arith in rw q at (v .4 tables T e h)
 

@@ -1,7 +1,5 @@
-use Prim.Native.Nat.{ℕ, zero, suc, _+_, _-_, _*_, _≤_, _<_}
-use mathlib.Core.Path.{_≡_, refl, ap, sym, _∙_}
-use mathlib.Core.List.{List, [], _∷_, _++_}
-use lib.ListN.{length, getD, take, drop, set}
+-- `lending::lend_record` meets its contract. Assumes nothing.
+use mathlib.Core.List.{[]}
 use native.Mathlib.Omega.{arith}
 use borrow.Author.Needs.{needs}
 use Rattle.lending.proofs.Settings.{no-such-record, edits-many, constraints-many, record-lent}
@@ -9,49 +7,34 @@ use Rattle.lending.specs.Lent.{with}
 use Rattle.lending.proofs.Rows.{with-same}
 use Rattle.lending.proofs.lend_record.Statement.{statement}
 use Rattle.lending.proofs.lend_record.Tie as tie
-use Rattle.lending.proofs.lend_record.Reads as reads
-use Rattle.lending.proofs.lend_record.Lts as lts
-use Rattle.lending.proofs.add_constraints.Reads as add-constraints-reads
-use Rattle.lending.proofs.add_edits.Reads as add-edits-reads
-use Rattle.lending.proofs.without_rows.Reads as without-rows-reads
 
--- src/lib.rt:265:9
 returns : tie.Need-returns
 returns c = λ L R K q a b. no-such-record K _ R (c .if1 .taken)
 
--- src/lib.rt:274:9
 returns-2 : tie.Need-returns-2
 returns-2 c = λ L R K q a b. edits-many K 0 R _ q a (c .if2 .taken)
 
--- src/lib.rt:280:9
 returns-3 : tie.Need-returns-3
 returns-3 c = λ L R K q a b. constraints-many K 0 R _ q b (c .if3 .taken)
 
--- src/lib.rt:289:9
 without-rows-requires : tie.Need-without-rows-requires
 without-rows-requires c κs = search needs
 
--- src/lib.rt:290:9
 without-rows-requires-2 : tie.Need-without-rows-requires-2
 without-rows-requires-2 c κs = search needs
 
--- src/lib.rt:291:9
 add-edits-requires : tie.Need-add-edits-requires
 add-edits-requires c κs = search needs
 
--- src/lib.rt:292:9
 add-constraints-requires : tie.Need-add-constraints-requires
 add-constraints-requires c κs = search needs
 
--- src/lib.rt:253:1
 same-length : tie.Need-same-length
 same-length c = search needs
 
--- src/lib.rt:253:1
 same-length-2 : tie.Need-same-length-2
 same-length-2 c = search needs
 
--- src/lib.rt:253:1
 returns-4 : tie.Need-returns-4
 returns-4 c =
     let w = c .before .before .before .before .before .before in

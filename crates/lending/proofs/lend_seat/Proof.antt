@@ -1,37 +1,24 @@
-use Prim.Native.Nat.{ℕ, zero, suc, _+_, _-_, _*_, _≤_, _<_}
-use mathlib.Core.Path.{_≡_, refl, ap, sym, _∙_}
-use mathlib.Core.List.{List, [], _∷_, _++_}
-use lib.ListN.{length, getD, take, drop, set}
-use native.Mathlib.Omega.{arith}
+-- `lending::lend_seat` meets its contract. Assumes nothing.
 use borrow.Author.Needs.{needs}
 use Rattle.lending.proofs.Settings.{seat-bench, seat-weight, seat-lent}
 use Rattle.lending.proofs.lend_seat.Statement.{statement}
 use Rattle.lending.proofs.lend_seat.Tie as tie
-use Rattle.lending.proofs.lend_seat.Reads as reads
-use Rattle.lending.proofs.lend_seat.Lts as lts
-use Rattle.roll.proofs.with_row.Reads as with-row-reads
 
--- src/lib.rt:312:9
 returns : tie.Need-returns
 returns c = λ L edits constraints K. seat-bench K _ _ (c .if1 .taken)
 
--- src/lib.rt:318:9
 returns-2 : tie.Need-returns-2
 returns-2 c = λ L edits constraints K. seat-weight K _ _ (c .if2 .taken)
 
--- src/lib.rt:324:16
 cast-t8 : tie.Need-cast-t8
 cast-t8 c = search needs
 
--- src/lib.rt:325:17
 cast-t9 : tie.Need-cast-t9
 cast-t9 c = search needs
 
--- src/lib.rt:329:5
 with-row-requires : tie.Need-with-row-requires
 with-row-requires c κs = search needs
 
--- src/lib.rt:307:1
 returns-3 : tie.Need-returns-3
 returns-3 c = λ L edits constraints K. seat-lent K _ _ (c .before .before .before .if1 .left) (c .before .before .if2 .left) (c .with-row .ensures)
 

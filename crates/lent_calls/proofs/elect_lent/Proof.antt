@@ -1,87 +1,61 @@
-use Prim.Native.Nat.{ℕ, zero, suc, _+_, _-_, _*_, _≤_, _<_}
-use mathlib.Core.Path.{_≡_, refl, ap, sym, _∙_}
-use mathlib.Core.List.{List, [], _∷_, _++_}
-use lib.ListN.{length, getD, take, drop, set}
+-- `lent_calls::elect_lent` meets its contract. Assumes nothing.
 use native.Mathlib.Omega.{arith}
 use borrow.Author.Needs.{needs}
 use Rattle.lent_calls.proofs.Given.{eight, election-given}
 use Rattle.lent_calls.proofs.elect_lent.Statement.{statement}
 use Rattle.lent_calls.proofs.elect_lent.Tie as tie
-use Rattle.lent_calls.proofs.elect_lent.Reads as reads
-use Rattle.lent_calls.proofs.elect_lent.Lts as lts
-use Rattle.count.proofs.election.Reads as election-reads
-use Rattle.lending.proofs.constraints_of.Reads as constraints-of-reads
-use Rattle.lending.proofs.edits_of.Reads as edits-of-reads
 
--- src/lib.rt:57:13
 edits-of-requires : tie.Need-edits-of-requires
 edits-of-requires c κs = search needs
 
--- src/lib.rt:58:13
 edits-of-requires-2 : tie.Need-edits-of-requires-2
 edits-of-requires-2 c κs = search needs
 
--- src/lib.rt:59:13
 edits-of-requires-3 : tie.Need-edits-of-requires-3
 edits-of-requires-3 c κs = search needs
 
--- src/lib.rt:60:13
 edits-of-requires-4 : tie.Need-edits-of-requires-4
 edits-of-requires-4 c κs = search needs
 
--- src/lib.rt:61:13
 edits-of-requires-5 : tie.Need-edits-of-requires-5
 edits-of-requires-5 c κs = search needs
 
--- src/lib.rt:62:13
 edits-of-requires-6 : tie.Need-edits-of-requires-6
 edits-of-requires-6 c κs = search needs
 
--- src/lib.rt:63:13
 edits-of-requires-7 : tie.Need-edits-of-requires-7
 edits-of-requires-7 c κs = search needs
 
--- src/lib.rt:64:13
 edits-of-requires-8 : tie.Need-edits-of-requires-8
 edits-of-requires-8 c κs = search needs
 
--- src/lib.rt:67:13
 constraints-of-requires : tie.Need-constraints-of-requires
 constraints-of-requires c κs = search needs
 
--- src/lib.rt:68:13
 constraints-of-requires-2 : tie.Need-constraints-of-requires-2
 constraints-of-requires-2 c κs = search needs
 
--- src/lib.rt:69:13
 constraints-of-requires-3 : tie.Need-constraints-of-requires-3
 constraints-of-requires-3 c κs = search needs
 
--- src/lib.rt:70:13
 constraints-of-requires-4 : tie.Need-constraints-of-requires-4
 constraints-of-requires-4 c κs = search needs
 
--- src/lib.rt:71:13
 constraints-of-requires-5 : tie.Need-constraints-of-requires-5
 constraints-of-requires-5 c κs = search needs
 
--- src/lib.rt:72:13
 constraints-of-requires-6 : tie.Need-constraints-of-requires-6
 constraints-of-requires-6 c κs = search needs
 
--- src/lib.rt:73:13
 constraints-of-requires-7 : tie.Need-constraints-of-requires-7
 constraints-of-requires-7 c κs = search needs
 
--- src/lib.rt:74:13
 constraints-of-requires-8 : tie.Need-constraints-of-requires-8
 constraints-of-requires-8 c κs = search needs
 
--- src/lib.rt:54:5
 election-requires : tie.Need-election-requires
 election-requires c κs = search needs
 
--- src/lib.rt:44:1
 returns : tie.Need-returns
 returns c =
     λ L K.

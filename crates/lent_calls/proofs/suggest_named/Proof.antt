@@ -1,7 +1,5 @@
-use Prim.Native.Nat.{ℕ, zero, suc, _+_, _-_, _*_, _≤_, _<_}
-use mathlib.Core.Path.{_≡_, refl, ap, sym, _∙_}
-use mathlib.Core.List.{List, [], _∷_, _++_}
-use lib.ListN.{length, getD, take, drop, set}
+-- `lent_calls::suggest_named` meets its contract. Assumes nothing.
+use mathlib.Core.Path.{sym, _∙_}
 use native.Mathlib.Omega.{arith}
 use borrow.Author.Needs.{needs}
 use Rattle.lent_calls.proofs.Named.{first-unnamed, second-unnamed, no-case, first-unknown, second-unknown, both-named}
@@ -9,91 +7,64 @@ use borrow.Author.Tests.{not-true, not-false}
 use Rattle.row.proofs.Cells.{name-small}
 use Rattle.lent_calls.proofs.suggest_named.Statement.{statement}
 use Rattle.lent_calls.proofs.suggest_named.Tie as tie
-use Rattle.lent_calls.proofs.suggest_named.Reads as reads
-use Rattle.lent_calls.proofs.suggest_named.Lts as lts
-use Rattle.lent_calls.proofs.no_suggestion.Reads as no-suggestion-reads
-use Rattle.lent_calls.proofs.row_named.Reads as row-named-reads
-use Rattle.lookup.proofs.knows.Reads as knows-reads
-use Rattle.row.proofs.is_name.Reads as is-name-reads
-use Rattle.suggest.proofs.suggest.Reads as suggest-reads
 
--- src/lib.rt:226:9
 is-name-requires : tie.Need-is-name-requires
 is-name-requires c κs = search needs
 
--- src/lib.rt:227:9
 no-suggestion-requires : tie.Need-no-suggestion-requires
 no-suggestion-requires c κs = search needs
 
--- src/lib.rt:227:9
 returns : tie.Need-returns
 returns c = λ R q v. first-unnamed R _ _ _ (c .no-suggestion .ensures) (sym (c .before .before .is-name .ensures) ∙ not-true _ (c .before .if1 .taken))
 
--- src/lib.rt:229:9
 is-name-requires-2 : tie.Need-is-name-requires-2
 is-name-requires-2 c κs = search needs
 
--- src/lib.rt:230:9
 no-suggestion-requires-2 : tie.Need-no-suggestion-requires-2
 no-suggestion-requires-2 c κs = search needs
 
--- src/lib.rt:230:9
 returns-2 : tie.Need-returns-2
 returns-2 c = λ R q v. second-unnamed R _ _ _ (sym (c .before .before .before .before .is-name .ensures) ∙ not-false _ (c .before .before .before .if1 .left)) (c .no-suggestion2 .ensures) (sym (c .before .before .is-name2 .ensures) ∙ not-true _ (c .before .if2 .taken))
 
--- src/lib.rt:233:9
 no-suggestion-requires-3 : tie.Need-no-suggestion-requires-3
 no-suggestion-requires-3 c κs = search needs
 
--- src/lib.rt:233:9
 returns-3 : tie.Need-returns-3
 returns-3 c = λ R q v. no-case R _ _ _ (sym (c .before .before .before .before .before .is-name .ensures) ∙ not-false _ (c .before .before .before .before .if1 .left)) (sym (c .before .before .before .is-name2 .ensures) ∙ not-false _ (c .before .before .if2 .left)) (c .no-suggestion3 .ensures) (c .before .if3 .taken)
 
--- src/lib.rt:235:13
 cast-a : tie.Need-cast-a
 cast-a c = omega (arith, name-small _ (sym (c .before .before .before .before .is-name .ensures) ∙ not-false _ (c .before .before .before .if1 .left)))
 
--- src/lib.rt:236:13
 cast-b : tie.Need-cast-b
 cast-b c = omega (arith, name-small _ (sym (c .before .before .is-name2 .ensures) ∙ not-false _ (c .before .if2 .left)))
 
--- src/lib.rt:237:9
 knows-requires : tie.Need-knows-requires
 knows-requires c κs = search needs
 
--- src/lib.rt:238:9
 no-suggestion-requires-4 : tie.Need-no-suggestion-requires-4
 no-suggestion-requires-4 c κs = search needs
 
--- src/lib.rt:238:9
 returns-4 : tie.Need-returns-4
 returns-4 c = λ R q v. first-unknown R _ _ _ (sym (c .before .before .before .before .before .before .before .is-name .ensures) ∙ not-false _ (c .before .before .before .before .before .before .if1 .left)) (sym (c .before .before .before .before .before .is-name2 .ensures) ∙ not-false _ (c .before .before .before .before .if2 .left)) (c .before .before .before .if3 .left) (c .no-suggestion4 .ensures) (sym (c .before .before .knows .ensures R q v) ∙ not-true _ (c .before .if4 .taken))
 
--- src/lib.rt:240:9
 knows-requires-2 : tie.Need-knows-requires-2
 knows-requires-2 c κs = search needs
 
--- src/lib.rt:241:9
 no-suggestion-requires-5 : tie.Need-no-suggestion-requires-5
 no-suggestion-requires-5 c κs = search needs
 
--- src/lib.rt:241:9
 returns-5 : tie.Need-returns-5
 returns-5 c = λ R q v. second-unknown R _ _ _ (sym (c .before .before .before .before .before .before .before .before .before .is-name .ensures) ∙ not-false _ (c .before .before .before .before .before .before .before .before .if1 .left)) (sym (c .before .before .before .before .before .before .before .is-name2 .ensures) ∙ not-false _ (c .before .before .before .before .before .before .if2 .left)) (c .before .before .before .before .before .if3 .left) (sym (c .before .before .before .before .knows .ensures R q v) ∙ not-false _ (c .before .before .before .if4 .left)) (c .no-suggestion5 .ensures) (sym (c .before .before .knows2 .ensures R q v) ∙ not-true _ (c .before .if5 .taken))
 
--- src/lib.rt:243:9
 row-named-requires : tie.Need-row-named-requires
 row-named-requires c κs = search needs
 
--- src/lib.rt:244:9
 row-named-requires-2 : tie.Need-row-named-requires-2
 row-named-requires-2 c κs = search needs
 
--- src/lib.rt:245:5
 suggest-requires : tie.Need-suggest-requires
 suggest-requires c κs = search needs
 
--- src/lib.rt:223:1
 returns-6 : tie.Need-returns-6
 returns-6 c =
     λ R q v.

@@ -1,39 +1,25 @@
-use Prim.Native.Nat.{ℕ, zero, suc, _+_, _-_, _*_, _≤_, _<_}
-use mathlib.Core.Path.{_≡_, refl, ap, sym, _∙_}
-use mathlib.Core.List.{List, [], _∷_, _++_}
-use lib.ListN.{length, getD, take, drop, set}
+-- `lent_calls::test_lent` meets its contract. Assumes nothing.
 use native.Mathlib.Omega.{arith}
 use borrow.Author.Needs.{needs}
 use Rattle.lent_calls.proofs.Given.{row-elsewhere, row-given}
 use Rattle.lent_calls.proofs.test_lent.Statement.{statement}
 use Rattle.lent_calls.proofs.test_lent.Tie as tie
-use Rattle.lent_calls.proofs.test_lent.Reads as reads
-use Rattle.lent_calls.proofs.test_lent.Lts as lts
-use Rattle.lending.proofs.constraints_of.Reads as constraints-of-reads
-use Rattle.lending.proofs.edits_of.Reads as edits-of-reads
-use Rattle.lent_calls.proofs.test_names.Reads as test-names-reads
 
--- src/lib.rt:135:9
 returns : tie.Need-returns
 returns c = λ L K. row-elsewhere L _ (c .if1 .taken)
 
--- src/lib.rt:141:9
 returns-2 : tie.Need-returns-2
 returns-2 c = λ L K. absurd (let h = c .if2 .taken in let g = K .rowfew in omega arith)
 
--- src/lib.rt:151:9
 edits-of-requires : tie.Need-edits-of-requires
 edits-of-requires c κs = search needs
 
--- src/lib.rt:152:9
 constraints-of-requires : tie.Need-constraints-of-requires
 constraints-of-requires c κs = search needs
 
--- src/lib.rt:150:5
 test-names-requires : tie.Need-test-names-requires
 test-names-requires c κs = search needs
 
--- src/lib.rt:125:1
 returns-3 : tie.Need-returns-3
 returns-3 c = λ L K. let h = c .before .before .before .before .before .before .before .if1 .left in row-given L _ h (c .test-names .ensures) (c .before .before .edits-of .ensures (L .edits) (K .edits) (omega arith)) (c .before .constraints-of .ensures (L .constraints) (K .constraints) (omega arith)) (K .row)
 

@@ -1,78 +1,55 @@
-use Prim.Native.Nat.{ℕ, zero, suc, _+_, _-_, _*_, _≤_, _<_}
-use mathlib.Core.Path.{_≡_, refl, ap, sym, _∙_}
-use mathlib.Core.List.{List, [], _∷_, _++_}
-use lib.ListN.{length, getD, take, drop, set}
+-- `lent_proposals::propose_lent` meets its contract. Assumes nothing.
 use native.Mathlib.Omega.{arith}
 use borrow.Author.Needs.{needs}
 use Rattle.lent_proposals.proofs.Making.{record-elsewhere, old-elsewhere, rows-stop, few-edits, few-constraints, whole}
 use Rattle.lent_proposals.proofs.propose_lent.Statement.{statement}
 use Rattle.lent_proposals.proofs.propose_lent.Tie as tie
-use Rattle.lent_proposals.proofs.propose_lent.Reads as reads
-use Rattle.lent_proposals.proofs.propose_lent.Lts as lts
-use Rattle.lending.proofs.constraints_of.Reads as constraints-of-reads
-use Rattle.lending.proofs.edits_of.Reads as edits-of-reads
-use Rattle.propose.proofs.new_proposal.Reads as new-proposal-reads
 
--- src/lib.rt:34:9
 stopped-requires : tie.Need-stopped-requires
 stopped-requires c κs = search needs
 
--- src/lib.rt:34:9
 returns : tie.Need-returns
 returns c = λ L K. record-elsewhere L _ _ _ _ (c .before .if1 .taken) (c .stopped .ensures)
 
--- src/lib.rt:37:9
 stopped-requires-2 : tie.Need-stopped-requires-2
 stopped-requires-2 c κs = search needs
 
--- src/lib.rt:37:9
 returns-2 : tie.Need-returns-2
 returns-2 c = λ L K. old-elsewhere L _ _ _ _ (c .before .if2 .taken) (c .stopped2 .ensures)
 
--- src/lib.rt:42:9
 edits-of-requires : tie.Need-edits-of-requires
 edits-of-requires c κs = search needs
 
--- src/lib.rt:43:9
 constraints-of-requires : tie.Need-constraints-of-requires
 constraints-of-requires c κs = search needs
 
--- src/lib.rt:44:9
 edits-of-requires-2 : tie.Need-edits-of-requires-2
 edits-of-requires-2 c κs = search needs
 
--- src/lib.rt:45:9
 constraints-of-requires-2 : tie.Need-constraints-of-requires-2
 constraints-of-requires-2 c κs = search needs
 
--- src/lib.rt:41:9
 new-proposal-requires : tie.Need-new-proposal-requires
 new-proposal-requires c κs = search needs
 
--- src/lib.rt:48:9
 returns-3 : tie.Need-returns-3
 returns-3 c =
     λ L K. let h = c .before .before .before .before .before .before .before .before .before .before .if1 .left in let i = c .before .before .before .before .before .before .before .before .before .if2 .left in rows-stop L _ _ _ _ h i _ (c .before .before .new-proposal .ensures) (c .before .before .before .before .before .before .edits-of .ensures (L .edits) (K .edits) (omega arith)) (c .before .before .before .before .before .constraints-of .ensures (L .constraints) (K .constraints) (omega arith)) (c .before .before .before .before .edits-of2 .ensures (L .edits) (K .edits) (omega arith)) (c .before .before .before .constraints-of2 .ensures (L .constraints) (K .constraints) (omega arith)) (c .if3 .taken)
 
--- src/lib.rt:52:9
 stopped-requires-3 : tie.Need-stopped-requires-3
 stopped-requires-3 c κs = search needs
 
--- src/lib.rt:52:9
 returns-4 : tie.Need-returns-4
 returns-4 c =
     λ L K. let h = c .before .before .before .before .before .before .before .before .before .before .before .before .before .before .if1 .left in let i = c .before .before .before .before .before .before .before .before .before .before .before .before .before .if2 .left in few-edits L _ _ _ _ h i _ (c .before .before .before .before .before .before .new-proposal .ensures) (c .before .before .before .before .before .before .before .before .before .before .edits-of .ensures (L .edits) (K .edits) (omega arith)) (c .before .before .before .before .before .before .before .before .before .constraints-of .ensures (L .constraints) (K .constraints) (omega arith)) (c .before .before .before .before .before .before .before .before .edits-of2 .ensures (L .edits) (K .edits) (omega arith)) (c .before .before .before .before .before .before .before .constraints-of2 .ensures (L .constraints) (K .constraints) (omega arith)) (c .before .before .before .before .if3 .left) (c .before .if4 .taken) (c .stopped3 .ensures)
 
--- src/lib.rt:55:9
 stopped-requires-4 : tie.Need-stopped-requires-4
 stopped-requires-4 c κs = search needs
 
--- src/lib.rt:55:9
 returns-5 : tie.Need-returns-5
 returns-5 c =
     λ L K. let h = c .before .before .before .before .before .before .before .before .before .before .before .before .before .before .before .before .if1 .left in let i = c .before .before .before .before .before .before .before .before .before .before .before .before .before .before .before .if2 .left in few-constraints L _ _ _ _ h i _ (c .before .before .before .before .before .before .before .before .new-proposal .ensures) (c .before .before .before .before .before .before .before .before .before .before .before .before .edits-of .ensures (L .edits) (K .edits) (omega arith)) (c .before .before .before .before .before .before .before .before .before .before .before .constraints-of .ensures (L .constraints) (K .constraints) (omega arith)) (c .before .before .before .before .before .before .before .before .before .before .edits-of2 .ensures (L .edits) (K .edits) (omega arith)) (c .before .before .before .before .before .before .before .before .before .constraints-of2 .ensures (L .constraints) (K .constraints) (omega arith)) (c .before .before .before .before .before .before .if3 .left) (c .before .before .before .if4 .left) (c .before .if5 .taken) (c .stopped4 .ensures)
 
--- src/lib.rt:22:1
 returns-6 : tie.Need-returns-6
 returns-6 c =
     λ L K. let h = c .before .before .before .before .before .before .before .before .before .before .before .before .before .before .before .if1 .left in let i = c .before .before .before .before .before .before .before .before .before .before .before .before .before .before .if2 .left in whole L _ _ _ _ h i _ (c .before .before .before .before .before .before .before .new-proposal .ensures) (c .before .before .before .before .before .before .before .before .before .before .before .edits-of .ensures (L .edits) (K .edits) (omega arith)) (c .before .before .before .before .before .before .before .before .before .before .constraints-of .ensures (L .constraints) (K .constraints) (omega arith)) (c .before .before .before .before .before .before .before .before .before .edits-of2 .ensures (L .edits) (K .edits) (omega arith)) (c .before .before .before .before .before .before .before .before .constraints-of2 .ensures (L .constraints) (K .constraints) (omega arith)) (c .before .before .before .before .before .if3 .left) (c .before .before .if4 .left) (c .if5 .left)

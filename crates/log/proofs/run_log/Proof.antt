@@ -1,33 +1,22 @@
-use Prim.Native.Nat.{ℕ, zero, suc, _+_, _-_, _*_, _≤_, _<_}
-use mathlib.Core.Path.{_≡_, refl, ap, sym, _∙_}
-use mathlib.Core.List.{List, [], _∷_, _++_}
-use lib.ListN.{length, getD, take, drop, set}
+-- `log::run_log` meets its contract. Assumes nothing.
 use native.Mathlib.Omega.{arith}
 use borrow.Author.Needs.{needs}
 use Rattle.log.proofs.Running.{running-place, running-end}
 use Rattle.log.proofs.run_log.Statement.{statement}
 use Rattle.log.proofs.run_log.Tie as tie
-use Rattle.log.proofs.run_log.Reads as reads
-use Rattle.log.proofs.run_log.Lts as lts
-use Rattle.log.proofs.run_some.Reads as run-some-reads
 
--- src/lib.rt:251:5
 run-some-requires : tie.Need-run-some-requires
 run-some-requires c κs = search needs
 
--- src/lib.rt:234:1
 same-length : tie.Need-same-length
 same-length c = search needs
 
--- src/lib.rt:234:1
 same-length-2 : tie.Need-same-length-2
 same-length-2 c = search needs
 
--- src/lib.rt:234:1
 same-length-3 : tie.Need-same-length-3
 same-length-3 c = search needs
 
--- src/lib.rt:234:1
 returns : tie.Need-returns
 returns c = λ D H s k. let q = c .before .before .before .before .run-some .ensures in let R = q .1 D H s k in let p = running-place _ D _ _ _ R in let e = q .0 .ended (omega arith) in running-end _ D _ _ _ R (omega arith)
 

@@ -1,7 +1,7 @@
-use Prim.Native.Nat.{ℕ, zero, suc, _+_, _-_, _*_, _≤_, _<_}
-use mathlib.Core.Path.{_≡_, refl, ap, sym, _∙_}
-use mathlib.Core.List.{List, [], _∷_, _++_}
-use lib.ListN.{length, getD, take, drop, set}
+-- `log::run_some` meets its contract. Assumes nothing.
+use Prim.Native.Nat.{suc, _+_, _-_, _≤_}
+use mathlib.Core.Path.{_≡_, refl}
+use lib.ListN.{length}
 use native.Mathlib.Omega.{arith}
 use borrow.Author.Needs.{needs}
 use borrow.Author.Tests.{leb-false}
@@ -13,15 +13,6 @@ use Rattle.desk.specs.Desk.{Desk}
 use Rattle.line.proofs.Ends.{next-line}
 use Rattle.log.proofs.run_some.Statement.{statement}
 use Rattle.log.proofs.run_some.Tie as tie
-use Rattle.log.proofs.run_some.Reads as reads
-use Rattle.log.proofs.run_some.Lts as lts
-use Rattle.desk.proofs.call.Reads as call-reads
-use Rattle.desk_calls.proofs.print_outcome.Reads as print-outcome-reads
-use Rattle.line.proofs.line_end.Reads as line-end-reads
-use Rattle.log.proofs.next.Reads as next-reads
-use Rattle.log.proofs.request_of.Reads as request-of-reads
-use Rattle.log.proofs.run_told.Reads as run-told-reads
-use Rattle.orders.proofs.read_order.Reads as read-order-reads
 
 abbrev Inv-loop : tie.InvT-loop
 Inv-loop edits₀ constraints₀ log count out₀ at limit held₀ lent₀ n₀ place₀ from₀ edits constraints out held lent n place from =
@@ -33,51 +24,39 @@ abbrev μ-loop : tie.MeasureT-loop
 μ-loop edits₀ constraints₀ log count out₀ at limit held₀ lent₀ n₀ place₀ from₀ edits constraints out held lent n place from =
     length log - from
 
--- src/lib.rt:196:5
 loop-holds : tie.Need-loop-holds Inv-loop μ-loop
 loop-holds c = (search needs, search needs, search needs, search needs, λ e. refl, λ D H s k. running-start _ D _ _ _ H s)
 
--- src/lib.rt:197:13
 line-end-requires : tie.Need-line-end-requires Inv-loop μ-loop
 line-end-requires c κs = search needs
 
--- src/lib.rt:198:9
 next-requires : tie.Need-next-requires Inv-loop μ-loop
 next-requires c κs = search needs
 
--- src/lib.rt:199:40
 sub-read-order : tie.Need-sub-read-order Inv-loop μ-loop
 sub-read-order c = let x = next-line (c .before .before .before .before .before .before .before .args .log .now) (c .before .before .before .before .loop .from) (c .before .before .before .loop-test .taken) (c .before .line-end .ensures) in omega (arith, x .forward)
 
--- src/lib.rt:199:40
 part-read-order-start : tie.Need-part-read-order-start Inv-loop μ-loop
 part-read-order-start c = let x = next-line (c .before .before .before .before .before .before .before .args .log .now) (c .before .before .before .before .loop .from) (c .before .before .before .loop-test .taken) (c .before .line-end .ensures) in omega (arith, x .forward, x .inside)
 
--- src/lib.rt:199:40
 part-read-order-end : tie.Need-part-read-order-end Inv-loop μ-loop
 part-read-order-end c = let x = next-line (c .before .before .before .before .before .before .before .args .log .now) (c .before .before .before .before .loop .from) (c .before .before .before .loop-test .taken) (c .before .line-end .ensures) in omega (arith, x .inside)
 
--- src/lib.rt:199:13
 read-order-requires : tie.Need-read-order-requires Inv-loop μ-loop
 read-order-requires c κs = search needs
 
--- src/lib.rt:201:13
 request-of-requires : tie.Need-request-of-requires Inv-loop μ-loop
 request-of-requires c κs = search needs
 
--- src/lib.rt:204:17
 call-requires : tie.Need-call-requires Inv-loop μ-loop
 call-requires c κs = search needs
 
--- src/lib.rt:208:13
 print-outcome-requires : tie.Need-print-outcome-requires Inv-loop μ-loop
 print-outcome-requires c κs = search needs
 
--- src/lib.rt:196:5
 loop-less : tie.Need-loop-less Inv-loop μ-loop
 loop-less c = let x = next-line (c .before .before .before .before .before .before .before .before .before .before .before .before .before .before .before .before .before .before .before .before .before .before .args .log .now) (c .before .before .before .before .before .before .before .before .before .before .before .before .before .before .before .before .before .before .before .loop .from) (c .before .before .before .before .before .before .before .before .before .before .before .before .before .before .before .before .before .before .loop-test .taken) (c .before .before .before .before .before .before .before .before .before .before .before .before .before .before .before .before .line-end .ensures) in omega (arith, x .forward, x .inside)
 
--- src/lib.rt:196:5
 loop-again : tie.Need-loop-again Inv-loop μ-loop
 loop-again c =
     let v = c .before .before .before .before .before .before .before .before .before .before .before .before .before .before .before .before .before .before .before .loop .inv in
@@ -94,15 +73,12 @@ loop-again c =
           (λ E G a. line-done E _ _ (c .before .before .before .before .before .before .before .before .before .before .before .before .before .read-order .ensures) (call-done E _ _ (c .before .before .before .before .before .before .before .before .before .before .before .request-of .ensures) (c .before .before .before .before .before .before .before .before .before .before .if2 .taken) _ (c .before .before .before .before .before .before .before .call .ensures) (c .before .before .print-outcome .ensures) G)),
     )
 
--- src/lib.rt:210:17
 run-told-requires : tie.Need-run-told-requires Inv-loop μ-loop
 run-told-requires c κs = let q = c .before .before .before .before .request-of .ensures in let h = c .before .before .before .if2 .left in omega arith
 
--- src/lib.rt:196:5
 loop-less-2 : tie.Need-loop-less-2 Inv-loop μ-loop
 loop-less-2 c = let x = next-line (c .before .before .before .before .before .before .before .before .before .before .before .before .before .before .before .before .before .before .before .before .before .args .log .now) (c .before .before .before .before .before .before .before .before .before .before .before .before .before .before .before .before .before .before .loop .from) (c .before .before .before .before .before .before .before .before .before .before .before .before .before .before .before .before .before .loop-test .taken) (c .before .before .before .before .before .before .before .before .before .before .before .before .before .before .before .line-end .ensures) in omega (arith, x .forward, x .inside)
 
--- src/lib.rt:196:5
 loop-again-2 : tie.Need-loop-again-2 Inv-loop μ-loop
 loop-again-2 c =
     let v = c .before .before .before .before .before .before .before .before .before .before .before .before .before .before .before .before .before .before .loop .inv in
@@ -119,35 +95,27 @@ loop-again-2 c =
           (λ E G a. line-done E _ _ (c .before .before .before .before .before .before .before .before .before .before .before .before .read-order .ensures) (c .before .before .before .before .before .run-told .ensures E G a)),
     )
 
--- src/lib.rt:175:1
 same-length : tie.Need-same-length Inv-loop μ-loop
 same-length c = c .before .before .loop .inv .1
 
--- src/lib.rt:175:1
 same-length-2 : tie.Need-same-length-2 Inv-loop μ-loop
 same-length-2 c = c .before .before .loop .inv .2
 
--- src/lib.rt:175:1
 same-length-3 : tie.Need-same-length-3 Inv-loop μ-loop
 same-length-3 c = c .before .before .loop .inv .3
 
--- src/lib.rt:175:1
 returns : tie.Need-returns Inv-loop μ-loop
 returns c = let v = c .before .before .loop .inv in (stopped-above _ _ (v .0) (v .4) (omega (arith, leb-false, c .if1 .left)), v .5)
 
--- src/lib.rt:175:1
 same-length-4 : tie.Need-same-length-4 Inv-loop μ-loop
 same-length-4 c = c .before .loop .inv .1
 
--- src/lib.rt:175:1
 same-length-5 : tie.Need-same-length-5 Inv-loop μ-loop
 same-length-5 c = c .before .loop .inv .2
 
--- src/lib.rt:175:1
 same-length-6 : tie.Need-same-length-6 Inv-loop μ-loop
 same-length-6 c = c .before .loop .inv .3
 
--- src/lib.rt:175:1
 returns-2 : tie.Need-returns-2 Inv-loop μ-loop
 returns-2 c = let v = c .before .loop .inv in (stopped-end _ _ (v .0) (c .loop-test .left), v .5)
 

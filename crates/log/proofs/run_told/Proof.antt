@@ -1,109 +1,76 @@
-use Prim.Native.Nat.{ℕ, zero, suc, _+_, _-_, _*_, _≤_, _<_}
-use mathlib.Core.Path.{_≡_, refl, ap, sym, _∙_}
-use mathlib.Core.List.{List, [], _∷_, _++_}
-use lib.ListN.{length, getD, take, drop, set}
+-- `log::run_told` meets its contract. Assumes nothing.
 use native.Mathlib.Omega.{arith}
 use borrow.Author.Needs.{needs}
 use Rattle.log.proofs.Orders.{told-kind, none-kind, refused-effect, lend-effect, vote-effect, ask-effect, no-effect, done-as, told-done, refused-done, asked-done}
 use Rattle.log.proofs.run_told.Statement.{statement}
 use Rattle.log.proofs.run_told.Tie as tie
-use Rattle.log.proofs.run_told.Reads as reads
-use Rattle.log.proofs.run_told.Lts as lts
-use Rattle.desk_asks.proofs.print_ask.Reads as print-ask-reads
-use Rattle.desk_calls.proofs.print_refusal.Reads as print-refusal-reads
-use Rattle.desk_calls.proofs.run_lend.Reads as run-lend-reads
-use Rattle.log.proofs.run_vote.Reads as run-vote-reads
-use Rattle.log.proofs.told.Reads as told-reads
 
--- src/lib.rt:94:13
 print-refusal-requires : tie.Need-print-refusal-requires
 print-refusal-requires c κs = search needs
 
--- src/lib.rt:92:9
 told-requires : tie.Need-told-requires
 told-requires c κs = search needs
 
--- src/lib.rt:92:9
 same-length : tie.Need-same-length
 same-length c = search needs
 
--- src/lib.rt:92:9
 returns : tie.Need-returns
 returns c = λ D H a. told-done _ (c .told .ensures) _ (done-as _ (refused-effect D _ (c .before .before .before .before .before .if1 .taken)) (refused-done _ D _ (c .before .before .before .before .before .if1 .taken) H (c .before .before .before .print-refusal .ensures)))
 
--- src/lib.rt:98:9
 run-lend-requires : tie.Need-run-lend-requires
 run-lend-requires c κs = search needs
 
--- src/lib.rt:98:9
 same-length-2 : tie.Need-same-length-2
 same-length-2 c = search needs
 
--- src/lib.rt:98:9
 same-length-3 : tie.Need-same-length-3
 same-length-3 c = search needs
 
--- src/lib.rt:98:9
 same-length-4 : tie.Need-same-length-4
 same-length-4 c = search needs
 
--- src/lib.rt:98:9
 returns-2 : tie.Need-returns-2
 returns-2 c = λ D H a. done-as _ (lend-effect D _ (c .before .before .before .before .before .before .before .before .before .if1 .left) (c .before .before .before .before .before .before .before .before .if2 .taken)) (c .before .before .before .before .run-lend .ensures D H (c .before .before .before .before .before .before .before .before .if2 .taken) a)
 
--- src/lib.rt:116:13
 sub-run-vote : tie.Need-sub-run-vote
 sub-run-vote c = told-kind _ (c .before .before .before .before .if1 .left) (c .before .before .before .before .before .before .before .before .pre) (c .before .before .before .if2 .left)
 
--- src/lib.rt:111:9
 run-vote-requires : tie.Need-run-vote-requires
 run-vote-requires c κs = search needs
 
--- src/lib.rt:111:9
 same-length-5 : tie.Need-same-length-5
 same-length-5 c = search needs
 
--- src/lib.rt:111:9
 same-length-6 : tie.Need-same-length-6
 same-length-6 c = search needs
 
--- src/lib.rt:111:9
 same-length-7 : tie.Need-same-length-7
 same-length-7 c = search needs
 
--- src/lib.rt:111:9
 returns-3 : tie.Need-returns-3
 returns-3 c = λ D H a. let g = told-kind _ (c .before .before .before .before .before .before .before .before .before .before .if1 .left) (c .before .before .before .before .before .before .before .before .before .before .before .before .before .before .pre) (c .before .before .before .before .before .before .before .before .before .if2 .left) in let h = c .before .before .before .before .before .before .before .before .if3 .taken in done-as _ (vote-effect D _ (c .before .before .before .before .before .before .before .before .before .before .if1 .left) g h) (c .before .before .before .before .run-vote .ensures D H (omega arith))
 
--- src/lib.rt:126:13
 print-ask-requires : tie.Need-print-ask-requires
 print-ask-requires c κs = search needs
 
--- src/lib.rt:124:9
 told-requires-2 : tie.Need-told-requires-2
 told-requires-2 c κs = search needs
 
--- src/lib.rt:124:9
 same-length-8 : tie.Need-same-length-8
 same-length-8 c = search needs
 
--- src/lib.rt:124:9
 returns-4 : tie.Need-returns-4
 returns-4 c = λ D H a. let g = c .before .before .before .before .before .before .if3 .left in let h = c .before .before .before .before .before .if4 .taken in told-done _ (c .told2 .ensures) _ (done-as _ (ask-effect D _ (c .before .before .before .before .before .before .before .before .if1 .left) g h) (asked-done _ D _ _ H (c .before .before .before .print-ask .ensures D (H .benched) (omega arith))))
 
--- src/lib.rt:131:9
 print-refusal-requires-2 : tie.Need-print-refusal-requires-2
 print-refusal-requires-2 c κs = search needs
 
--- src/lib.rt:129:5
 told-requires-3 : tie.Need-told-requires-3
 told-requires-3 c κs = search needs
 
--- src/lib.rt:74:1
 same-length-9 : tie.Need-same-length-9
 same-length-9 c = search needs
 
--- src/lib.rt:74:1
 returns-5 : tie.Need-returns-5
 returns-5 c = λ D H a. let g = none-kind _ (c .before .before .before .before .before .before .before .before .if1 .left) (c .before .before .before .before .before .before .before .before .before .before .before .before .pre) (c .before .before .before .before .before .if4 .left) in told-done _ (c .told3 .ensures) _ (done-as _ (no-effect D _ (c .before .before .before .before .before .before .before .before .if1 .left) g) (refused-done _ D 2 (λ z. omega arith) H (c .before .before .before .print-refusal2 .ensures)))
 

@@ -1,16 +1,12 @@
-use Prim.Native.Nat.{ℕ, zero, suc, _+_, _-_, _*_, _≤_, _<_}
-use mathlib.Core.Path.{_≡_, refl, ap, sym, _∙_}
-use mathlib.Core.List.{List, [], _∷_, _++_}
-use lib.ListN.{length, getD, take, drop, set}
+-- `player::run_lines` meets its contract. Assumes nothing.
+use Prim.Native.Nat.{_-_, _≤_}
+use mathlib.Core.Path.{_≡_}
+use lib.ListN.{length}
 use native.Mathlib.Omega.{arith}
 use borrow.Author.Needs.{needs}
 use Rattle.player.proofs.Parts.{further}
 use Rattle.player.proofs.run_lines.Statement.{statement}
 use Rattle.player.proofs.run_lines.Tie as tie
-use Rattle.player.proofs.run_lines.Reads as reads
-use Rattle.player.proofs.run_lines.Lts as lts
-use Rattle.log.proofs.run_some.Reads as run-some-reads
-use Rattle.player.proofs.print.Reads as print-reads
 
 abbrev Inv-loop : tie.InvT-loop
 Inv-loop edits₀ constraints₀ log count out₀ held₀ lent₀ lines₀ from₀ edits constraints out held lent lines from =
@@ -20,55 +16,42 @@ abbrev μ-loop : tie.MeasureT-loop
 μ-loop edits₀ constraints₀ log count out₀ held₀ lent₀ lines₀ from₀ edits constraints out held lent lines from =
     length log - from
 
--- src/lib.rt:46:5
 loop-holds : tie.Need-loop-holds Inv-loop μ-loop
 loop-holds c = search needs
 
--- src/lib.rt:52:13
 sub-run-some : tie.Need-sub-run-some Inv-loop μ-loop
 sub-run-some c = search needs
 
--- src/lib.rt:52:13
 part-run-some-start : tie.Need-part-run-some-start Inv-loop μ-loop
 part-run-some-start c = search needs
 
--- src/lib.rt:52:13
 part-run-some-end : tie.Need-part-run-some-end Inv-loop μ-loop
 part-run-some-end c = search needs
 
--- src/lib.rt:47:13
 run-some-requires : tie.Need-run-some-requires Inv-loop μ-loop
 run-some-requires c κs = search needs
 
--- src/lib.rt:58:9
 print-requires : tie.Need-print-requires Inv-loop μ-loop
 print-requires c κs = search needs
 
--- src/lib.rt:62:9
 add-from : tie.Need-add-from Inv-loop μ-loop
 add-from c = let x = further (c .before .before .before .before .before .before .before .before .before .before .before .before .before .before .before .before .before .before .args .log .now) (c .before .before .before .before .before .before .before .before .before .before .before .before .before .before .before .loop .from) 32768 (c .before .before .before .before .before .before .before .before .before .before .before .before .before .before .loop-test .taken) (c .before .before .before .before .before .before .before .before .before .run-some .ensures .0) in omega (arith, x .1, c .before .before .before .before .before .before .before .before .before .before .before .before .before .before .before .before .before .before .good)
 
--- src/lib.rt:46:5
 loop-less : tie.Need-loop-less Inv-loop μ-loop
 loop-less c = let x = further (c .before .before .before .before .before .before .before .before .before .before .before .before .before .before .before .before .before .before .args .log .now) (c .before .before .before .before .before .before .before .before .before .before .before .before .before .before .before .loop .from) 32768 (c .before .before .before .before .before .before .before .before .before .before .before .before .before .before .loop-test .taken) (c .before .before .before .before .before .before .before .before .before .run-some .ensures .0) in omega (arith, x .0, x .1)
 
--- src/lib.rt:46:5
 loop-again : tie.Need-loop-again Inv-loop μ-loop
 loop-again c = let x = further (c .before .before .before .before .before .before .before .before .before .before .before .before .before .before .before .before .before .before .args .log .now) (c .before .before .before .before .before .before .before .before .before .before .before .before .before .before .before .loop .from) 32768 (c .before .before .before .before .before .before .before .before .before .before .before .before .before .before .loop-test .taken) (c .before .before .before .before .before .before .before .before .before .run-some .ensures .0) in let v = c .before .before .before .before .before .before .before .before .before .before .before .before .before .before .before .loop .inv in (omega (arith, x .1), search (needs, v .1), search (needs, v .2), search (needs, v .3))
 
--- src/lib.rt:33:1
 same-length : tie.Need-same-length Inv-loop μ-loop
 same-length c = search needs
 
--- src/lib.rt:33:1
 same-length-2 : tie.Need-same-length-2 Inv-loop μ-loop
 same-length-2 c = search needs
 
--- src/lib.rt:33:1
 same-length-3 : tie.Need-same-length-3 Inv-loop μ-loop
 same-length-3 c = search needs
 
--- src/lib.rt:33:1
 returns : tie.Need-returns Inv-loop μ-loop
 returns c = search needs
 
