@@ -1,5 +1,6 @@
 //! Measures the proved code against plain Rust and prints a table.
 
+mod baseline;
 mod calls;
 mod clock;
 mod processes;
@@ -15,12 +16,18 @@ use std::process::ExitCode;
 
 const USAGE: &str = "\
 usage: benchmark [--short] [--row NAME] [--shelf PATH] [--replay PATH]
+       benchmark --plain-shelf | --plain-replay
 
   --short        a quick run with rough figures
   --row NAME     only the rows whose name has this in it
   --shelf PATH   the proved program (../target/bin/shelf)
   --replay PATH  the proved program (../target/bin/replay)
+  --plain-shelf, --plain-replay  be the baseline's program instead
 ";
+
+/// The first word that makes this the baseline's program.
+const PLAIN_SHELF: &str = "--plain-shelf";
+const PLAIN_REPLAY: &str = "--plain-replay";
 
 /// How many lines and rounds the logs of cheap lines and of questions have.
 const TURN_LINES: usize = 6_000;
@@ -59,21 +66,45 @@ impl Options {
 }
 
 fn main() -> ExitCode {
-    let Some(options) = Options::read(std::env::args().skip(1)) else {
-        eprint!("{USAGE}");
-        return ExitCode::from(2);
-    };
+    // Processes of the baseline are this program too.
+    match std::env::args().nth(1).as_deref() {
+        Some(PLAIN_SHELF) => return ended(baseline::run_shelf()),
+        Some(PLAIN_REPLAY) => return ended(baseline::run_replay()),
+        _ => {}
+    }
+    match Options::read(std::env::args().skip(1)) {
+        Some(options) => {
+            measure(&options);
+            ExitCode::SUCCESS
+        }
+        None => {
+            eprint!("{USAGE}");
+            ExitCode::from(2)
+        }
+    }
+}
+
+fn ended(done: std::io::Result<()>) -> ExitCode {
+    match done {
+        Ok(()) => ExitCode::SUCCESS,
+        Err(error) => {
+            eprintln!("{error}");
+            ExitCode::FAILURE
+        }
+    }
+}
+
+fn measure(options: &Options) {
     let mut table = Table { row: &options.row, greatest: None };
     println!("| Row | Rattle µs | Rust µs | Ratio |\n|---|---:|---:|---:|");
     let shapes = shapes();
     measure_calls(&shapes, &mut table, options.effort);
     measure_logs(&shapes, &mut table, options.effort);
-    measure_processes(&shapes, &mut table, &options);
+    measure_processes(&shapes, &mut table, options);
     match table.greatest {
         Some((row, ratio)) => println!("\nGreatest ratio: {ratio:.2} ({row})"),
         None => println!("\nNo such row."),
     }
-    ExitCode::SUCCESS
 }
 
 /// Prints rows as they are measured.
@@ -143,16 +174,16 @@ fn measure_logs(shapes: &[Shape], table: &mut Table, effort: Effort) {
 }
 
 fn measure_processes(shapes: &[Shape], table: &mut Table, options: &Options) {
-    let plain = std::env::current_exe().expect("this program has a path").with_file_name("plain");
+    let plain = std::env::current_exe().expect("this program has a path");
     let runs = options.effort.runs;
     let program = |path: &PathBuf, arguments| Program { path: path.clone(), arguments };
-    let (proved, baseline) = (program(&options.shelf, &[]), program(&plain, &["shelf"]));
+    let (proved, baseline) = (program(&options.shelf, &[]), program(&plain, &[PLAIN_SHELF]));
     for shape in shapes {
         let row = format!("process shelf, {}", shape.name);
         let text = shape.text();
         table.measure(&row, || processes::compared(&row, &text, &proved, &baseline, runs));
     }
-    let (proved, baseline) = (program(&options.replay, &[]), program(&plain, &["replay"]));
+    let (proved, baseline) = (program(&options.replay, &[]), program(&plain, &[PLAIN_REPLAY]));
     for (name, log) in logs_of(shapes) {
         let row = format!("process {name}");
         table.measure(&row, || processes::compared(&row, &log, &proved, &baseline, runs));

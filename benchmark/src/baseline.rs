@@ -1,29 +1,13 @@
-//! The baseline as a program: `plain shelf` and `plain replay` read standard
-//! input and print as the proved programs do.
+//! The baseline as a program: it reads standard input and prints as the proved
+//! programs do.
 
 use benchmark::plain::{shelf, Session};
 use std::io::{self, BufRead, Read, Write};
-use std::process::ExitCode;
 
 /// How much is read and printed at a time.
 const BUFFER_SIZE: usize = 1 << 16;
 
-fn main() -> ExitCode {
-    let done = match std::env::args().nth(1).as_deref() {
-        Some("shelf") => run_shelf(),
-        Some("replay") => run_replay(),
-        _ => Err(io::Error::other("usage: plain shelf | replay")),
-    };
-    match done {
-        Ok(()) => ExitCode::SUCCESS,
-        Err(error) => {
-            eprintln!("{error}");
-            ExitCode::FAILURE
-        }
-    }
-}
-
-fn run_shelf() -> io::Result<()> {
+pub fn run_shelf() -> io::Result<()> {
     let mut text = Vec::with_capacity(BUFFER_SIZE);
     io::stdin().lock().read_to_end(&mut text)?;
     let mut out = Vec::with_capacity(BUFFER_SIZE);
@@ -31,7 +15,7 @@ fn run_shelf() -> io::Result<()> {
     io::stdout().lock().write_all(&out)
 }
 
-fn run_replay() -> io::Result<()> {
+pub fn run_replay() -> io::Result<()> {
     let mut input = io::BufReader::with_capacity(BUFFER_SIZE, io::stdin().lock());
     let mut output = io::stdout().lock();
     let mut session = Session::default();
