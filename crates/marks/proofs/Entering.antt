@@ -1,8 +1,8 @@
 -- An edit that enters a set alone, and comes before none of it, closes no ring. Assumes nothing.
 use mathlib.Core.Path.{_≡_, refl, sym, ap, _∙_}
-use mathlib.Core.Bool.{true, false}
+use mathlib.Core.Bool.{Bool, true, false, cond}
 use mathlib.Core.List.{List, _∷_}
-use Prim.Native.Nat.{ℕ, _+_, _≤_, _<_}
+use Prim.Native.Nat.{ℕ, _+_, _-_, _≤_, _<_}
 use native.Mathlib.Omega.{arith}
 use lib.ListN.{length, getD}
 use Rattle.record.specs.Lists.{mem, at, _among_, _within_}
@@ -15,6 +15,7 @@ use Rattle.links.specs.Links.{NoRow, RowOf}
 use Rattle.links.specs.Turns.{Turns}
 use Rattle.links.proofs.Names.{getD-among, getD-place, place-getD}
 use Rattle.links.proofs.Marks.{marks-at, on-marks}
+use Rattle.links.proofs.Links.{along-start}
 use Rattle.links.proofs.Rings.{ring-new}
 use Rattle.marks.specs.Resolved.{Resolved}
 
@@ -48,3 +49,21 @@ module _ (R : Record) (s heads links lefts turnheads turnlinks rights old marks 
     entering-calm calm =
         ring-new R s (needs R (nameAt R x ∷ s)) entering-known calm
         (λ a b e j i n. cons-by a (nameAt R x) s (only a i) (λ q. absurd (unfollowed b (rw q at e) j)) (λ q. clash q n))
+
+-- the first of the rows to x is one of enables
+pub first-enabler : (R : Record) (heads links lefts : List ℕ) → Resolved R heads links lefts → (x j : ℕ) → x < length (names R) → j ≡ getD heads (128 + x) 0 → (j ≡ 0 → ⊥)
+    → (getD lefts (j - 1) 0 < length (names R)) × (enables R (nameAt R (getD lefts (j - 1) 0)) (nameAt R x) ≡ true)
+first-enabler R heads links lefts g x j l e n =
+    let k = g .enablers in
+    let w = along-start (k .keys) heads links (k .linked) (128 + x) j (λ i. ⊥) (omega (arith, k .few)) e in
+    let h : j - 1 < length (k .keys) = omega (arith, w .low, n) in
+    (k .known (j - 1) x h l (w .hit (omega (arith, n))), k .holds (j - 1) x h l (w .hit (omega (arith, n))))
+
+-- a mark of a bit
+pub bit-yes : (b : Bool) (v : ℕ) → v ≡ cond b 1 0 → v ≡ 1 → b ≡ true
+bit-yes true v e o = refl
+bit-yes false v e o = absurd (omega arith)
+
+pub bit-no : (b : Bool) (v : ℕ) → v ≡ cond b 1 0 → (v ≡ 1 → ⊥) → b ≡ false
+bit-no true v e o = absurd (o e)
+bit-no false v e o = refl

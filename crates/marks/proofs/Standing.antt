@@ -35,6 +35,10 @@ pub must-closure : (R : Record) → marksOf R (λ y. mem y (closure (enables R) 
 unfolding must musts needs names
 must-closure R = refl
 
+pub needs-names : (R : Record) (t : List ℕ) (x : ℕ) → marksOf R (λ y. mem y (closure (enables R) (names R) (x ∷ t))) ≡ marksOf R (λ y. mem y (needs R (x ∷ t)))
+unfolding needs
+needs-names R t x = refl
+
 module _ {R : Record} (w : WellFormed R) where
   pub musts-closed : Closed R (musts R)
   unfolding musts
@@ -55,14 +59,6 @@ module _ {R : Record} (w : WellFormed R) where
   unfolding needs
   needs-closure x few = marks-same R _ _ few (λ y i. needs-two x y)
 
-  -- the same of the ring
-  pub entering-two : (x : ℕ) → length (names R) ≤ 128 → marksOf R (λ y. mem y (needs R (0 ∷ x ∷ []))) ≡ marksOf R (λ y. mem y (needs R (x ∷ musts R)))
-  entering-two x few = marks-same R _ _ few (λ y i. sym (needs-two x y))
-
-  pub never-entering : (x : ℕ) → ring R (needs R (x ∷ musts R)) ≡ never R x
-  unfolding never
-  never-entering x = ring-same R _ _ (needs-two x)
-
   -- of one that must stand nothing more is needed
   pub never-must : (e : ℕ) → e among musts R → ring R (musts R) ≡ never R e
   unfolding never musts
@@ -74,6 +70,35 @@ module _ {R : Record} (w : WellFormed R) where
   -- the needs of a known edit are known
   pub two-known : (e : ℕ) → e among names R → needs R (0 ∷ e ∷ []) within names R
   two-known e i = needs-known R w (0 ∷ e ∷ []) (cons-within 0 (e ∷ []) (names R) (init-known R) (one-within e (names R) i))
+
+  -- the needs of a need
+  need-needs : (a e : ℕ) → a among needs R (0 ∷ e ∷ []) → needs R (0 ∷ a ∷ []) within needs R (0 ∷ e ∷ [])
+  need-needs a e i = needs-within R w (0 ∷ a ∷ []) (0 ∷ e ∷ []) (cons-within 0 (a ∷ []) _ (needs-holds R (0 ∷ e ∷ []) 0 (mem-head 0 (e ∷ []))) (one-within a _ i))
+
+  need-same : (a e : ℕ) → a among needs R (0 ∷ e ∷ []) → (y : ℕ) → mem y (needs R (e ∷ needs R (0 ∷ a ∷ []))) ≡ mem y (needs R (0 ∷ e ∷ []))
+  need-same a e i y =
+      let s = needs R (0 ∷ a ∷ []) in
+      same-by _ _
+      (needs-within R w (e ∷ s) (0 ∷ e ∷ []) (cons-within e s _ (needs-holds R (0 ∷ e ∷ []) e (mem-tail e 0 (e ∷ []) (mem-head e []))) (need-needs a e i)) y)
+      (needs-within R w (0 ∷ e ∷ []) (e ∷ s)
+      (cons-within 0 (e ∷ []) _ (needs-holds R (e ∷ s) 0 (mem-tail 0 e s (needs-holds R (0 ∷ a ∷ []) 0 (mem-head 0 (a ∷ [])))))
+      (one-within e _ (needs-holds R (e ∷ s) e (mem-head e s)))) y)
+
+  -- where a need can never stand, e never can; where it can, e can if it closes no ring with the needs of that
+  pub never-need : (a e : ℕ) → a among names R → a among needs R (0 ∷ e ∷ []) → never R a ≡ true → never R e ≡ true
+  unfolding never
+  never-need a e k i h = ring-grows R R _ _ (λ x y z. z) (two-known a k) (need-needs a e i) h
+
+  pub never-entering : (a e : ℕ) → a among needs R (0 ∷ e ∷ []) → ring R (needs R (e ∷ needs R (0 ∷ a ∷ []))) ≡ never R e
+  unfolding never
+  never-entering a e i = ring-same R _ _ (need-same a e i)
+
+  pub enabler-need : (a e : ℕ) → enables R a e ≡ true → a among needs R (0 ∷ e ∷ [])
+  enabler-need a e h = needs-closed R w (0 ∷ e ∷ []) a e h (needs-holds R (0 ∷ e ∷ []) e (mem-tail e 0 (e ∷ []) (mem-head e [])))
+
+  pub init-need : (e : ℕ) → nameAt R 0 among needs R (0 ∷ e ∷ [])
+  unfolding names
+  init-need e = needs-holds R (0 ∷ e ∷ []) 0 (mem-head 0 (e ∷ []))
 
   two-musts : (e : ℕ) → musts R within needs R (0 ∷ e ∷ [])
   unfolding musts
@@ -88,9 +113,9 @@ module _ {R : Record} (w : WellFormed R) where
   unfolding never
   never-everywhere few h = marks-same R _ _ few (λ x i. i ∙ sym (ring-grows R R (musts R) _ (λ a b e. e) (musts-known R w) (two-musts x) h))
 
-pub never-ring : (R : Record) (e : ℕ) → ring R (needs R (0 ∷ e ∷ [])) ≡ never R e
+pub calm-two : (R : Record) (e : ℕ) → never R e ≡ false → ring R (needs R (0 ∷ e ∷ [])) ≡ false
 unfolding never
-never-ring R e = refl
+calm-two R e h = h
 
 -- must is to be among the musts
 pub must-musts : (R : Record) → marksOf R (must R) ≡ marksOf R (λ y. mem y (musts R))
@@ -111,6 +136,11 @@ marked-on R test m y e o = marks-on R test y (rw (← e) o) .1
 
 pub marked-off : (R : Record) (test : ℕ → Bool) (m : List ℕ) (y : ℕ) → m ≡ marksOf R test → y < length (names R) → Off m y → test (nameAt R y) ≡ false
 marked-off R test m y e l f = by (test (nameAt R y)) (λ q. absurd (f (rw e (on-marks R test y l q)))) (λ q. q)
+
+-- what must stand has a mark, INIT among it; so that an edit without is not the first
+pub unmarked-some : (R : Record) (m : List ℕ) (x : ℕ) → m ≡ marksOf R (must R) → Off m x → 0 < x
+unfolding must names
+unmarked-some R m x e f = is-by x 0 (λ q. absurd (f (rw (q, e) (on-marks R (must R) 0 (names-some R) (init-must R))))) (λ q. omega (arith, q))
 
 pub must-on : (R : Record) (m : List ℕ) (y : ℕ) → m ≡ marksOf R (must R) → On m y → nameAt R y among musts R
 unfolding must

@@ -4,7 +4,7 @@ ghost use mathlib.Core.Bool.{true, false, cond, not, _&&_, _||_};
 ghost use mathlib.Core.List.{List, [], _∷_};
 ghost use Prim.Native.Nat.{ℕ, _<_, _≤_};
 ghost use lib.Dec.{eqb};
-ghost use lib.ListN.{length, set};
+ghost use lib.ListN.{length, getD, set};
 ghost use Rattle.record.specs.Lists.{mem, _among_, _within_};
 ghost use Rattle.record.specs.Record.{Record, names, enables};
 ghost use Rattle.record.specs.Schedule.{needs, musts, ring};
@@ -67,7 +67,25 @@ pub fn closes_ring(
     false
 }
 
-// Whether the edit at x can never stand, where what must stand holds no ring.
+// A need of the edit at x that comes before it in the table: one that enables it, or INIT.
+fn need_below(head: &[u16; 384], link: &[u16; 1024], left: &[u8; 1024], x: usize) -> usize
+    requires { ⌜ Safe (now head) (now link) (now left) × (x < 128) ⌝ }
+    ensures { λ r. ⌜ (r ≤ x) × (r < 128) × (0 < x → r < x) × ((R : Record) → Resolved R (now (head .entry)) (now (link .entry)) (now (left .entry)) → x < length (names R)
+        → (r < length (names R)) × (nameAt R r among needs R (0 ∷ nameAt R x ∷ []))) ⌝ }
+{
+    let j = links::wide16(head[128 + x]);
+    if j == 0 {
+        return 0;
+    }
+    let a = links::wide8(left[j - 1]);
+    if a >= x {
+        return 0;
+    }
+    a
+}
+
+// Whether the edit at x can never stand, where what must stand holds no ring, and it is known which of those before it never can. Of the needs
+// of one that can the search has only to look at what more x needs.
 fn is_never(
     n: usize,
     head: &[u16; 384],
@@ -77,17 +95,22 @@ fn is_never(
     turnlink: &[u16; 1024],
     right: &[u8; 1024],
     mustmarks: [u8; 128],
+    nevermarks: &[u8; 128],
     x: usize,
 ) -> bool
     requires { ⌜ Safe (now head) (now link) (now left) × Safe (now turnhead) (now turnlink) (now right) × (n ≤ 128) × (x < 128) × (length mustmarks ≡ 128) ⌝ }
     ensures { λ r. ⌜ ((R : Record) → Resolved R (now (head .entry)) (now (link .entry)) (now (left .entry)) → Turns R (now (turnhead .entry)) (now (turnlink .entry)) (now (right .entry))
-        → n ≡ length (names R) → x < n
-        → mustmarks ≡ marksOf R (must R) → ring R (musts R) ≡ false → r ≡ never R (nameAt R x)) ⌝ }
+        → n ≡ length (names R) → x < n → mustmarks ≡ marksOf R (must R) → ring R (musts R) ≡ false → ((y : ℕ) → y < x → getD (now (nevermarks .entry)) y 0 ≡ cond (never R (nameAt R y)) 1 0) → r ≡ never R (nameAt R x)) ⌝ }
 {
     if mustmarks[x] == 1 {
         return false;
     }
-    let marks = needs_marks(head, link, left, mustmarks, x);
+    let a = need_below(head, link, left, x);
+    if nevermarks[a] == 1 {
+        return true;
+    }
+    let old = needs_marks(head, link, left, mustmarks, a);
+    let marks = links::closed(128, head, link, left, old, x);
     closes_ring(
         n,
         head,
@@ -96,7 +119,7 @@ fn is_never(
         turnhead,
         turnlink,
         right,
-        &mustmarks,
+        &old,
         marks,
         x,
     )
@@ -127,7 +150,7 @@ fn sound_nevers(
     let mut marks = [0u8; 128];
     let mut x: usize = 0;
     while x < n {
-        marks[x] = bit(is_never(
+        let mark = bit(is_never(
             n,
             head,
             link,
@@ -136,8 +159,10 @@ fn sound_nevers(
             &turnlink,
             &right,
             mustmarks,
+            &marks,
             x,
         ));
+        marks[x] = mark;
         x += 1;
     }
     marks

@@ -129,10 +129,6 @@ clear-musts R w hiddens = record {
 pub part-bars : (R : Record) (hiddens t : List ℕ) → any (bars R hiddens) (names R) ≡ false → t within names R → any (bars R hiddens) t ≡ false
 part-bars R hiddens t h k = no-any (bars R hiddens) t (λ y i. any-no (bars R hiddens) (names R) h y (k y i))
 
-pub needs-names : (R : Record) (t : List ℕ) (x : ℕ) → marksOf R (λ y. mem y (closure (enables R) (names R) (x ∷ t))) ≡ marksOf R (λ y. mem y (needs R (x ∷ t)))
-unfolding needs
-needs-names R t x = refl
-
 -- what the loop over all edits keeps
 pub record Admitting (R : Record) (hiddens marks : List ℕ) (x : ℕ) : Type 0 where
   pub set : List ℕ

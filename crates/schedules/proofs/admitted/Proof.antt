@@ -2,8 +2,8 @@
 use mathlib.Core.Path.{sym, _∙_}
 use native.Mathlib.Omega.{arith}
 use borrow.Author.Needs.{needs}
-use Rattle.schedules.proofs.Admitting.{admit-had, admit-barred, admit-ring, admit-new, needs-names, needs-cons}
-use Rattle.marks.proofs.Standing.{marked-on, marked-off}
+use Rattle.schedules.proofs.Admitting.{admit-had, admit-barred, admit-ring, admit-new, needs-cons}
+use Rattle.marks.proofs.Standing.{needs-names, marked-on, marked-off}
 use Rattle.links.proofs.Names.{getD-among}
 use Rattle.record.specs.Lists.{mem}
 use Rattle.record.specs.Record.{names, enables}
