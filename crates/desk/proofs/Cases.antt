@@ -1,6 +1,7 @@
 -- What a line comes to, kind by kind. Assumes nothing.
 use mathlib.Core.Path.{_≡_, refl, sym, ap, _∙_}
 use mathlib.Core.Bool.{true, false, cond}
+use mathlib.Core.Logic.{_⊎_, inl, inr, ⊎-elim}
 use mathlib.Core.List.{List, [], _∷_}
 use Prim.Native.Nat.{ℕ, _≤_, _<_}
 use native.Mathlib.Omega.{arith}
@@ -10,7 +11,7 @@ use lib.ListN.{getD}
 use borrow.Author.Tests.{lt-ltb, le-ltb}
 use Rattle.record.specs.declared.Record as declared
 use Rattle.record.specs.Stored.{stored, emptyRecord}
-use Rattle.record.proofs.Lists.{le-by}
+use Rattle.record.proofs.Lists.{le-by, is-by}
 use Rattle.row.specs.Row.{Row, cell}
 use Rattle.ground.specs.Ground.{Rows}
 use Rattle.table.specs.Table.{emptyTables}
@@ -27,7 +28,7 @@ use Rattle.lending.specs.Lent.{Lent, recordNumber, withRecord}
 use Rattle.lending.specs.Kept.{Kept}
 use Rattle.desk.specs.Desk.{Desk, Cells, Effect, Request, outside, make, ledgerOf, benchIn, replied}
 use Rattle.desk.specs.Lends.{lendings, lendingOf, lendEdit, lendConstraint, lendNothing, lendBench, lendSeat, lendNoRoll, lendName, lendNoRow}
-use Rattle.desk.specs.Requests.{requests, requestOf, mergeOf, hideOf, showOf, forwardOf, backOf, adoptOf, addEditOf, addConstraintOf}
+use Rattle.desk.specs.Requests.{requests, requestOf, mergeOf, hideOf, showOf, forwardOf, backOf, signedPages, turnOf, adoptOf, addEditOf, addConstraintOf}
 
 -- the ledger that calls left
 pub ledger-valid : (D : Desk) → Valid (ledgerOf D)
@@ -109,13 +110,9 @@ module _ (D : Desk) (bench : Bench) (r : Outcome) (b : bench ≡ benchIn D) wher
     unfolding requestOf requests showOf
     show-reply e a = reply-as 2 e (reply-made (show (cell c 0)) a)
 
-    pub forward-reply : which ≡ 3 → r ≡ replied D (forwardOf D c) → r ≡ replied D (requestOf which D c)
-    unfolding requestOf requests
-    forward-reply e q = reply-as 3 e q
-
-    pub back-reply : which ≡ 4 → r ≡ replied D (backOf D c) → r ≡ replied D (requestOf which D c)
-    unfolding requestOf requests
-    back-reply e q = reply-as 4 e q
+    pub turn-reply : (which ≡ 3) ⊎ (which ≡ 4) → r ≡ replied D (turnOf which D c) → r ≡ replied D (requestOf which D c)
+    unfolding requestOf requests forwardOf backOf turnOf signedPages
+    turn-reply e q = ⊎-elim (λ f. reply-as 3 f (rw f at q)) (λ f. reply-as 4 f (rw f at q)) e
 
     pub adopt-reply : which ≡ 5 → Answers bench (adopt (cell c 0) (proposalsOf (D .lent)) (D .lent .roll)) r → r ≡ replied D (requestOf which D c)
     unfolding requestOf requests adoptOf
@@ -131,25 +128,15 @@ module _ (D : Desk) (bench : Bench) (r : Outcome) (b : bench ≡ benchIn D) wher
 
   -- a turn by so many pages
   module _ (c : Cells) (pages : ℕ) (p : cell c 0 ≡ pages) where
-    pub far-forward : 2147483647 < pages → r ≡ refusedWith bench 2 → r ≡ replied D (forwardOf D c)
-    unfolding forwardOf
-    far-forward h q = let e : ltb (cell c 0) 2147483648 ≡ false = le-ltb (cell c 0) 2147483648 (omega arith) in rw e (reply-outside q)
+    pub far-turn : (which : ℕ) → 2147483647 < pages → r ≡ refusedWith bench 2 → r ≡ replied D (turnOf which D c)
+    unfolding turnOf
+    far-turn which h q = let e : ltb (cell c 0) 2147483648 ≡ false = le-ltb (cell c 0) 2147483648 (omega arith) in rw e (reply-outside q)
 
-    pub far-back : 2147483647 < pages → r ≡ refusedWith bench 2 → r ≡ replied D (backOf D c)
-    unfolding backOf
-    far-back h q = let e : ltb (cell c 0) 2147483648 ≡ false = le-ltb (cell c 0) 2147483648 (omega arith) in rw e (reply-outside q)
-
-    pub turned-forward : pages ≤ 2147483647 → {n : ℤ} → n ≡ pos pages → Answers bench (turn n) r → r ≡ replied D (forwardOf D c)
-    unfolding forwardOf
-    turned-forward h e a =
+    pub near-turn : (which : ℕ) → pages ≤ 2147483647 → {n : ℤ} → n ≡ signedPages which pages → Answers bench (turn n) r → r ≡ replied D (turnOf which D c)
+    unfolding turnOf
+    near-turn which h e a =
         let q : ltb (cell c 0) 2147483648 ≡ true = lt-ltb (cell c 0) 2147483648 (omega arith) in
-        rw q (reply-made (turn (pos (cell c 0))) (rw (e, sym p) at a))
-
-    pub turned-back : pages ≤ 2147483647 → {n : ℤ} → n ≡ negℤ (pos pages) → Answers bench (turn n) r → r ≡ replied D (backOf D c)
-    unfolding backOf
-    turned-back h e a =
-        let q : ltb (cell c 0) 2147483648 ≡ true = lt-ltb (cell c 0) 2147483648 (omega arith) in
-        rw q (reply-made (turn (negℤ (pos (cell c 0)))) (rw (e, sym p) at a))
+        rw q (reply-made (turn (signedPages which (cell c 0))) (rw (e, sym p) at a))
 
 -- the last of some kinds
 pub third-kind : (k : ℕ) → k < 4 → (k ≡ 0 → ⊥) → (k ≡ 1 → ⊥) → (k ≡ 2 → ⊥) → k ≡ 3
@@ -158,11 +145,14 @@ third-kind k h a b c = omega arith
 pub last-kind : (k : ℕ) → 4 ≤ k → k < 8 → (k ≡ 4 → ⊥) → (k ≡ 5 → ⊥) → (k ≡ 6 → ⊥) → k ≡ 7
 last-kind k g h a b c = omega arith
 
-pub last-request : (k : ℕ) → k < 8 → (k ≡ 0 → ⊥) → (k ≡ 5 → ⊥) → (k ≡ 1 → ⊥) → (k ≡ 2 → ⊥) → (k ≡ 3 → ⊥) → (k ≡ 4 → ⊥) → (k ≡ 6 → ⊥) → k ≡ 7
-last-request k h a b c d e f g = upper k (lower k a c d e) h f b g
+pub last-request : (k : ℕ) → k < 8 → (k ≡ 0 → ⊥) → (k ≡ 5 → ⊥) → (k ≡ 1 → ⊥) → (k ≡ 2 → ⊥) → (k ≡ 6 → ⊥) → (k ≡ 7 → ⊥) → (k ≡ 3) ⊎ (k ≡ 4)
+last-request k h a b c d e f = either k (lower k a c d) (upper k h b e f)
   where
-    lower : (k : ℕ) → (k ≡ 0 → ⊥) → (k ≡ 1 → ⊥) → (k ≡ 2 → ⊥) → (k ≡ 3 → ⊥) → 4 ≤ k
-    lower k a b c d = omega arith
+    either : (k : ℕ) → 3 ≤ k → k < 5 → (k ≡ 3) ⊎ (k ≡ 4)
+    either k l u = is-by k 3 (λ q. inl q) (λ q. inr (omega arith))
 
-    upper : (k : ℕ) → 4 ≤ k → k < 8 → (k ≡ 4 → ⊥) → (k ≡ 5 → ⊥) → (k ≡ 6 → ⊥) → k ≡ 7
-    upper k g h a b c = omega arith
+    lower : (k : ℕ) → (k ≡ 0 → ⊥) → (k ≡ 1 → ⊥) → (k ≡ 2 → ⊥) → 3 ≤ k
+    lower k a b c = omega arith
+
+    upper : (k : ℕ) → k < 8 → (k ≡ 5 → ⊥) → (k ≡ 6 → ⊥) → (k ≡ 7 → ⊥) → k < 5
+    upper k h a b c = omega arith

@@ -1,15 +1,19 @@
 -- A number of pages with its sign, as the code has it. Assumes nothing.
 use mathlib.Core.Path.{_≡_, refl, ap, _∙_}
+use mathlib.Core.Bool.{true, false}
 use Prim.Native.Nat.{ℕ, zero, suc, _-_, _≤_, _<_, _^_}
 use native.Mathlib.Omega.{arith}
+use lib.Dec.{eqb}
 use lib.IntN.{ℤ, pos, negsuc, negℤ, _-ℤ_}
 use lib.Signed.{mag}
-use borrow.Author.Tests.{lt-ltb}
+use borrow.Author.Tests.{lt-ltb, eq-eqb, ne-eqb}
 use mir.Syntax.{w32}
 use mir.Val.{SFits, toZ, ofZ}
 use mir.Facts.{toZ-ofZ, toZ-pos}
+use Rattle.record.proofs.Lists.{by}
+use Rattle.desk.specs.Requests.{signedPages}
 
-pub forward-is : (n : ℕ) → n < 2147483648 → toZ w32 n ≡ pos n
+forward-is : (n : ℕ) → n < 2147483648 → toZ w32 n ≡ pos n
 forward-is n h = toZ-pos w32 h
 
 less : (n : ℕ) → pos 0 -ℤ pos n ≡ negℤ (pos n)
@@ -23,12 +27,24 @@ back-small (suc n) h = record { sfits = let l : n < 2147483648 = omega arith in 
 pub back-fits : (n : ℕ) → n < 2147483648 → SFits w32 (pos 0 -ℤ toZ w32 n)
 back-fits n h = rw (forward-is n h, less n) (back-small n h)
 
-pub back-is : (n : ℕ) → n < 2147483648 → toZ w32 (ofZ w32 (pos 0 -ℤ toZ w32 n)) ≡ negℤ (pos n)
+back-is : (n : ℕ) → n < 2147483648 → toZ w32 (ofZ w32 (pos 0 -ℤ toZ w32 n)) ≡ negℤ (pos n)
 back-is n h = toZ-ofZ (back-fits n h) ∙ rw (forward-is n h) (less n)
 
--- as it is passed on
-pub forward-passed : (n : ℕ) → n ≤ 2147483647 → {z : ℤ} → z ≡ pos n → toZ w32 (ofZ w32 z) ≡ pos n
-forward-passed n h e = rw e (toZ-ofZ {w = w32} (record { sfits = let l : n < 2147483648 = omega arith in l }))
+-- by the request's place
+pub signed-forward : (which n : ℕ) → n < 2147483648 → which ≡ 3 → toZ w32 n ≡ signedPages which n
+unfolding signedPages
+signed-forward which n h e = let q : eqb which 3 ≡ true = eq-eqb which 3 e in rw q (forward-is n h)
 
-pub back-passed : (n : ℕ) → n ≤ 2147483647 → {z : ℤ} → z ≡ negℤ (pos n) → toZ w32 (ofZ w32 z) ≡ negℤ (pos n)
-back-passed n h e = rw e (toZ-ofZ (back-small n (let l : n < 2147483648 = omega arith in l)))
+pub signed-back : (which n : ℕ) → n < 2147483648 → (which ≡ 3 → ⊥) → toZ w32 (ofZ w32 (pos 0 -ℤ toZ w32 n)) ≡ signedPages which n
+unfolding signedPages
+signed-back which n h e = let q : eqb which 3 ≡ false = ne-eqb which 3 e in rw q (back-is n h)
+
+-- as it is passed on
+pub signed-passed : (which n : ℕ) → n ≤ 2147483647 → {z : ℤ} → z ≡ signedPages which n → toZ w32 (ofZ w32 z) ≡ signedPages which n
+unfolding signedPages
+signed-passed which n h e =
+    let l : n < 2147483648 = omega arith in
+    rw e
+    (by (eqb which 3)
+    (λ (q : eqb which 3 ≡ true). rw q (toZ-ofZ {w = w32} (record { sfits = l })))
+    (λ (q : eqb which 3 ≡ false). rw q (toZ-ofZ (back-small n l))))

@@ -2,8 +2,8 @@
 use mathlib.Core.Bool.{Bool, cond}
 use mathlib.Core.List.{List, [], _∷_}
 use Prim.Native.Nat.{ℕ}
-use lib.Dec.{ltb}
-use lib.IntN.{pos, negℤ}
+use lib.Dec.{eqb, ltb}
+use lib.IntN.{ℤ, pos, negℤ}
 use lib.ListN.{getD}
 use Rattle.row.specs.Row.{cell}
 use Rattle.ledger.specs.Ledger.{addEdit, addConstraint, merge, hide, show, turn, adopt}
@@ -29,6 +29,13 @@ forwardOf D c = cond (isTurn (cell c 0)) (make (turn (pos (cell c 0)))) outside
 
 unfoldable pub backOf : Desk → Cells → Request
 backOf D c = cond (isTurn (cell c 0)) (make (turn (negℤ (pos (cell c 0))))) outside
+
+-- the same by the request's place: 3 is forward
+unfoldable pub signedPages : ℕ → ℕ → ℤ
+signedPages which pages = cond (eqb which 3) (pos pages) (negℤ (pos pages))
+
+unfoldable pub turnOf : ℕ → Desk → Cells → Request
+turnOf which D c = cond (isTurn (cell c 0)) (make (turn (signedPages which (cell c 0)))) outside
 
 unfoldable pub adoptOf : Desk → Cells → Request
 adoptOf D c = make (adopt (cell c 0) (proposalsOf (D .lent)) (D .lent .roll))

@@ -6,13 +6,12 @@ use lending::Setting;
 use record::Record;
 ghost use mathlib.Core.Path.{_≡_};
 ghost use Prim.Native.Nat.{ℕ, _<_, _≤_};
-ghost use lib.IntN.{pos, negℤ};
 ghost use Rattle.lending.specs.Kept.{Kept};
 ghost use Rattle.row.specs.Row.{cell};
 ghost use Rattle.ground.specs.Ground.{Rows};
 ghost use Rattle.desk.specs.Desk.{Desk, Cells, benchIn, replied};
 ghost use Rattle.desk.specs.Lends.{lendingOf};
-ghost use Rattle.desk.specs.Requests.{forwardOf, backOf, requestOf};
+ghost use Rattle.desk.specs.Requests.{signedPages, turnOf, requestOf};
 
 // What is lent after a line that makes no call, and the place after what it printed. Such a line hands back no bench, which is long to copy.
 pub struct Told {
@@ -109,37 +108,25 @@ pub fn lend(
     lend_names(lending, kind, cells)
 }
 
-fn forward(pages: u32) -> i32
+// A number of pages, which has 31 bits, with its sign: forward for request 3, else back.
+fn signed(which: usize, pages: u32) -> i32
     requires { ⌜ pages < 2147483648 ⌝ }
-    ensures { λ r. ⌜ r ≡ pos pages ⌝ }
+    ensures { λ r. ⌜ r ≡ signedPages which pages ⌝ }
 {
-    pages as i32
-}
-
-fn back(pages: u32) -> i32
-    requires { ⌜ pages < 2147483648 ⌝ }
-    ensures { λ r. ⌜ r ≡ negℤ (pos pages) ⌝ }
-{
+    if which == 3 {
+        return pages as i32;
+    }
     0 - (pages as i32)
 }
 
-// A turn of so many pages, which have 31 bits.
-fn turn_forward(bench: Bench, pages: u32) -> Outcome
-    ensures { λ r. ⌜ ((D : Desk) (c : Cells) → bench ≡ benchIn D → cell c 0 ≡ pages → r ≡ replied D (forwardOf D c)) ⌝ }
+// A turn of so many pages. It is made at one place, where it costs fewer copies of the bench.
+fn turn_by(bench: Bench, which: usize, pages: u32) -> Outcome
+    ensures { λ r. ⌜ ((D : Desk) (c : Cells) → bench ≡ benchIn D → cell c 0 ≡ pages → r ≡ replied D (turnOf which D c)) ⌝ }
 {
     if 2147483647 < pages {
         return bench::refused(bench, 2);
     }
-    bench::turn(bench, forward(pages))
-}
-
-fn turn_back(bench: Bench, pages: u32) -> Outcome
-    ensures { λ r. ⌜ ((D : Desk) (c : Cells) → bench ≡ benchIn D → cell c 0 ≡ pages → r ≡ replied D (backOf D c)) ⌝ }
-{
-    if 2147483647 < pages {
-        return bench::refused(bench, 2);
-    }
-    bench::turn(bench, back(pages))
+    bench::turn(bench, signed(which, pages))
 }
 
 // A call on the bench that is lent nothing, by its place among the requests.
@@ -149,10 +136,9 @@ fn call_alone(bench: Bench, which: usize, cells: [u32; 8]) -> Outcome
     match which {
         1 => visibility::hide(bench, cells[0]),
         2 => visibility::show(bench, cells[0]),
-        3 => turn_forward(bench, cells[0]),
-        4 => turn_back(bench, cells[0]),
         6 => merge::add_edit(bench, [cells[0], cells[1], cells[2], cells[3], cells[4]]),
-        _ => merge::add_constraint(bench, [cells[0], cells[1], cells[2]]),
+        7 => merge::add_constraint(bench, [cells[0], cells[1], cells[2]]),
+        _ => turn_by(bench, which, cells[0]),
     }
 }
 
