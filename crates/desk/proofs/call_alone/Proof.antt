@@ -1,101 +1,70 @@
-use Prim.Native.Nat.{ℕ, zero, suc, _+_, _-_, _*_, _≤_, _<_}
-use mathlib.Core.Path.{_≡_, refl, ap, sym, _∙_}
-use mathlib.Core.List.{List, [], _∷_, _++_}
-use lib.ListN.{length, getD, take, drop, set}
-use native.Mathlib.Omega.{arith}
+-- `desk::call_alone` meets its contract. Assumes nothing.
+use mathlib.Core.Path.{refl}
 use borrow.Author.Needs.{needs}
 use Rattle.desk.proofs.Cases.{hide-reply, show-reply, edit-reply, constraint-reply, turn-reply, last-request}
 use Rattle.desk.proofs.call_alone.Statement.{statement}
 use Rattle.desk.proofs.call_alone.Tie as tie
-use Rattle.desk.proofs.call_alone.Reads as reads
-use Rattle.desk.proofs.call_alone.Lts as lts
-use Rattle.desk.proofs.turn_by.Reads as turn-by-reads
-use Rattle.merge.proofs.add_constraint.Reads as add-constraint-reads
-use Rattle.merge.proofs.add_edit.Reads as add-edit-reads
-use Rattle.visibility.proofs.hide.Reads as hide-reads
-use Rattle.visibility.proofs.show.Reads as show-reads
 
--- src/lib.rt:137:38
 array-read-hide : tie.Need-array-read-hide
 array-read-hide c = search needs
 
--- src/lib.rt:137:14
 hide-requires : tie.Need-hide-requires
 hide-requires c κs = search needs
 
--- src/lib.rt:138:38
 array-read-show : tie.Need-array-read-show
 array-read-show c = search needs
 
--- src/lib.rt:138:14
 show-requires : tie.Need-show-requires
 show-requires c κs = search needs
 
--- src/lib.rt:139:38
 array-read-t14 : tie.Need-array-read-t14
 array-read-t14 c = search needs
 
--- src/lib.rt:139:48
 array-read-t17 : tie.Need-array-read-t17
 array-read-t17 c = search needs
 
--- src/lib.rt:139:58
 array-read-t20 : tie.Need-array-read-t20
 array-read-t20 c = search needs
 
--- src/lib.rt:139:68
 array-read-t23 : tie.Need-array-read-t23
 array-read-t23 c = search needs
 
--- src/lib.rt:139:78
 array-read-t26 : tie.Need-array-read-t26
 array-read-t26 c = search needs
 
--- src/lib.rt:139:14
 add-edit-requires : tie.Need-add-edit-requires
 add-edit-requires c κs = search needs
 
--- src/lib.rt:140:44
 array-read-t30 : tie.Need-array-read-t30
 array-read-t30 c = search needs
 
--- src/lib.rt:140:54
 array-read-t33 : tie.Need-array-read-t33
 array-read-t33 c = search needs
 
--- src/lib.rt:140:64
 array-read-t36 : tie.Need-array-read-t36
 array-read-t36 c = search needs
 
--- src/lib.rt:140:14
 add-constraint-requires : tie.Need-add-constraint-requires
 add-constraint-requires c κs = search needs
 
--- src/lib.rt:141:36
 array-read-turn-by : tie.Need-array-read-turn-by
 array-read-turn-by c = search needs
 
--- src/lib.rt:141:14
 turn-by-requires : tie.Need-turn-by-requires
 turn-by-requires c κs = search needs
 
--- src/lib.rt:133:1
 returns : tie.Need-returns
 returns c = λ D e w n f. hide-reply D _ _ e _ _ (c .before .match .keys1) (c .hide .ensures)
 
--- src/lib.rt:133:1
 returns-2 : tie.Need-returns-2
 returns-2 c = λ D e w n f. show-reply D _ _ e _ _ (c .before .match .keys2) (c .show .ensures)
 
--- src/lib.rt:133:1
 returns-3 : tie.Need-returns-3
 returns-3 c = λ D e w n f. edit-reply D _ _ e _ _ (c .before .match .keys3) (c .add-edit .ensures)
 
--- src/lib.rt:133:1
 returns-4 : tie.Need-returns-4
 returns-4 c = λ D e w n f. constraint-reply D _ _ e _ _ (c .before .match .keys4) (c .add-constraint .ensures)
 
--- src/lib.rt:133:1
 returns-5 : tie.Need-returns-5
 returns-5 c = λ D e w n f. let m = c .before .match .rest in turn-reply D _ _ e _ _ (last-request _ w n f (m .0 .0 .0 .1) (m .0 .0 .1) (m .0 .1) (m .1)) (c .turn-by .ensures D _ e refl)
 
