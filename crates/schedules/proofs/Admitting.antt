@@ -13,7 +13,7 @@ use Rattle.record.specs.Lists.{any, mem, at, _among_, _within_, closure}
 use Rattle.record.specs.Record.{Record, names, written, enables, WellFormed}
 use Rattle.record.specs.Schedule.{needs, musts, order, ring, barred, admit, admits, scheduled, schedule}
 use Rattle.record.specs.Judgement.{must}
-use Rattle.record.proofs.Lists.{by, clash, and-l, and-r, or-by, or-l, or-r, or-no-r, same-by, mem-head, mem-tail, nil-no, cons-by, cons-within, one-within, any-by, any-in, no-any, any-no, mem-at, closure-least}
+use Rattle.record.proofs.Lists.{by, clash, and-l, and-r, and-i, or-by, or-l, or-r, or-no-r, same-by, mem-head, mem-tail, nil-no, cons-by, cons-within, one-within, any-by, any-in, no-any, any-no, mem-at, closure-least}
 use Rattle.record.proofs.Order.{needs-holds, needs-closed, needs-known, needs-within, ring-grows}
 use Rattle.record.proofs.Records.{written-names}
 use Rattle.record.proofs.Judged.{init-must}
@@ -75,6 +75,14 @@ module _ (R : Record) (w : WellFormed R) (hiddens t : List ℕ) (g : Clear R hid
       (λ h. any-by (bars R hiddens) (needs R (x ∷ t)) h
       (λ y i e. or-by (mem y t) _ (needs-split y i) (λ j. clash e (g .clear y j)) (λ j. any-in (bars R hiddens) (needs R (0 ∷ x ∷ [])) y j e)))
       (λ h. any-by (bars R hiddens) (needs R (0 ∷ x ∷ [])) h (λ y i e. any-in (bars R hiddens) (needs R (x ∷ t)) y (needs-part y i) e))
+
+  -- where x enters alone, just x can be
+  pub bars-alone : needs R (x ∷ t) within x ∷ t → (mem x (needs R (x ∷ t)) && bars R hiddens x) ≡ any (bars R hiddens) (needs R (x ∷ t))
+  bars-alone only =
+      same-by _ _
+      (λ h. any-in (bars R hiddens) (needs R (x ∷ t)) x (needs-holds R (x ∷ t) x (mem-head x t)) (and-r (mem x (needs R (x ∷ t))) _ h))
+      (λ h. any-by (bars R hiddens) (needs R (x ∷ t)) h
+      (λ y i e. cons-by y x t (only y i) (λ q. and-i _ _ (rw q at i) (rw q at e)) (λ j. clash e (g .clear y j))))
 
   pub admit-had : x among t → admit R hiddens t x ≡ t
   unfolding admit

@@ -186,22 +186,32 @@ fn any_barred(n: usize, marks: &[u8; 128], hidden: &[u8; 128], mustmarks: &[u8; 
     false
 }
 
-// The same where it is known whether any edit at all is barred.
+// Whether one that is barred enters with the edit at x, where the old set holds none and it is known whether any edit at all is barred.
 fn is_shut(
     n: usize,
+    head: &[u16; 384],
+    link: &[u16; 1024],
+    left: &[u8; 1024],
+    old: &[u8; 128],
     marks: &[u8; 128],
     hidden: &[u8; 128],
     mustmarks: &[u8; 128],
+    x: usize,
     barring: bool,
 ) -> bool
-    requires { ⌜ n ≤ 128 ⌝ }
-    ensures { λ r. ⌜ ((R : Record) (hiddens t : List ℕ) → n ≡ length (names R) → t within names R → now (marks .entry) ≡ marksOf R (λ y. mem y t)
-        → now (mustmarks .entry) ≡ marksOf R (must R) → Hides R (now (hidden .entry)) hiddens → barring ≡ any (bars R hiddens) (names R) → r ≡ any (bars R hiddens) t) ⌝ }
+    requires { ⌜ Safe (now head) (now link) (now left) × (n ≤ 128) × (x < 128) ⌝ }
+    ensures { λ r. ⌜ ((R : Record) (hiddens t : List ℕ) → Resolved R (now (head .entry)) (now (link .entry)) (now (left .entry)) → n ≡ length (names R) → x < n
+        → Clear R hiddens t → now (old .entry) ≡ marksOf R (λ y. mem y t) → now (marks .entry) ≡ marksOf R (λ y. mem y (needs R (nameAt R x ∷ t)))
+        → now (mustmarks .entry) ≡ marksOf R (must R) → Hides R (now (hidden .entry)) hiddens → barring ≡ any (bars R hiddens) (names R)
+        → r ≡ any (bars R hiddens) (needs R (nameAt R x ∷ t))) ⌝ }
 {
-    if barring {
+    if !barring {
+        return false;
+    }
+    if links::any_row(head, link, left, 128 + x, old, 0) {
         return any_barred(n, marks, hidden, mustmarks);
     }
-    false
+    is_barred(marks, hidden, mustmarks, x)
 }
 
 // Whether the edit at x closes a ring when it enters the old set, which holds none; and it is known whether all edits together hold one.
@@ -266,7 +276,18 @@ fn admitted(
         return marks;
     }
     let more = links::closed(128, head, link, left, marks, x);
-    if is_shut(n, &more, hidden, &mustmarks, barring) {
+    if is_shut(
+        n,
+        head,
+        link,
+        left,
+        &marks,
+        &more,
+        hidden,
+        &mustmarks,
+        x,
+        barring,
+    ) {
         return marks;
     }
     if is_ringed(

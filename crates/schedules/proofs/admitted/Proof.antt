@@ -2,9 +2,8 @@
 use mathlib.Core.Path.{sym, _∙_}
 use native.Mathlib.Omega.{arith}
 use borrow.Author.Needs.{needs}
-use Rattle.schedules.proofs.Admitting.{admit-had, admit-barred, admit-ring, admit-new, needs-cons}
+use Rattle.schedules.proofs.Admitting.{admit-had, admit-barred, admit-ring, admit-new}
 use Rattle.marks.proofs.Standing.{needs-names, marked-on, marked-off}
-use Rattle.links.proofs.Names.{getD-among}
 use Rattle.record.specs.Lists.{mem}
 use Rattle.record.specs.Record.{names, enables}
 use Rattle.record.proofs.Records.{enabler-known}
@@ -26,39 +25,37 @@ closed-requires c κs =
 
 is-shut-requires : tie.Need-is-shut-requires
 is-shut-requires c κs =
-    let s = c .before .before .before .before in
-    s .pre .2
+    let s = c .before .before .before .before .before in
+    (s .pre .0, s .pre .2, s .pre .3)
 
 returns-2 : tie.Need-returns-2
 returns-2 c =
-    let s = c .before .before .before .before .before .before in (
+    let s = c .before .before .before .before .before .before .before in (
       s .pre .5,
-      λ R h t g f q u m i b r k calm e. rw (admit-barred R (g .formed) h t k _
-          (sym (c .before .is-shut .ensures R h _ q (needs-cons R (g .formed) t _ (getD-among (names R) (s .args .x) (omega arith)) (k .known)) (c .before .before .before .before .closed .ensures .1 (enables R) R (names R) t (g .enablers) (enabler-known (g .formed)) (k .closed) (omega arith) (k .known) e ∙ needs-names R t _) m i b) ∙ c .if2 .taken)) e,
+      λ R h t g f q u m i b r k calm e. let w = c .before .before .before .before .before .closed .ensures .1 (enables R) R (names R) t (g .enablers) (enabler-known (g .formed)) (k .closed) (omega arith) (k .known) e ∙ needs-names R t _ in
+          rw (admit-barred R (g .formed) h t k _ (sym (c .before .is-shut .ensures R h t g q u k e w m i b) ∙ c .if2 .taken)) e,
     )
 
 is-ringed-requires : tie.Need-is-ringed-requires
 is-ringed-requires c κs =
-    let s = c .before .before .before .before .before .before .before in
-    (s .pre .0, s .pre .1, s .pre .2, s .pre .3, c .before .before .before .before .before .closed .ensures .0)
+    let s = c .before .before .before .before .before .before .before .before in
+    (s .pre .0, s .pre .1, s .pre .2, s .pre .3, c .before .before .before .before .before .before .closed .ensures .0)
 
 returns-3 : tie.Need-returns-3
 returns-3 c =
-    let s = c .before .before .before .before .before .before .before .before .before in (
+    let s = c .before .before .before .before .before .before .before .before .before .before in (
       s .pre .5,
-      λ R h t g f q u m i b r k calm e. rw (admit-ring R (g .formed) h t k _
-          (sym (c .before .is-ringed .ensures R h t g f q u k e calm (c .before .before .before .before .before .before .before .closed .ensures .1 (enables R) R (names R) t (g .enablers) (enabler-known (g .formed)) (k .closed) (omega arith) (k .known) e ∙ needs-names R t _) r) ∙ c .if3 .taken)) e,
+      λ R h t g f q u m i b r k calm e. let w = c .before .before .before .before .before .before .before .before .closed .ensures .1 (enables R) R (names R) t (g .enablers) (enabler-known (g .formed)) (k .closed) (omega arith) (k .known) e ∙ needs-names R t _ in
+          rw (admit-ring R (g .formed) h t k _ (sym (c .before .is-ringed .ensures R h t g f q u k e calm w r) ∙ c .if3 .taken)) e,
     )
 
 returns-4 : tie.Need-returns-4
 returns-4 c =
-    let s = c .before .before .before .before .before .before .before .before .before in (
-      c .before .before .before .before .before .before .before .closed .ensures .0,
-      λ R h t g f q u m i b r k calm e.
-          let v = needs-cons R (g .formed) t _ (getD-among (names R) (s .args .x) (omega arith)) (k .known) in
-          let w = (c .before .before .before .before .before .before .before .closed .ensures .1 (enables R) R (names R) t (g .enablers) (enabler-known (g .formed)) (k .closed) (omega arith) (k .known) e ∙ needs-names R t _) in
-          rw (admit-new R (g .formed) h t k _ (marked-off R (λ y. mem y t) _ (s .args .x) e (omega arith) (c .before .before .before .before .before .before .before .before .if1 .left))
-          (sym (c .before .before .before .before .is-shut .ensures R h _ q v w m i b) ∙ c .before .before .before .if2 .left) (sym (c .before .is-ringed .ensures R h t g f q u k e calm w r) ∙ c .if3 .left)) w,
+    let s = c .before .before .before .before .before .before .before .before .before .before in (
+      c .before .before .before .before .before .before .before .before .closed .ensures .0,
+      λ R h t g f q u m i b r k calm e. let w = c .before .before .before .before .before .before .before .before .closed .ensures .1 (enables R) R (names R) t (g .enablers) (enabler-known (g .formed)) (k .closed) (omega arith) (k .known) e ∙ needs-names R t _ in
+          rw (admit-new R (g .formed) h t k _ (marked-off R (λ y. mem y t) _ (s .args .x) e (omega arith) (c .before .before .before .before .before .before .before .before .before .if1 .left))
+          (sym (c .before .before .before .before .is-shut .ensures R h t g q u k e w m i b) ∙ c .before .before .before .if2 .left) (sym (c .before .is-ringed .ensures R h t g f q u k e calm w r) ∙ c .if3 .left)) w,
     )
 
 pub admitted-spec : {M : Type 1} → statement M
