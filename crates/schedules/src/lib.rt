@@ -13,7 +13,7 @@ ghost use Rattle.links.specs.Marks.{nameAt, valuesOf, marksOf, placeIn};
 ghost use Rattle.links.specs.Links.{Safe};
 ghost use Rattle.links.specs.Turns.{Turns};
 ghost use Rattle.marks.specs.Resolved.{Resolved};
-ghost use Rattle.schedules.specs.Rows.{free, Held, foundAt, Hides, bars, Clear, RowIs};
+ghost use Rattle.schedules.specs.Rows.{free, Held, foundAt, Hides, bars, Clear, Missed, RowIs};
 
 // Edits in order, by index.
 pub struct Row {
@@ -250,7 +250,8 @@ fn is_ringed(
     false
 }
 
-// One edit: taken into the marked set with all its needs, or left out. Nothing of the set is barred, so that only the new needs can be.
+// One edit: taken into the marked set with all its needs, or left out. Nothing of the set is barred, so that only the new needs can be. Where a
+// need that comes before it was left out, so is the edit.
 fn admitted(
     n: usize,
     head: &[u16; 384],
@@ -270,9 +271,13 @@ fn admitted(
     ensures { λ r. ⌜ (length r ≡ 128) × ((R : Record) (hiddens t : List ℕ) → Resolved R (now (head .entry)) (now (link .entry)) (now (left .entry)) → Turns R (now (turnhead .entry)) (now (turnlink .entry)) (now (right .entry))
         → n ≡ length (names R)
         → x < n → mustmarks ≡ marksOf R (must R) → Hides R (now (hidden .entry)) hiddens → barring ≡ any (bars R hiddens) (names R) → ringed ≡ ring R (names R)
-        → Clear R hiddens t → ring R t ≡ false → marks ≡ marksOf R (λ y. mem y t) → r ≡ marksOf R (λ y. mem y (admit R hiddens t (nameAt R x)))) ⌝ }
+        → Clear R hiddens t → ring R t ≡ false → Missed R hiddens t x → marks ≡ marksOf R (λ y. mem y t) → r ≡ marksOf R (λ y. mem y (admit R hiddens t (nameAt R x)))) ⌝ }
 {
     if marks[x] == 1 {
+        return marks;
+    }
+    let need = marks::need_below(head, link, left, x);
+    if marks[need] != 1 {
         return marks;
     }
     let more = links::closed(128, head, link, left, marks, x);
