@@ -195,10 +195,10 @@ pub fn all_marks(n: usize) -> [u8; 128]
     ensures { λ r. ⌜ (length r ≡ 128) × ((R : Record) → n ≡ length (names R) → r ≡ marksOf R (λ y. mem y (names R))) ⌝ }
 {
     let mut marks = [0u8; 128];
-    let mut x: usize = 0;
-    while x < n {
-        marks[x] = 1;
-        x += 1;
+    let mut count: usize = 0;
+    while count < n {
+        marks[count] = 1;
+        count += 1;
     }
     marks
 }

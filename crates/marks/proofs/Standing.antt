@@ -72,7 +72,7 @@ module _ {R : Record} (w : WellFormed R) where
   two-known e i = needs-known R w (0 ∷ e ∷ []) (cons-within 0 (e ∷ []) (names R) (init-known R) (one-within e (names R) i))
 
   -- the needs of a need
-  need-needs : (a e : ℕ) → a among needs R (0 ∷ e ∷ []) → needs R (0 ∷ a ∷ []) within needs R (0 ∷ e ∷ [])
+  pub need-needs : (a e : ℕ) → a among needs R (0 ∷ e ∷ []) → needs R (0 ∷ a ∷ []) within needs R (0 ∷ e ∷ [])
   need-needs a e i = needs-within R w (0 ∷ a ∷ []) (0 ∷ e ∷ []) (cons-within 0 (a ∷ []) _ (needs-holds R (0 ∷ e ∷ []) 0 (mem-head 0 (e ∷ []))) (one-within a _ i))
 
   need-same : (a e : ℕ) → a among needs R (0 ∷ e ∷ []) → (y : ℕ) → mem y (needs R (e ∷ needs R (0 ∷ a ∷ []))) ≡ mem y (needs R (0 ∷ e ∷ []))
@@ -137,10 +137,14 @@ marked-on R test m y e o = marks-on R test y (rw (← e) o) .1
 pub marked-off : (R : Record) (test : ℕ → Bool) (m : List ℕ) (y : ℕ) → m ≡ marksOf R test → y < length (names R) → Off m y → test (nameAt R y) ≡ false
 marked-off R test m y e l f = by (test (nameAt R y)) (λ q. absurd (f (rw e (on-marks R test y l q)))) (λ q. q)
 
--- what must stand has a mark, INIT among it; so that an edit without is not the first
-pub unmarked-some : (R : Record) (m : List ℕ) (x : ℕ) → m ≡ marksOf R (must R) → Off m x → 0 < x
-unfolding must names
-unmarked-some R m x e f = is-by x 0 (λ q. absurd (f (rw (q, e) (on-marks R (must R) 0 (names-some R) (init-must R))))) (λ q. omega (arith, q))
+-- where INIT has a mark, one without is not the first
+pub unmarked-above : (R : Record) (test : ℕ → Bool) (m : List ℕ) (x : ℕ) → m ≡ marksOf R test → test 0 ≡ true → Off m x → 0 < x
+unfolding names
+unmarked-above R test m x e i f = is-by x 0 (λ q. absurd (f (rw (q, e) (on-marks R test 0 (names-some R) i)))) (λ q. omega (arith, q))
+
+pub must-init : (R : Record) → must R 0 ≡ true
+unfolding must
+must-init R = init-must R
 
 pub must-on : (R : Record) (m : List ℕ) (y : ℕ) → m ≡ marksOf R (must R) → On m y → nameAt R y among musts R
 unfolding must

@@ -68,7 +68,7 @@ pub fn closes_ring(
 }
 
 // A need of the edit at x that comes before it in the table: one that enables it, or INIT.
-fn need_below(head: &[u16; 384], link: &[u16; 1024], left: &[u8; 1024], x: usize) -> usize
+pub fn need_below(head: &[u16; 384], link: &[u16; 1024], left: &[u8; 1024], x: usize) -> usize
     requires { ⌜ Safe (now head) (now link) (now left) × (x < 128) ⌝ }
     ensures { λ r. ⌜ (r ≤ x) × (r < 128) × (0 < x → r < x) × ((R : Record) → Resolved R (now (head .entry)) (now (link .entry)) (now (left .entry)) → x < length (names R)
         → (r < length (names R)) × (nameAt R r among needs R (0 ∷ nameAt R x ∷ []))) ⌝ }

@@ -13,7 +13,7 @@ ghost use Rattle.links.specs.Marks.{nameAt, valuesOf, marksOf, placeIn};
 ghost use Rattle.links.specs.Links.{Safe};
 ghost use Rattle.links.specs.Turns.{Turns};
 ghost use Rattle.marks.specs.Resolved.{Resolved};
-ghost use Rattle.schedules.specs.Rows.{free, Held, foundAt, Hides, bars, Clear, RowIs};
+ghost use Rattle.schedules.specs.Rows.{free, Held, foundAt, Hides, bars, Clear, Missed, RowIs};
 
 // Edits in order, by index.
 pub struct Row {
@@ -186,22 +186,32 @@ fn any_barred(n: usize, marks: &[u8; 128], hidden: &[u8; 128], mustmarks: &[u8; 
     false
 }
 
-// The same where it is known whether any edit at all is barred.
+// Whether one that is barred enters with the edit at x, where the old set holds none and it is known whether any edit at all is barred.
 fn is_shut(
     n: usize,
+    head: &[u16; 384],
+    link: &[u16; 1024],
+    left: &[u8; 1024],
+    old: &[u8; 128],
     marks: &[u8; 128],
     hidden: &[u8; 128],
     mustmarks: &[u8; 128],
+    x: usize,
     barring: bool,
 ) -> bool
-    requires { ⌜ n ≤ 128 ⌝ }
-    ensures { λ r. ⌜ ((R : Record) (hiddens t : List ℕ) → n ≡ length (names R) → t within names R → now (marks .entry) ≡ marksOf R (λ y. mem y t)
-        → now (mustmarks .entry) ≡ marksOf R (must R) → Hides R (now (hidden .entry)) hiddens → barring ≡ any (bars R hiddens) (names R) → r ≡ any (bars R hiddens) t) ⌝ }
+    requires { ⌜ Safe (now head) (now link) (now left) × (n ≤ 128) × (x < 128) ⌝ }
+    ensures { λ r. ⌜ ((R : Record) (hiddens t : List ℕ) → Resolved R (now (head .entry)) (now (link .entry)) (now (left .entry)) → n ≡ length (names R) → x < n
+        → Clear R hiddens t → now (old .entry) ≡ marksOf R (λ y. mem y t) → now (marks .entry) ≡ marksOf R (λ y. mem y (needs R (nameAt R x ∷ t)))
+        → now (mustmarks .entry) ≡ marksOf R (must R) → Hides R (now (hidden .entry)) hiddens → barring ≡ any (bars R hiddens) (names R)
+        → r ≡ any (bars R hiddens) (needs R (nameAt R x ∷ t))) ⌝ }
 {
-    if barring {
+    if !barring {
+        return false;
+    }
+    if links::any_row(head, link, left, 128 + x, old, 0) {
         return any_barred(n, marks, hidden, mustmarks);
     }
-    false
+    is_barred(marks, hidden, mustmarks, x)
 }
 
 // Whether the edit at x closes a ring when it enters the old set, which holds none; and it is known whether all edits together hold one.
@@ -240,7 +250,8 @@ fn is_ringed(
     false
 }
 
-// One edit: taken into the marked set with all its needs, or left out. Nothing of the set is barred, so that only the new needs can be.
+// One edit: taken into the marked set with all its needs, or left out. Nothing of the set is barred, so that only the new needs can be. Where a
+// need that comes before it was left out, so is the edit.
 fn admitted(
     n: usize,
     head: &[u16; 384],
@@ -260,13 +271,28 @@ fn admitted(
     ensures { λ r. ⌜ (length r ≡ 128) × ((R : Record) (hiddens t : List ℕ) → Resolved R (now (head .entry)) (now (link .entry)) (now (left .entry)) → Turns R (now (turnhead .entry)) (now (turnlink .entry)) (now (right .entry))
         → n ≡ length (names R)
         → x < n → mustmarks ≡ marksOf R (must R) → Hides R (now (hidden .entry)) hiddens → barring ≡ any (bars R hiddens) (names R) → ringed ≡ ring R (names R)
-        → Clear R hiddens t → ring R t ≡ false → marks ≡ marksOf R (λ y. mem y t) → r ≡ marksOf R (λ y. mem y (admit R hiddens t (nameAt R x)))) ⌝ }
+        → Clear R hiddens t → ring R t ≡ false → Missed R hiddens t x → marks ≡ marksOf R (λ y. mem y t) → r ≡ marksOf R (λ y. mem y (admit R hiddens t (nameAt R x)))) ⌝ }
 {
     if marks[x] == 1 {
         return marks;
     }
+    let need = marks::need_below(head, link, left, x);
+    if marks[need] != 1 {
+        return marks;
+    }
     let more = links::closed(128, head, link, left, marks, x);
-    if is_shut(n, &more, hidden, &mustmarks, barring) {
+    if is_shut(
+        n,
+        head,
+        link,
+        left,
+        &marks,
+        &more,
+        hidden,
+        &mustmarks,
+        x,
+        barring,
+    ) {
         return marks;
     }
     if is_ringed(
