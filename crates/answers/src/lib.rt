@@ -1,19 +1,54 @@
 // The answers of a call log, printed one after the other into one buffer.
 use record::Record;
 ghost use mathlib.Core.Path.{_≡_};
+ghost use Prim.Native.Nat.{_≤_};
+ghost use lib.ListN.{drop};
 ghost use Rattle.record.specs.Record as theory;
 ghost use Rattle.record.specs.Stored.{recordOf, stored};
 ghost use Rattle.table.specs.Checked.{Checked};
 ghost use Rattle.text.specs.Text.{textOf};
 ghost use Rattle.form.specs.Form.{fill};
+ghost use Rattle.forms.specs.Forms.{formAt};
 ghost use Rattle.forms.specs.Printed.{Printed};
 ghost use Rattle.report.specs.Report.{reportOf};
-ghost use Rattle.answers.specs.Answers.{answerForm};
+ghost use Rattle.answers.specs.Answers.{answerTable, answerForm};
+
+// The forms from a place of the table on, and which of them it is.
+struct Start {
+    at: usize,
+    kind: usize,
+}
+
+// Where the search for the form of a kind starts, a few forms before it.
+fn start_of(kind: usize) -> Start
+    ensures { λ r. ⌜ (formAt (drop (r .at) answerTable) (r .kind) ≡ answerForm kind) × (r .at ≤ 601) ⌝ }
+{
+    if kind < 9 {
+        return Start { at: 0, kind: kind };
+    }
+    if kind < 18 {
+        return Start {
+            at: 217,
+            kind: kind - 9,
+        };
+    }
+    if kind < 24 {
+        return Start {
+            at: 363,
+            kind: kind - 18,
+        };
+    }
+    Start {
+        at: 497,
+        kind: kind - 24,
+    }
+}
 
 // Prints the line of a kind with these numbers, and answers the place after it. specs/Answers.antt has the same lines.
 pub fn tell(out: &mut [u8], at: usize, kind: usize, numbers: &[u64]) -> usize
     ensures { λ r. ⌜ Printed (fill (answerForm kind) (now (numbers .entry))) (now (out .entry)) at (now (out .exit)) r ⌝ }
 {
+    let start = start_of(kind);
     forms::print_form(
         &mut out[..],
         at,
@@ -45,7 +80,8 @@ pub fn tell(out: &mut [u8], at: usize, kind: usize, numbers: &[u64]) -> usize
           left=@ rule=notafter right=@\n\
           left=@ rule=enables right=@\n\
           left=@ rule=noncommuting right=@\n",
-        kind,
+        start.at,
+        start.kind,
         numbers,
     )
 }

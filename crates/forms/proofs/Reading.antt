@@ -8,7 +8,7 @@ use native.Mathlib.Numerals.{add-one}
 use native.Mathlib.Omega.{arith}
 use borrow.Author.Tests.{lt-ltb, le-ltb, ltb-true}
 use lib.ListN.{length, getD, take, drop, set, replicate, length-set, drop-of-length-le}
-use lib.Seq.{drop-cons, take-all, take-nil, take-suc, take-suc-set}
+use lib.Seq.{drop-cons, getD-drop, take-all, take-nil, take-suc, take-suc-set}
 use Rattle.record.specs.Lists.{all}
 use Rattle.record.proofs.Lists.{by, le-by, clash, and-l, and-r}
 use Rattle.decimal.specs.Decimal.{saturated}
@@ -19,7 +19,7 @@ use Rattle.line.specs.Line.{fitsWord}
 use Rattle.line.specs.Lines.{lines, firstLine}
 use Rattle.line.proofs.Ends.{NextLine, next-line, no-lines}
 use Rattle.forms.specs.declared.Order.{Order}
-use Rattle.forms.specs.Forms.{formAt, noOrder, cellsOf, ordered, orderOr, orderFrom, orderBy}
+use Rattle.forms.specs.Forms.{formAt, noOrder, cellsOf, ordered, orderOr, orderFrom}
 use Rattle.forms.specs.Printed.{Printed}
 
 -- numbers kept as cells while each fits 32 bits
@@ -96,18 +96,17 @@ told-none kind none other e h = refl
 told-none kind (some ns) other e h = clash (ap (λ (x : Filled). x .fits) e) h
 
 -- the loop over the forms of a table
-pub record Reading (table bytes : List ℕ) (at kind : ℕ) : Type 0 where
-  pub all-but : orderBy table bytes ≡ orderFrom kind (lines (drop at table)) bytes
+pub record Reading (table : List ℕ) (start first : ℕ) (bytes : List ℕ) (at kind : ℕ) : Type 0 where
+  pub all-but : orderFrom first (lines (drop start table)) bytes ≡ orderFrom kind (lines (drop at table)) bytes
   pub near : at ≤ length table
   pub counted : kind ≤ at
 
-module _ (table bytes : List ℕ) where
-  pub reading-start : Reading table bytes 0 0
-  unfolding orderBy
-  reading-start = record { all-but = refl; near = omega arith; counted = omega arith }
+module _ (table : List ℕ) (start first : ℕ) (bytes : List ℕ) where
+  pub reading-start : start ≤ length table → first ≤ start → Reading table start first bytes start first
+  reading-start n h = record { all-but = refl; near = n; counted = h }
 
-  module _ (at kind : ℕ) (w : Reading table bytes at kind) where
-    pub reading-end : {r : Order} → length table ≤ at → r ≡ noOrder 1 → r ≡ orderBy table bytes
+  module _ (at kind : ℕ) (w : Reading table start first bytes at kind) where
+    pub reading-end : {r : Order} → length table ≤ at → r ≡ noOrder 1 → r ≡ orderFrom first (lines (drop start table)) bytes
     unfolding orderFrom
     reading-end h e = e ∙ sym (w .all-but ∙ rw (no-lines table at h))
 
@@ -121,15 +120,15 @@ module _ (table bytes : List ℕ) where
       pub end-inside : end ≤ length table
       end-inside = line-is .inside
 
-      first-form : orderBy table bytes ≡ orderOr kind (taken (take (end - at) (drop at table)) bytes) (orderFrom (suc kind) (lines (drop end table)) bytes)
+      first-form : orderFrom first (lines (drop start table)) bytes ≡ orderOr kind (taken (take (end - at) (drop at table)) bytes) (orderFrom (suc kind) (lines (drop end table)) bytes)
       unfolding orderFrom
       first-form = w .all-but ∙ rw (line-is .lines-are)
 
       module _ {t : Filled} (p : t ≡ told (taken (take (end - at) (drop at table)) bytes)) where
-        pub reading-takes : {r : Order} → t .fits ≡ true → r ≡ ordered kind (t .numbers) → r ≡ orderBy table bytes
+        pub reading-takes : {r : Order} → t .fits ≡ true → r ≡ ordered kind (t .numbers) → r ≡ orderFrom first (lines (drop start table)) bytes
         reading-takes f q = told-fits kind (taken (take (end - at) (drop at table)) bytes) (orderFrom (suc kind) (lines (drop end table)) bytes) p f q ∙ sym first-form
 
-        pub reading-on : t .fits ≡ false → Reading table bytes end (kind + 1)
+        pub reading-on : t .fits ≡ false → Reading table start first bytes end (kind + 1)
         reading-on f = record {
           all-but = rw add-one (first-form ∙ told-none kind (taken (take (end - at) (drop at table)) bytes) (orderFrom (suc kind) (lines (drop end table)) bytes) p f);
           near = end-inside;
@@ -171,26 +170,34 @@ module _ (table : List ℕ) (at : ℕ) {end : ℕ} (e : end ≡ at + length (fir
       (λ (h : length table ≤ at). no-form table at (suc kind) h ∙ sym (no-form table end kind (omega (arith, ends-there table at h e))))
       (λ (h : at < length table). rw (next-line table at h e .lines-are))
 
-pub record Finding (table : List ℕ) (kind at left : ℕ) : Type 0 where
-  pub all-but : formAt table kind ≡ formAt (drop at table) left
+pub record Finding (table : List ℕ) (start kind at left : ℕ) : Type 0 where
+  pub all-but : formAt (drop start table) kind ≡ formAt (drop at table) left
   pub near : at ≤ length table
 
-module _ (table : List ℕ) (kind : ℕ) where
-  pub finding-start : Finding table kind 0 kind
-  finding-start = record { all-but = refl; near = omega arith }
+module _ (table : List ℕ) (start kind : ℕ) where
+  pub finding-start : start ≤ length table → Finding table start kind start kind
+  finding-start h = record { all-but = refl; near = h }
 
   same : (n : ℕ) → n ≡ suc n - 1
   same n = omega arith
 
-  pub finding-next : (at left : ℕ) {end : ℕ} → Finding table kind at left → 0 < left → end ≡ at + length (firstLine (drop at table)) → Finding table kind end (left - 1)
+  pub finding-next : (at left : ℕ) {end : ℕ} → Finding table start kind at left → 0 < left → end ≡ at + length (firstLine (drop at table)) → Finding table start kind end (left - 1)
   finding-next at zero w h e = absurd (omega arith)
   finding-next at (suc left) {end} w h e = record { all-but = w .all-but ∙ form-later table at e left ∙ ap (formAt (drop end table)) (same left); near = form-inside table at e (w .near) }
 
-  pub finding-end : (at left : ℕ) → Finding table kind at left → left ≤ 0 → (at ≤ length table) × (formAt table kind ≡ formAt (drop at table) 0)
+  pub finding-end : (at left : ℕ) → Finding table start kind at left → left ≤ 0 → (at ≤ length table) × (formAt (drop start table) kind ≡ formAt (drop at table) 0)
   finding-end at zero w h = (w .near, w .all-but)
   finding-end at (suc left) w h = absurd (omega arith)
 
 -- what is printed of a kind
-pub printed-kind : (table : List ℕ) (kind : ℕ) (numbers before : List ℕ) (at start : ℕ) {end : ℕ} {after : List ℕ} {r : ℕ} → formAt table kind ≡ formAt (drop start table) 0
-    → end ≡ start + length (firstLine (drop start table)) → Printed (fill (take (end - start) (drop start table)) numbers) before at after r → Printed (fill (formAt table kind) numbers) before at after r
-printed-kind table kind numbers before at start f e p = rw (f ∙ form-here table start e) p
+pub printed-kind : (table : List ℕ) (start kind : ℕ) (numbers before : List ℕ) (at here : ℕ) {end : ℕ} {after : List ℕ} {r : ℕ} → formAt (drop start table) kind ≡ formAt (drop here table) 0
+    → end ≡ here + length (firstLine (drop here table)) → Printed (fill (take (end - here) (drop here table)) numbers) before at after r
+    → Printed (fill (formAt (drop start table) kind) numbers) before at after r
+printed-kind table start kind numbers before at here f e p = rw (f ∙ form-here table here e) p
+
+-- the forms of a table from a place on are those from a kind on
+pub forms-after : (table : List ℕ) (at n kind : ℕ) → lines (drop at table) ≡ drop n (lines table) → n ≤ kind → formAt (drop at table) (kind - n) ≡ formAt table kind
+unfolding formAt
+forms-after table at n kind q h =
+    let e : n + (kind - n) ≡ kind = omega arith in
+    rw (q, getD-drop, e) refl

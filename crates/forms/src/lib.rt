@@ -4,7 +4,8 @@ ghost use mathlib.Core.Path.{_≡_};
 ghost use Prim.Native.Nat.{_≤_};
 ghost use lib.ListN.{length, drop};
 ghost use Rattle.form.specs.Form.{fill};
-ghost use Rattle.forms.specs.Forms.{formAt, noOrder, ordered, orderBy};
+ghost use Rattle.line.specs.Lines.{lines};
+ghost use Rattle.forms.specs.Forms.{formAt, noOrder, ordered, orderFrom};
 ghost use Rattle.forms.specs.Printed.{Printed};
 
 // Number 0: an order of this kind, with its numbers. 1: not in form. 2: a number does not fit 32 bits. Cells that say nothing hold 0.
@@ -47,12 +48,13 @@ fn order_of(kind: usize, numbers: [u64; 8]) -> Order
     }
 }
 
-// What the bytes say by the first form of the table that takes them.
-pub fn order_by(table: &[u8], bytes: &[u8]) -> Order
-    ensures { λ r. ⌜ r ≡ orderBy (now (table .entry)) (now (bytes .entry)) ⌝ }
+// What the bytes say by the first form that takes them, of those that start at a place of the table; the first of these has the kind given.
+pub fn order_from(table: &[u8], start: usize, first: usize, bytes: &[u8]) -> Order
+    requires { ⌜ (start ≤ length (now table)) × (first ≤ start) ⌝ }
+    ensures { λ r. ⌜ r ≡ orderFrom first (lines (drop start (now (table .entry)))) (now (bytes .entry)) ⌝ }
 {
-    let mut at = 0;
-    let mut kind = 0;
+    let mut at = start;
+    let mut kind = first;
     while at < table.len() {
         let end = line::line_end(table, at);
         let filled = form::read_form(&table[at..end], bytes);
@@ -66,11 +68,12 @@ pub fn order_by(table: &[u8], bytes: &[u8]) -> Order
     no_order(1)
 }
 
-// Where the form of a kind starts; a table that has no such form ends there.
-fn form_start(table: &[u8], kind: usize) -> usize
-    ensures { λ r. ⌜ (r ≤ length (now (table .entry))) × (formAt (now (table .entry)) kind ≡ formAt (drop r (now (table .entry))) 0) ⌝ }
+// Where the form of a kind starts, counted from a place of the table; a table that has no such form ends there.
+fn form_start(table: &[u8], start: usize, kind: usize) -> usize
+    requires { ⌜ start ≤ length (now table) ⌝ }
+    ensures { λ r. ⌜ (r ≤ length (now (table .entry))) × (formAt (drop start (now (table .entry))) kind ≡ formAt (drop r (now (table .entry))) 0) ⌝ }
 {
-    let mut at = 0;
+    let mut at = start;
     let mut left = kind;
     while 0 < left {
         at = line::line_end(table, at);
@@ -92,11 +95,19 @@ fn print_filled(out: &mut [u8], at: usize, form: &[u8], numbers: &[u64]) -> usiz
     at + form::write_form(&mut out[at..], form, numbers)
 }
 
-// Prints the form of a kind with these numbers, and answers the place after it.
-pub fn print_form(out: &mut [u8], at: usize, table: &[u8], kind: usize, numbers: &[u64]) -> usize
-    ensures { λ r. ⌜ Printed (fill (formAt (now (table .entry)) kind) (now (numbers .entry))) (now (out .entry)) at (now (out .exit)) r ⌝ }
+// Prints the form of a kind, counted from a place of the table, with these numbers, and answers the place after it.
+pub fn print_form(
+    out: &mut [u8],
+    at: usize,
+    table: &[u8],
+    start: usize,
+    kind: usize,
+    numbers: &[u64],
+) -> usize
+    requires { ⌜ start ≤ length (now table) ⌝ }
+    ensures { λ r. ⌜ Printed (fill (formAt (drop start (now (table .entry))) kind) (now (numbers .entry))) (now (out .entry)) at (now (out .exit)) r ⌝ }
 {
-    let start = form_start(table, kind);
-    let end = line::line_end(table, start);
-    print_filled(&mut out[..], at, &table[start..end], numbers)
+    let here = form_start(table, start, kind);
+    let end = line::line_end(table, here);
+    print_filled(&mut out[..], at, &table[here..end], numbers)
 }

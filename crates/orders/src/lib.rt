@@ -2,14 +2,40 @@
 use forms::Order;
 use line::Line;
 ghost use mathlib.Core.Path.{_≡_};
-ghost use Rattle.forms.specs.Forms.{cellsOf, orderBy};
+ghost use Prim.Native.Nat.{_≤_};
+ghost use lib.ListN.{drop};
+ghost use Rattle.line.specs.Lines.{lines};
+ghost use Rattle.forms.specs.Forms.{cellsOf, orderFrom, orderBy};
 ghost use Rattle.orders.specs.Orders.{orderTable, lineOrder, orderRead};
+
+// The forms from a place of the table on, and the kind of the first of them.
+struct Start {
+    at: usize,
+    kind: usize,
+}
+
+// Where the forms that begin as the bytes do start in the table: those before them begin with another byte.
+fn start_of(bytes: &[u8]) -> Start
+    ensures { λ r. ⌜ (orderFrom (r .kind) (lines (drop (r .at) orderTable)) (now (bytes .entry)) ≡ orderBy orderTable (now (bytes .entry))) × (r .at ≤ 460) × (r .kind ≤ r .at) ⌝ }
+{
+    if bytes.len() == 0 {
+        return Start { at: 0, kind: 0 };
+    }
+    let first = bytes[0];
+    match first {
+        b'a' => Start { at: 381, kind: 19 },
+        b'd' => Start { at: 149, kind: 8 },
+        b'r' => Start { at: 108, kind: 4 },
+        _ => Start { at: 0, kind: 0 },
+    }
+}
 
 // The table of orders; specs/Orders.antt has the same lines.
 fn read_by_table(bytes: &[u8]) -> Order
     ensures { λ r. ⌜ r ≡ orderBy orderTable (now (bytes .entry)) ⌝ }
 {
-    forms::order_by(
+    let start = start_of(bytes);
+    forms::order_from(
         b"lent=# edit=# kind=# chip=# field=# value=#\n\
           lent=# left=# rule=# right=#\n\
           lent=# rows=none\n\
@@ -36,6 +62,8 @@ fn read_by_table(bytes: &[u8]) -> Order
           ask=catalogue\n\
           ask=journal\n\
           ask=page\n",
+        start.at,
+        start.kind,
         bytes,
     )
 }

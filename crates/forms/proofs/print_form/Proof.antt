@@ -26,7 +26,7 @@ same-length : tie.Need-same-length
 same-length c = search needs
 
 returns : tie.Need-returns
-returns c = let s = c .before .before .before .before .before .before .before .before .before .before .args in printed-kind (s .table .now) (s .kind) (s .numbers .now) (s .out .now) (s .at) (c .before .before .before .before .before .before .form-start .result) (c .before .before .before .before .before .before .form-start .ensures .1) (c .before .before .before .before .before .line-end .ensures) (c .before .before .print-filled .ensures)
+returns c = let s = c .before .before .before .before .before .before .before .before .before .before .args in printed-kind (s .table .now) (s .start) (s .kind) (s .numbers .now) (s .out .now) (s .at) (c .before .before .before .before .before .before .form-start .result) (c .before .before .before .before .before .before .form-start .ensures .1) (c .before .before .before .before .before .line-end .ensures) (c .before .before .print-filled .ensures)
 
 pub print-form-spec : {M : Type 1} → statement M
 print-form-spec =
