@@ -11,7 +11,7 @@ use benchmark::logs;
 use benchmark::shapes::{shapes, Shape};
 use clock::{Effort, Times};
 use processes::Program;
-use std::path::PathBuf;
+use std::path::{Path, PathBuf};
 use std::process::ExitCode;
 
 const USAGE: &str = "\
@@ -95,15 +95,28 @@ fn ended(done: std::io::Result<()>) -> ExitCode {
 }
 
 fn measure(options: &Options) {
-    let mut table = Table { row: &options.row, greatest: None };
-    println!("| Row | Rattle µs | Rust µs | Ratio |\n|---|---:|---:|---:|");
     let shapes = shapes();
-    measure_calls(&shapes, &mut table, options.effort);
-    measure_logs(&shapes, &mut table, options.effort);
-    measure_processes(&shapes, &mut table, options);
+    print_table("At the limits", options, |table| {
+        measure_calls(&shapes, table, options.effort);
+        measure_logs(&builds(&shapes), table, options.effort);
+        measure_shelves(&shapes, table, options);
+        measure_replays(&builds(&shapes), table, options);
+    });
+    print_table("Other logs", options, |table| {
+        let logs = other_logs(&shapes);
+        measure_logs(&logs, table, options.effort);
+        measure_replays(&logs, table, options);
+        measure_long_replay(table, options);
+    });
+}
+
+fn print_table(title: &str, options: &Options, fill: impl FnOnce(&mut Table)) {
+    println!("{title}\n\n| Row | Rattle µs | Rust µs | Ratio |\n|---|---:|---:|---:|");
+    let mut table = Table { row: &options.row, greatest: None };
+    fill(&mut table);
     match table.greatest {
-        Some((row, ratio)) => println!("\nGreatest ratio: {ratio:.2} ({row})"),
-        None => println!("\nNo such row."),
+        Some((row, ratio)) => println!("\nGreatest ratio: {ratio:.2} ({row})\n"),
+        None => println!("\nNo such row.\n"),
     }
 }
 
@@ -152,11 +165,18 @@ fn measure_calls(shapes: &[Shape], table: &mut Table, effort: Effort) {
 }
 
 /// Logs by name.
-fn logs_of(shapes: &[Shape]) -> Vec<(String, Vec<u8>)> {
+type Logs = Vec<(String, Vec<u8>)>;
+
+/// A bench at the limits, made line by line.
+fn builds(shapes: &[Shape]) -> Logs {
+    let build =
+        |shape: &Shape| (format!("replay, build {}", shape.name), logs::build(&shape.record));
+    shapes.iter().map(build).collect()
+}
+
+/// Lines that change little on a full bench, and lines with small records.
+fn other_logs(shapes: &[Shape]) -> Logs {
     let mut logs = Vec::new();
-    for shape in shapes {
-        logs.push((format!("replay, build {}", shape.name), logs::build(&shape.record)));
-    }
     for shape in [&shapes[0], &shapes[1]] {
         let name = shape.name;
         logs.push((format!("replay, turns {name}"), logs::turns(shape, TURN_LINES)));
@@ -167,30 +187,44 @@ fn logs_of(shapes: &[Shape]) -> Vec<(String, Vec<u8>)> {
     logs
 }
 
-fn measure_logs(shapes: &[Shape], table: &mut Table, effort: Effort) {
-    for (row, log) in logs_of(shapes) {
-        table.measure(&row, || calls::replay(&row, &log, effort));
+fn measure_logs(logs: &Logs, table: &mut Table, effort: Effort) {
+    for (row, log) in logs {
+        table.measure(row, || calls::replay(row, log, effort));
     }
 }
 
-fn measure_processes(shapes: &[Shape], table: &mut Table, options: &Options) {
-    let plain = std::env::current_exe().expect("this program has a path");
-    let runs = options.effort.runs;
-    let program = |path: &PathBuf, arguments| Program { path: path.clone(), arguments };
-    let (proved, baseline) = (program(&options.shelf, &[]), program(&plain, &[PLAIN_SHELF]));
+/// The proved program and the baseline's, which is this one.
+fn programs(proved: &Path, plain: &'static [&'static str]) -> (Program, Program) {
+    let path = std::env::current_exe().expect("this program has a path");
+    let proved = Program { path: proved.to_path_buf(), arguments: &[] };
+    (proved, Program { path, arguments: plain })
+}
+
+fn measure_shelves(shapes: &[Shape], table: &mut Table, options: &Options) {
+    let (proved, plain) = programs(&options.shelf, &[PLAIN_SHELF]);
     for shape in shapes {
         let row = format!("process shelf, {}", shape.name);
         let text = shape.text();
-        table.measure(&row, || processes::compared(&row, &text, &proved, &baseline, runs));
+        table.measure(&row, || {
+            processes::compared(&row, &text, &proved, &plain, options.effort.runs)
+        });
     }
-    let (proved, baseline) = (program(&options.replay, &[]), program(&plain, &[PLAIN_REPLAY]));
-    for (name, log) in logs_of(shapes) {
+}
+
+fn measure_replays(logs: &Logs, table: &mut Table, options: &Options) {
+    let (proved, plain) = programs(&options.replay, &[PLAIN_REPLAY]);
+    for (name, log) in logs {
         let row = format!("process {name}");
-        table.measure(&row, || processes::compared(&row, &log, &proved, &baseline, runs));
+        table
+            .measure(&row, || processes::compared(&row, log, &proved, &plain, options.effort.runs));
     }
+}
+
+fn measure_long_replay(table: &mut Table, options: &Options) {
+    let (proved, plain) = programs(&options.replay, &[PLAIN_REPLAY]);
     let row = "process replay, mix of 10 MB";
     table.measure(row, || {
         let log = logs::repeated(&logs::mix(), LONG_LOG_SIZE);
-        processes::compared(row, &log, &proved, &baseline, options.effort.long_runs)
+        processes::compared(row, &log, &proved, &plain, options.effort.long_runs)
     });
 }
