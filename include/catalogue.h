@@ -10,7 +10,7 @@
  *   is 0. Buffers that are written (`out`, `work`) overlap no other buffer of the same call.
  * - Refused, it leaves `out` as it was. Accepted, it changes the first `size` bytes of `out` and no other.
  * - It keeps nothing between calls, allocates nothing and uses no global state, so that threads may call it at once.
- * - It needs up to STACK_KIB KiB of stack.
+ * - It needs up to 600 KiB of stack.
  *
  * The contracts are proved: crates/export/src/lib.rt states them, crates/export/specs/Replies.antt defines what they speak of.
  */
@@ -51,7 +51,8 @@ struct catalogue_reply catalogue_replay(const uint8_t *log, size_t log_size, uin
 
 /* A bench between calls is kept by its log: the answers to the lines of `log` alone, on the bench that the lines of `kept` made. To go on,
  * append `log` to what was kept. `kept` ends with the end of a line, or is empty; where it does not, its last line counts as a line of its own.
- * `work` needs room for the answers to `log` alone. COST_SENTENCE */
+ * `work` needs room for the answers to `log` alone. It costs what running `kept` costs: from 0.6 microseconds a line (turns) to 15 (adds on a
+ * bench at the limits). */
 struct catalogue_reply catalogue_continue(const uint8_t *kept, size_t kept_size, const uint8_t *log, size_t log_size, uint8_t *work,
                                           size_t work_size, uint8_t *out, size_t out_size);
 
