@@ -6,6 +6,7 @@ use catalogue::PAGES;
 use catalogue::PLACES;
 use ledger::Bench;
 use record::Edit;
+use turner::Turner;
 ghost use mathlib.Core.Path.{_≡_};
 ghost use mathlib.Core.Bool.{cond};
 ghost use mathlib.Core.List.{[], _∷_};
@@ -262,10 +263,10 @@ pub fn print_journal(out: &mut [u8], at: usize, bench: Bench) -> usize
     print_rows(&mut out[..], place, edits, n, rows)
 }
 
-pub fn print_page(out: &mut [u8], at: usize, bench: Bench) -> usize
-    ensures { λ r. ⌜ Printed (pageText (bench .turner .opened) (bench .turner .last)) (now (out .entry)) at (now (out .exit)) r ⌝ }
+// The turner alone tells the page.
+pub fn print_page(out: &mut [u8], at: usize, turner: Turner) -> usize
+    ensures { λ r. ⌜ Printed (pageText (turner .opened) (turner .last)) (now (out .entry)) at (now (out .exit)) r ⌝ }
 {
-    let turner = bench.turner;
     tell_two(
         &mut out[..],
         at,

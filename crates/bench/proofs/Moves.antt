@@ -15,7 +15,7 @@ use Rattle.record.specs.declared.Record as declared
 use Rattle.record.specs.declared.Schedule.{Schedule}
 use Rattle.record.specs.Lists.{mem}
 use Rattle.record.specs.Record.{Record, nameOf, written}
-use Rattle.record.specs.Stored.{stored, editNamed}
+use Rattle.record.specs.Stored.{stored, editNamed, fillerEdit}
 use Rattle.record.specs.Schedule.{schedule}
 use Rattle.record.specs.Judgement.{sound}
 use Rattle.links.specs.Marks.{marksOf}
@@ -30,17 +30,19 @@ use Rattle.turner.proofs.Landed.{turned-lands}
 use Rattle.turning.specs.declared.Turning.{Turning}
 use Rattle.turning.specs.Turning.{turnAnswerOf, turningOf}
 use Rattle.pages.specs.Steps.{commonBeginning, Agree}
+use Rattle.pages.proofs.Padded.{take-padded}
 use Rattle.catalogue.specs.declared.View.{View}
 use Rattle.catalogue.specs.declared.Changed.{Changed}
-use Rattle.catalogue.specs.Chips.{viewOf, scheduleOf}
+use Rattle.catalogue.specs.Chips.{rows, viewOf, scheduleOf}
 use Rattle.catalogue.specs.Changes as moves
+use Rattle.ledger.specs.declared.Answer.{Answer}
 use Rattle.ledger.specs.declared.Bench.{Bench}
 use Rattle.ledger.specs.declared.Outcome.{Outcome}
 use Rattle.ledger.specs.Ledger.{Ledger, Call, turn, start, pages, last, judge, act, refusal, change, step, fed}
-use Rattle.ledger.specs.Bench.{pageEdits, openEdits, benchOf, outcome}
+use Rattle.ledger.specs.Bench.{pageEdits, openEdits, benchOf, outcome, Answers}
 use Rattle.ledger.proofs.Valid.{Valid, start-valid, fed-valid}
-use Rattle.ledger.proofs.Undone.{step-refused, step-accepted}
-use Rattle.bench.specs.Changes.{refusedWith, turnedTo, Keeps, pagesOf, Reschedules}
+use Rattle.ledger.proofs.Undone.{from-valid, step-refused, step-accepted, at-page}
+use Rattle.bench.specs.Changes.{plainAnswer, refusedWith, openAt, turnReply, Opens, Keeps, pagesOf, Reschedules}
 use Rattle.bench.proofs.Pages.{names-named, named-agree, take-map, pages-written, pages-room, open-written, last-room}
 
 -- a call that the ledger refuses with this number
@@ -56,6 +58,49 @@ accepted-is L call r j e = e ∙ ap outcome (sym (step-accepted L call j))
 length-pages : (L : Ledger) → length (pageEdits L) ≡ last L
 unfolding pageEdits last
 length-pages L = length-map (pages L) (editNamed (L .multilog .edits))
+
+-- a page opened
+module _ (L : Ledger) (bench : Bench) (e : bench ≡ benchOf L) (page : ℕ) (h : page ≤ last L) where
+  opened-edits : take page (bench .schedule .edits) ≡ take page (pageEdits L)
+  unfolding benchOf scheduleOf
+  opened-edits = ap (λ (b : Bench). take page (b .schedule .edits)) e ∙ take-padded rows fillerEdit page (pageEdits L) (omega (arith, length-pages L))
+
+  pub open-is : openAt bench page ≡ benchOf (at-page L page)
+  unfolding openAt benchOf at-page openEdits pageEdits last pages
+  open-is = λ i. record {
+    multilog = e i .multilog;
+    hidden = e i .hidden;
+    schedule = e i .schedule;
+    turner = record { opened = page; last = e i .turner .last };
+    view = viewOf (opened-edits i);
+  }
+
+last-is : (L : Ledger) (bench : Bench) → bench ≡ benchOf L → bench .turner .last ≡ last L
+unfolding benchOf
+last-is L bench e = ap (λ (b : Bench). b .turner .last) e
+
+-- the page that is open
+pub open-same : (L : Ledger) → Valid L → (bench : Bench) → bench ≡ benchOf L → openAt bench (bench .turner .opened) ≡ bench
+unfolding benchOf at-page
+open-same L v bench e =
+    let o : bench .turner .opened ≡ L .opened = ap (λ (b : Bench). b .turner .opened) e in
+    ap (openAt bench) o ∙ (open-is L bench e (L .opened) (v .opened-within) ∙ sym e)
+
+-- as the code opens it
+pub opens : (bench : Bench) (page : ℕ) (w : View) → moves.Turns (bench .schedule) (bench .turner .opened) page (bench .view) w
+    → Opens bench page (record { multilog = bench .multilog; hidden = bench .hidden; schedule = bench .schedule; turner = record { opened = page; last = bench .turner .last }; view = w })
+unfolding Opens openAt benchOf moves.Turns openEdits
+opens bench page w m = λ calls e h.
+    let L = fed start calls in
+    let v = fed-valid start calls start-valid in
+    let o : bench .turner .opened ≡ L .opened = ap (λ (b : Bench). b .turner .opened) e in
+    let n = length-pages L in
+    let l = last-is L bench e in
+    let x : w ≡ viewOf (take page (pageEdits L)) =
+    m (pageEdits L) (omega (arith, last-room L v)) (ap (λ (b : Bench). b .schedule) e) (omega (arith, v .opened-within)) (omega arith)
+    (ap (λ (b : Bench). b .view) e ∙ ap (λ (k : ℕ). viewOf (take k (pageEdits L))) (sym o)) in
+    let y = x ∙ ap viewOf (sym (opened-edits L bench e page (omega arith))) in
+    λ i. record { multilog = bench .multilog; hidden = bench .hidden; schedule = bench .schedule; turner = record { opened = page; last = bench .turner .last }; view = y i }
 
 -- a turn, by the number as the code holds it
 module _ (L : Ledger) (v : Valid L) (bench : Bench) (e : bench ≡ benchOf L) (by : ℤ) (fits : SFits w32 by) (t : Turning) (h : t ≡ turningOf (bench .turner) (toZ w32 (ofZ w32 by))) where
@@ -86,18 +131,43 @@ module _ (L : Ledger) (v : Valid L) (bench : Bench) (e : bench ≡ benchOf L) (b
       go (To page) q = omega (arith, ap (λ (u : Turned). answerOf (L .opened) u .opened) q, turned-lands (last L) page (L .opened) by q .within)
       go Refused q = omega (arith, ap (λ (u : Turned). answerOf (L .opened) u .opened) q, v .opened-within)
 
-  pub turn-accepted : (w : View) → t .number ≡ 0 → moves.Turns (bench .schedule) (bench .turner .opened) (t .turner .opened) (bench .view) w
-      → turnedTo bench (t .turner) w ≡ outcome (step L (turn by))
-  unfolding judge act outcome benchOf moves.Turns openEdits pageEdits last pages
-  turn-accepted w z m =
-      let o : bench .turner .opened ≡ L .opened = ap (λ (b : Bench). b .turner .opened) e in
+  pub turned-within : t .turner .opened ≤ last L
+  turned-within = omega (arith, ap (λ (r : Turning). r .turner .opened) turning-is, landed-within)
+
+  pub turn-accepted : t .number ≡ 0 → record { answer = plainAnswer 0; bench = openAt bench (t .turner .opened) } ≡ outcome (step L (turn by))
+  unfolding judge act outcome at-page
+  turn-accepted z =
       let p : t .turner .opened ≡ answer .opened = ap (λ (r : Turning). r .turner .opened) turning-is in
-      let n = length-pages L in
-      let x : w ≡ viewOf (take (t .turner .opened) (pageEdits L)) =
-      m (pageEdits L) (omega (arith, last-room L v)) (ap (λ (b : Bench). b .schedule) e) (omega (arith, o, v .opened-within)) (omega (arith, p, landed-within))
-      (ap (λ (b : Bench). b .view) e ∙ ap (λ (k : ℕ). viewOf (take k (pageEdits L))) (sym o)) in
-      accepted-is L (turn by) _ (sym (ap (λ (r : Turning). r .number) turning-is) ∙ z)
-      (λ i. turnedTo (e i) (turning-is i .turner) ((x ∙ ap (λ (k : ℕ). viewOf (take k (pageEdits L))) p) i))
+      let x : openAt bench (t .turner .opened) ≡ benchOf (at-page L (answer .opened)) = ap (openAt bench) p ∙ open-is L bench e (answer .opened) landed-within in
+      accepted-is L (turn by) _ (sym (ap (λ (r : Turning). r .number) turning-is) ∙ z) (ap (λ (b : Bench). record { answer = plainAnswer 0; bench = b }) x)
+
+  pub turn-told : turnReply bench t ≡ outcome (step L (turn by))
+  unfolding judge turnReply benchOf
+  turn-told = go (turned (L .opened) (last L) by) refl
+    where
+      go : (u : Turned) → turned (L .opened) (last L) by ≡ u → turnReply bench t ≡ outcome (step L (turn by))
+      go (To page) q =
+          let z : t .number ≡ 0 = ap (λ (r : Turning). r .number) turning-is ∙ ap (λ (u : Turned). answerOf (L .opened) u .number) q in
+          ap (λ (n : ℕ). record { answer = plainAnswer n; bench = openAt bench (t .turner .opened) }) z ∙ turn-accepted z
+      go Refused q =
+          let n : t .number ≡ 10 = ap (λ (r : Turning). r .number) turning-is ∙ ap (λ (u : Turned). answerOf (L .opened) u .number) q in
+          let p : t .turner .opened ≡ L .opened = ap (λ (r : Turning). r .turner .opened) turning-is ∙ ap (λ (u : Turned). answerOf (L .opened) u .opened) q in
+          let o : bench .turner .opened ≡ L .opened = ap (λ (b : Bench). b .turner .opened) e in
+          let x : openAt bench (t .turner .opened) ≡ bench = ap (openAt bench) (p ∙ sym o) ∙ open-same L v bench e in
+          (λ i. record { answer = plainAnswer (n i); bench = x i }) ∙ turn-refused (λ z. omega arith)
+
+-- the same of every list of calls
+pub turn-answers : (bench : Bench) (by : ℤ) → SFits w32 by → (t : Turning) → t ≡ turningOf (bench .turner) (toZ w32 (ofZ w32 by)) → Answers bench (turn by) (turnReply bench t)
+turn-answers bench by fits t h = from-valid bench (turn by) (turnReply bench t) (λ L v e. turn-told L v bench e by fits t h)
+
+pub turn-opens : (bench : Bench) (by : ℤ) → SFits w32 by → (t : Turning) → t ≡ turningOf (bench .turner) (toZ w32 (ofZ w32 by)) → t .number ≡ 0
+    → (b : Bench) → Opens bench (t .turner .opened) b → (a : Answer) → a ≡ plainAnswer 0 → Answers bench (turn by) (record { answer = a; bench = b })
+unfolding Answers Opens
+turn-opens bench by fits t h z b o a q = λ calls e.
+    let L = fed start calls in
+    let v = fed-valid start calls start-valid in
+    let x = o calls e (omega (arith, last-is L bench e, turned-within L v bench e by fits t h)) in
+    (λ i. record { answer = q i; bench = x i }) ∙ turn-accepted L v bench e by fits t h z
 
 -- a change
 module _ (L : Ledger) (v : Valid L) (bench : Bench) (e : bench ≡ benchOf L) (R : Record) (h : List ℕ) (k : Checked R) (s : sound R ≡ true)

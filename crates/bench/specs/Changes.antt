@@ -1,9 +1,9 @@
--- What the calls' code shares (document 01, "Entries and pages"): a refusal, a turned bench, and the promise of a change. Assumes nothing.
+-- What the calls' code shares (document 01, "Entries and pages"): a refusal, a page opened, and the promise of a change. Assumes nothing.
 use mathlib.Core.Path.{_≡_}
 use mathlib.Core.Bool.{true, false}
 use mathlib.Core.List.{List, map}
-use Prim.Native.Nat.{ℕ}
-use lib.ListN.{drop}
+use Prim.Native.Nat.{ℕ, _≤_}
+use lib.ListN.{take, drop}
 use Rattle.record.specs.declared.Record as declared
 use Rattle.record.specs.declared.Schedule.{Schedule}
 use Rattle.record.specs.Lists.{mem, _among_, _within_}
@@ -14,33 +14,39 @@ use Rattle.record.specs.Judgement.{sound}
 use Rattle.links.specs.Marks.{marksOf}
 use Rattle.table.specs.Checked.{Checked}
 use Rattle.vote.specs.declared.Election.{Election}
-use Rattle.turner.specs.declared.Turner.{Turner}
-use Rattle.catalogue.specs.declared.View.{View}
-use Rattle.catalogue.specs.Chips.{scheduleOf}
+use Rattle.turning.specs.declared.Turning.{Turning}
+use Rattle.catalogue.specs.Chips.{viewOf, scheduleOf}
+use Rattle.ledger.specs.declared.Answer.{Answer}
 use Rattle.ledger.specs.declared.Bench.{Bench}
 use Rattle.ledger.specs.declared.Outcome.{Outcome}
-use Rattle.ledger.specs.Ledger.{Call, noElection, answered, start, fed, change}
+use Rattle.ledger.specs.Ledger.{Call, start, fed, change}
 use Rattle.ledger.specs.Bench.{benchOf, outcome}
 
--- the bench that came in, with the number; every other part of the answer is 0
+-- every part of the answer but the number is 0
+abbrev pub plainAnswer : ℕ → Answer
+plainAnswer number = record { number = number; undone = 0; redone = 0; won = false; greatest = 0; silent = 0; total = 0 }
+
+-- the bench that came in, with the number
 abbrev pub refusedWith : Bench → ℕ → Outcome
-refusedWith bench number = record {
-  answer = record { number = number; undone = 0; redone = 0; won = false; greatest = 0; silent = 0; total = 0 };
-  bench = bench;
+refusedWith bench number = record { answer = plainAnswer number; bench = bench }
+
+-- the bench with another page open, the edits of the pages up to it run on an empty catalogue
+unfoldable pub openAt : Bench → ℕ → Bench
+openAt bench page = record {
+  multilog = bench .multilog;
+  hidden = bench .hidden;
+  schedule = bench .schedule;
+  turner = record { opened = page; last = bench .turner .last };
+  view = viewOf (take page (bench .schedule .edits));
 }
 
--- the bench with another turner and view; a turn reports no pages
-abbrev pub turnedTo : Bench → Turner → View → Outcome
-turnedTo bench turner view = record {
-  answer = answered 0 0 noElection;
-  bench = record {
-    multilog = bench .multilog;
-    hidden = bench .hidden;
-    schedule = bench .schedule;
-    turner = turner;
-    view = view;
-  };
-}
+-- what a turn of the bench's turner comes to on the bench; a refused one leaves the page
+unfoldable pub turnReply : Bench → Turning → Outcome
+turnReply bench t = record { answer = plainAnswer (t .number); bench = openAt bench (t .turner .opened) }
+
+-- THE PROMISE OF OPENING a page of a bench that calls left
+unfoldable pub Opens : Bench → ℕ → Bench → Type 0
+Opens bench page r = (calls : List Call) → bench ≡ benchOf (fed start calls) → page ≤ bench .turner .last → r ≡ openAt bench page
 
 -- S has every edit of R, with its body
 abbrev pub Keeps : Record → Record → Type 0

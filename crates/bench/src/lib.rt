@@ -10,7 +10,7 @@ use vote::Election;
 ghost use mathlib.Core.Path.{_≡_};
 ghost use Rattle.ledger.specs.Ledger.{Call, noElection, start};
 ghost use Rattle.ledger.specs.Bench.{Answers, benchOf};
-ghost use Rattle.bench.specs.Changes.{Reschedules, refusedWith, turnedTo};
+ghost use Rattle.bench.specs.Changes.{Opens, Reschedules, plainAnswer, refusedWith};
 
 // A bench with no edit and no page.
 pub fn empty_bench() -> Bench
@@ -30,42 +30,47 @@ pub fn empty_bench() -> Bench
     }
 }
 
+// An answer that tells of no pages and no election. Pub for the crates of the call log.
+pub fn plain_answer(number: u32) -> Answer
+    ensures { λ r. ⌜ r ≡ plainAnswer number ⌝ }
+{
+    Answer {
+        number: number,
+        undone: 0,
+        redone: 0,
+        won: false,
+        greatest: 0,
+        silent: 0,
+        total: 0,
+    }
+}
+
 // The bench that came in, with the number. Pub for the crates of the other calls.
 pub fn refused(bench: Bench, number: u32) -> Outcome
     ensures { λ r. ⌜ r ≡ refusedWith bench number ⌝ }
 {
     Outcome {
-        answer: Answer {
-            number: number,
-            undone: 0,
-            redone: 0,
-            won: false,
-            greatest: 0,
-            silent: 0,
-            total: 0,
-        },
+        answer: plain_answer(number),
         bench: bench,
     }
 }
 
-fn turned_to(bench: Bench, turner: Turner, view: View) -> Outcome
-    ensures { λ r. ⌜ r ≡ turnedTo bench turner view ⌝ }
+// The bench with another page open. Pub for the crates that turn pages.
+pub fn open_at(bench: Bench, page: usize) -> Bench
+    ensures { λ r. ⌜ Opens bench page r ⌝ }
 {
-    let mut turned = bench;
-    turned.turner = turner;
-    turned.view = view;
-    Outcome {
-        answer: Answer {
-            number: 0,
-            undone: 0,
-            redone: 0,
-            won: false,
-            greatest: 0,
-            silent: 0,
-            total: 0,
-        },
-        bench: turned,
-    }
+    let turner = bench.turner;
+    let schedule = bench.schedule;
+    let view = bench.view;
+    let moved = catalogue::turn_to(view, schedule, turner.opened, page);
+    let after = Turner {
+        opened: page,
+        last: turner.last,
+    };
+    let mut opened = bench;
+    opened.turner = after;
+    opened.view = moved;
+    opened
 }
 
 pub fn turn(bench: Bench, by: i32) -> Outcome
@@ -77,10 +82,10 @@ pub fn turn(bench: Bench, by: i32) -> Outcome
         return refused(bench, 10);
     }
     let after = turning.turner;
-    let schedule = bench.schedule;
-    let view = bench.view;
-    let moved = catalogue::turn_to(view, schedule, before.opened, after.opened);
-    turned_to(bench, after, moved)
+    Outcome {
+        answer: plain_answer(0),
+        bench: open_at(bench, after.opened),
+    }
 }
 
 // What a call without an election tells of one. Pub for the crates of the other calls.

@@ -1,34 +1,40 @@
 -- What a line comes to, kind by kind. Assumes nothing.
 use mathlib.Core.Path.{_≡_, refl, sym, ap, _∙_}
 use mathlib.Core.Bool.{true, false, cond}
-use mathlib.Core.Logic.{_⊎_, inl, inr, ⊎-elim}
 use mathlib.Core.List.{List, [], _∷_}
 use Prim.Native.Nat.{ℕ, _≤_, _<_}
 use native.Mathlib.Omega.{arith}
-use lib.Dec.{ltb}
-use lib.IntN.{ℤ, pos, negℤ}
+use lib.Dec.{eqb, ltb}
+use mir.Syntax.{w32}
+use mir.Val.{toZ, ofZ}
+use mir.Facts.{toZ-ofZ}
 use lib.ListN.{getD}
-use borrow.Author.Tests.{lt-ltb, le-ltb}
+use borrow.Author.Tests.{lt-ltb, le-ltb, eqb-true, eqb-false}
 use Rattle.record.specs.declared.Record as declared
 use Rattle.record.specs.Stored.{stored, emptyRecord}
-use Rattle.record.proofs.Lists.{le-by, is-by}
+use Rattle.record.proofs.Lists.{le-by, or-by, or-no-l, or-no-r}
 use Rattle.row.specs.Row.{Row, cell}
 use Rattle.ground.specs.Ground.{Rows}
 use Rattle.table.specs.Table.{emptyTables}
 use Rattle.table.proofs.Tables.{empty-stored}
+use Rattle.turner.specs.declared.Turner.{Turner}
+use Rattle.turning.specs.declared.Turning.{Turning}
+use Rattle.turning.specs.Turning.{turningOf}
 use Rattle.ledger.specs.declared.Bench.{Bench}
 use Rattle.ledger.specs.declared.Outcome.{Outcome}
 use Rattle.ledger.specs.Ledger.{Call, addEdit, addConstraint, merge, hide, show, turn, adopt, start, fed}
 use Rattle.ledger.specs.Bench.{Answers, benchOf, outcome}
 use Rattle.ledger.proofs.Valid.{Valid, start-valid, fed-valid}
-use Rattle.bench.specs.Changes.{refusedWith}
+use Rattle.bench.specs.Changes.{plainAnswer, refusedWith, openAt, turnReply}
+use Rattle.bench.proofs.Moves.{open-same, turn-answers}
 use Rattle.lending.specs.declared.Lending.{Lending}
 use Rattle.lent_calls.specs.Calls.{proposalsOf}
 use Rattle.lending.specs.Lent.{Lent, recordNumber, withRecord}
 use Rattle.lending.specs.Kept.{Kept}
 use Rattle.desk.specs.Desk.{Desk, Cells, Effect, Request, outside, make, ledgerOf, benchIn, replied}
 use Rattle.desk.specs.Lends.{lendings, lendingOf, lendEdit, lendConstraint, lendNothing, lendBench, lendSeat, lendNoRoll, lendName, lendNoRow}
-use Rattle.desk.specs.Requests.{requests, requestOf, mergeOf, hideOf, showOf, forwardOf, backOf, signedPages, turnOf, adoptOf, addEditOf, addConstraintOf}
+use Rattle.desk.proofs.Signs.{signed-fits}
+use Rattle.desk.specs.Requests.{requests, requestOf, mergeOf, hideOf, showOf, forwardOf, backOf, isTurn, signedPages, turnOf, adoptOf, addEditOf, addConstraintOf}
 
 -- the ledger that calls left
 pub ledger-valid : (D : Desk) → Valid (ledgerOf D)
@@ -110,9 +116,12 @@ module _ (D : Desk) (bench : Bench) (r : Outcome) (b : bench ≡ benchIn D) wher
     unfolding requestOf requests showOf
     show-reply e a = reply-as 2 e (reply-made (show (cell c 0)) a)
 
-    pub turn-reply : (which ≡ 3) ⊎ (which ≡ 4) → r ≡ replied D (turnOf which D c) → r ≡ replied D (requestOf which D c)
-    unfolding requestOf requests forwardOf backOf turnOf signedPages
-    turn-reply e q = ⊎-elim (λ f. reply-as 3 f (rw f at q)) (λ f. reply-as 4 f (rw f at q)) e
+    pub turn-reply : isTurn which ≡ true → r ≡ replied D (turnOf which D c) → r ≡ replied D (requestOf which D c)
+    unfolding requestOf requests forwardOf backOf turnOf signedPages isTurn
+    turn-reply e q =
+        or-by (eqb which 3) (eqb which 4) e
+        (λ f. let g = eqb-true which 3 f in reply-as 3 g (rw g at q))
+        (λ f. let g = eqb-true which 4 f in reply-as 4 g (rw g at q))
 
     pub adopt-reply : which ≡ 5 → Answers bench (adopt (cell c 0) (proposalsOf (D .lent)) (D .lent .roll)) r → r ≡ replied D (requestOf which D c)
     unfolding requestOf requests adoptOf
@@ -132,11 +141,27 @@ module _ (D : Desk) (bench : Bench) (r : Outcome) (b : bench ≡ benchIn D) wher
     unfolding turnOf
     far-turn which h q = let e : ltb (cell c 0) 2147483648 ≡ false = le-ltb (cell c 0) 2147483648 (omega arith) in rw e (reply-outside q)
 
-    pub near-turn : (which : ℕ) → pages ≤ 2147483647 → {n : ℤ} → n ≡ signedPages which pages → Answers bench (turn n) r → r ≡ replied D (turnOf which D c)
+    pub near-turn : (which : ℕ) → pages ≤ 2147483647 → Answers bench (turn (signedPages which pages)) r → r ≡ replied D (turnOf which D c)
     unfolding turnOf
-    near-turn which h e a =
+    near-turn which h a =
         let q : ltb (cell c 0) 2147483648 ≡ true = lt-ltb (cell c 0) 2147483648 (omega arith) in
-        rw q (reply-made (turn (signedPages which (cell c 0))) (rw (e, sym p) at a))
+        rw q (reply-made (turn (signedPages which (cell c 0))) (rw (sym p) at a))
+
+-- a turn of the bench's turner
+module _ (turner : Turner) (which pages : ℕ) (t : Turning) where
+  pub turned-far : 2147483647 < pages → t ≡ record { number = 2; turner = turner } → (t .turner .last ≡ turner .last)
+      × ((D : Desk) (bench : Bench) (c : Cells) → bench ≡ benchIn D → bench .turner ≡ turner → cell c 0 ≡ pages → turnReply bench t ≡ replied D (turnOf which D c))
+  unfolding turnReply benchIn
+  turned-far h q = (ap (λ (u : Turning). u .turner .last) q, λ D bench c e b p.
+      let x : openAt bench (t .turner .opened) ≡ bench = ap (λ (u : Turning). openAt bench (u .turner .opened)) q ∙ (ap (λ (u : Turner). openAt bench (u .opened)) (sym b) ∙ open-same (ledgerOf D) (ledger-valid D) bench e) in
+      far-turn D bench (turnReply bench t) e c pages p which h (λ i. record { answer = plainAnswer (q i .number); bench = x i }))
+
+  pub turned-near : pages ≤ 2147483647 → t ≡ turningOf turner (signedPages which pages) → (t .turner .last ≡ turner .last)
+      × ((D : Desk) (bench : Bench) (c : Cells) → bench ≡ benchIn D → bench .turner ≡ turner → cell c 0 ≡ pages → turnReply bench t ≡ replied D (turnOf which D c))
+  turned-near h q = (ap (λ (u : Turning). u .turner .last) q, λ D bench c e b p.
+      let z = signed-fits which pages h in
+      let k : t ≡ turningOf (bench .turner) (toZ w32 (ofZ w32 (signedPages which pages))) = q ∙ (λ i. turningOf (sym b i) (sym (toZ-ofZ z) i)) in
+      near-turn D bench (turnReply bench t) e c pages p which h (turn-answers bench (signedPages which pages) z t k))
 
 -- the last of some kinds
 pub third-kind : (k : ℕ) → k < 4 → (k ≡ 0 → ⊥) → (k ≡ 1 → ⊥) → (k ≡ 2 → ⊥) → k ≡ 3
@@ -145,14 +170,12 @@ third-kind k h a b c = omega arith
 pub last-kind : (k : ℕ) → 4 ≤ k → k < 8 → (k ≡ 4 → ⊥) → (k ≡ 5 → ⊥) → (k ≡ 6 → ⊥) → k ≡ 7
 last-kind k g h a b c = omega arith
 
-pub last-request : (k : ℕ) → k < 8 → (k ≡ 0 → ⊥) → (k ≡ 5 → ⊥) → (k ≡ 1 → ⊥) → (k ≡ 2 → ⊥) → (k ≡ 6 → ⊥) → (k ≡ 7 → ⊥) → (k ≡ 3) ⊎ (k ≡ 4)
-last-request k h a b c d e f = either k (lower k a c d) (upper k h b e f)
+pub last-request : (k : ℕ) → k < 8 → (k ≡ 0 → ⊥) → (k ≡ 5 → ⊥) → isTurn k ≡ false → (k ≡ 1 → ⊥) → (k ≡ 2 → ⊥) → (k ≡ 6 → ⊥) → k ≡ 7
+unfolding isTurn
+last-request k h a b n c d e = last k h (lower k a c d) (eqb-false k 3 (or-no-l (eqb k 3) (eqb k 4) n)) (eqb-false k 4 (or-no-r (eqb k 3) (eqb k 4) n)) b e
   where
-    either : (k : ℕ) → 3 ≤ k → k < 5 → (k ≡ 3) ⊎ (k ≡ 4)
-    either k l u = is-by k 3 (λ q. inl q) (λ q. inr (omega arith))
-
     lower : (k : ℕ) → (k ≡ 0 → ⊥) → (k ≡ 1 → ⊥) → (k ≡ 2 → ⊥) → 3 ≤ k
     lower k a b c = omega arith
 
-    upper : (k : ℕ) → k < 8 → (k ≡ 5 → ⊥) → (k ≡ 6 → ⊥) → (k ≡ 7 → ⊥) → k < 5
-    upper k h a b c = omega arith
+    last : (k : ℕ) → k < 8 → 3 ≤ k → (k ≡ 3 → ⊥) → (k ≡ 4 → ⊥) → (k ≡ 5 → ⊥) → (k ≡ 6 → ⊥) → k ≡ 7
+    last k h l a b c d = omega arith

@@ -39,12 +39,12 @@ pub signed-back : (which n : ℕ) → n < 2147483648 → (which ≡ 3 → ⊥) �
 unfolding signedPages
 signed-back which n h e = let q : eqb which 3 ≡ false = ne-eqb which 3 e in rw q (back-is n h)
 
+pub signed-fits : (which n : ℕ) → n ≤ 2147483647 → SFits w32 (signedPages which n)
+unfolding signedPages
+signed-fits which n h =
+    let l : n < 2147483648 = omega arith in
+    by (eqb which 3) (λ (q : eqb which 3 ≡ true). rw q (record { sfits = l })) (λ (q : eqb which 3 ≡ false). rw q (back-small n l))
+
 -- as it is passed on
 pub signed-passed : (which n : ℕ) → n ≤ 2147483647 → {z : ℤ} → z ≡ signedPages which n → toZ w32 (ofZ w32 z) ≡ signedPages which n
-unfolding signedPages
-signed-passed which n h e =
-    let l : n < 2147483648 = omega arith in
-    rw e
-    (by (eqb which 3)
-    (λ (q : eqb which 3 ≡ true). rw q (toZ-ofZ {w = w32} (record { sfits = l })))
-    (λ (q : eqb which 3 ≡ false). rw q (toZ-ofZ (back-small n l))))
+signed-passed which n h e = rw e (toZ-ofZ (signed-fits which n h))

@@ -1,5 +1,5 @@
 -- The lines of a call log that make a call on the bench, in the order of the log's forms, adds last. Assumes nothing.
-use mathlib.Core.Bool.{Bool, cond}
+use mathlib.Core.Bool.{Bool, _||_, cond}
 use mathlib.Core.List.{List, [], _∷_}
 use Prim.Native.Nat.{ℕ}
 use lib.Dec.{eqb, ltb}
@@ -21,21 +21,24 @@ unfoldable pub showOf : Desk → Cells → Request
 showOf D c = make (show (cell c 0))
 
 -- a turn's number of pages has 31 bits and a sign
-abbrev pub isTurn : ℕ → Bool
-isTurn n = ltb n 2147483648
+abbrev pub isPages : ℕ → Bool
+isPages n = ltb n 2147483648
 
 unfoldable pub forwardOf : Desk → Cells → Request
-forwardOf D c = cond (isTurn (cell c 0)) (make (turn (pos (cell c 0)))) outside
+forwardOf D c = cond (isPages (cell c 0)) (make (turn (pos (cell c 0)))) outside
 
 unfoldable pub backOf : Desk → Cells → Request
-backOf D c = cond (isTurn (cell c 0)) (make (turn (negℤ (pos (cell c 0))))) outside
+backOf D c = cond (isPages (cell c 0)) (make (turn (negℤ (pos (cell c 0))))) outside
 
--- the same by the request's place: 3 is forward
+-- the same by the request's place: 3 is forward, 4 back
+unfoldable pub isTurn : ℕ → Bool
+isTurn which = eqb which 3 || eqb which 4
+
 unfoldable pub signedPages : ℕ → ℕ → ℤ
 signedPages which pages = cond (eqb which 3) (pos pages) (negℤ (pos pages))
 
 unfoldable pub turnOf : ℕ → Desk → Cells → Request
-turnOf which D c = cond (isTurn (cell c 0)) (make (turn (signedPages which (cell c 0)))) outside
+turnOf which D c = cond (isPages (cell c 0)) (make (turn (signedPages which (cell c 0)))) outside
 
 unfoldable pub adoptOf : Desk → Cells → Request
 adoptOf D c = make (adopt (cell c 0) (proposalsOf (D .lent)) (D .lent .roll))

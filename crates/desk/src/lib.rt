@@ -3,15 +3,19 @@ use ledger::Bench;
 use ledger::Outcome;
 use lending::Lending;
 use lending::Setting;
-use record::Record;
+use turner::Turner;
+use turning::Turning;
 ghost use mathlib.Core.Path.{_≡_};
+ghost use mathlib.Core.Bool.{false};
 ghost use Prim.Native.Nat.{ℕ, _<_, _≤_};
 ghost use Rattle.lending.specs.Kept.{Kept};
 ghost use Rattle.row.specs.Row.{cell};
 ghost use Rattle.ground.specs.Ground.{Rows};
+ghost use Rattle.ledger.specs.declared.Bench.{Bench};
+ghost use Rattle.bench.specs.Changes.{turnReply};
 ghost use Rattle.desk.specs.Desk.{Desk, Cells, benchIn, replied};
 ghost use Rattle.desk.specs.Lends.{lendingOf};
-ghost use Rattle.desk.specs.Requests.{signedPages, turnOf, requestOf};
+ghost use Rattle.desk.specs.Requests.{isTurn, signedPages, turnOf, requestOf};
 
 // What is lent after a line that makes no call, and the place after what it printed. Such a line hands back no bench, which is long to copy.
 pub struct Told {
@@ -24,11 +28,11 @@ fn lend_rows(
     lending: Lending,
     edits: &mut [[u32; 5]],
     constraints: &mut [[u32; 3]],
-    multilog: Record,
+    bench: Bench,
     kind: usize,
     cells: [u32; 8],
 ) -> Setting
-    ensures { λ r. ⌜ ((D : Desk) → Kept (D .lent) lending (now (edits .entry)) (now (constraints .entry)) → multilog ≡ benchIn D .multilog → kind < 4
+    ensures { λ r. ⌜ ((D : Desk) → Kept (D .lent) lending (now (edits .entry)) (now (constraints .entry)) → bench ≡ benchIn D → kind < 4
         → (r .number ≡ lendingOf kind D cells .number) × Kept (lendingOf kind D cells .after .lent) (r .lending) (now (edits .exit)) (now (constraints .exit))) ⌝ }
 {
     match kind {
@@ -51,13 +55,16 @@ fn lend_rows(
             cells[0],
             record::empty(),
         ),
-        _ => lending::lend_record(
-            lending,
-            &mut edits[..],
-            &mut constraints[..],
-            cells[0],
-            multilog,
-        ),
+        _ => {
+            let multilog = bench.multilog;
+            lending::lend_record(
+                lending,
+                &mut edits[..],
+                &mut constraints[..],
+                cells[0],
+                multilog,
+            )
+        }
     }
 }
 
@@ -88,11 +95,11 @@ pub fn lend(
     lending: Lending,
     edits: &mut [[u32; 5]],
     constraints: &mut [[u32; 3]],
-    multilog: Record,
+    bench: Bench,
     kind: usize,
     cells: [u32; 8],
 ) -> Setting
-    ensures { λ r. ⌜ ((D : Desk) → Kept (D .lent) lending (now (edits .entry)) (now (constraints .entry)) → multilog ≡ benchIn D .multilog → kind < 8
+    ensures { λ r. ⌜ ((D : Desk) → Kept (D .lent) lending (now (edits .entry)) (now (constraints .entry)) → bench ≡ benchIn D → kind < 8
         → (r .number ≡ lendingOf kind D cells .number) × Kept (lendingOf kind D cells .after .lent) (r .lending) (now (edits .exit)) (now (constraints .exit))) ⌝ }
 {
     if kind < 4 {
@@ -100,7 +107,7 @@ pub fn lend(
             lending,
             &mut edits[..],
             &mut constraints[..],
-            multilog,
+            bench,
             kind,
             cells,
         );
@@ -119,30 +126,33 @@ fn signed(which: usize, pages: u32) -> i32
     0 - (pages as i32)
 }
 
-// A turn of so many pages. It is made at one place, where it costs fewer copies of the bench.
-fn turn_by(bench: Bench, which: usize, pages: u32) -> Outcome
-    ensures { λ r. ⌜ ((D : Desk) (c : Cells) → bench ≡ benchIn D → cell c 0 ≡ pages → r ≡ replied D (turnOf which D c)) ⌝ }
+// A turn of the bench's turner by so many pages. The bench itself is not needed: what a row of turns comes to is opened once, after the last.
+pub fn turn_by(turner: Turner, which: usize, pages: u32) -> Turning
+    ensures { λ r. ⌜ (r .turner .last ≡ turner .last)
+        × ((D : Desk) (bench : Bench) (c : Cells) → bench ≡ benchIn D → bench .turner ≡ turner → cell c 0 ≡ pages → turnReply bench r ≡ replied D (turnOf which D c)) ⌝ }
 {
     if 2147483647 < pages {
-        return bench::refused(bench, 2);
+        return Turning {
+            number: 2,
+            turner: turner,
+        };
     }
-    bench::turn(bench, signed(which, pages))
+    turning::turned(turner, signed(which, pages))
 }
 
-// A call on the bench that is lent nothing, by its place among the requests.
+// A call on the bench that is lent nothing and is no turn, by its place among the requests.
 fn call_alone(bench: Bench, which: usize, cells: [u32; 8]) -> Outcome
-    ensures { λ r. ⌜ ((D : Desk) → bench ≡ benchIn D → which < 8 → (which ≡ 0 → ⊥) → (which ≡ 5 → ⊥) → r ≡ replied D (requestOf which D cells)) ⌝ }
+    ensures { λ r. ⌜ ((D : Desk) → bench ≡ benchIn D → which < 8 → (which ≡ 0 → ⊥) → (which ≡ 5 → ⊥) → isTurn which ≡ false → r ≡ replied D (requestOf which D cells)) ⌝ }
 {
     match which {
         1 => visibility::hide(bench, cells[0]),
         2 => visibility::show(bench, cells[0]),
         6 => merge::add_edit(bench, [cells[0], cells[1], cells[2], cells[3], cells[4]]),
-        7 => merge::add_constraint(bench, [cells[0], cells[1], cells[2]]),
-        _ => turn_by(bench, which, cells[0]),
+        _ => merge::add_constraint(bench, [cells[0], cells[1], cells[2]]),
     }
 }
 
-// A call on the bench, by its place among the requests.
+// A call on the bench that is no turn, by its place among the requests.
 pub fn call(
     bench: Bench,
     lending: Lending,
@@ -151,7 +161,7 @@ pub fn call(
     which: usize,
     cells: [u32; 8],
 ) -> Outcome
-    ensures { λ r. ⌜ ((D : Desk) → bench ≡ benchIn D → Kept (D .lent) lending (now (edits .entry)) (now (constraints .entry)) → which < 8
+    ensures { λ r. ⌜ ((D : Desk) → bench ≡ benchIn D → Kept (D .lent) lending (now (edits .entry)) (now (constraints .entry)) → which < 8 → isTurn which ≡ false
         → r ≡ replied D (requestOf which D cells)) ⌝ }
 {
     match which {

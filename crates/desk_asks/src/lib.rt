@@ -1,6 +1,5 @@
 // The questions of a call log, answered.
 use ledger::Bench;
-use record::Record;
 ghost use mathlib.Core.Path.{_≡_};
 ghost use Prim.Native.Nat.{ℕ, suc, _<_, _≤_};
 ghost use lib.ListN.{length};
@@ -22,14 +21,17 @@ fn print_record(bench: Bench, out: &mut [u8], at: usize) -> usize
 pub fn print_ask(bench: Bench, which: usize, out: &mut [u8], at: usize) -> usize
     ensures { λ r. ⌜ ((D : Desk) → bench ≡ benchIn D → which < 7 → Printed (askText which D) (now (out .entry)) at (now (out .exit)) r) ⌝ }
 {
-    let multilog = bench.multilog;
+    let turner = bench.turner;
     match which {
         0 => print_record(bench, &mut out[..], at),
-        1 => answers::print_report(&mut out[..], at, multilog),
+        1 => {
+            let multilog = bench.multilog;
+            answers::print_report(&mut out[..], at, multilog)
+        }
         2 => asks::print_hidden(&mut out[..], at, bench),
         3 => asks::print_schedule(&mut out[..], at, bench),
         4 => asks::print_catalogue(&mut out[..], at, bench),
         5 => asks::print_journal(&mut out[..], at, bench),
-        _ => asks::print_page(&mut out[..], at, bench),
+        _ => asks::print_page(&mut out[..], at, turner),
     }
 }

@@ -108,12 +108,11 @@ pub fn run_lend(
         → Holds (lendingOf kind D cells .after) bench (r .lending) (now (edits .exit)) (now (constraints .exit))
         × Printed (printedOf (lendingOf kind D cells) line) (now (out .entry)) at (now (out .exit)) (r .at)) ⌝ }
 {
-    let multilog = bench.multilog;
     let setting = desk::lend(
         lending,
         &mut edits[..],
         &mut constraints[..],
-        multilog,
+        bench,
         kind,
         cells,
     );

@@ -1,3 +1,4 @@
 pub mod Accepted
 pub mod Orders
 pub mod Running
+pub mod Paging

@@ -1,12 +1,13 @@
 -- What a line comes to, by its kind. Assumes nothing.
 use mathlib.Core.Path.{_≡_, refl, sym, ap, _∙_}
-use mathlib.Core.Bool.{Bool, true, false, cond}
+use mathlib.Core.Bool.{Bool, true, false, _||_, cond}
+use mathlib.Core.Logic.{_⊎_, inl, inr}
 use mathlib.Core.List.{List, [], _∷_}
 use Prim.Native.Nat.{ℕ, _-_, _≤_, _<_}
 use native.Mathlib.Omega.{arith}
 use lib.Dec.{eqb, ltb}
 use lib.ListN.{length, List·getD-eq-default}
-use borrow.Author.Tests.{lt-ltb, le-ltb, eq-eqb, ne-eqb, ltb-true, ltb-false}
+use borrow.Author.Tests.{lt-ltb, le-ltb, eq-eqb, ne-eqb, eqb-true, eqb-false, ltb-true, ltb-false}
 use Rattle.ground.specs.Ground.{Rows}
 use Rattle.ledger.specs.declared.Bench.{Bench}
 use Rattle.ledger.specs.declared.Outcome.{Outcome}
@@ -14,17 +15,16 @@ use Rattle.forms.specs.declared.Order.{Order}
 use Rattle.forms.specs.Printed.{Printed}
 use Rattle.answers.specs.Answers.{answerLine}
 use Rattle.lending.specs.declared.Lending.{Lending}
-use Rattle.record.proofs.Lists.{by, is-by}
+use Rattle.record.proofs.Lists.{by, is-by, clash, and-l, and-r, or-by}
 use Rattle.lending.specs.Kept.{Kept}
-use Rattle.desk.specs.declared.Told.{Told}
 use Rattle.desk.specs.Desk.{Desk, Cells, Effect, Request, outside, ledgerOf, benchIn, requested, replied, printedOf, tells}
 use Rattle.desk.specs.Lends.{lendingOf}
-use Rattle.desk.specs.Requests.{requests, requestOf, noRequest}
+use Rattle.desk.specs.Requests.{requests, requestOf, noRequest, isTurn}
 use Rattle.desk_calls.specs.Lines.{Holds, callOf, outcomeText}
 use Rattle.desk_calls.proofs.Telling.{call-held, call-printed}
 use Rattle.desk_votes.specs.Votes.{votes, voteOf, electEdit, askBundle, makeProposal, askSuggestion, testRow}
 use Rattle.desk_asks.specs.Questions.{askText, askOf}
-use Rattle.log.specs.Effects.{effectOf, orderEffect, requestPlace}
+use Rattle.log.specs.Effects.{effectOf, orderEffect, requestPlace, paging, mayLend}
 
 no-request : (which : ℕ) (D : Desk) (c : Cells) → 8 ≤ which → callOf which D c ≡ tells D 2 []
 unfolding callOf requestOf requests requested
@@ -144,11 +144,6 @@ module _ (line : ℕ) {bench : Bench} {lending : Lending} {edits constraints : R
   pub done-as : {E F : Effect} → E ≡ F → Done line bench lending edits constraints before at after end F → Done line bench lending edits constraints before at after end E
   done-as q d = rw q d
 
-  -- what is lent stays
-  pub told-done : {r : Told} → r ≡ record { lending = lending; at = end } → (E : Effect) → Done line bench lending edits constraints before at after end E
-      → Done line bench (r .lending) edits constraints before at after (r .at) E
-  told-done q E d = rw q d
-
   -- nothing changes, and the refusal is printed
   pub refused-done : (D : Desk) (number : ℕ) → (number ≡ 0 → ⊥) → Holds D bench lending edits constraints → Printed (answerLine 0 (number ∷ line ∷ [])) before at after end
       → Done line bench lending edits constraints before at after end (tells D number [])
@@ -188,14 +183,105 @@ module _ (D : Desk) (which : ℕ) (c : Cells) where
 -- a call: its answer is printed with the open and last page of the bench after it
 pub call-done : (D : Desk) (line : ℕ) (order : Order) {which : ℕ} → which ≡ requestPlace order → which < 8
     → {bench : Bench} {lending : Lending} {edits constraints : Rows} {before after : List ℕ} {at end : ℕ} (r : Outcome)
-    → ((E : Desk) → bench ≡ benchIn E → Kept (E .lent) lending edits constraints → which < 8 → r ≡ replied E (requestOf which E (order .cells)))
+    → r ≡ replied D (requestOf which D (order .cells))
     → Printed (outcomeText which (r .answer) (r .bench .turner) line) before at after end → Holds D bench lending edits constraints
     → Done line (r .bench) lending edits constraints before at after end (orderEffect D order)
-call-done D line order {which} w l r f p h =
-    let q = f D (h .benched) (h .kept) l in
+call-done D line order {which} w l r q p h =
     let e : orderEffect D order ≡ callOf which D (order .cells) = request-effect D order (omega arith) ∙ ap (λ (k : ℕ). callOf k D (order .cells)) (sym w) in
     done-as line e (call-held D which (order .cells) line r q (h .kept), call-printed D which (order .cells) line r q p)
 
 pub line-done : (D : Desk) (line : ℕ) (other : Order) {order : Order} → order ≡ other → {bench : Bench} {lending : Lending} {edits constraints : Rows} {before after : List ℕ} {at end : ℕ}
     → Done line bench lending edits constraints before at after end (orderEffect D order) → Done line bench lending edits constraints before at after end (orderEffect D other)
 line-done D line other e d = rw e at d
+
+-- which lines the turner alone tells, and after which something else may be lent
+module _ (order : Order) where
+  pub paging-refused : (order .number ≡ 0 → ⊥) → false ≡ paging order
+  unfolding paging
+  paging-refused z = let e : eqb (order .number) 0 ≡ false = ne-eqb (order .number) 0 z in rw e refl
+
+  pub lend-refused : (order .number ≡ 0 → ⊥) → false ≡ mayLend order
+  unfolding mayLend
+  lend-refused z = let e : eqb (order .number) 0 ≡ false = ne-eqb (order .number) 0 z in rw e refl
+
+  pub paging-in-form : paging order ≡ true → order .number ≡ 0
+  unfolding paging
+  paging-in-form p = eqb-true (order .number) 0 (and-l (eqb (order .number) 0) _ p)
+
+  pub paging-turns : paging order ≡ true → (order .kind ≡ 25 → ⊥) → (order .kind ≡ 11) ⊎ (order .kind ≡ 12)
+  unfolding paging
+  paging-turns p n =
+      or-by (eqb (order .kind) 11 || eqb (order .kind) 12) (eqb (order .kind) 25) (and-r (eqb (order .number) 0) _ p)
+      (λ q. or-by (eqb (order .kind) 11) (eqb (order .kind) 12) q (λ e. inl (eqb-true (order .kind) 11 e)) (λ e. inr (eqb-true (order .kind) 12 e)))
+      (λ e. absurd (n (eqb-true (order .kind) 25 e)))
+
+  module _ (z : order .number ≡ 0) where
+    pub paging-of : {k : ℕ} → order .kind ≡ k → paging order ≡ (eqb k 11 || eqb k 12 || eqb k 25)
+    unfolding paging
+    paging-of q = let e : eqb (order .number) 0 ≡ true = eq-eqb (order .number) 0 z in rw (e, q) refl
+
+    pub paging-none : (order .kind ≡ 11 → ⊥) → (order .kind ≡ 12 → ⊥) → (order .kind ≡ 25 → ⊥) → false ≡ paging order
+    paging-none a b c =
+        let x : eqb (order .kind) 11 ≡ false = ne-eqb (order .kind) 11 a in let y : eqb (order .kind) 12 ≡ false = ne-eqb (order .kind) 12 b in
+        let w : eqb (order .kind) 25 ≡ false = ne-eqb (order .kind) 25 c in
+        sym (paging-of refl ∙ rw (x, y, w) refl)
+
+    pub lend-below : order .kind < 8 → true ≡ mayLend order
+    unfolding mayLend
+    lend-below h = let e : eqb (order .number) 0 ≡ true = eq-eqb (order .number) 0 z in let a : ltb (order .kind) 8 ≡ true = lt-ltb (order .kind) 8 h in rw (e, a) refl
+
+    pub lend-above : 8 ≤ order .kind → eqb (order .kind) 16 ≡ mayLend order
+    unfolding mayLend
+    lend-above h = let e : eqb (order .number) 0 ≡ true = eq-eqb (order .number) 0 z in let a : ltb (order .kind) 8 ≡ false = le-ltb (order .kind) 8 h in rw (e, a) refl
+
+    pub lend-no-proposal : mayLend order ≡ false → 8 ≤ order .kind → order .kind ≡ 16 → ⊥
+    lend-no-proposal m h q = eqb-false (order .kind) 16 (lend-above h ∙ m) q
+
+    pub lend-some : mayLend order ≡ false → 8 ≤ order .kind
+    lend-some m = by (ltb (order .kind) 8) (λ (e : ltb (order .kind) 8 ≡ true). clash (sym (lend-below (ltb-true (order .kind) 8 e))) m) (λ (e : ltb (order .kind) 8 ≡ false). ltb-false (order .kind) 8 e)
+
+  pub lend-in-form : mayLend order ≡ true → order .number ≡ 0
+  unfolding mayLend
+  lend-in-form m = eqb-true (order .number) 0 (and-l (eqb (order .number) 0) _ m)
+
+  pub lend-proposal : mayLend order ≡ true → 8 ≤ order .kind → order .kind ≡ 16
+  lend-proposal m h = eqb-true (order .kind) 16 (lend-above (lend-in-form m) h ∙ m)
+
+  -- a turn is among the requests
+  pub turn-paging : {which : ℕ} → which ≡ requestPlace order → isTurn which ≡ true → paging order ≡ true
+  unfolding isTurn
+  turn-paging {which} w t =
+      is-by (order .number) 0
+      (λ z.
+      by (ltb (order .kind) 8)
+      (λ (a : ltb (order .kind) 8 ≡ true). absurd (none 8 (w ∙ sym (lend-place order z (ltb-true (order .kind) 8 a))) refl))
+      (λ (a : ltb (order .kind) 8 ≡ false).
+      let g = ltb-false (order .kind) 8 a in
+      by (ltb (order .kind) 14)
+      (λ (b : ltb (order .kind) 14 ≡ true).
+      let q = w ∙ sym (call-place order z g (ltb-true (order .kind) 14 b)) in
+      or-by (eqb which 3) (eqb which 4) t
+      (λ e. paging-of z (let i : which ≡ 3 = eqb-true which 3 e in let k : order .kind ≡ 11 = omega (arith, q) in k))
+      (λ e. paging-of z (let i : which ≡ 4 = eqb-true which 4 e in let k : order .kind ≡ 12 = omega (arith, q) in k)))
+      (λ (b : ltb (order .kind) 14 ≡ false).
+      by (ltb (order .kind) 26)
+      (λ (d : ltb (order .kind) 26 ≡ true). absurd (none 8 (w ∙ sym (told-place order z (ltb-false (order .kind) 14 b) (ltb-true (order .kind) 26 d))) refl))
+      (λ (d : ltb (order .kind) 26 ≡ false).
+      let h = ltb-false (order .kind) 26 d in
+      let q = w ∙ sym (add-place order z h) in
+      or-by (eqb which 3) (eqb which 4) t
+      (λ e. absurd (let i : which ≡ 3 = eqb-true which 3 e in omega (arith, q)))
+      (λ e. absurd (let i : which ≡ 4 = eqb-true which 4 e in omega (arith, q)))))))
+      (λ z. absurd (none 8 (w ∙ sym (refused-place order z)) refl))
+    where
+      none : (k : ℕ) → which ≡ k → isTurn k ≡ false → ⊥
+      none k q f = clash t (ap isTurn q ∙ f)
+
+-- a turn, or not
+module _ (which : ℕ) where
+  pub turn-of : {k : ℕ} → which ≡ k → isTurn which ≡ isTurn k
+  turn-of q = ap isTurn q
+
+  pub turn-none : (which ≡ 3 → ⊥) → (which ≡ 4 → ⊥) → false ≡ isTurn which
+  unfolding isTurn
+  turn-none a b = let x : eqb which 3 ≡ false = ne-eqb which 3 a in let y : eqb which 4 ≡ false = ne-eqb which 4 b in rw (x, y) refl

@@ -1,5 +1,5 @@
 -- What each line of a call log comes to, by its kind (orders/specs/Orders.antt has the lines). Assumes nothing.
-use mathlib.Core.Bool.{cond}
+use mathlib.Core.Bool.{Bool, _&&_, _||_, cond}
 use mathlib.Core.List.{[]}
 use Prim.Native.Nat.{ℕ, _-_}
 use lib.Dec.{eqb, ltb}
@@ -28,3 +28,11 @@ requestPlace order =
     cond (eqb (order .number) 0)
     (cond (ltb (order .kind) 8) 8 (cond (ltb (order .kind) 14) (order .kind - 8) (cond (ltb (order .kind) 26) 8 (order .kind - 20))))
     8
+
+-- a line that turns pages or asks for the open page: the turner alone tells what it comes to
+unfoldable pub paging : Order → Bool
+paging order = eqb (order .number) 0 && (eqb (order .kind) 11 || eqb (order .kind) 12 || eqb (order .kind) 25)
+
+-- a line after which something else may be lent: it lends, or makes a proposal
+unfoldable pub mayLend : Order → Bool
+mayLend order = eqb (order .number) 0 && (ltb (order .kind) 8 || eqb (order .kind) 16)

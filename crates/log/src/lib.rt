@@ -3,75 +3,95 @@ use desk::Told;
 use forms::Order;
 use ledger::Bench;
 use lending::Lending;
+use turner::Turner;
 ghost use mathlib.Core.Path.{_≡_};
+ghost use mathlib.Core.Bool.{true, false};
 ghost use Prim.Native.Nat.{ℕ, suc, _+_, _<_, _≤_};
-ghost use lib.ListN.{length};
+ghost use lib.ListN.{length, drop};
 ghost use Rattle.forms.specs.Printed.{Printed};
-ghost use Rattle.line.specs.Lines.{lines};
+ghost use Rattle.line.specs.Lines.{lines, firstLine};
 ghost use Rattle.orders.specs.Orders.{orderRead};
-ghost use mathlib.Core.List.{[], _∷_};
+ghost use mathlib.Core.List.{List, [], _∷_};
 ghost use Rattle.answers.specs.Answers.{answerLine};
+ghost use Rattle.ground.specs.Ground.{Rows};
+ghost use Rattle.ledger.specs.declared.Bench.{Bench};
+ghost use Rattle.lending.specs.declared.Lending.{Lending};
+ghost use Rattle.bench.specs.Changes.{openAt};
 ghost use Rattle.desk.specs.Desk.{Desk, Cells, printedOf};
+ghost use Rattle.desk.specs.Requests.{isTurn};
 ghost use Rattle.desk_calls.specs.Lines.{Holds};
 ghost use Rattle.desk_votes.specs.Votes.{voteOf};
 ghost use Rattle.desk_asks.specs.Questions.{askOf};
-ghost use Rattle.log.specs.Effects.{requestPlace, orderEffect};
+ghost use Rattle.log.specs.Effects.{requestPlace, orderEffect, paging, mayLend};
 ghost use Rattle.log.specs.Log.{begun, runLines};
 ghost use Rattle.log.specs.Running.{Running, Stops};
 
-fn told(lending: Lending, at: usize) -> Told
-    ensures { λ r. ⌜ r ≡ record { lending = lending; at = at } ⌝ }
+// Whether an order turns pages or asks for the open page.
+fn is_paging(order: Order) -> bool
+    ensures { λ r. ⌜ r ≡ paging order ⌝ }
 {
-    Told {
-        lending: lending,
-        at: at,
+    if order.number != 0 {
+        return false;
+    }
+    let kind = order.kind;
+    match kind {
+        11 => true,
+        12 => true,
+        25 => true,
+        _ => false,
     }
 }
 
-// A line about votes.
-fn run_vote(
-    bench: Bench,
-    lending: Lending,
-    edits: &mut [[u32; 5]],
-    constraints: &mut [[u32; 3]],
-    which: usize,
-    cells: [u32; 8],
-    line: usize,
-    out: &mut [u8],
+// The turner after a line that turns pages or asks for the open page, and the place after what it printed.
+struct Paged {
+    turner: Turner,
     at: usize,
-) -> Told
-    ensures { λ r. ⌜ ((D : Desk) → Holds D bench lending (now (edits .entry)) (now (constraints .entry)) → which < 5
-        → Holds (voteOf which D cells .after) bench (r .lending) (now (edits .exit)) (now (constraints .exit))
-        × Printed (printedOf (voteOf which D cells) line) (now (out .entry)) at (now (out .exit)) (r .at)) ⌝ }
-{
-    let multilog = bench.multilog;
-    if which == 2 {
-        return desk_votes::print_proposal(
-            lending,
-            &mut edits[..],
-            &mut constraints[..],
-            cells,
-            line,
-            &mut out[..],
-            at,
-        );
-    }
-    let place = desk_votes::print_vote(
-        lending,
-        &edits[..],
-        &constraints[..],
-        multilog,
-        which,
-        cells,
-        line,
-        &mut out[..],
-        at,
-    );
-    told(lending, place)
 }
 
-// A line that makes no call.
-fn run_told(
+// A line that turns pages or asks for the open page.
+fn run_page(turner: Turner, order: Order, line: usize, out: &mut [u8], at: usize) -> Paged
+    requires { ⌜ paging order ≡ true ⌝ }
+    ensures { λ r. ⌜ (r .turner .last ≡ turner .last)
+        × ((D : Desk) (bench : Bench) (lending : Lending) (edits constraints : Rows) → Holds D bench lending edits constraints → bench .turner ≡ turner
+        → Holds (orderEffect D order .after) (openAt bench (r .turner .opened)) lending edits constraints
+        × Printed (printedOf (orderEffect D order) line) (now (out .entry)) at (now (out .exit)) (r .at)) ⌝ }
+{
+    let kind = order.kind;
+    let cells = order.cells;
+    if kind == 25 {
+        let place = asks::print_page(&mut out[..], at, turner);
+        return Paged {
+            turner: turner,
+            at: place,
+        };
+    }
+    let which = kind - 8;
+    let turning = desk::turn_by(turner, which, cells[0]);
+    let after = turning.turner;
+    let answer = bench::plain_answer(turning.number as u32);
+    let place = desk_calls::print_outcome(answer, after, which, line, &mut out[..], at);
+    Paged {
+        turner: after,
+        at: place,
+    }
+}
+
+// Whether something else may be lent after an order.
+fn is_lending(order: Order) -> bool
+    ensures { λ r. ⌜ r ≡ mayLend order ⌝ }
+{
+    if order.number != 0 {
+        return false;
+    }
+    let kind = order.kind;
+    if kind < 8 {
+        return true;
+    }
+    kind == 16
+}
+
+// A line that lends, or makes a proposal.
+fn run_lending(
     bench: Bench,
     lending: Lending,
     edits: &mut [[u32; 5]],
@@ -81,19 +101,13 @@ fn run_told(
     out: &mut [u8],
     at: usize,
 ) -> Told
-    requires { ⌜ 8 ≤ requestPlace order ⌝ }
+    requires { ⌜ mayLend order ≡ true ⌝ }
     ensures { λ r. ⌜ ((D : Desk) → Holds D bench lending (now (edits .entry)) (now (constraints .entry)) → at ≤ suc (length (now (out .entry)))
         → Holds (orderEffect D order .after) bench (r .lending) (now (edits .exit)) (now (constraints .exit))
         × Printed (printedOf (orderEffect D order) line) (now (out .entry)) at (now (out .exit)) (r .at)) ⌝ }
 {
     let kind = order.kind;
     let cells = order.cells;
-    if order.number != 0 {
-        return told(
-            lending,
-            desk_calls::print_refusal(order.number, line, &mut out[..], at),
-        );
-    }
     if kind < 8 {
         return desk_calls::run_lend(
             bench,
@@ -107,12 +121,73 @@ fn run_told(
             at,
         );
     }
+    desk_votes::print_proposal(
+        lending,
+        &mut edits[..],
+        &mut constraints[..],
+        cells,
+        line,
+        &mut out[..],
+        at,
+    )
+}
+
+// A line about votes that makes no proposal.
+fn print_vote(
+    bench: Bench,
+    lending: Lending,
+    edits: &[[u32; 5]],
+    constraints: &[[u32; 3]],
+    which: usize,
+    cells: [u32; 8],
+    line: usize,
+    out: &mut [u8],
+    at: usize,
+) -> usize
+    ensures { λ r. ⌜ ((D : Desk) → Holds D bench lending (now (edits .entry)) (now (constraints .entry)) → which < 5 → (which ≡ 2 → ⊥)
+        → Printed (printedOf (voteOf which D cells) line) (now (out .entry)) at (now (out .exit)) r) ⌝ }
+{
+    let multilog = bench.multilog;
+    desk_votes::print_vote(
+        lending,
+        edits,
+        constraints,
+        multilog,
+        which,
+        cells,
+        line,
+        &mut out[..],
+        at,
+    )
+}
+
+// A line that makes no call and leaves what is lent.
+fn print_told(
+    bench: Bench,
+    lending: Lending,
+    edits: &[[u32; 5]],
+    constraints: &[[u32; 3]],
+    order: Order,
+    line: usize,
+    out: &mut [u8],
+    at: usize,
+) -> usize
+    requires { ⌜ (8 ≤ requestPlace order) × (mayLend order ≡ false) ⌝ }
+    ensures { λ r. ⌜ ((D : Desk) → Holds D bench lending (now (edits .entry)) (now (constraints .entry))
+        → Holds (orderEffect D order .after) bench lending (now (edits .entry)) (now (constraints .entry))
+        × Printed (printedOf (orderEffect D order) line) (now (out .entry)) at (now (out .exit)) r) ⌝ }
+{
+    let kind = order.kind;
+    let cells = order.cells;
+    if order.number != 0 {
+        return desk_calls::print_refusal(order.number, line, &mut out[..], at);
+    }
     if kind < 19 {
-        return run_vote(
+        return print_vote(
             bench,
             lending,
-            &mut edits[..],
-            &mut constraints[..],
+            edits,
+            constraints,
             kind - 14,
             cells,
             line,
@@ -121,15 +196,9 @@ fn run_told(
         );
     }
     if kind < 26 {
-        return told(
-            lending,
-            desk_asks::print_ask(bench, kind - 19, &mut out[..], at),
-        );
+        return desk_asks::print_ask(bench, kind - 19, &mut out[..], at);
     }
-    told(
-        lending,
-        desk_calls::print_refusal(2, line, &mut out[..], at),
-    )
+    desk_calls::print_refusal(2, line, &mut out[..], at)
 }
 
 // The place among the requests of the call that an order makes; 8 or more where it makes none.
@@ -162,6 +231,66 @@ fn next(n: usize) -> usize
     n
 }
 
+// Whether a request is a turn.
+fn is_turn(which: usize) -> bool
+    ensures { λ r. ⌜ r ≡ isTurn which ⌝ }
+{
+    match which {
+        3 => true,
+        4 => true,
+        _ => false,
+    }
+}
+
+// The turner after lines that turn pages or ask for the open page, how many lines were run, the place after what they printed, and after them.
+struct Turns {
+    turner: Turner,
+    count: usize,
+    at: usize,
+    from: usize,
+}
+
+// A row of such lines, from the one at a place on: only the turner moves, and the bench is opened at its page after the last.
+fn run_turns(
+    turner: Turner,
+    log: &[u8],
+    start: usize,
+    count: usize,
+    out: &mut [u8],
+    at: usize,
+    limit: usize,
+) -> Turns
+    requires { ⌜ (start < length (now log)) × (at ≤ limit) × (paging (orderRead (firstLine (drop start (now log)))) ≡ true) ⌝ }
+    ensures { λ r. ⌜ (start < r .from) × (r .from ≤ length (now (log .entry)))
+        × ((D : Desk) (first : ℕ) (before : List ℕ) (begin : ℕ) (bench : Bench) (lending : Lending) (edits constraints : Rows)
+        → Running (now (log .entry)) D first before begin start bench lending edits constraints count (now (out .entry)) at → bench .turner ≡ turner
+        → first + length (now (log .entry)) ≤ 4611686018427387904
+        → Running (now (log .entry)) D first before begin (r .from) (openAt bench (r .turner .opened)) lending edits constraints (r .count) (now (out .exit)) (r .at)) ⌝ }
+{
+    let mut held = turner;
+    let mut n = count;
+    let mut place = at;
+    let mut from = start;
+    while from < log.len() && place <= limit {
+        let end = line::line_end(log, from);
+        let order = orders::read_order(&log[from..end]);
+        if !is_paging(order) {
+            break;
+        }
+        n = next(n);
+        let paged = run_page(held, order, n, &mut out[..], place);
+        held = paged.turner;
+        place = paged.at;
+        from = end;
+    }
+    Turns {
+        turner: held,
+        count: n,
+        at: place,
+        from: from,
+    }
+}
+
 // The desk after the lines before a place of a log, how many lines were run, and the place after what they printed.
 pub struct Logged {
     pub bench: Bench,
@@ -171,7 +300,8 @@ pub struct Logged {
     pub from: usize,
 }
 
-// The run of lines of a log until what they print passes the limit, or the log ends. Only a call copies the bench: any other line reads it where it is.
+// The run of lines of a log until what they print passes the limit, or the log ends. Only a call or a row of turns copies the bench: any
+// other line reads it where it is.
 pub fn run_some(
     bench: Bench,
     lending: Lending,
@@ -195,30 +325,52 @@ pub fn run_some(
     let mut from = 0;
     while from < log.len() && place <= limit {
         let end = line::line_end(log, from);
-        n = next(n);
         let order = orders::read_order(&log[from..end]);
-        let cells = order.cells;
         let which = request_of(order);
-        from = end;
-        if which < 8 {
-            let outcome = desk::call(held, lent, &edits[..], &constraints[..], which, cells);
-            let answer = outcome.answer;
-            held = outcome.bench;
+        if is_turn(which) {
             let turner = held.turner;
-            place = desk_calls::print_outcome(answer, turner, which, n, &mut out[..], place);
+            let turns = run_turns(turner, log, from, n, &mut out[..], place, limit);
+            let after = turns.turner;
+            let opened = bench::open_at(held, after.opened);
+            held = opened;
+            n = turns.count;
+            place = turns.at;
+            from = turns.from;
         } else {
-            let told = run_told(
-                held,
-                lent,
-                &mut edits[..],
-                &mut constraints[..],
-                order,
-                n,
-                &mut out[..],
-                place,
-            );
-            lent = told.lending;
-            place = told.at;
+            n = next(n);
+            from = end;
+            if which < 8 {
+                let cells = order.cells;
+                let outcome = desk::call(held, lent, &edits[..], &constraints[..], which, cells);
+                let answer = outcome.answer;
+                held = outcome.bench;
+                let turner = held.turner;
+                place = desk_calls::print_outcome(answer, turner, which, n, &mut out[..], place);
+            } else if is_lending(order) {
+                let told = run_lending(
+                    held,
+                    lent,
+                    &mut edits[..],
+                    &mut constraints[..],
+                    order,
+                    n,
+                    &mut out[..],
+                    place,
+                );
+                lent = told.lending;
+                place = told.at;
+            } else {
+                place = print_told(
+                    held,
+                    lent,
+                    &edits[..],
+                    &constraints[..],
+                    order,
+                    n,
+                    &mut out[..],
+                    place,
+                );
+            }
         }
     }
     Logged {

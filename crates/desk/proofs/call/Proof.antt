@@ -20,13 +20,13 @@ call-alone-requires : tie.Need-call-alone-requires
 call-alone-requires c κs = search needs
 
 returns : tie.Need-returns
-returns c = λ D e K w. merge-reply D _ _ e _ _ (c .before .match .keys1) (c .merge-lent .ensures .0) (λ h. c .merge-lent .ensures .1 (D .lent) K h)
+returns c = λ D e K w t. merge-reply D _ _ e _ _ (c .before .match .keys1) (c .merge-lent .ensures .0) (λ h. c .merge-lent .ensures .1 (D .lent) K h)
 
 returns-2 : tie.Need-returns-2
-returns-2 c = λ D e K w. adopt-reply D _ _ e _ _ (c .before .match .keys2) (c .adopt-lent .ensures (D .lent) K)
+returns-2 c = λ D e K w t. adopt-reply D _ _ e _ _ (c .before .match .keys2) (c .adopt-lent .ensures (D .lent) K)
 
 returns-3 : tie.Need-returns-3
-returns-3 c = λ D e K w. c .call-alone .ensures D e w (c .before .match .rest .0 .1) (c .before .match .rest .1)
+returns-3 c = λ D e K w t. c .call-alone .ensures D e w (c .before .match .rest .0 .1) (c .before .match .rest .1) t
 
 pub call-spec : {M : Type 1} → statement M
 call-spec =

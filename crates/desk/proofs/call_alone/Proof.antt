@@ -1,7 +1,6 @@
 -- `desk::call_alone` meets its contract. Assumes nothing.
-use mathlib.Core.Path.{refl}
 use borrow.Author.Needs.{needs}
-use Rattle.desk.proofs.Cases.{hide-reply, show-reply, edit-reply, constraint-reply, turn-reply, last-request}
+use Rattle.desk.proofs.Cases.{hide-reply, show-reply, edit-reply, constraint-reply, last-request}
 use Rattle.desk.proofs.call_alone.Statement.{statement}
 use Rattle.desk.proofs.call_alone.Tie as tie
 
@@ -47,26 +46,17 @@ array-read-t36 c = search needs
 add-constraint-requires : tie.Need-add-constraint-requires
 add-constraint-requires c κs = search needs
 
-array-read-turn-by : tie.Need-array-read-turn-by
-array-read-turn-by c = search needs
-
-turn-by-requires : tie.Need-turn-by-requires
-turn-by-requires c κs = search needs
-
 returns : tie.Need-returns
-returns c = λ D e w n f. hide-reply D _ _ e _ _ (c .before .match .keys1) (c .hide .ensures)
+returns c = λ D e w n f t. hide-reply D _ _ e _ _ (c .before .match .keys1) (c .hide .ensures)
 
 returns-2 : tie.Need-returns-2
-returns-2 c = λ D e w n f. show-reply D _ _ e _ _ (c .before .match .keys2) (c .show .ensures)
+returns-2 c = λ D e w n f t. show-reply D _ _ e _ _ (c .before .match .keys2) (c .show .ensures)
 
 returns-3 : tie.Need-returns-3
-returns-3 c = λ D e w n f. edit-reply D _ _ e _ _ (c .before .match .keys3) (c .add-edit .ensures)
+returns-3 c = λ D e w n f t. edit-reply D _ _ e _ _ (c .before .match .keys3) (c .add-edit .ensures)
 
 returns-4 : tie.Need-returns-4
-returns-4 c = λ D e w n f. constraint-reply D _ _ e _ _ (c .before .match .keys4) (c .add-constraint .ensures)
-
-returns-5 : tie.Need-returns-5
-returns-5 c = λ D e w n f. let m = c .before .match .rest in turn-reply D _ _ e _ _ (last-request _ w n f (m .0 .0 .0 .1) (m .0 .0 .1) (m .0 .1) (m .1)) (c .turn-by .ensures D _ e refl)
+returns-4 c = λ D e w n f t. let m = c .before .match .rest in constraint-reply D _ _ e _ _ (last-request _ w n f t (m .0 .0 .1) (m .0 .1) (m .1)) (c .add-constraint .ensures)
 
 pub call-alone-spec : {M : Type 1} → statement M
 call-alone-spec =
@@ -86,10 +76,7 @@ call-alone-spec =
     array-read-t33
     array-read-t36
     add-constraint-requires
-    array-read-turn-by
-    turn-by-requires
     returns
     returns-2
     returns-3
-    returns-4
-    returns-5)
+    returns-4)

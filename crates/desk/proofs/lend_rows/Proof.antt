@@ -1,11 +1,12 @@
 -- `desk::lend_rows` meets its contract. Assumes nothing.
-use mathlib.Core.Path.{_∙_}
+use mathlib.Core.Path.{ap, _∙_}
 use native.Mathlib.Omega.{arith}
 use borrow.Author.Needs.{needs}
 use Rattle.desk.specs.Lends.{lendEdit, lendConstraint, lendNothing, lendBench}
 use Rattle.desk.proofs.Cases.{lent-edit, lent-constraint, lent-nothing, lent-bench, third-kind, ledger-valid, multilog-is}
 use Rattle.table.specs.Table.{emptyTables}
 use Rattle.table.proofs.Tables.{empty-stored}
+use Rattle.ledger.specs.declared.Bench.{Bench}
 use Rattle.desk.specs.Desk.{ledgerOf}
 use Rattle.desk.proofs.lend_rows.Statement.{statement}
 use Rattle.desk.proofs.lend_rows.Tie as tie
@@ -13,20 +14,20 @@ use Rattle.desk.proofs.lend_rows.Tie as tie
 array-read-lend-edit : tie.Need-array-read-lend-edit
 array-read-lend-edit c = search needs
 
-array-read-t16 : tie.Need-array-read-t16
-array-read-t16 c = search needs
+array-read-t17 : tie.Need-array-read-t17
+array-read-t17 c = search needs
 
-array-read-t19 : tie.Need-array-read-t19
-array-read-t19 c = search needs
+array-read-t20 : tie.Need-array-read-t20
+array-read-t20 c = search needs
 
-array-read-t22 : tie.Need-array-read-t22
-array-read-t22 c = search needs
+array-read-t23 : tie.Need-array-read-t23
+array-read-t23 c = search needs
 
-array-read-t25 : tie.Need-array-read-t25
-array-read-t25 c = search needs
+array-read-t26 : tie.Need-array-read-t26
+array-read-t26 c = search needs
 
-array-read-t28 : tie.Need-array-read-t28
-array-read-t28 c = search needs
+array-read-t29 : tie.Need-array-read-t29
+array-read-t29 c = search needs
 
 lend-edit-requires : tie.Need-lend-edit-requires
 lend-edit-requires c κs = search needs
@@ -34,14 +35,14 @@ lend-edit-requires c κs = search needs
 array-read-lend-constraint : tie.Need-array-read-lend-constraint
 array-read-lend-constraint c = search needs
 
-array-read-t37 : tie.Need-array-read-t37
-array-read-t37 c = search needs
+array-read-t38 : tie.Need-array-read-t38
+array-read-t38 c = search needs
 
-array-read-t40 : tie.Need-array-read-t40
-array-read-t40 c = search needs
+array-read-t41 : tie.Need-array-read-t41
+array-read-t41 c = search needs
 
-array-read-t43 : tie.Need-array-read-t43
-array-read-t43 c = search needs
+array-read-t44 : tie.Need-array-read-t44
+array-read-t44 c = search needs
 
 lend-constraint-requires : tie.Need-lend-constraint-requires
 lend-constraint-requires c κs = search needs
@@ -93,23 +94,23 @@ same-length-6 c = search needs
 
 returns-4 : tie.Need-returns-4
 unfolding lendBench
-returns-4 c = λ D K m h. let v = ledger-valid D .checked in lent-bench D _ _ (third-kind _ h (c .before .before .before .before .before .match .rest .0 .0 .1) (c .before .before .before .before .before .match .rest .0 .1) (c .before .before .before .before .before .match .rest .1)) (c .before .before .lend-record2 .ensures (D .lent) (ledgerOf D .multilog) K (m ∙ multilog-is D) (v .editplaces) (v .constraintplaces))
+returns-4 c = λ D K m h. let v = ledger-valid D .checked in lent-bench D _ _ (third-kind _ h (c .before .before .before .before .before .before .match .rest .0 .0 .1) (c .before .before .before .before .before .before .match .rest .0 .1) (c .before .before .before .before .before .before .match .rest .1)) (c .before .before .lend-record2 .ensures (D .lent) (ledgerOf D .multilog) K (ap (λ (x : Bench). x .multilog) m ∙ multilog-is D) (v .editplaces) (v .constraintplaces))
 
 pub lend-rows-spec : {M : Type 1} → statement M
 lend-rows-spec =
     tie.close
     (tie.spec
     array-read-lend-edit
-    array-read-t16
-    array-read-t19
-    array-read-t22
-    array-read-t25
-    array-read-t28
+    array-read-t17
+    array-read-t20
+    array-read-t23
+    array-read-t26
+    array-read-t29
     lend-edit-requires
     array-read-lend-constraint
-    array-read-t37
-    array-read-t40
-    array-read-t43
+    array-read-t38
+    array-read-t41
+    array-read-t44
     lend-constraint-requires
     array-read-lend-record
     empty-requires

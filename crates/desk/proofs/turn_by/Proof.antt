@@ -1,25 +1,25 @@
 -- `desk::turn_by` meets its contract. Assumes nothing.
+use mathlib.Core.Path.{refl, ap, _∙_}
 use borrow.Author.Needs.{needs}
-use Rattle.desk.proofs.Cases.{far-turn, near-turn}
+use Rattle.turning.specs.Turning.{turningOf}
+use Rattle.desk.proofs.Cases.{turned-far, turned-near}
 use Rattle.desk.proofs.Signs.{signed-passed}
 use Rattle.desk.proofs.turn_by.Statement.{statement}
 use Rattle.desk.proofs.turn_by.Tie as tie
 
-refused-requires : tie.Need-refused-requires
-refused-requires c κs = search needs
-
 returns : tie.Need-returns
-returns c = λ D d e p. far-turn D _ _ e d _ p _ (c .before .if1 .taken) (c .refused .ensures)
+returns c = turned-far _ _ _ _ (c .if1 .taken) refl
 
 signed-requires : tie.Need-signed-requires
 signed-requires c κs = search needs
 
-turn-requires : tie.Need-turn-requires
-turn-requires c κs = search needs
+turned-requires : tie.Need-turned-requires
+turned-requires c κs = search needs
 
 returns-2 : tie.Need-returns-2
-returns-2 c = λ D d e p. near-turn D _ _ e d _ p _ (c .before .before .if1 .left) (signed-passed _ _ (c .before .before .if1 .left) (c .before .signed .ensures)) (c .turn .ensures)
+returns-2 c =
+    let h = c .before .before .if1 .left in
+    turned-near _ _ _ _ h (c .turned .ensures ∙ ap (turningOf _) (signed-passed _ _ h (c .before .signed .ensures)))
 
 pub turn-by-spec : {M : Type 1} → statement M
-turn-by-spec =
-    tie.close (tie.spec refused-requires returns signed-requires turn-requires returns-2)
+turn-by-spec = tie.close (tie.spec returns signed-requires turned-requires returns-2)

@@ -39,7 +39,7 @@ same-length-2 : tie.Need-same-length-2
 same-length-2 c = search needs
 
 returns-2 : tie.Need-returns-2
-returns-2 c = λ D e w. report-asked D _ (c .before .before .before .before .match .keys2) (c .before .before .print-report .ensures (ledgerOf D .multilog) (ap (λ (x : Bench). x .multilog) e ∙ multilog-is D) (ledger-valid D .checked))
+returns-2 c = λ D e w. report-asked D _ (c .before .before .before .before .before .match .keys2) (c .before .before .print-report .ensures (ledgerOf D .multilog) (ap (λ (x : Bench). x .multilog) e ∙ multilog-is D) (ledger-valid D .checked))
 
 same-length-3 : tie.Need-same-length-3
 same-length-3 c = search needs

@@ -1,8 +1,6 @@
 -- `desk_calls::run_lend` meets its contract. Assumes nothing.
-use mathlib.Core.Path.{ap}
 use borrow.Author.Needs.{needs}
 use Rattle.desk_calls.proofs.Telling.{lend-holds, lend-printed}
-use Rattle.ledger.specs.declared.Bench.{Bench}
 use Rattle.desk_calls.proofs.run_lend.Statement.{statement}
 use Rattle.desk_calls.proofs.run_lend.Tie as tie
 
@@ -24,7 +22,7 @@ same-length-3 c = search needs
 returns : tie.Need-returns
 returns c =
     λ D H h a.
-    let q = c .before .before .before .before .before .before .before .lend .ensures D (H .kept) (ap (λ (x : Bench). x .multilog) (H .benched)) h in
+    let q = c .before .before .before .before .before .before .before .lend .ensures D (H .kept) (H .benched) h in
     (lend-holds D _ _ 0 h (H .benched) (q .1), lend-printed D _ _ _ h (H .benched) (q .0) (c .before .before .before .print-setting .ensures a))
 
 pub run-lend-spec : {M : Type 1} → statement M

@@ -1,12 +1,13 @@
 -- `log::run_some` meets its contract. Assumes nothing.
 use Prim.Native.Nat.{suc, _+_, _-_, _≤_}
-use mathlib.Core.Path.{_≡_, refl}
+use mathlib.Core.Path.{_≡_, refl, sym, _∙_}
 use lib.ListN.{length}
 use native.Mathlib.Omega.{arith}
 use borrow.Author.Needs.{needs}
 use borrow.Author.Tests.{leb-false}
 use Rattle.log.proofs.Running.{running-start, running-few, running-next, stopped-above, stopped-end}
 use Rattle.log.proofs.Orders.{call-done, line-done}
+use Rattle.log.proofs.Paging.{first-paging, opened-there}
 use Rattle.log.specs.Running.{Running}
 use Rattle.desk_calls.specs.Lines.{Holds}
 use Rattle.desk.specs.Desk.{Desk}
@@ -30,17 +31,14 @@ loop-holds c = (search needs, search needs, search needs, search needs, λ e. re
 line-end-requires : tie.Need-line-end-requires Inv-loop μ-loop
 line-end-requires c κs = search needs
 
-next-requires : tie.Need-next-requires Inv-loop μ-loop
-next-requires c κs = search needs
-
 sub-read-order : tie.Need-sub-read-order Inv-loop μ-loop
-sub-read-order c = let x = next-line (c .before .before .before .before .before .before .before .args .log .now) (c .before .before .before .before .loop .from) (c .before .before .before .loop-test .taken) (c .before .line-end .ensures) in omega (arith, x .forward)
+sub-read-order c = let x = next-line (c .before .before .before .before .before .before .args .log .now) (c .before .before .before .loop .from) (c .before .before .loop-test .taken) (c .line-end .ensures) in omega (arith, x .forward)
 
 part-read-order-start : tie.Need-part-read-order-start Inv-loop μ-loop
-part-read-order-start c = let x = next-line (c .before .before .before .before .before .before .before .args .log .now) (c .before .before .before .before .loop .from) (c .before .before .before .loop-test .taken) (c .before .line-end .ensures) in omega (arith, x .forward, x .inside)
+part-read-order-start c = let x = next-line (c .before .before .before .before .before .before .args .log .now) (c .before .before .before .loop .from) (c .before .before .loop-test .taken) (c .line-end .ensures) in omega (arith, x .forward, x .inside)
 
 part-read-order-end : tie.Need-part-read-order-end Inv-loop μ-loop
-part-read-order-end c = let x = next-line (c .before .before .before .before .before .before .before .args .log .now) (c .before .before .before .before .loop .from) (c .before .before .before .loop-test .taken) (c .before .line-end .ensures) in omega (arith, x .inside)
+part-read-order-end c = let x = next-line (c .before .before .before .before .before .before .args .log .now) (c .before .before .before .loop .from) (c .before .before .loop-test .taken) (c .line-end .ensures) in omega (arith, x .inside)
 
 read-order-requires : tie.Need-read-order-requires Inv-loop μ-loop
 read-order-requires c κs = search needs
@@ -48,42 +46,55 @@ read-order-requires c κs = search needs
 request-of-requires : tie.Need-request-of-requires Inv-loop μ-loop
 request-of-requires c κs = search needs
 
+is-turn-requires : tie.Need-is-turn-requires Inv-loop μ-loop
+is-turn-requires c κs = search needs
+
+run-turns-requires : tie.Need-run-turns-requires Inv-loop μ-loop
+run-turns-requires c κs =
+    let b = c .before .before .before .before .before .before .before in
+    (b .before .before .loop-test .taken, search needs, first-paging _ _ (b .line-end .ensures) (c .before .before .before .before .before .read-order .ensures) (c .before .before .before .before .request-of .ensures) (c .before .before .before .is-turn .ensures) (c .before .before .if2 .taken))
+
+open-at-requires : tie.Need-open-at-requires Inv-loop μ-loop
+open-at-requires c κs = search needs
+
+loop-less : tie.Need-loop-less Inv-loop μ-loop
+loop-less c = let t = c .before .before .before .before .run-turns .ensures in omega (arith, t .0, t .1)
+
+loop-again : tie.Need-loop-again Inv-loop μ-loop
+loop-again c =
+    let t = c .before .before .before .before .run-turns .ensures in
+    let v = c .before .before .before .before .before .before .before .before .before .before .before .before .before .before .before .loop .inv in (
+      t .1,
+      search needs,
+      search needs,
+      search needs,
+      λ e. absurd (omega (arith, t .0)),
+      λ D H s k.
+          let R = v .5 D H s k in
+          opened-there _ D _ _ _ _ R (t .2 D _ _ _ _ _ _ _ R refl k) (c .open-at .ensures),
+    )
+
+next-requires : tie.Need-next-requires Inv-loop μ-loop
+next-requires c κs = search needs
+
 call-requires : tie.Need-call-requires Inv-loop μ-loop
 call-requires c κs = search needs
 
 print-outcome-requires : tie.Need-print-outcome-requires Inv-loop μ-loop
 print-outcome-requires c κs = search needs
 
-loop-less : tie.Need-loop-less Inv-loop μ-loop
-loop-less c = let x = next-line (c .before .before .before .before .before .before .before .before .before .before .before .before .before .before .before .before .before .before .before .before .before .before .args .log .now) (c .before .before .before .before .before .before .before .before .before .before .before .before .before .before .before .before .before .before .before .loop .from) (c .before .before .before .before .before .before .before .before .before .before .before .before .before .before .before .before .before .before .loop-test .taken) (c .before .before .before .before .before .before .before .before .before .before .before .before .before .before .before .before .line-end .ensures) in omega (arith, x .forward, x .inside)
-
-loop-again : tie.Need-loop-again Inv-loop μ-loop
-loop-again c =
-    let v = c .before .before .before .before .before .before .before .before .before .before .before .before .before .before .before .before .before .before .before .loop .inv in
-    let h = c .before .before .before .before .before .before .before .before .before .before .before .before .before .before .before .before .before .before .loop-test .taken in
-    let x = next-line (c .before .before .before .before .before .before .before .before .before .before .before .before .before .before .before .before .before .before .before .before .before .before .args .log .now) (c .before .before .before .before .before .before .before .before .before .before .before .before .before .before .before .before .before .before .before .loop .from) (c .before .before .before .before .before .before .before .before .before .before .before .before .before .before .before .before .before .before .loop-test .taken) (c .before .before .before .before .before .before .before .before .before .before .before .before .before .before .before .before .line-end .ensures) in (
-      x .inside,
-      search needs,
-      search needs,
-      search needs,
-      λ e. absurd (omega (arith, x .forward)),
-      λ D H s k.
-          let R = v .5 D H s k in
-          running-next _ D _ _ _ R h (c .before .before .before .before .before .before .before .before .before .before .before .before .before .before .before .before .line-end .ensures) (c .before .before .before .before .before .before .before .before .before .before .before .before .before .before .before .next .ensures (running-few _ D _ _ _ R h k))
-          (λ E G a. line-done E _ _ (c .before .before .before .before .before .before .before .before .before .before .before .before .before .read-order .ensures) (call-done E _ _ (c .before .before .before .before .before .before .before .before .before .before .before .request-of .ensures) (c .before .before .before .before .before .before .before .before .before .before .if2 .taken) _ (c .before .before .before .before .before .before .before .call .ensures) (c .before .before .print-outcome .ensures) G)),
-    )
-
-run-told-requires : tie.Need-run-told-requires Inv-loop μ-loop
-run-told-requires c κs = let q = c .before .before .before .before .request-of .ensures in let h = c .before .before .before .if2 .left in omega arith
-
 loop-less-2 : tie.Need-loop-less-2 Inv-loop μ-loop
-loop-less-2 c = let x = next-line (c .before .before .before .before .before .before .before .before .before .before .before .before .before .before .before .before .before .before .before .before .before .args .log .now) (c .before .before .before .before .before .before .before .before .before .before .before .before .before .before .before .before .before .before .loop .from) (c .before .before .before .before .before .before .before .before .before .before .before .before .before .before .before .before .before .loop-test .taken) (c .before .before .before .before .before .before .before .before .before .before .before .before .before .before .before .line-end .ensures) in omega (arith, x .forward, x .inside)
+loop-less-2 c =
+    let b = c .before .before .before .before .before .before .before .before .before .before .before .before .before .before .before .before .before .before in
+    let x = next-line (b .before .before .before .before .before .before .args .log .now) (b .before .before .before .loop .from) (b .before .before .loop-test .taken) (b .line-end .ensures) in
+    omega (arith, x .forward, x .inside)
 
 loop-again-2 : tie.Need-loop-again-2 Inv-loop μ-loop
 loop-again-2 c =
-    let v = c .before .before .before .before .before .before .before .before .before .before .before .before .before .before .before .before .before .before .loop .inv in
-    let h = c .before .before .before .before .before .before .before .before .before .before .before .before .before .before .before .before .before .loop-test .taken in
-    let x = next-line (c .before .before .before .before .before .before .before .before .before .before .before .before .before .before .before .before .before .before .before .before .before .args .log .now) (c .before .before .before .before .before .before .before .before .before .before .before .before .before .before .before .before .before .before .loop .from) (c .before .before .before .before .before .before .before .before .before .before .before .before .before .before .before .before .before .loop-test .taken) (c .before .before .before .before .before .before .before .before .before .before .before .before .before .before .before .line-end .ensures) in (
+    let b = c .before .before .before .before .before .before .before .before .before .before .before .before .before .before .before .before .before .before in
+    let v = b .before .before .before .loop .inv in
+    let h = b .before .before .loop-test .taken in
+    let x = next-line (b .before .before .before .before .before .before .args .log .now) (b .before .before .before .loop .from) (b .before .before .loop-test .taken) (b .line-end .ensures) in (
       x .inside,
       search needs,
       search needs,
@@ -91,8 +102,66 @@ loop-again-2 c =
       λ e. absurd (omega (arith, x .forward)),
       λ D H s k.
           let R = v .5 D H s k in
-          running-next _ D _ _ _ R h (c .before .before .before .before .before .before .before .before .before .before .before .before .before .before .before .line-end .ensures) (c .before .before .before .before .before .before .before .before .before .before .before .before .before .before .next .ensures (running-few _ D _ _ _ R h k))
-          (λ E G a. line-done E _ _ (c .before .before .before .before .before .before .before .before .before .before .before .before .read-order .ensures) (c .before .before .before .before .before .run-told .ensures E G a)),
+          running-next _ D _ _ _ R h (b .line-end .ensures) (c .before .before .before .before .before .before .before .before .before .before .before .before .next .ensures (running-few _ D _ _ _ R h k))
+          (λ E G a. line-done E _ _ (c .before .before .before .before .before .before .before .before .before .before .before .before .before .before .before .before .read-order .ensures) (call-done E _ _ (c .before .before .before .before .before .before .before .before .before .before .before .before .before .before .before .request-of .ensures) (c .before .before .before .before .before .before .before .before .before .before .before .if3 .taken) _ (c .before .before .before .before .before .before .before .call .ensures E (G .benched) (G .kept) (c .before .before .before .before .before .before .before .before .before .before .before .if3 .taken) (sym (c .before .before .before .before .before .before .before .before .before .before .before .before .before .before .is-turn .ensures) ∙ c .before .before .before .before .before .before .before .before .before .before .before .before .before .if2 .left)) (c .before .before .print-outcome .ensures) G)),
+    )
+
+is-lending-requires : tie.Need-is-lending-requires Inv-loop μ-loop
+is-lending-requires c κs = search needs
+
+run-lending-requires : tie.Need-run-lending-requires Inv-loop μ-loop
+run-lending-requires c κs = sym (c .before .before .before .before .is-lending .ensures) ∙ c .before .before .before .if4 .taken
+
+loop-less-3 : tie.Need-loop-less-3 Inv-loop μ-loop
+loop-less-3 c =
+    let b = c .before .before .before .before .before .before .before .before .before .before .before .before .before .before .before .before .before .before in
+    let x = next-line (b .before .before .before .before .before .before .args .log .now) (b .before .before .before .loop .from) (b .before .before .loop-test .taken) (b .line-end .ensures) in
+    omega (arith, x .forward, x .inside)
+
+loop-again-3 : tie.Need-loop-again-3 Inv-loop μ-loop
+loop-again-3 c =
+    let b = c .before .before .before .before .before .before .before .before .before .before .before .before .before .before .before .before .before .before in
+    let v = b .before .before .before .loop .inv in
+    let h = b .before .before .loop-test .taken in
+    let x = next-line (b .before .before .before .before .before .before .args .log .now) (b .before .before .before .loop .from) (b .before .before .loop-test .taken) (b .line-end .ensures) in (
+      x .inside,
+      search needs,
+      search needs,
+      search needs,
+      λ e. absurd (omega (arith, x .forward)),
+      λ D H s k.
+          let R = v .5 D H s k in
+          running-next _ D _ _ _ R h (b .line-end .ensures) (c .before .before .before .before .before .before .before .before .before .before .before .before .next .ensures (running-few _ D _ _ _ R h k))
+          (λ E G a. line-done E _ _ (c .before .before .before .before .before .before .before .before .before .before .before .before .before .before .before .before .read-order .ensures) (c .before .before .before .before .before .run-lending .ensures E G a)),
+    )
+
+print-told-requires : tie.Need-print-told-requires Inv-loop μ-loop
+print-told-requires c κs =
+    let q = c .before .before .before .before .before .before .before .before .before .request-of .ensures in
+    let h = c .before .before .before .before .before .if3 .left in
+    (omega arith, sym (c .before .before .before .before .is-lending .ensures) ∙ c .before .before .before .if4 .left)
+
+loop-less-4 : tie.Need-loop-less-4 Inv-loop μ-loop
+loop-less-4 c =
+    let b = c .before .before .before .before .before .before .before .before .before .before .before .before .before .before .before in
+    let x = next-line (b .before .before .before .before .before .before .args .log .now) (b .before .before .before .loop .from) (b .before .before .loop-test .taken) (b .line-end .ensures) in
+    omega (arith, x .forward, x .inside)
+
+loop-again-4 : tie.Need-loop-again-4 Inv-loop μ-loop
+loop-again-4 c =
+    let b = c .before .before .before .before .before .before .before .before .before .before .before .before .before .before .before in
+    let v = b .before .before .before .loop .inv in
+    let h = b .before .before .loop-test .taken in
+    let x = next-line (b .before .before .before .before .before .before .args .log .now) (b .before .before .before .loop .from) (b .before .before .loop-test .taken) (b .line-end .ensures) in (
+      x .inside,
+      search needs,
+      search needs,
+      search needs,
+      λ e. absurd (omega (arith, x .forward)),
+      λ D H s k.
+          let R = v .5 D H s k in
+          running-next _ D _ _ _ R h (b .line-end .ensures) (c .before .before .before .before .before .before .before .before .before .next .ensures (running-few _ D _ _ _ R h k))
+          (λ E G a. line-done E _ _ (c .before .before .before .before .before .before .before .before .before .before .before .before .before .read-order .ensures) (c .before .before .print-told .ensures E G)),
     )
 
 same-length : tie.Need-same-length Inv-loop μ-loop
@@ -127,19 +196,28 @@ run-some-spec =
     μ-loop
     loop-holds
     line-end-requires
-    next-requires
     sub-read-order
     part-read-order-start
     part-read-order-end
     read-order-requires
     request-of-requires
-    call-requires
-    print-outcome-requires
+    is-turn-requires
+    run-turns-requires
+    open-at-requires
     loop-less
     loop-again
-    run-told-requires
+    next-requires
+    call-requires
+    print-outcome-requires
     loop-less-2
     loop-again-2
+    is-lending-requires
+    run-lending-requires
+    loop-less-3
+    loop-again-3
+    print-told-requires
+    loop-less-4
+    loop-again-4
     same-length
     same-length-2
     same-length-3
