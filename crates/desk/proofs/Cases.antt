@@ -152,16 +152,22 @@ module _ (turner : Turner) (which pages : ℕ) (t : Turning) where
   pub turned-far : 2147483647 < pages → t ≡ record { number = 2; turner = turner } → (t .turner .last ≡ turner .last)
       × ((D : Desk) (bench : Bench) (c : Cells) → bench ≡ benchIn D → bench .turner ≡ turner → cell c 0 ≡ pages → turnReply bench t ≡ replied D (turnOf which D c))
   unfolding turnReply benchIn
-  turned-far h q = (ap (λ (u : Turning). u .turner .last) q, λ D bench c e b p.
-      let x : openAt bench (t .turner .opened) ≡ bench = ap (λ (u : Turning). openAt bench (u .turner .opened)) q ∙ (ap (λ (u : Turner). openAt bench (u .opened)) (sym b) ∙ open-same (ledgerOf D) (ledger-valid D) bench e) in
-      far-turn D bench (turnReply bench t) e c pages p which h (λ i. record { answer = plainAnswer (q i .number); bench = x i }))
+  turned-far h q = (
+    ap (λ (u : Turning). u .turner .last) q,
+    λ D bench c e b p.
+        let x : openAt bench (t .turner .opened) ≡ bench = ap (λ (u : Turning). openAt bench (u .turner .opened)) q ∙ (ap (λ (u : Turner). openAt bench (u .opened)) (sym b) ∙ open-same (ledgerOf D) (ledger-valid D) bench e) in
+        far-turn D bench (turnReply bench t) e c pages p which h (λ i. record { answer = plainAnswer (q i .number); bench = x i }),
+  )
 
   pub turned-near : pages ≤ 2147483647 → t ≡ turningOf turner (signedPages which pages) → (t .turner .last ≡ turner .last)
       × ((D : Desk) (bench : Bench) (c : Cells) → bench ≡ benchIn D → bench .turner ≡ turner → cell c 0 ≡ pages → turnReply bench t ≡ replied D (turnOf which D c))
-  turned-near h q = (ap (λ (u : Turning). u .turner .last) q, λ D bench c e b p.
-      let z = signed-fits which pages h in
-      let k : t ≡ turningOf (bench .turner) (toZ w32 (ofZ w32 (signedPages which pages))) = q ∙ (λ i. turningOf (sym b i) (sym (toZ-ofZ z) i)) in
-      near-turn D bench (turnReply bench t) e c pages p which h (turn-answers bench (signedPages which pages) z t k))
+  turned-near h q = (
+    ap (λ (u : Turning). u .turner .last) q,
+    λ D bench c e b p.
+        let z = signed-fits which pages h in
+        let k : t ≡ turningOf (bench .turner) (toZ w32 (ofZ w32 (signedPages which pages))) = q ∙ (λ i. turningOf (sym b i) (sym (toZ-ofZ z) i)) in
+        near-turn D bench (turnReply bench t) e c pages p which h (turn-answers bench (signedPages which pages) z t k),
+  )
 
 -- the last of some kinds
 pub third-kind : (k : ℕ) → k < 4 → (k ≡ 0 → ⊥) → (k ≡ 1 → ⊥) → (k ≡ 2 → ⊥) → k ≡ 3

@@ -44,9 +44,11 @@ returns-2 : tie.Need-returns-2
 returns-2 c =
     let b = c .before .before in
     let a = b .before .before in
-    let t = a .before .before .before in
-    (t .turn-by .ensures .0, λ D bench lending edits constraints H q.
-    turn-done D _ _ (t .before .before .before .before .pre) H q (t .before .if1 .left) (t .turn-by .result) (t .turn-by .ensures) _ (a .plain-answer .ensures) (b .print-outcome .ensures))
+    let t = a .before .before .before in (
+      t .turn-by .ensures .0,
+      λ D bench lending edits constraints H q.
+          turn-done D _ _ (t .before .before .before .before .pre) H q (t .before .if1 .left) (t .turn-by .result) (t .turn-by .ensures) _ (a .plain-answer .ensures) (b .print-outcome .ensures),
+    )
 
 pub run-page-spec : {M : Type 1} → statement M
 run-page-spec =
