@@ -142,6 +142,30 @@ pub fn schedule(multilog: Record, hidden: [u8; 128]) -> Schedule
     edits_of(multilog, row)
 }
 
+// Whether a record is sound, and its bench schedule.
+pub struct Planned {
+    pub sound: bool,
+    pub schedule: Schedule,
+}
+
+// Both from the same linked rows, for a record that has just been joined.
+pub fn plan(multilog: Record, hidden: [u8; 128]) -> Planned
+    ensures { λ r. ⌜ ((R : theory.Record) → multilog ≡ stored R → Fit R → (r .sound ≡ judgement.sound R) × (r .schedule ≡ scheduleOf R (markedEdits R hidden))) ⌝ }
+{
+    let n = indexes::name_count(multilog);
+    let rows = indexes::resolved(multilog);
+    let head = rows.head;
+    let link = rows.link;
+    let left = rows.left;
+    let mustmarks = marks::must_marks(&head, &link, &left);
+    let ring = links::has_ring(n, &head, &link, &left, mustmarks);
+    let row = schedules::schedule_row(n, &head, &link, &left, mustmarks, &hidden);
+    Planned {
+        sound: !ring,
+        schedule: edits_of(multilog, row),
+    }
+}
+
 // Must, never, settled and page of each edit.
 pub fn judge(multilog: Record) -> Judged
     ensures { λ r. ⌜ ((R : theory.Record) → multilog ≡ stored R → Fit R → r ≡ judgedOf R) ⌝ }

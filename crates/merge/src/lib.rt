@@ -18,12 +18,14 @@ pub fn joined_bench(bench: Bench, joined: Joined, election: Election) -> Outcome
     }
     let old = bench.multilog;
     let union = joined.after;
-    if !judge::sound(union) {
-        return bench::refused(bench, 8);
-    }
     let marks = bench.hidden;
     let hidden = hidden::carried(old, marks, union);
-    change::change(bench, union, hidden, election)
+    let planned = judge::plan(union, hidden);
+    if !planned.sound {
+        return bench::refused(bench, 8);
+    }
+    let schedule = planned.schedule;
+    bench::reschedule(bench, union, hidden, schedule, election)
 }
 
 pub fn add_edit(bench: Bench, row: [u32; 5]) -> Outcome

@@ -6,6 +6,7 @@ use Rattle.record.specs.Judgement.{sound}
 use Rattle.fit.proofs.Fit.{checked-fit}
 use Rattle.ledger.specs.Ledger.{start, fed}
 use Rattle.ledger.proofs.Valid.{start-valid, fed-valid}
+use Rattle.change.proofs.Scheduled.{change-made}
 use Rattle.merge.specs.Joins.{Joins}
 use Rattle.merge.proofs.Rows.{bench-record, bench-hidden, keeps-within, none, rows-refused, union-is, unsound-refused, joined-changes}
 use Rattle.merge.proofs.joined_bench.Statement.{statement}
@@ -20,8 +21,11 @@ returns c =
     let s = c .before .before in
     λ calls n U e j k keeps. c .refused .ensures ∙ rows-refused calls (s .args .bench) (s .args .joined) (s .args .election) n U e j (c .before .if1 .taken)
 
-sound-requires : tie.Need-sound-requires
-sound-requires c κs = search needs
+carried-requires : tie.Need-carried-requires
+carried-requires c κs = search needs
+
+plan-requires : tie.Need-plan-requires
+plan-requires c κs = search needs
 
 refused-requires-2 : tie.Need-refused-requires-2
 refused-requires-2 c κs = search needs
@@ -29,37 +33,34 @@ refused-requires-2 c κs = search needs
 returns-2 : tie.Need-returns-2
 unfolding Joins
 returns-2 c =
-    let p = c .before .before in
-    let s = p .before .before .before .before in
+    let p = c .before .before .before in
+    let s = p .before .before .before .before .before .before in
     λ calls n U e j k keeps.
-    let z = p .before .before .before .if1 .left in
+    let z = p .before .before .before .before .before .if1 .left in
     let o = none calls (s .args .bench) (s .args .joined) (s .args .election) n U e j z in
     let u = union-is calls (s .args .bench) (s .args .joined) (s .args .election) n U e j z in
-    let t : sound U ≡ false = sym (p .sound .ensures U u (checked-fit U (k o))) ∙ not-true _ (c .before .if2 .taken) in
+    let t : sound U ≡ false = sym (p .plan .ensures U u (checked-fit U (k o)) .0) ∙ not-true _ (c .before .if2 .taken) in
     c .refused2 .ensures ∙ unsound-refused calls (s .args .bench) (s .args .joined) (s .args .election) n U e j z t
 
-carried-requires : tie.Need-carried-requires
-carried-requires c κs = search needs
-
-change-requires : tie.Need-change-requires
-change-requires c κs = search needs
+reschedule-requires : tie.Need-reschedule-requires
+reschedule-requires c κs = search needs
 
 returns-3 : tie.Need-returns-3
 unfolding Joins
 returns-3 c =
     let p = c .before .before .before .before in
-    let s = p .before .before .before .before in
+    let s = p .before .before .before .before .before .before in
     λ calls n U e j k keeps.
     let L = fed start calls in
     let v = fed-valid start calls start-valid in
-    let z = p .before .before .before .if1 .left in
+    let z = p .before .before .before .before .before .if1 .left in
     let o = none calls (s .args .bench) (s .args .joined) (s .args .election) n U e j z in
     let u = union-is calls (s .args .bench) (s .args .joined) (s .args .election) n U e j z in
-    let t : sound U ≡ true = sym (p .sound .ensures U u (checked-fit U (k o))) ∙ not-false _ (c .before .before .before .if2 .left) in
-    joined-changes calls (s .args .bench) (s .args .joined) (s .args .election) n U e j z (c .before .carried .result) _ t (k o) (keeps o)
+    let t : sound U ≡ true = sym (p .plan .ensures U u (checked-fit U (k o)) .0) ∙ not-false _ (c .before .before .if2 .left) in
+    joined-changes calls (s .args .bench) (s .args .joined) (s .args .election) n U e j z (p .before .carried .result) _ t (k o) (keeps o)
     (keeps-within L v U (keeps o))
-    (c .before .carried .ensures (L .multilog) U (L .hidden) (bench-record L (s .args .bench) e) u (v .checked) (k o) (v .hidden-written) (bench-hidden L (s .args .bench) e))
-    (c .change .ensures)
+    (p .before .carried .ensures (L .multilog) U (L .hidden) (bench-record L (s .args .bench) e) u (v .checked) (k o) (v .hidden-written) (bench-hidden L (s .args .bench) e))
+    (change-made (s .args .bench) (s .args .joined .after) (p .before .carried .result) (p .plan .result .schedule) (s .args .election) (c .reschedule .result) (λ R m f. p .plan .ensures R m f .1) (c .reschedule .ensures))
 
 pub joined-bench-spec : {M : Type 1} → statement M
 joined-bench-spec =
@@ -67,9 +68,9 @@ joined-bench-spec =
     (tie.spec
     refused-requires
     returns
-    sound-requires
+    carried-requires
+    plan-requires
     refused-requires-2
     returns-2
-    carried-requires
-    change-requires
+    reschedule-requires
     returns-3)
