@@ -14,7 +14,9 @@ ghost use Rattle.record.specs.Lists.{mem, sift, all, _among_};
 ghost use Rattle.record.specs.Stored.{padded, stored, fillerEdit, fillerConstraint};
 ghost use Rattle.record.specs.Judgement.{settled};
 ghost use Rattle.links.specs.Marks.{marksOf, placeIn};
+ghost use Rattle.links.specs.Links.{Safe, Leads};
 ghost use Rattle.indexes.specs.Fit.{Fit};
+ghost use Rattle.members.specs.Rows.{leadsIn};
 ghost use Rattle.vote.specs.Bundle.{between};
 ghost use Rattle.vote.specs.Bundle as vote;
 ghost use Rattle.bundle.specs.Bundles.{siftedEdits, siftedConstraints, refusedBundle, bundleAnswer};
@@ -100,9 +102,19 @@ fn sift_constraints(
     }
 }
 
-// The bundle of an edit that the record knows. It is safe for any record and edit.
-pub fn bundle(multilog: Record, name: u16) -> Record
-    ensures { λ r. ⌜ ((R : theory.Record) → multilog ≡ stored R → Fit R → name among theory.written R → r ≡ stored (vote.bundle R name)) ⌝ }
+// The bundle of an edit that the record knows, by the table of the record's names and the rows of what leads to a member: they are made once for
+// many edits.
+pub fn bundle_by(
+    multilog: Record,
+    table: &[u8; 2304],
+    head: &[u16; 384],
+    link: &[u16; 1024],
+    left: &[u8; 1024],
+    name: u16,
+) -> Record
+    requires { ⌜ (length (now table) ≡ 2304) × ((x : ℕ) → getD (now table) x 0 < 128) × Safe (now head) (now link) (now left) ⌝ }
+    ensures { λ r. ⌜ ((R : theory.Record) → multilog ≡ stored R → Fit R → ((x : ℕ) → getD (now (table .entry)) x 0 ≡ placeIn (theory.names R) x)
+        → Leads (leadsIn R) R 0 (now (head .entry)) (now (link .entry)) (now (left .entry)) → name among theory.written R → r ≡ stored (vote.bundle R name)) ⌝ }
 {
     let n = multilog.editcount;
     let m = multilog.constraintcount;
@@ -112,12 +124,11 @@ pub fn bundle(multilog: Record, name: u16) -> Record
     if 512 < m {
         return record::empty();
     }
-    let table = indexes::index_table(multilog);
-    let marks = members::member_marks(multilog, &table, name);
+    let marks = members::member_marks(table, head, link, left, name);
     let edits = multilog.edits;
     let constraints = multilog.constraints;
     let kept = sift_edits(edits, n, &marks);
-    let between = sift_constraints(constraints, m, &table, &marks);
+    let between = sift_constraints(constraints, m, table, &marks);
     let rows = kept.rows;
     let rules = between.rows;
     Record {
@@ -126,6 +137,18 @@ pub fn bundle(multilog: Record, name: u16) -> Record
         constraints: rules,
         constraintcount: between.count,
     }
+}
+
+// The bundle of an edit that the record knows. It is safe for any record and edit.
+pub fn bundle(multilog: Record, name: u16) -> Record
+    ensures { λ r. ⌜ ((R : theory.Record) → multilog ≡ stored R → Fit R → name among theory.written R → r ≡ stored (vote.bundle R name)) ⌝ }
+{
+    let table = indexes::index_table(multilog);
+    let rows = members::member_rows(multilog, &table);
+    let head = rows.head;
+    let link = rows.link;
+    let left = rows.left;
+    bundle_by(multilog, &table, &head, &link, &left, name)
 }
 
 // Whether the edits at indexes 1 to n - 1 are marked.
@@ -150,14 +173,6 @@ pub fn all_settled(multilog: Record) -> bool
     let n = indexes::name_count(multilog);
     let marks = judge::settleds(multilog);
     every_marked(marks, n)
-}
-
-// Whether the bundle of an edit that the record knows is eligible.
-pub fn eligible(multilog: Record, name: u16) -> bool
-    ensures { λ r. ⌜ ((R : theory.Record) → multilog ≡ stored R → Fit R → name among theory.written R → r ≡ vote.eligible R name) ⌝ }
-{
-    let small = bundle(multilog, name);
-    all_settled(small)
 }
 
 // On refusal every part but the number is 0, and the bundle the empty record.

@@ -3,7 +3,8 @@
 use record::Record;
 ghost use mathlib.Core.Path.{_≡_};
 ghost use mathlib.Core.Bool.{not, _&&_, _||_};
-ghost use Rattle.record.specs.Lists.{_among_, _within_};
+ghost use Prim.Native.Nat.{ℕ};
+ghost use Rattle.record.specs.Lists.{_within_};
 ghost use Rattle.record.specs.Record as theory;
 ghost use Rattle.record.specs.Stored.{stored};
 ghost use Rattle.indexes.specs.Fit.{Fit};
@@ -11,18 +12,16 @@ ghost use Rattle.vote.specs.Bundle as vote;
 ghost use Rattle.vote.specs.Tally.{sameBundle};
 ghost use Rattle.proposal.specs.Proposal as proposal;
 
-// Whether the bundle of an edit is kept. Whether it is eligible is asked of the old proposal only, and only where the bundles differ: an equal
-// bundle is as eligible as the old one.
-fn is_kept(old: Record, new: Record, name: u16) -> bool
-    ensures { λ r. ⌜ ((Q P : theory.Record) → old ≡ stored Q → Fit Q → new ≡ stored P → Fit P → name among theory.written Q → name among theory.written P
-        → r ≡ (not (vote.eligible Q name) || sameBundle (vote.bundle P name) (vote.bundle Q name) && vote.eligible P name)) ⌝ }
+// Whether an old bundle is kept by the new one of the same edit. Whether it is eligible is asked of the old one only, and only where they differ:
+// an equal bundle is as eligible as the old one.
+fn is_kept(before: Record, after: Record) -> bool
+    ensures { λ r. ⌜ ((Q P : theory.Record) (e : ℕ) → Fit Q → before ≡ stored (vote.bundle Q e) → after ≡ stored (vote.bundle P e)
+        → r ≡ (not (vote.eligible Q e) || sameBundle (vote.bundle P e) (vote.bundle Q e) && vote.eligible P e)) ⌝ }
 {
-    let after = bundle::bundle(new, name);
-    let before = bundle::bundle(old, name);
     if equality::same_bundle(after, before) {
         return true;
     }
-    !bundle::eligible(old, name)
+    !bundle::all_settled(before)
 }
 
 // Each edit of the old proposal with an eligible bundle has the same in the new one, still eligible. The new one knows the edits of the old.
@@ -33,11 +32,23 @@ pub fn keeps(old: Record, new: Record) -> bool
     if 127 < n {
         return false;
     }
+    let oldtable = indexes::index_table(old);
+    let oldrows = members::member_rows(old, &oldtable);
+    let oldhead = oldrows.head;
+    let oldlink = oldrows.link;
+    let oldleft = oldrows.left;
+    let newtable = indexes::index_table(new);
+    let newrows = members::member_rows(new, &newtable);
+    let newhead = newrows.head;
+    let newlink = newrows.link;
+    let newleft = newrows.left;
     let edits = old.edits;
     let mut i: usize = 0;
     while i < n {
         let e = edits[i];
-        if !is_kept(old, new, e.name) {
+        let before = bundle::bundle_by(old, &oldtable, &oldhead, &oldlink, &oldleft, e.name);
+        let after = bundle::bundle_by(new, &newtable, &newhead, &newlink, &newleft, e.name);
+        if !is_kept(before, after) {
             return false;
         }
         i += 1;

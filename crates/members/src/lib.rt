@@ -157,21 +157,32 @@ fn leading_rows(
     }
 }
 
-// The members of the bundle of an edit that the record knows.
-pub fn member_marks(multilog: Record, table: &[u8; 2304], edit: u16) -> [u8; 128]
+// The linked rows of what leads to a member, from the record and the table of its names. They serve every edit of the record.
+pub fn member_rows(multilog: Record, table: &[u8; 2304]) -> Rows
     requires { ⌜ (length (now table) ≡ 2304) × ((x : ℕ) → getD (now table) x 0 < 128) ⌝ }
-    ensures { λ r. ⌜ (length r ≡ 128) × ((R : theory.Record) → multilog ≡ stored R → Fit R → ((x : ℕ) → getD (now (table .entry)) x 0 ≡ placeIn (theory.names R) x)
-        → edit among theory.written R → r ≡ marksOf R (λ y. mem y (members R edit))) ⌝ }
+    ensures { λ r. ⌜ Safe (r .head) (r .link) (r .left)
+        × ((R : theory.Record) → multilog ≡ stored R → Fit R → ((x : ℕ) → getD (now (table .entry)) x 0 ≡ placeIn (theory.names R) x) → Leads (leadsIn R) R 0 (r .head) (r .link) (r .left)) ⌝ }
 {
     let own = indexes::resolved(multilog);
     let head = own.head;
     let link = own.link;
     let left = own.left;
-    let rows = leading_rows(multilog, table, &head, &link, &left);
-    let heads = rows.head;
-    let links = rows.link;
-    let lefts = rows.left;
+    leading_rows(multilog, table, &head, &link, &left)
+}
+
+// The members of the bundle of an edit that the record knows; head, link and left are the rows of what leads to a member.
+pub fn member_marks(
+    table: &[u8; 2304],
+    head: &[u16; 384],
+    link: &[u16; 1024],
+    left: &[u8; 1024],
+    edit: u16,
+) -> [u8; 128]
+    requires { ⌜ (length (now table) ≡ 2304) × ((x : ℕ) → getD (now table) x 0 < 128) × Safe (now head) (now link) (now left) ⌝ }
+    ensures { λ r. ⌜ (length r ≡ 128) × ((R : theory.Record) → Fit R → ((x : ℕ) → getD (now (table .entry)) x 0 ≡ placeIn (theory.names R) x)
+        → Leads (leadsIn R) R 0 (now (head .entry)) (now (link .entry)) (now (left .entry)) → edit among theory.written R → r ≡ marksOf R (λ y. mem y (members R edit))) ⌝ }
+{
     let x = indexes::index_of(table, links::wide16(edit));
     let marks = [0u8; 128];
-    links::closed(0, &heads, &links, &lefts, marks, x)
+    links::closed(0, head, link, left, marks, x)
 }

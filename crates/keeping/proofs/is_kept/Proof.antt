@@ -1,40 +1,23 @@
 -- `keeping::is_kept` meets its contract. Assumes nothing.
-use Rattle.vote.specs.Bundle.{bundle}
-use Rattle.keeping.proofs.Keeping.{same-kept, other-kept}
+use mathlib.Core.Path.{_∙_}
 use borrow.Author.Needs.{needs}
+use Rattle.vote.specs.Bundle.{bundle}
+use Rattle.bundle.proofs.Judging.{bundle-fit, eligible-all}
+use Rattle.keeping.proofs.Keeping.{same-kept, other-kept}
 use Rattle.keeping.proofs.is_kept.Statement.{statement}
 use Rattle.keeping.proofs.is_kept.Tie as tie
-
-bundle-requires : tie.Need-bundle-requires
-bundle-requires c κs = search needs
-
-bundle-requires-2 : tie.Need-bundle-requires-2
-bundle-requires-2 c κs = search needs
 
 same-bundle-requires : tie.Need-same-bundle-requires
 same-bundle-requires c κs = search needs
 
 returns : tie.Need-returns
-returns c =
-    let s = c .before .before .before .before .args in
-    λ Q P e f g h m n. same-kept Q P (s .name) (c .before .same-bundle .ensures (bundle P (s .name)) (bundle Q (s .name)) (c .before .before .before .bundle .ensures P g h n) (c .before .before .bundle2 .ensures Q e f m)) (c .if1 .taken)
+returns c = λ Q P x f b a. same-kept Q P x (c .before .same-bundle .ensures (bundle P x) (bundle Q x) a b) (c .if1 .taken)
 
-eligible-requires : tie.Need-eligible-requires
-eligible-requires c κs = search needs
+all-settled-requires : tie.Need-all-settled-requires
+all-settled-requires c κs = search needs
 
 returns-2 : tie.Need-returns-2
-returns-2 c =
-    let s = c .before .before .before .before .before .args in
-    λ Q P e f g h m n. other-kept Q P (s .name) (c .before .before .same-bundle .ensures (bundle P (s .name)) (bundle Q (s .name)) (c .before .before .before .before .bundle .ensures P g h n) (c .before .before .before .bundle2 .ensures Q e f m))
-    (c .before .if1 .left) (c .eligible .ensures Q e f m)
+returns-2 c = λ Q P x f b a. other-kept Q P x (c .before .before .same-bundle .ensures (bundle P x) (bundle Q x) a b) (c .before .if1 .left) (c .all-settled .ensures (bundle Q x) b (bundle-fit Q f x) ∙ eligible-all Q x)
 
 pub is-kept-spec : {M : Type 1} → statement M
-is-kept-spec =
-    tie.close
-    (tie.spec
-    bundle-requires
-    bundle-requires-2
-    same-bundle-requires
-    returns
-    eligible-requires
-    returns-2)
+is-kept-spec = tie.close (tie.spec same-bundle-requires returns all-settled-requires returns-2)
