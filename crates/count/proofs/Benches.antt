@@ -65,7 +65,7 @@ getD-map f (x ∷ l) (suc i) d = getD-map f l i d
 
 -- the proposal of the bench at place k, past the eighth an empty one
 module _ {A B : Type 0} (rows : A → Rows) (cells : B → Rows) (es : List A) (cs : List B) (k : ℕ) (a : A) (b : B) (ea : rows a ≡ []) (eb : cells b ≡ []) where
-  edits-at : getD (map rows es) (k + 1 - 1) [] ≡ rows (getD es k a)
+  pub edits-at : getD (map rows es) (k + 1 - 1) [] ≡ rows (getD es k a)
   edits-at = let z : k + 1 - 1 ≡ k = omega arith in rw (z, ← ea) (getD-map rows es k a)
 
   constraints-at : getD (map cells cs) (k + 1 - 1) [] ≡ cells (getD cs k b)

@@ -16,6 +16,8 @@ ghost use Rattle.record.specs.Record as theory;
 ghost use Rattle.record.specs.Lists.{any, all, mem};
 ghost use Rattle.record.specs.Stored.{stored};
 ghost use Rattle.record.specs.Judgement.{sound};
+ghost use Rattle.ground.specs.Ground.{Rows};
+ghost use Rattle.table.specs.Table.{namesOf};
 ghost use Rattle.table.specs.Checked.{Checked};
 ghost use Rattle.vote.specs.declared.RollRow.{RollRow};
 ghost use Rattle.vote.specs.Bundle as vote;
@@ -81,15 +83,29 @@ fn proposal_at(edits: [&[[u32; 5]]; 8], constraints: [&[[u32; 3]]; 8], k: usize)
     unite::decode(edits[k], constraints[k])
 }
 
-// Whether an edit is known: any of the eight proposals has it.
-fn is_known(edits: [&[[u32; 5]]; 8], constraints: [&[[u32; 3]]; 8], name: u16) -> bool
-    ensures { λ r. ⌜ (Faultless (lentProposals (map now (edits .entry)) (map now (constraints .entry)))
-        → r ≡ any (λ k. mem name (theory.written (held (lentProposals (map now (edits .entry)) (map now (constraints .entry))) k))) benches) ⌝ }
+// Whether a row of a lent table has this name.
+fn has_name(edits: &[[u32; 5]], name: u16) -> bool
+    ensures { λ r. ⌜ r ≡ mem name (namesOf (now (edits .entry))) ⌝ }
+{
+    let wanted = name as u32;
+    let mut i = 0;
+    while i < edits.len() {
+        if edits[i][0] == wanted {
+            return true;
+        }
+        i += 1;
+    }
+    false
+}
+
+// Whether an edit is known: any of the eight proposals has it. Rows without fault have the names of the proposal that they are.
+fn is_known(edits: [&[[u32; 5]]; 8], name: u16) -> bool
+    ensures { λ r. ⌜ ((constraints : List Rows) → Faultless (lentProposals (map now (edits .entry)) constraints)
+        → r ≡ any (λ k. mem name (theory.written (held (lentProposals (map now (edits .entry)) constraints) k))) benches) ⌝ }
 {
     let mut k = 0;
     while k < 8 {
-        let proposal = proposal_at(edits, constraints, k);
-        if lookup::knows(proposal, name) {
+        if has_name(edits[k], name) {
             return true;
         }
         k += 1;
@@ -200,7 +216,7 @@ pub fn count(
         return refused(2);
     }
     let name = edit as u16;
-    if !is_known(edits, constraints, name) {
+    if !is_known(edits, name) {
         return refused(5);
     }
     if !all_sound(edits, constraints) {

@@ -65,7 +65,7 @@ returns-4 c = λ rows e.
     let z : Faultless P = sym (c .before .before .before .before .before .before .before .proposals-fault .ensures) ∙ c .before .before .before .before .before .before .if1 .left in
     let f = sym (faulty-is (s .args .roll) rows e) ∙ c .before .before .before .before .before .if2 .left in
     let nm = sym (c .before .before .before .before .is-name .ensures) ∙ not-false _ (c .before .before .before .if3 .left) in
-    c .refused4 .ensures ∙ unknown-refused x P rows z f nm (sym (c .before .before .is-known .ensures z) ∙ not-true _ (c .before .if4 .taken))
+    c .refused4 .ensures ∙ unknown-refused x P rows z f nm (sym (c .before .before .is-known .ensures _ z) ∙ not-true _ (c .before .if4 .taken))
 
 all-sound-requires : tie.Need-all-sound-requires
 all-sound-requires c κs = search needs
@@ -81,7 +81,7 @@ returns-5 c = λ rows e.
     let z : Faultless P = sym (c .before .before .before .before .before .before .before .before .before .proposals-fault .ensures) ∙ c .before .before .before .before .before .before .before .before .if1 .left in
     let f = sym (faulty-is (s .args .roll) rows e) ∙ c .before .before .before .before .before .before .before .if2 .left in
     let nm = sym (c .before .before .before .before .before .before .is-name .ensures) ∙ not-false _ (c .before .before .before .before .before .if3 .left) in
-    let kn = sym (c .before .before .before .before .is-known .ensures z) ∙ not-false _ (c .before .before .before .if4 .left) in
+    let kn = sym (c .before .before .before .before .is-known .ensures _ z) ∙ not-false _ (c .before .before .before .if4 .left) in
     c .refused5 .ensures ∙ unsound-refused x P rows z f nm kn (sym (c .before .before .all-sound .ensures z) ∙ not-true _ (c .before .if5 .taken))
 
 tally-of-requires : tie.Need-tally-of-requires
@@ -98,7 +98,7 @@ returns-6 c = λ rows e.
     let z : Faultless P = sym (c .before .before .before .before .before .before .before .before .before .before .before .proposals-fault .ensures) ∙ c .before .before .before .before .before .before .before .before .before .before .if1 .left in
     let f = sym (faulty-is (s .args .roll) rows e) ∙ c .before .before .before .before .before .before .before .before .before .if2 .left in
     let nm = sym (c .before .before .before .before .before .before .before .before .is-name .ensures) ∙ not-false _ (c .before .before .before .before .before .before .before .if3 .left) in
-    let kn = sym (c .before .before .before .before .before .before .is-known .ensures z) ∙ not-false _ (c .before .before .before .before .before .if4 .left) in
+    let kn = sym (c .before .before .before .before .before .before .is-known .ensures _ z) ∙ not-false _ (c .before .before .before .before .before .if4 .left) in
     let t = c .before .before .tally-of .result in
     let q = c .before .before .tally-of .ensures rows z e f in
     count-answered x P rows z f nm kn (sym (c .before .before .before .before .all-sound .ensures z) ∙ not-false _ (c .before .before .before .if5 .left)) (t .election) (c .won-bundle .result) (answer-held t x P rows q)

@@ -1,43 +1,47 @@
 -- `count::is_known` meets its contract. Assumes nothing.
-use mathlib.Core.Path.{_≡_, refl, sym}
+use mathlib.Core.Path.{_≡_, refl, sym, _∙_}
 use mathlib.Core.Bool.{false}
-use mathlib.Core.List.{map}
+use mathlib.Core.List.{List, map}
 use Prim.Native.Nat.{_+_, _-_, _≤_}
 use lib.ListN.{take}
 use borrow.Author.Needs.{needs}
 use Rattle.record.specs.Record.{written}
 use Rattle.record.specs.Lists.{any, mem}
+use Rattle.ground.specs.Ground.{Rows}
 use Rattle.count.specs.Count.{lentProposals, Faultless}
-use Rattle.count.proofs.Proposals.{held-checked, bench-faultless, some-bench, no-bench, benches-end}
+use Rattle.count.proofs.Proposals.{bench-faultless, some-bench, no-bench, benches-end}
+use Rattle.count.proofs.Known.{held-named}
 use Rattle.election.specs.Election.{benches, held}
 use denote.Ref.{now}
 use Rattle.count.proofs.is_known.Statement.{statement}
 use Rattle.count.proofs.is_known.Tie as tie
 
 abbrev Inv-loop : tie.InvT-loop
-Inv-loop edits constraints name k₀ k = (k ≤ 8) × (Faultless (lentProposals (map now edits) (map now constraints)) → any (λ j. mem name (written (held (lentProposals (map now edits) (map now constraints)) j))) (take k benches) ≡ false)
+Inv-loop t1 name edits k₀ k = (k ≤ 8) × ((cs : List Rows) → Faultless (lentProposals (map now edits) cs) → any (λ j. mem name (written (held (lentProposals (map now edits) cs) j))) (take k benches) ≡ false)
 
 abbrev μ-loop : tie.MeasureT-loop
-μ-loop edits constraints name k₀ k = 8 - k
+μ-loop t1 name edits k₀ k = 8 - k
 
 loop-holds : tie.Need-loop-holds Inv-loop μ-loop
 unfolding any
-loop-holds c = (search needs, λ h. refl)
+loop-holds c = (search needs, λ cs h. refl)
 
-proposal-at-requires : tie.Need-proposal-at-requires Inv-loop μ-loop
-proposal-at-requires c κs = search needs
+mul-has-name : tie.Need-mul-has-name Inv-loop μ-loop
+mul-has-name c = search needs
 
-knows-requires : tie.Need-knows-requires Inv-loop μ-loop
-knows-requires c κs = search needs
+array-copy-out-has-name : tie.Need-array-copy-out-has-name Inv-loop μ-loop
+array-copy-out-has-name c = search needs
+
+has-name-requires : tie.Need-has-name-requires Inv-loop μ-loop
+has-name-requires c κs = search needs
 
 returns : tie.Need-returns Inv-loop μ-loop
-returns c = λ h.
-    let l = c .before .before .before .before in
-    let s = l .before in
-    let P = (lentProposals (map now (s .args .edits)) (map now (s .args .constraints))) in
+returns c = λ cs h.
+    let s = c .before .before .before .before .before .args in
+    let k = c .before .before .before .before .loop .k in
+    let P = lentProposals (map now (s .t1)) cs in
     let lt = c .before .before .before .loop-test .taken in
-    let g = bench-faultless P h (l .loop .k) lt in
-    some-bench (λ j. mem (s .args .name) (written (held P j))) (l .loop .k) lt (c .before .knows .result) (c .before .knows .ensures (held P (l .loop .k + 1)) (c .before .before .proposal-at .ensures g) (held-checked P (l .loop .k + 1) g)) (c .if1 .taken)
+    some-bench (λ j. mem (s .name) (written (held P j))) k lt (c .before .has-name .result) (c .before .has-name .ensures ∙ held-named now (s .t1) cs k _ refl (s .name) (bench-faultless P h k lt)) (c .if1 .taken)
 
 add-k : tie.Need-add-k Inv-loop μ-loop
 add-k c = search needs
@@ -46,20 +50,17 @@ loop-less : tie.Need-loop-less Inv-loop μ-loop
 loop-less c = search needs
 
 loop-again : tie.Need-loop-again Inv-loop μ-loop
-loop-again c = let l = c .before .before .before .before in
-    let s = l .before in
-    let P = (lentProposals (map now (s .args .edits)) (map now (s .args .constraints))) in
+loop-again c = let s = c .before .before .before .before .before .args in
+    let l = c .before .before .before .before .loop in
     let lt = c .before .before .before .loop-test .taken in (
       search needs,
-      λ h.
-          let g = bench-faultless P h (l .loop .k) lt in
-          no-bench (λ j. mem (s .args .name) (written (held P j))) (l .loop .k) lt (c .before .knows .result) (c .before .knows .ensures (held P (l .loop .k + 1)) (c .before .before .proposal-at .ensures g) (held-checked P (l .loop .k + 1) g)) (c .if1 .left) (l .loop .inv .1 h),
+      λ cs h.
+          let P = lentProposals (map now (s .t1)) cs in
+          no-bench (λ j. mem (s .name) (written (held P j))) (l .k) lt (c .before .has-name .result) (c .before .has-name .ensures ∙ held-named now (s .t1) cs (l .k) _ refl (s .name) (bench-faultless P h (l .k) lt)) (c .if1 .left) (l .inv .1 cs h),
     )
 
 returns-2 : tie.Need-returns-2 Inv-loop μ-loop
-returns-2 c = λ h.
-    let l = c .before in
-    sym (rw (benches-end (l .loop .k) (l .loop .inv .0) (c .loop-test .left)) at (l .loop .inv .1 h))
+returns-2 c = λ cs h. let l = c .before .loop in sym (rw (benches-end (l .k) (l .inv .0) (c .loop-test .left)) at (l .inv .1 cs h))
 
 pub is-known-spec : {M : Type 1} → statement M
 is-known-spec =
@@ -68,8 +69,9 @@ is-known-spec =
     Inv-loop
     μ-loop
     loop-holds
-    proposal-at-requires
-    knows-requires
+    mul-has-name
+    array-copy-out-has-name
+    has-name-requires
     returns
     add-k
     loop-less
