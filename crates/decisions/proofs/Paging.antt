@@ -35,7 +35,7 @@ use Rattle.pairs.proofs.Sifting.{in-array}
 use Rattle.pairs.proofs.Unordered.{index-low, index-name}
 use Rattle.draft.proofs.Places.{place-none, place-some, place-mem}
 use Rattle.draft.proofs.Joins.{united-append, united-one, united-none, joins-next}
-use Rattle.decisions.specs.Decisions.{Paged, decided, pageOrder}
+use Rattle.decisions.specs.Decisions.{Paged, decided, pageOrder, decisionOn}
 
 -- a name other than INIT stands in the row where its place is not 0
 module _ (rest : List ℕ) (x : ℕ) (n : x ≡ 0 → ⊥) {page : ℕ} (e : page ≡ placeIn (0 ∷ rest) x) where
@@ -101,7 +101,7 @@ module _ (R : Record) (rest index pages : List ℕ) (g : Paged R rest index page
 
   -- the i-th edit, its name and its page
   module _ (edits : List Edit) (n : ℕ) (w : n ≤ length edits) (e : take n edits ≡ R .edits) (i : ℕ) (d : Edit) (h : i < n) where
-    named : (i < length (written R)) × (getD edits i d .name ≡ getD (written R) i 0)
+    pub named : (i < length (written R)) × (getD edits i d .name ≡ getD (written R) i 0)
     unfolding written
     named =
         let q = in-array edits (R .edits) n i d e h w in
@@ -115,16 +115,19 @@ module _ (R : Record) (rest index pages : List ℕ) (g : Paged R rest index page
     unfolding names
     page-here = let l = named .0 in rw (add-one i) (page-at (suc i) (omega arith))
 
+    -- the decision on it
+    pub decision-here : {c : Constraint} → c ≡ decided (getD edits i d .name) (getD pages (i + 1) 0) → c ≡ decisionOn (0 ∷ rest) (getD (written R) i 0)
+    decision-here p =
+        let x = getD (written R) i 0 in
+        let z : x ≡ 0 → ⊥ = λ y. clash (rw y at known) (g .formed .unwritten) in
+        p ∙ ap (λ (y : ℕ). decided y (getD pages (i + 1) 0)) (named .1) ∙ decision-is rest x z page-here
+
     pub decisions-next : (t : List Constraint) → Ascending constraintKey t → {c : Constraint} {table : Constraints} → c ≡ decided (getD edits i d .name) (getD pages (i + 1) 0)
         → table ≡ tableOf (inserted constraintKey c (united constraintKey t (decisions (0 ∷ rest) (take i (written R))))) → table ≡ tableOf (united constraintKey t (decisions (0 ∷ rest) (take (i + 1) (written R))))
     unfolding decisions
     decisions-next t a {c} p q =
-        let x = getD (written R) i 0 in
-        let z : x ≡ 0 → ⊥ = λ y. clash (rw y at known) (g .formed .unwritten) in
-        let r : c ≡ cond (mem x (0 ∷ rest)) (record { left = x; rule = 1; right = 0 }) (before x x) =
-        p ∙ ap (λ (y : ℕ). decided y (getD pages (i + 1) 0)) (named .1) ∙ decision-is rest x z page-here in
         joins-next (decisions (0 ∷ rest)) (decisions-none (0 ∷ rest)) (decisions-append (0 ∷ rest)) t a (written R) i 0 (named .0)
-        (q ∙ ap tableOf (united-one constraintKey _ c ∙ ap (λ (y : Constraint). united constraintKey (united constraintKey t (decisions (0 ∷ rest) (take i (written R)))) (y ∷ [])) r))
+        (q ∙ ap tableOf (united-one constraintKey _ c ∙ ap (λ (y : Constraint). united constraintKey (united constraintKey t (decisions (0 ∷ rest) (take i (written R)))) (y ∷ [])) (decision-here p)))
 
   -- one pair more
   pub orders-next : (t : List Constraint) → Ascending constraintKey t → (rows : List Constraint) (n i : ℕ) (d : Constraint) → take n rows ≡ unordered R → i < n → n ≤ length rows → {a b : ℕ}

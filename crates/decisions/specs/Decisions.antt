@@ -6,6 +6,7 @@ use Prim.Native.Nat.{ℕ}
 use lib.Dec.{eqb, ltb}
 use lib.ListN.{getD}
 use Rattle.record.specs.declared.Constraint.{Constraint}
+use Rattle.record.specs.Lists.{mem}
 use Rattle.record.specs.Record.{Record, names, WellFormed}
 use Rattle.links.specs.Marks.{placeIn, valuesOf}
 use Rattle.proposal.specs.Proposal.{before}
@@ -16,6 +17,10 @@ pub record Paged (R : Record) (rest index pages : List ℕ) : Type 0 where
   pub indexed : (x : ℕ) → getD index x 0 ≡ placeIn (names R) x
   pub paged : pages ≡ valuesOf R (placeIn (0 ∷ rest))
 
+-- the decision on an edit by the row
+abbrev pub decisionOn : List ℕ → ℕ → Constraint
+decisionOn row x = cond (mem x row) (record { left = x; rule = 1; right = 0 }) (before x x)
+
 -- an edit with a page is marked required, one without aborted
 abbrev pub decided : ℕ → ℕ → Constraint
 decided x page = cond (eqb page 0) (before x x) (record { left = x; rule = 1; right = 0 })
@@ -23,3 +28,7 @@ decided x page = cond (eqb page 0) (before x x) (record { left = x; rule = 1; ri
 -- a pair with two pages is ordered by them
 unfoldable pub pageOrder : ℕ → ℕ → ℕ → ℕ → List Constraint
 pageOrder a b left right = cond (eqb a 0) [] (cond (eqb b 0) [] (cond (ltb a b) (before left right ∷ []) (before right left ∷ [])))
+
+-- a table of constraints as a record without edits
+abbrev pub onlyConstraints : List Constraint → Record
+onlyConstraints l = record { edits = []; constraints = l }

@@ -21,7 +21,7 @@ ghost use Rattle.links.specs.Marks.{placeIn, valuesOf};
 ghost use Rattle.indexes.specs.Fit.{Fit};
 ghost use Rattle.proposal.specs.Proposal as proposal;
 ghost use Rattle.insertion.specs.Insertion.{tableOf};
-ghost use Rattle.decisions.specs.Decisions.{Paged, decided, pageOrder};
+ghost use Rattle.decisions.specs.Decisions.{Paged, decided, pageOrder, onlyConstraints};
 
 // The page of each edit with nothing hidden.
 fn pages(multilog: Record) -> [u8; 128]
@@ -73,6 +73,43 @@ fn with_decisions(table: Constraints, multilog: Record, pages: &[u8; 128]) -> Co
         out = more;
     }
     out
+}
+
+// The decisions on all edits as the constraints of a record without edits.
+fn decisions_of(multilog: Record, pages: &[u8; 128]) -> Record
+    requires { ⌜ length (now pages) ≡ 128 ⌝ }
+    ensures { λ r. ⌜ ((R : theory.Record) (rest index : List ℕ) → multilog ≡ stored R → Fit R → Paged R rest index (now (pages .entry))
+        → r ≡ stored (onlyConstraints (proposal.decisions (0 ∷ rest) (theory.written R)))) ⌝ }
+{
+    let n = multilog.editcount;
+    let mut r = record::empty();
+    if 127 < n {
+        return r;
+    }
+    let edits = multilog.edits;
+    let mut rows = r.constraints;
+    let mut i: usize = 0;
+    while i < n {
+        let e = edits[i];
+        rows[i] = decision(e.name, pages[i + 1]);
+        i += 1;
+    }
+    r.constraints = rows;
+    r.constraintcount = n;
+    r
+}
+
+// The record's constraints joined by the decisions on all edits: both are in order, and where they have places for sure one walk joins them.
+fn decided_table(multilog: Record, pages: &[u8; 128]) -> Constraints
+    requires { ⌜ length (now pages) ≡ 128 ⌝ }
+    ensures { λ r. ⌜ ((R : theory.Record) (rest index : List ℕ) → multilog ≡ stored R → Checked R → Paged R rest index (now (pages .entry))
+        → r ≡ tableOf (united constraintKey (R .constraints) (proposal.decisions (0 ∷ rest) (theory.written R)))) ⌝ }
+{
+    if 385 < multilog.constraintcount {
+        return with_decisions(insertion::table_of(multilog), multilog, pages);
+    }
+    let small = decisions_of(multilog, pages);
+    insertion::table_of(unite::union(multilog, small))
 }
 
 // The page of a name.
@@ -133,7 +170,6 @@ pub fn finished(multilog: Record) -> Constraints
     let pairs = pairs::unordered_pairs(multilog);
     let index = indexes::index_table(multilog);
     let paged = pages(multilog);
-    let table = insertion::table_of(multilog);
-    let decided = with_decisions(table, multilog, &paged);
-    with_orders(decided, pairs, &index, &paged)
+    let table = decided_table(multilog, &paged);
+    with_orders(table, pairs, &index, &paged)
 }

@@ -24,11 +24,8 @@ index-table-requires c κs = search needs
 pages-requires : tie.Need-pages-requires
 pages-requires c κs = search needs
 
-table-of-requires : tie.Need-table-of-requires
-table-of-requires c κs = search needs
-
-with-decisions-requires : tie.Need-with-decisions-requires
-with-decisions-requires c κs = search needs
+decided-table-requires : tie.Need-decided-table-requires
+decided-table-requires c κs = search needs
 
 with-orders-requires : tie.Need-with-orders-requires
 with-orders-requires c κs = search needs
@@ -36,12 +33,11 @@ with-orders-requires c κs = search needs
 returns : tie.Need-returns
 returns c =
     λ R e k h.
-    let o = c .before .before .before .before .before .before in
+    let o = c .before .before .before .before .before in
     let i = checked-fit R k in
     let w = scheduled-rest R (i .formed) h in
     let g : Paged R (w .0) (o .before .index-table .result) (o .pages .result) = record { formed = i .formed; indexed = o .before .index-table .ensures .2 R e i; paged = o .pages .ensures .1 R e i ∙ ap (λ (row : List ℕ). valuesOf R (placeIn row)) (w .1) } in
-    let d = c .before .before .before .with-decisions .ensures R (w .0) _ (R .constraints) e i g (c .before .before .before .before .before .table-of .ensures R e (k .constraintplaces)) (k .constraintorder) in
-    c .with-orders .ensures R (w .0) _ g d (ascending-united constraintKey (R .constraints) (decisions (0 ∷ w .0) (written R)) (k .constraintorder)) (o .before .before .unordered-pairs .ensures .2 R e i)
+    c .with-orders .ensures R (w .0) _ g (c .before .before .before .decided-table .ensures R (w .0) _ e k g) (ascending-united constraintKey (R .constraints) (decisions (0 ∷ w .0) (written R)) (k .constraintorder)) (o .before .before .unordered-pairs .ensures .2 R e i)
     ∙ ap tableOf (finished-is R (w .0) (w .1))
 
 pub finished-spec : {M : Type 1} → statement M
@@ -51,7 +47,6 @@ finished-spec =
     unordered-pairs-requires
     index-table-requires
     pages-requires
-    table-of-requires
-    with-decisions-requires
+    decided-table-requires
     with-orders-requires
     returns)
