@@ -2,7 +2,7 @@
 use mathlib.Core.Path.{_≡_, refl, sym, _∙_}
 use mathlib.Core.Bool.{false}
 use mathlib.Core.List.{List, map}
-use Prim.Native.Nat.{_+_, _-_, _≤_}
+use Prim.Native.Nat.{_-_, _≤_}
 use lib.ListN.{take}
 use borrow.Author.Needs.{needs}
 use Rattle.record.specs.Record.{written}
