@@ -1,5 +1,5 @@
 -- The laws that the loops over a form cite that count and write its bytes. Assumes nothing.
-use Prim.Native.Nat.{ℕ, suc, _+_, _*_, _-_, _≤_, _<_}
+use Prim.Native.Nat.{ℕ, suc, _+_, _*_, _-_, _/_, _≤_, _<_, _^_}
 use mathlib.Core.Path.{_≡_, refl, ap, sym, _∙_}
 use mathlib.Core.Bool.{true, false}
 use mathlib.Core.List.{List, [], _∷_, _++_, append-assoc, append-nil}
@@ -13,7 +13,7 @@ use lib.Seq.{drop-cons, drop-drop, getD-drop, length-take-le, take-append-add, d
 use Rattle.decimal.specs.Written.{Written}
 use Rattle.decimal.proofs.Parts.{part-to-end, part-written}
 use Rattle.form.specs.Form.{isMark, spelling, fill}
-use Rattle.form.proofs.Forms.{fill-mark, fill-byte}
+use Rattle.form.proofs.Forms.{fill-mark, fill-byte, fill-wide}
 
 -- what the form gives from place i on with the numbers from k on
 module _ (form ns : List ℕ) (i k : ℕ) where
@@ -65,6 +65,9 @@ pub record Fitting (form ns : List ℕ) (room left i k : ℕ) : Type 0 where
   pub used : k ≤ i
 
 module _ (form ns : List ℕ) (room : ℕ) where
+  pub fitting-ample : ((k : ℕ) → getD ns k 0 < 2 ^ 64) → length form ≤ room / 20 → true ≡ leb (length (fill form ns)) room
+  fitting-ample h l = sym (le-leb (length (fill form ns)) room (omega (arith, fill-wide form ns h)))
+
   pub fitting-start : Fitting form ns room room 0 0
   fitting-start = record { all = refl; within = omega arith; used = omega arith }
 

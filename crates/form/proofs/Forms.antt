@@ -1,6 +1,6 @@
 -- The three laws of forms: what a form gives is read back; what is read was given so; another form does not fit. Their conditions are computed
 -- tests of the form. Beside them: how many bytes a form takes, and that it gives one line. Assumes nothing.
-use Prim.Native.Nat.{ℕ, suc, _+_, _≤_, _<_}
+use Prim.Native.Nat.{ℕ, suc, _+_, _*_, _≤_, _<_, _^_}
 use mathlib.Core.Path.{_≡_, refl, ap, sym, _∙_}
 use mathlib.Core.Bool.{Bool, true, false, cond, not, _&&_, _||_}
 use mathlib.Core.Logic.{_≢_}
@@ -10,7 +10,7 @@ use native.Mathlib.Omega.{arith}
 use borrow.Author.Tests.{eqb-true, eqb-false, eq-eqb, ne-eqb, not-true}
 use lib.Dec.{eqb}
 use lib.ListN.{length, getD, drop, length-append}
-use lib.Seq.{drop-append-seam}
+use lib.Seq.{drop-append-seam, getD-drop}
 use Rattle.record.specs.Lists.{mem}
 use Rattle.record.proofs.Lists.{by, clash, and-l, and-r, mem-append, or-no-l, or-no-r}
 use Rattle.form.specs.Spelling.{nameSpelling, numberSpelling}
@@ -266,6 +266,16 @@ fill-room (c ∷ f) ns h =
     rw (m, fill-mark c f m ns, length-append)
     (omega (arith, lawful c .narrow (getD ns 0 0) (small-first ns h), fill-room f (drop 1 ns) (small-rest ns h))))
     (λ (m : isMark c ≡ false). rw (m, fill-byte c f m ns) (omega (arith, fill-room f ns h)))
+
+-- With numbers of 64 bits a byte of the form gives at most twenty.
+pub fill-wide : (f ns : List ℕ) → ((k : ℕ) → getD ns k 0 < 2 ^ 64) → length (fill f ns) ≤ 20 * length f
+fill-wide [] ns h = rw (fill-nothing ns) (omega arith)
+fill-wide (c ∷ f) ns h =
+    by (isMark c)
+    (λ (m : isMark c ≡ true).
+    rw (fill-mark c f m ns, length-append)
+    (omega (arith, lawful c .wide (getD ns 0 0) (h 0), fill-wide f (drop 1 ns) (λ k. rw getD-drop (h (1 + k))))))
+    (λ (m : isMark c ≡ false). rw (fill-byte c f m ns) (omega (arith, fill-wide f ns h)))
 
 -- A form whose only byte 10 is its last gives such a text.
 unfoldable pub oneLine : List ℕ → Bool

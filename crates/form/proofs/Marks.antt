@@ -94,6 +94,9 @@ module _ (c : ℕ) where
   unfolding isMark
   mark-none e f g = rw (ne-eqb c 35 e, ne-eqb c 64 f, ne-eqb c 63 g)
 
+  pub mark-above : 64 < c → false ≡ isMark c
+  mark-above h = mark-none (λ e. omega arith) (λ e. omega arith) (λ e. omega arith)
+
   pub spells-answers : c ≡ 63 → spelling c ≡ answerSpelling
   unfolding spelling
   spells-answers e = rw (eq-eqb c 63 e)

@@ -93,6 +93,10 @@ fn read_answer(bytes: &[u8]) -> Numeral
 fn is_mark(c: u8) -> bool
     ensures { λ r. ⌜ r ≡ isMark c ⌝ }
 {
+    // Letters come after all marks.
+    if 64 < c {
+        return false;
+    }
     match c {
         b'#' => true,
         b'@' => true,
@@ -164,8 +168,7 @@ pub fn form_length(form: &[u8], numbers: &[u64]) -> usize
     total
 }
 
-// Whether the form with these numbers takes at most so many bytes.
-pub fn form_fits(form: &[u8], numbers: &[u64], room: usize) -> bool
+fn counted_fits(form: &[u8], numbers: &[u64], room: usize) -> bool
     ensures { λ r. ⌜ r ≡ leb (length (fill (now (form .entry)) (now (numbers .entry)))) room ⌝ }
 {
     let mut left = room;
@@ -190,6 +193,17 @@ pub fn form_fits(form: &[u8], numbers: &[u64], room: usize) -> bool
         }
     }
     true
+}
+
+// Whether the form with these numbers takes at most so many bytes. A byte of the form gives at most twenty, so where the room is ample
+// nothing is counted.
+pub fn form_fits(form: &[u8], numbers: &[u64], room: usize) -> bool
+    ensures { λ r. ⌜ r ≡ leb (length (fill (now (form .entry)) (now (numbers .entry)))) room ⌝ }
+{
+    if form.len() <= room / 20 {
+        return true;
+    }
+    counted_fits(form, numbers, room)
 }
 
 // Writes the form with these numbers to the start of out, and answers how many bytes that took.
