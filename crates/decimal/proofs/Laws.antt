@@ -12,6 +12,7 @@ use lib.ListN.{length, getD, take, drop, set, length-append, length-take, drop-o
 use lib.Seq.{drop-cons, set-at, getD-take, take-suc}
 use Rattle.record.proofs.Lists.{le-by}
 use Rattle.decimal.specs.Decimal.{digitsIn, decimal, digitRun, valueFrom, isNumeral, numeralSize, numeralValue, saturated, numeralRead}
+use Rattle.decimal.specs.Written.{Written}
 use Rattle.decimal.specs.declared.Numeral.{Numeral}
 
 pub lt-or-le : (a b : ℕ) → (a < b) ⊎ (b ≤ a)
@@ -33,14 +34,10 @@ pub decimal-large : (n : ℕ) → 10 ≤ n → decimal n ≡ decimal (n / 10) ++
 unfolding decimal digitsIn
 decimal-large n h = rw (le-ltb n 10 h, enough n (suc (n / 10)) (n / 10) (omega arith) (omega arith))
 
--- the two ways to write a number at the start of xs
-pub write-small : (n : ℕ) (xs : List ℕ) → n < 10 → 1 ≤ length xs → set xs 0 (48 + n) ≡ decimal n ++ drop (length (decimal n)) xs
-write-small n [] h l = absurd (not-suc-le-zero l)
-write-small n (x ∷ xs) h l = rw (decimal-small n h)
-
 pub length-large : (n : ℕ) → 10 ≤ n → length (decimal n) ≡ length (decimal (n / 10)) + 1
 length-large n h = rw (decimal-large n h, length-append)
 
+-- a number of more digits is written after that of all but the last
 pub write-large : (n : ℕ) (xs ys : List ℕ) (k : ℕ) → 10 ≤ n → length (decimal n) ≤ length xs → k ≡ length (decimal (n / 10))
     → ys ≡ decimal (n / 10) ++ drop (length (decimal (n / 10))) xs
     → set ys k (48 + n % 10) ≡ decimal n ++ drop (length (decimal n)) xs
@@ -50,6 +47,44 @@ write-large n xs ys k h l e f =
     let b : length (decimal (n / 10)) < length xs = omega arith in
     rw (f, e, m, d, add-one, drop-cons xs (length (decimal (n / 10))) 0 b, append-assoc)
     (set-at (decimal (n / 10)) (getD xs (length (decimal (n / 10))) 0) (drop (suc (length (decimal (n / 10)))) xs) (48 + n % 10) (length (decimal (n / 10))) refl)
+
+-- the digits of a number that has two, three or four
+pub decimal-two : (n : ℕ) → 10 ≤ n → n < 100 → decimal n ≡ (48 + n / 10) ∷ (48 + n % 10) ∷ []
+decimal-two n l h = rw (decimal-large n l, decimal-small (n / 10) (omega arith))
+
+pub decimal-three : (n : ℕ) → 100 ≤ n → n < 1000 → decimal n ≡ (48 + n / 100) ∷ (48 + n / 10 % 10) ∷ (48 + n % 10) ∷ []
+decimal-three n l h =
+    let e : n / 10 / 10 ≡ n / 100 = omega arith in
+    rw (decimal-large n (omega arith), decimal-two (n / 10) (omega arith) (omega arith), e)
+
+pub decimal-four : (n : ℕ) → 1000 ≤ n → n < 10000 → decimal n ≡ (48 + n / 1000) ∷ (48 + n / 100 % 10) ∷ (48 + n / 10 % 10) ∷ (48 + n % 10) ∷ []
+decimal-four n l h =
+    let e : n / 10 / 10 ≡ n / 100 = omega arith in
+    let f : n / 10 / 100 ≡ n / 1000 = omega arith in
+    rw (decimal-large n (omega arith), decimal-three (n / 10) (omega arith) (omega arith), e, f)
+
+-- bytes written one by one
+pub put-one : (text out : List ℕ) (a : ℕ) → text ≡ a ∷ [] → length text ≤ length out → Written text out 1 (set out 0 a)
+put-one text [] a e h = absurd (omega (arith, ap length e))
+put-one text (x ∷ out) a e h = rw e (refl, refl)
+
+pub put-two : (text out : List ℕ) (a b : ℕ) → text ≡ a ∷ b ∷ [] → length text ≤ length out → Written text out 2 (set (set out 0 a) 1 b)
+put-two text [] a b e h = absurd (omega (arith, ap length e))
+put-two text (x ∷ []) a b e h = absurd (omega (arith, ap length e))
+put-two text (x ∷ y ∷ out) a b e h = rw e (refl, refl)
+
+pub put-three : (text out : List ℕ) (a b c : ℕ) → text ≡ a ∷ b ∷ c ∷ [] → length text ≤ length out → Written text out 3 (set (set (set out 0 a) 1 b) 2 c)
+put-three text [] a b c e h = absurd (omega (arith, ap length e))
+put-three text (x ∷ []) a b c e h = absurd (omega (arith, ap length e))
+put-three text (x ∷ y ∷ []) a b c e h = absurd (omega (arith, ap length e))
+put-three text (x ∷ y ∷ z ∷ out) a b c e h = rw e (refl, refl)
+
+pub put-four : (text out : List ℕ) (a b c d : ℕ) → text ≡ a ∷ b ∷ c ∷ d ∷ [] → length text ≤ length out → Written text out 4 (set (set (set (set out 0 a) 1 b) 2 c) 3 d)
+put-four text [] a b c d e h = absurd (omega (arith, ap length e))
+put-four text (x ∷ []) a b c d e h = absurd (omega (arith, ap length e))
+put-four text (x ∷ y ∷ []) a b c d e h = absurd (omega (arith, ap length e))
+put-four text (x ∷ y ∷ z ∷ []) a b c d e h = absurd (omega (arith, ap length e))
+put-four text (x ∷ y ∷ z ∷ w ∷ out) a b c d e h = rw e (refl, refl)
 
 -- a digit, or none
 pub digit-or-not : (c : ℕ) → ((48 ≤ c) × (c < 58)) ⊎ ((c < 48) ⊎ (58 ≤ c))

@@ -1,6 +1,6 @@
 // Numbers in decimal without leading zeros, written and read (document 01, "Text"). Public for the crates of forms and lines.
 ghost use mathlib.Core.Path.{_≡_};
-ghost use Prim.Native.Nat.{_≤_};
+ghost use Prim.Native.Nat.{_<_, _≤_};
 ghost use lib.ListN.{length};
 ghost use Rattle.decimal.specs.Decimal.{decimal, digitRun, valueFrom, numeralSize, numeralRead, saturated};
 ghost use Rattle.decimal.specs.Written.{Written};
@@ -24,14 +24,61 @@ pub fn number_length(n: u64) -> usize
     count
 }
 
-// Writes n to the start of out, and answers how many bytes that took.
-pub fn write_number(out: &mut [u8], n: u64) -> usize
-    requires { ⌜ length (decimal n) ≤ length (now out) ⌝ }
+// Numbers of two, three and four digits are written at once, since names and pages have so many.
+fn write_two(out: &mut [u8], n: u64) -> usize
+    requires { ⌜ (10 ≤ n) × ((n < 100) × (length (decimal n) ≤ length (now out))) ⌝ }
+    ensures { λ r. ⌜ Written (decimal n) (now (out .entry)) r (now (out .exit)) ⌝ }
+{
+    out[0] = (48 + n / 10) as u8;
+    out[1] = (48 + n % 10) as u8;
+    2
+}
+
+fn write_three(out: &mut [u8], n: u64) -> usize
+    requires { ⌜ (100 ≤ n) × ((n < 1000) × (length (decimal n) ≤ length (now out))) ⌝ }
+    ensures { λ r. ⌜ Written (decimal n) (now (out .entry)) r (now (out .exit)) ⌝ }
+{
+    out[0] = (48 + n / 100) as u8;
+    out[1] = (48 + n / 10 % 10) as u8;
+    out[2] = (48 + n % 10) as u8;
+    3
+}
+
+fn write_four(out: &mut [u8], n: u64) -> usize
+    requires { ⌜ (1000 ≤ n) × ((n < 10000) × (length (decimal n) ≤ length (now out))) ⌝ }
+    ensures { λ r. ⌜ Written (decimal n) (now (out .entry)) r (now (out .exit)) ⌝ }
+{
+    out[0] = (48 + n / 1000) as u8;
+    out[1] = (48 + n / 100 % 10) as u8;
+    out[2] = (48 + n / 10 % 10) as u8;
+    out[3] = (48 + n % 10) as u8;
+    4
+}
+
+fn write_small(out: &mut [u8], n: u64) -> usize
+    requires { ⌜ (n < 10000) × (length (decimal n) ≤ length (now out)) ⌝ }
     ensures { λ r. ⌜ Written (decimal n) (now (out .entry)) r (now (out .exit)) ⌝ }
 {
     if n < 10 {
         out[0] = (48 + n) as u8;
         return 1;
+    }
+    if n < 100 {
+        return write_two(&mut out[..], n);
+    }
+    if n < 1000 {
+        return write_three(&mut out[..], n);
+    }
+    write_four(&mut out[..], n)
+}
+
+// Writes n to the start of out, and answers how many bytes that took.
+pub fn write_number(out: &mut [u8], n: u64) -> usize
+    requires { ⌜ length (decimal n) ≤ length (now out) ⌝ }
+    ensures { λ r. ⌜ Written (decimal n) (now (out .entry)) r (now (out .exit)) ⌝ }
+{
+    if n < 10000 {
+        return write_small(&mut out[..], n);
     }
     let k = write_number(&mut out[..], n / 10);
     out[k] = (48 + n % 10) as u8;

@@ -1,9 +1,9 @@
 -- The laws that the code of marks cites. Assumes nothing.
 use Prim.Native.Nat.{ℕ, _+_, _≤_, _<_, _^_}
-use mathlib.Core.Path.{_≡_, refl, sym, _∙_}
+use mathlib.Core.Path.{_≡_, sym, _∙_}
 use mathlib.Core.Bool.{true, false}
 use mathlib.Core.Logic.{_≢_}
-use mathlib.Core.List.{List, [], _∷_}
+use mathlib.Core.List.{List}
 use native.Mathlib.Omega.{arith}
 use borrow.Author.Tests.{eq-eqb, ne-eqb}
 use native.Mathlib.Numerals.{add-one}
@@ -11,6 +11,7 @@ use lib.ListN.{length, getD, drop, set, drop-of-length-le}
 use lib.Seq.{drop-cons}
 use Rattle.decimal.specs.Written.{Written}
 use Rattle.decimal.specs.declared.Numeral.{Numeral}
+use Rattle.decimal.proofs.Laws.{put-two, put-three}
 use Rattle.form.specs.Spelling.{bytes, Spelling, numberSpelling, nameSpelling, answerSpelling, startsWith, numeralOf}
 use Rattle.form.specs.Form.{isMark, spelling}
 use Rattle.form.proofs.Lawful.{lawful}
@@ -34,16 +35,11 @@ yes-length n e = rw (yes-is n e)
 
 pub no-written : (n : ℕ) (out : List ℕ) → n ≡ 0 → length ((answerSpelling .write) n) ≤ length out → Written ((answerSpelling .write) n) out 2 (set (set out 0 110) 1 111)
 unfolding bytes
-no-written n [] e h = absurd (omega (arith, no-length n e))
-no-written n (a ∷ []) e h = absurd (omega (arith, no-length n e))
-no-written n (a ∷ b ∷ out) e h = rw (no-is n e) (refl, refl)
+no-written n out e h = put-two ((answerSpelling .write) n) out 110 111 (no-is n e) h
 
 pub yes-written : (n : ℕ) (out : List ℕ) → n ≢ 0 → length ((answerSpelling .write) n) ≤ length out → Written ((answerSpelling .write) n) out 3 (set (set (set out 0 121) 1 101) 2 115)
 unfolding bytes
-yes-written n [] e h = absurd (omega (arith, yes-length n e))
-yes-written n (a ∷ []) e h = absurd (omega (arith, yes-length n e))
-yes-written n (a ∷ b ∷ []) e h = absurd (omega (arith, yes-length n e))
-yes-written n (a ∷ b ∷ d ∷ out) e h = rw (yes-is n e) (refl, refl)
+yes-written n out e h = put-three ((answerSpelling .write) n) out 121 101 115 (yes-is n e) h
 
 module _ (s : List ℕ) where
   pub read-yes : startsWith (bytes "yes") s ≡ true → record { size = 3; value = 1 } ≡ numeralOf answerSpelling s
