@@ -1,2 +1,2 @@
 pub mod Placing
-pub mod Starts
+pub mod Places

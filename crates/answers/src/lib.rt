@@ -1,46 +1,70 @@
 // The answers of a call log, printed one after the other into one buffer.
 use record::Record;
 ghost use mathlib.Core.Path.{_≡_};
-ghost use Prim.Native.Nat.{_≤_};
-ghost use lib.ListN.{drop};
+ghost use Prim.Native.Nat.{_-_, _≤_};
+ghost use lib.ListN.{take, drop};
 ghost use Rattle.record.specs.Record as theory;
 ghost use Rattle.record.specs.Stored.{recordOf, stored};
 ghost use Rattle.table.specs.Checked.{Checked};
 ghost use Rattle.text.specs.Text.{textOf};
 ghost use Rattle.form.specs.Form.{fill};
-ghost use Rattle.forms.specs.Forms.{formAt};
 ghost use Rattle.forms.specs.Printed.{Printed};
 ghost use Rattle.report.specs.Report.{reportOf};
 ghost use Rattle.answers.specs.Answers.{answerTable, answerForm};
 
-// The forms from a place of the table on, and which of them it is.
-struct Start {
+// Where a form of the table starts and ends.
+struct Place {
     at: usize,
-    kind: usize,
+    end: usize,
 }
 
-// Where the search for the form of a kind starts, a few forms before it.
-fn start_of(kind: usize) -> Start
-    ensures { λ r. ⌜ (formAt (drop (r .at) answerTable) (r .kind) ≡ answerForm kind) × (r .at ≤ 601) ⌝ }
+fn wide(n: u16) -> usize
+    ensures { λ r. ⌜ r ≡ n ⌝ }
 {
-    if kind < 9 {
-        return Start { at: 0, kind: kind };
+    n as usize
+}
+
+// The place of a kind's form; a kind that has none ends where it starts.
+fn place_of(kind: usize) -> Place
+    ensures { λ r. ⌜ (take (r .end - r .at) (drop (r .at) answerTable) ≡ answerForm kind) × ((r .at ≤ r .end) × (r .end ≤ 601)) ⌝ }
+{
+    if 28 <= kind {
+        return Place { at: 0, end: 0 };
     }
-    if kind < 18 {
-        return Start {
-            at: 217,
-            kind: kind - 9,
-        };
-    }
-    if kind < 24 {
-        return Start {
-            at: 363,
-            kind: kind - 18,
-        };
-    }
-    Start {
-        at: 497,
-        kind: kind - 24,
+    let places: [u16; 29] = [
+        0,
+        17,
+        49,
+        83,
+        149,
+        176,
+        192,
+        200,
+        208,
+        217,
+        224,
+        231,
+        245,
+        253,
+        260,
+        284,
+        310,
+        337,
+        363,
+        370,
+        394,
+        418,
+        444,
+        471,
+        497,
+        511,
+        540,
+        568,
+        601,
+    ];
+    Place {
+        at: wide(places[kind]),
+        end: wide(places[kind + 1]),
     }
 }
 
@@ -48,7 +72,7 @@ fn start_of(kind: usize) -> Start
 pub fn tell(out: &mut [u8], at: usize, kind: usize, numbers: &[u64]) -> usize
     ensures { λ r. ⌜ Printed (fill (answerForm kind) (now (numbers .entry))) (now (out .entry)) at (now (out .exit)) r ⌝ }
 {
-    let start = start_of(kind);
+    let place = place_of(kind);
     forms::print_form(
         &mut out[..],
         at,
@@ -80,8 +104,8 @@ pub fn tell(out: &mut [u8], at: usize, kind: usize, numbers: &[u64]) -> usize
           left=@ rule=notafter right=@\n\
           left=@ rule=enables right=@\n\
           left=@ rule=noncommuting right=@\n",
-        start.at,
-        start.kind,
+        place.at,
+        place.end,
         numbers,
     )
 }

@@ -8,19 +8,18 @@ use native.Mathlib.Numerals.{add-one}
 use native.Mathlib.Omega.{arith}
 use borrow.Author.Tests.{lt-ltb, le-ltb, ltb-true}
 use lib.ListN.{length, getD, take, drop, set, replicate, length-set, drop-of-length-le}
-use lib.Seq.{drop-cons, getD-drop, take-all, take-nil, take-suc, take-suc-set}
+use lib.Seq.{drop-cons, take-all, take-suc, take-suc-set}
 use Rattle.record.specs.Lists.{all}
-use Rattle.record.proofs.Lists.{by, le-by, clash, and-l, and-r}
+use Rattle.record.proofs.Lists.{by, clash, and-l, and-r}
 use Rattle.decimal.specs.Decimal.{saturated}
 use Rattle.decimal.proofs.RoundTrip.{saturated-test, saturated-same}
-use Rattle.form.specs.Form.{fill, taken, told}
+use Rattle.form.specs.Form.{taken, told}
 use Rattle.form.specs.declared.Filled.{Filled}
 use Rattle.line.specs.Line.{fitsWord}
 use Rattle.line.specs.Lines.{lines, firstLine}
 use Rattle.line.proofs.Ends.{NextLine, next-line, no-lines}
 use Rattle.forms.specs.declared.Order.{Order}
-use Rattle.forms.specs.Forms.{formAt, noOrder, cellsOf, ordered, orderOr, orderFrom}
-use Rattle.forms.specs.Printed.{Printed}
+use Rattle.forms.specs.Forms.{noOrder, cellsOf, ordered, orderOr, orderFrom}
 
 -- numbers kept as cells while each fits 32 bits
 pub record Keeping (numbers cells : List ℕ) (i : ℕ) : Type 0 where
@@ -134,70 +133,3 @@ module _ (table : List ℕ) (start first : ℕ) (bytes : List ℕ) where
           near = end-inside;
           counted = omega (arith, end-forward, w .counted);
         }
-
--- the form of a kind
-at-nothing : (k : ℕ) → getD {A = List ℕ} [] k [] ≡ []
-at-nothing zero = refl
-at-nothing (suc k) = refl
-
-no-form : (table : List ℕ) (at kind : ℕ) → length table ≤ at → formAt (drop at table) kind ≡ []
-unfolding formAt
-no-form table at kind h = rw (no-lines table at h) (at-nothing kind)
-
-ends-there : (table : List ℕ) (at : ℕ) {end : ℕ} → length table ≤ at → end ≡ at + length (firstLine (drop at table)) → end ≡ at
-unfolding firstLine
-ends-there table at h e = e ∙ rw (drop-of-length-le table {i = at} h) (omega arith)
-
-module _ (table : List ℕ) (at : ℕ) {end : ℕ} (e : end ≡ at + length (firstLine (drop at table))) where
-  pub form-inside : at ≤ length table → end ≤ length table
-  form-inside near =
-      le-by (length table) at
-      (λ (h : length table ≤ at). omega (arith, ends-there table at h e))
-      (λ (h : at < length table). next-line table at h e .inside)
-
-  -- the line that starts there, and the lines after it
-  pub form-here : formAt (drop at table) 0 ≡ take (end - at) (drop at table)
-  unfolding formAt
-  form-here =
-      le-by (length table) at
-      (λ (h : length table ≤ at). no-form table at 0 h ∙ sym (ap (take (end - at)) (drop-of-length-le table {i = at} h) ∙ take-nil (end - at)))
-      (λ (h : at < length table). rw (next-line table at h e .lines-are))
-
-  form-later : (kind : ℕ) → formAt (drop at table) (suc kind) ≡ formAt (drop end table) kind
-  unfolding formAt
-  form-later kind =
-      le-by (length table) at
-      (λ (h : length table ≤ at). no-form table at (suc kind) h ∙ sym (no-form table end kind (omega (arith, ends-there table at h e))))
-      (λ (h : at < length table). rw (next-line table at h e .lines-are))
-
-pub record Finding (table : List ℕ) (start kind at left : ℕ) : Type 0 where
-  pub all-but : formAt (drop start table) kind ≡ formAt (drop at table) left
-  pub near : at ≤ length table
-
-module _ (table : List ℕ) (start kind : ℕ) where
-  pub finding-start : start ≤ length table → Finding table start kind start kind
-  finding-start h = record { all-but = refl; near = h }
-
-  same : (n : ℕ) → n ≡ suc n - 1
-  same n = omega arith
-
-  pub finding-next : (at left : ℕ) {end : ℕ} → Finding table start kind at left → 0 < left → end ≡ at + length (firstLine (drop at table)) → Finding table start kind end (left - 1)
-  finding-next at zero w h e = absurd (omega arith)
-  finding-next at (suc left) {end} w h e = record { all-but = w .all-but ∙ form-later table at e left ∙ ap (formAt (drop end table)) (same left); near = form-inside table at e (w .near) }
-
-  pub finding-end : (at left : ℕ) → Finding table start kind at left → left ≤ 0 → (at ≤ length table) × (formAt (drop start table) kind ≡ formAt (drop at table) 0)
-  finding-end at zero w h = (w .near, w .all-but)
-  finding-end at (suc left) w h = absurd (omega arith)
-
--- what is printed of a kind
-pub printed-kind : (table : List ℕ) (start kind : ℕ) (numbers before : List ℕ) (at here : ℕ) {end : ℕ} {after : List ℕ} {r : ℕ} → formAt (drop start table) kind ≡ formAt (drop here table) 0
-    → end ≡ here + length (firstLine (drop here table)) → Printed (fill (take (end - here) (drop here table)) numbers) before at after r
-    → Printed (fill (formAt (drop start table) kind) numbers) before at after r
-printed-kind table start kind numbers before at here f e p = rw (f ∙ form-here table here e) p
-
--- the forms of a table from a place on are those from a kind on
-pub forms-after : (table : List ℕ) (at n kind : ℕ) → lines (drop at table) ≡ drop n (lines table) → n ≤ kind → formAt (drop at table) (kind - n) ≡ formAt table kind
-unfolding formAt
-forms-after table at n kind q h =
-    let e : n + (kind - n) ≡ kind = omega arith in
-    rw (q, getD-drop, e) refl

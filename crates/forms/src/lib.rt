@@ -1,11 +1,11 @@
 // Tables of forms (the call log): a text is read by the first form of a table that takes it, and printed by the form of a kind. Public for the
 // crates of the call log.
 ghost use mathlib.Core.Path.{_≡_};
-ghost use Prim.Native.Nat.{_≤_};
-ghost use lib.ListN.{length, drop};
+ghost use Prim.Native.Nat.{_-_, _≤_};
+ghost use lib.ListN.{length, take, drop};
 ghost use Rattle.form.specs.Form.{fill};
 ghost use Rattle.line.specs.Lines.{lines};
-ghost use Rattle.forms.specs.Forms.{formAt, noOrder, ordered, orderFrom};
+ghost use Rattle.forms.specs.Forms.{noOrder, ordered, orderFrom};
 ghost use Rattle.forms.specs.Printed.{Printed};
 
 // Number 0: an order of this kind, with its numbers. 1: not in form. 2: a number does not fit 32 bits. Cells that say nothing hold 0.
@@ -68,20 +68,6 @@ pub fn order_from(table: &[u8], start: usize, first: usize, bytes: &[u8]) -> Ord
     no_order(1)
 }
 
-// Where the form of a kind starts, counted from a place of the table; a table that has no such form ends there.
-fn form_start(table: &[u8], start: usize, kind: usize) -> usize
-    requires { ⌜ start ≤ length (now table) ⌝ }
-    ensures { λ r. ⌜ (r ≤ length (now (table .entry))) × (formAt (drop start (now (table .entry))) kind ≡ formAt (drop r (now (table .entry))) 0) ⌝ }
-{
-    let mut at = start;
-    let mut left = kind;
-    while 0 < left {
-        at = line::line_end(table, at);
-        left -= 1;
-    }
-    at
-}
-
 fn print_filled(out: &mut [u8], at: usize, form: &[u8], numbers: &[u64]) -> usize
     ensures { λ r. ⌜ Printed (fill (now (form .entry)) (now (numbers .entry))) (now (out .entry)) at (now (out .exit)) r ⌝ }
 {
@@ -95,19 +81,17 @@ fn print_filled(out: &mut [u8], at: usize, form: &[u8], numbers: &[u64]) -> usiz
     at + form::write_form(&mut out[at..], form, numbers)
 }
 
-// Prints the form of a kind, counted from a place of the table, with these numbers, and answers the place after it.
+// Prints the form that stands at a place of the table, with these numbers, and answers the place after it.
 pub fn print_form(
     out: &mut [u8],
     at: usize,
     table: &[u8],
     start: usize,
-    kind: usize,
+    end: usize,
     numbers: &[u64],
 ) -> usize
-    requires { ⌜ start ≤ length (now table) ⌝ }
-    ensures { λ r. ⌜ Printed (fill (formAt (drop start (now (table .entry))) kind) (now (numbers .entry))) (now (out .entry)) at (now (out .exit)) r ⌝ }
+    requires { ⌜ (start ≤ end) × (end ≤ length (now table)) ⌝ }
+    ensures { λ r. ⌜ Printed (fill (take (end - start) (drop start (now (table .entry)))) (now (numbers .entry))) (now (out .entry)) at (now (out .exit)) r ⌝ }
 {
-    let here = form_start(table, start, kind);
-    let end = line::line_end(table, here);
-    print_filled(&mut out[..], at, &table[here..end], numbers)
+    print_filled(&mut out[..], at, &table[start..end], numbers)
 }
