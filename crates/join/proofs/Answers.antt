@@ -1,26 +1,32 @@
 -- The answers of the calls, from what the check and the union give. Assumes nothing.
 use mathlib.Core.Path.{_≡_, ap, sym, _∙_}
-use mathlib.Core.Bool.{Bool, false}
-use mathlib.Core.List.{List, map, map-append}
+use mathlib.Core.Bool.{Bool, true, false}
+use mathlib.Core.List.{List, [], _∷_, map, map-append}
 use Prim.Native.Nat.{ℕ, _+_, _-_, _≤_, _<_}
 use native.Mathlib.Nat.{sub-zero}
 use native.Mathlib.Numerals.{add-one}
 use native.Mathlib.Omega.{arith}
-use borrow.Author.Tests.{ne-eqb, eqb-true}
+use borrow.Author.Tests.{le-ltb, ne-eqb, eqb-true}
 use lib.Dec.{eqb}
 use lib.ListN.{length, take, getD, set}
 use lib.Seq.{take-suc, take-suc-set}
 use Rattle.record.proofs.Lists.{by}
 use Rattle.record.specs.declared.Record as declared
-use Rattle.record.specs.Record.{Record}
+use Rattle.record.specs.declared.Constraint.{Constraint}
+use Rattle.record.specs.Record.{Record, written}
 use Rattle.record.specs.Stored.{padded, stored, recordOf, fillerEdit, fillerConstraint}
+use Rattle.keyed.specs.Keyed.{Ascending, inserted, united}
+use Rattle.row.specs.Row.{Row, constraintOf}
 use Rattle.ground.specs.Ground.{Rows}
-use Rattle.table.specs.Table.{editRows, constraintRows, decoded, emptyTables, joinFault, namesOf, lentFault, recordFault, editKey, constraintKey, unite}
+use Rattle.table.specs.Table.{editRows, constraintRows, decoded, emptyTables, joinFault, namesOf, lentFault, addConstraintFault, recordFault, editKey, constraintKey, unite}
 use Rattle.table.specs.Checked.{Checked}
 use Rattle.table.proofs.Records.{empty-checked, joining-edits, joining-constraints, joined-editplaces, joined-constraintplaces, joining-editplaces, joining-constraintplaces, record-decoded}
 use Rattle.table.proofs.Tables.{stored-back}
 use Rattle.unite.specs.Union.{Unites}
 use Rattle.unite.proofs.Joining.{padded-fits}
+use Rattle.insertion.specs.declared.Constraints.{Constraints}
+use Rattle.insertion.specs.Insertion.{tableOf}
+use Rattle.insertion.proofs.Tables.{full-is}
 use Rattle.join.specs.declared.Joined.{Joined}
 use Rattle.join.specs.Join.{outcome}
 
@@ -45,6 +51,24 @@ module _ (R : Record) (known : List ℕ) (adding : Bool) (es cs : Rows) (k : Che
       (u R (decoded es cs) f (g (joining-editplaces R known adding es cs k h) (joining-constraintplaces R known adding es cs k h))
       (record { ownorder = k .editorder; joiningorder = joining-edits R known adding es cs k h; places = joined-editplaces R known adding es cs k h })
       (record { ownorder = k .constraintorder; joiningorder = joining-constraints R known adding es cs k h; places = joined-constraintplaces R known adding es cs k h }))
+
+-- one constraint that joins a record's table
+module _ (R : Record) (row : Row) (k : Checked R) {m : ℕ} (e : m ≡ addConstraintFault R row) (z : m ≡ 0) where
+  inserted-places : length (inserted constraintKey (constraintOf row) (R .constraints)) ≤ 512
+  unfolding united
+  inserted-places = joined-constraintplaces R (written R) true [] (row ∷ []) k (sym e ∙ z)
+
+  pub inserted-is : {joined q : declared.Record} → joined ≡ stored R → {table more : Constraints} → {c : Constraint} → c ≡ constraintOf row
+      → ((S : Record) → joined ≡ stored S → length (S .constraints) ≤ 512 → table ≡ tableOf (S .constraints))
+      → ((l : List Constraint) → table ≡ tableOf l → Ascending constraintKey l → more ≡ tableOf (inserted constraintKey c l))
+      → ((S : Record) (l : List Constraint) → joined ≡ stored S → more ≡ tableOf l → more .full ≡ false → q ≡ stored (record { edits = S .edits; constraints = l }))
+      → record { number = 0; after = q } ≡ outcome (addConstraintFault R row) R (unite R (decoded [] (row ∷ [])))
+  unfolding united unite
+  inserted-is f {more = more} o t i w =
+      let l = inserted constraintKey (constraintOf row) (R .constraints) in
+      let x : more ≡ tableOf l = i (R .constraints) (t R f (k .constraintplaces)) (k .constraintorder) ∙ ap (λ (d : Constraint). tableOf (inserted constraintKey d (R .constraints))) o in
+      let y : more .full ≡ false = ap (λ (u : Constraints). u .full) x ∙ (full-is l ∙ le-ltb 512 (length l) inserted-places) in
+      joined-is (addConstraintFault R row) R (unite R (decoded [] (row ∷ []))) (sym e ∙ z) (w R l f x y)
 
 -- a lent record by itself
 pub lent-is : (es cs : Rows) {m : ℕ} → m ≡ lentFault emptyTables es cs → m ≡ 0 → {q : declared.Record} → (length es ≤ 127 → length cs ≤ 512 → q ≡ stored (decoded es cs))

@@ -73,7 +73,7 @@ pub fn add_edit(joined: Record, row: [u32; 5]) -> Joined
     }
 }
 
-// One constraint is added.
+// One constraint is added: its place is found by halving, where a union walks through the whole table.
 pub fn add_constraint(joined: Record, row: [u32; 3]) -> Joined
     ensures { λ r. ⌜ ((R : theory.Record) → joined ≡ stored R → Checked R → r ≡ outcome (addConstraintFault R row) R (unite R (decoded [] (row ∷ [])))) ⌝ }
 {
@@ -84,10 +84,11 @@ pub fn add_constraint(joined: Record, row: [u32; 3]) -> Joined
             after: joined,
         };
     }
-    let joining = unite::constraint_alone(row);
+    let table = insertion::table_of(joined);
+    let more = insertion::insert(table, row::constraint_of(row));
     Joined {
         number: 0,
-        after: unite::union(joined, joining),
+        after: insertion::with_table(joined, more),
     }
 }
 

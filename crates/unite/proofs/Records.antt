@@ -70,11 +70,3 @@ edit-alone-is row {z} {x} {e} f g h =
     let q : e .constraints ≡ padded 512 fillerConstraint [] = ap (λ (r : declared.Record). r .constraints) h ∙ padded-begin 512 fillerConstraint refl in
     let n : e .constraintcount ≡ 0 = ap (λ (r : declared.Record). r .constraintcount) h in
     λ i. record { edits = p i; editcount = 1; constraints = q i; constraintcount = n i }
-
-pub constraint-alone-is : (row : Row) {z x : Constraint} {e : declared.Record} → z ≡ fillerConstraint → x ≡ constraintOf row → e ≡ emptyRecord
-    → record { edits = e .edits; editcount = e .editcount; constraints = set (replicate 512 z) 0 x; constraintcount = 1 } ≡ stored (decoded [] (row ∷ []))
-constraint-alone-is row {z} {x} {e} f g h =
-    let p : set (replicate 512 z) 0 x ≡ padded 512 fillerConstraint (constraintOf row ∷ []) = ap (λ (l : List Constraint). set l 0 x) (padded-begin 512 fillerConstraint f) ∙ padded-next 512 fillerConstraint [] 0 x refl (omega arith) ∙ ap (λ (y : Constraint). padded 512 fillerConstraint (y ∷ [])) g in
-    let q : e .edits ≡ padded 127 fillerEdit [] = ap (λ (r : declared.Record). r .edits) h ∙ padded-begin 127 fillerEdit refl in
-    let n : e .editcount ≡ 0 = ap (λ (r : declared.Record). r .editcount) h in
-    λ i. record { edits = q i; editcount = n i; constraints = p i; constraintcount = 1 }

@@ -99,18 +99,6 @@ pub fn edit_alone(row: [u32; 5]) -> Record
     r
 }
 
-pub fn constraint_alone(row: [u32; 3]) -> Record
-    ensures { λ r. ⌜ r ≡ stored (decoded [] (row ∷ [])) ⌝ }
-{
-    let filler = constraint_filler();
-    let mut constraints = [filler; 512];
-    constraints[0] = row::constraint_of(row);
-    let mut r = record::empty();
-    r.constraints = constraints;
-    r.constraintcount = 1;
-    r
-}
-
 // How far a union goes on in the record's table and in the joining one.
 pub struct Choice {
     pub own: usize,
