@@ -1,5 +1,5 @@
-// A table of constraints in order that single rows join (document 01, "The record"): the rows that making a proposal adds come in no order of
-// their own. Functions are pub for the crates of this workspace that make proposals.
+// A table of constraints in order that single rows join (document 01, "The record"): an added constraint, and the rows that making a proposal
+// adds, which come in no order of their own. Functions are pub for the crates of this workspace that add and that make proposals.
 use record::Constraint;
 use record::Record;
 ghost use mathlib.Core.Path.{_≡_};
