@@ -24,12 +24,12 @@ slice-aggregate-order-from c = search needs
 
 -- src/lib.rt:38:5
 order-from-requires : tie.Need-order-from-requires
-order-from-requires c κs = (c .before .start-of .ensures .1, c .before .start-of .ensures .2)
+order-from-requires c κs = (c .before .start-of .ensures .inside, c .before .start-of .ensures .counted)
 
 -- src/lib.rt:34:1
 returns : tie.Need-returns
 unfolding orderTable tableOf bytes
-returns c = c .order-from .ensures ∙ c .before .before .start-of .ensures .0
+returns c = c .order-from .ensures ∙ c .before .before .start-of .ensures .decides
 
 pub read-by-table-spec : {M : Type 1} → statement M
 read-by-table-spec =

@@ -1,6 +1,8 @@
 -- `orders::read_order` meets its contract. Assumes nothing.
+use mathlib.Core.Path.{sym, _∙_}
 use borrow.Author.Needs.{needs}
 use Rattle.orders.proofs.Lines.{order-long, order-of-table, order-of-line}
+use Rattle.orders.proofs.Starts.{left-start, edit-start}
 use Rattle.orders.proofs.read_order.Statement.{statement}
 use Rattle.orders.proofs.read_order.Tie as tie
 
@@ -10,20 +12,26 @@ no-order-requires c κs = search needs
 returns : tie.Need-returns
 returns c = order-long (c .before .before .before .args .bytes .now) (c .before .if1 .taken) (c .no-order .ensures)
 
-read-line-requires : tie.Need-read-line-requires
-read-line-requires c κs = search needs
+byte-at-requires : tie.Need-byte-at-requires
+byte-at-requires c κs = search needs
+
+read-exchanged-requires : tie.Need-read-exchanged-requires
+read-exchanged-requires c κs = search needs
+
+read-exchanged-requires-2 : tie.Need-read-exchanged-requires-2
+read-exchanged-requires-2 c κs = search needs
 
 read-by-table-requires : tie.Need-read-by-table-requires
 read-by-table-requires c κs = search needs
 
 returns-2 : tie.Need-returns-2
-returns-2 c = order-of-table (c .before .before .before .before .before .before .args .bytes .now) (c .before .before .before .before .if1 .left) (c .before .before .before .read-line .ensures) (c .before .if2 .taken) (c .read-by-table .ensures)
-
-line-order-requires : tie.Need-line-order-requires
-line-order-requires c κs = search needs
+returns-2 c = order-of-line (c .before .before .before .before .before .args .bytes .now) (c .before .before .before .if1 .left) (left-start _ (sym (c .before .before .byte-at .ensures) ∙ c .before .match .keys1)) (c .read-exchanged .ensures)
 
 returns-3 : tie.Need-returns-3
-returns-3 c = order-of-line (c .before .before .before .before .before .before .args .bytes .now) (c .before .before .before .before .if1 .left) (c .before .before .before .read-line .ensures) (c .before .if2 .left) (c .line-order .ensures)
+returns-3 c = order-of-line (c .before .before .before .before .before .args .bytes .now) (c .before .before .before .if1 .left) (edit-start _ (sym (c .before .before .byte-at .ensures) ∙ c .before .match .keys2)) (c .read-exchanged2 .ensures)
+
+returns-4 : tie.Need-returns-4
+returns-4 c = order-of-table (c .before .before .before .before .before .args .bytes .now) (c .before .before .before .if1 .left) (c .before .before .byte-at .ensures) (c .before .match .rest .0 .1) (c .before .match .rest .1) (c .read-by-table .ensures)
 
 pub read-order-spec : {M : Type 1} → statement M
 read-order-spec =
@@ -31,8 +39,10 @@ read-order-spec =
     (tie.spec
     no-order-requires
     returns
-    read-line-requires
+    byte-at-requires
+    read-exchanged-requires
+    read-exchanged-requires-2
     read-by-table-requires
     returns-2
-    line-order-requires
-    returns-3)
+    returns-3
+    returns-4)
