@@ -1,4 +1,4 @@
--- The laws of the loops over a table of forms. Assumes nothing.
+-- The laws of reading by a form. Assumes nothing.
 use mathlib.Core.Path.{_≡_, refl, ap, sym, _∙_}
 use mathlib.Core.Bool.{true, false}
 use mathlib.Core.List.{List, [], _∷_, _++_, map, map-append}
@@ -13,13 +13,11 @@ use Rattle.record.specs.Lists.{all}
 use Rattle.record.proofs.Lists.{by, clash, and-l, and-r}
 use Rattle.decimal.specs.Decimal.{saturated}
 use Rattle.decimal.proofs.RoundTrip.{saturated-test, saturated-same}
-use Rattle.form.specs.Form.{taken, told}
+use Rattle.form.specs.Form.{told}
 use Rattle.form.specs.declared.Filled.{Filled}
 use Rattle.line.specs.Line.{fitsWord}
-use Rattle.line.specs.Lines.{lines, firstLine}
-use Rattle.line.proofs.Ends.{NextLine, next-line, no-lines}
 use Rattle.forms.specs.declared.Order.{Order}
-use Rattle.forms.specs.Forms.{noOrder, cellsOf, ordered, orderOr, orderFrom}
+use Rattle.forms.specs.Forms.{noOrder, cellsOf, ordered, orderOr}
 
 -- numbers kept as cells while each fits 32 bits
 pub record Keeping (numbers cells : List ℕ) (i : ℕ) : Type 0 where
@@ -85,51 +83,12 @@ told-cells : (ns : List ℕ) → take 8 (map saturated ns ++ replicate 8 0) ≡ 
 told-cells ns = sym (ap (take 8) (map-append saturated ns (replicate 8 0))) ∙ take-map 8 (ns ++ replicate 8 0)
 
 -- a form that takes the bytes, and one that does not
-told-fits : (kind : ℕ) (o : Option (List ℕ)) (other : Order) {t : Filled} {r : Order} → t ≡ told o → t .fits ≡ true → r ≡ ordered kind (t .numbers) → r ≡ orderOr kind o other
-told-fits kind none other e h q = clash h (ap (λ (x : Filled). x .fits) e)
-told-fits kind (some ns) other e h q =
-    q ∙ ap (ordered kind) (ap (λ (x : Filled). x .numbers) e ∙ told-cells ns) ∙ saturated-ordered kind (cellsOf ns)
+module _ (kind : ℕ) {t : Filled} {r : Order} where
+  pub form-fits : (o : Option (List ℕ)) (other : Order) → t ≡ told o → t .fits ≡ true → r ≡ ordered kind (t .numbers) → r ≡ orderOr kind o other
+  form-fits none other e h q = clash h (ap (λ (x : Filled). x .fits) e)
+  form-fits (some ns) other e h q =
+      q ∙ ap (ordered kind) (ap (λ (x : Filled). x .numbers) e ∙ told-cells ns) ∙ saturated-ordered kind (cellsOf ns)
 
-told-none : (kind : ℕ) (o : Option (List ℕ)) (other : Order) {t : Filled} → t ≡ told o → t .fits ≡ false → orderOr kind o other ≡ other
-told-none kind none other e h = refl
-told-none kind (some ns) other e h = clash (ap (λ (x : Filled). x .fits) e) h
-
--- the loop over the forms of a table
-pub record Reading (table : List ℕ) (start first : ℕ) (bytes : List ℕ) (at kind : ℕ) : Type 0 where
-  pub all-but : orderFrom first (lines (drop start table)) bytes ≡ orderFrom kind (lines (drop at table)) bytes
-  pub near : at ≤ length table
-  pub counted : kind ≤ at
-
-module _ (table : List ℕ) (start first : ℕ) (bytes : List ℕ) where
-  pub reading-start : start ≤ length table → first ≤ start → Reading table start first bytes start first
-  reading-start n h = record { all-but = refl; near = n; counted = h }
-
-  module _ (at kind : ℕ) (w : Reading table start first bytes at kind) where
-    pub reading-end : {r : Order} → length table ≤ at → r ≡ noOrder 1 → r ≡ orderFrom first (lines (drop start table)) bytes
-    unfolding orderFrom
-    reading-end h e = e ∙ sym (w .all-but ∙ rw (no-lines table at h))
-
-    module _ {end : ℕ} (h : at < length table) (e : end ≡ at + length (firstLine (drop at table))) where
-      line-is : NextLine table at end
-      line-is = next-line table at h e
-
-      pub end-forward : at < end
-      end-forward = line-is .forward
-
-      pub end-inside : end ≤ length table
-      end-inside = line-is .inside
-
-      first-form : orderFrom first (lines (drop start table)) bytes ≡ orderOr kind (taken (take (end - at) (drop at table)) bytes) (orderFrom (suc kind) (lines (drop end table)) bytes)
-      unfolding orderFrom
-      first-form = w .all-but ∙ rw (line-is .lines-are)
-
-      module _ {t : Filled} (p : t ≡ told (taken (take (end - at) (drop at table)) bytes)) where
-        pub reading-takes : {r : Order} → t .fits ≡ true → r ≡ ordered kind (t .numbers) → r ≡ orderFrom first (lines (drop start table)) bytes
-        reading-takes f q = told-fits kind (taken (take (end - at) (drop at table)) bytes) (orderFrom (suc kind) (lines (drop end table)) bytes) p f q ∙ sym first-form
-
-        pub reading-on : t .fits ≡ false → Reading table start first bytes end (kind + 1)
-        reading-on f = record {
-          all-but = rw add-one (first-form ∙ told-none kind (taken (take (end - at) (drop at table)) bytes) (orderFrom (suc kind) (lines (drop end table)) bytes) p f);
-          near = end-inside;
-          counted = omega (arith, end-forward, w .counted);
-        }
+  pub form-refuses : (o : Option (List ℕ)) (other : Order) → t ≡ told o → t .fits ≡ false → r ≡ other → r ≡ orderOr kind o other
+  form-refuses none other e h q = q
+  form-refuses (some ns) other e h q = clash (ap (λ (x : Filled). x .fits) e) h

@@ -1,11 +1,10 @@
-// Tables of forms (the call log): a text is read by the first form of a table that takes it, and printed by the form of a kind. Public for the
-// crates of the call log.
+// Forms of the call log by their kinds: a text is read by a form, and printed by the form of a kind in a table. Public for the crates of the
+// call log.
 ghost use mathlib.Core.Path.{_≡_};
 ghost use Prim.Native.Nat.{_-_, _≤_};
 ghost use lib.ListN.{length, take, drop};
-ghost use Rattle.form.specs.Form.{fill};
-ghost use Rattle.line.specs.Lines.{lines};
-ghost use Rattle.forms.specs.Forms.{noOrder, ordered, orderFrom};
+ghost use Rattle.form.specs.Form.{fill, taken};
+ghost use Rattle.forms.specs.Forms.{noOrder, ordered, orderOr};
 ghost use Rattle.forms.specs.Printed.{Printed};
 
 // Number 0: an order of this kind, with its numbers. 1: not in form. 2: a number does not fit 32 bits. Cells that say nothing hold 0.
@@ -48,24 +47,16 @@ fn order_of(kind: usize, numbers: [u64; 8]) -> Order
     }
 }
 
-// What the bytes say by the first form that takes them, of those that start at a place of the table; the first of these has the kind given.
-pub fn order_from(table: &[u8], start: usize, first: usize, bytes: &[u8]) -> Order
-    requires { ⌜ (start ≤ length (now table)) × (first ≤ start) ⌝ }
-    ensures { λ r. ⌜ r ≡ orderFrom first (lines (drop start (now (table .entry)))) (now (bytes .entry)) ⌝ }
+// What the bytes say as this form, of this kind.
+pub fn order_as(form: &[u8], kind: usize, bytes: &[u8]) -> Order
+    ensures { λ r. ⌜ r ≡ orderOr kind (taken (now (form .entry)) (now (bytes .entry))) (noOrder 1) ⌝ }
 {
-    let mut at = start;
-    let mut kind = first;
-    while at < table.len() {
-        let end = line::line_end(table, at);
-        let filled = form::read_form(&table[at..end], bytes);
-        if filled.fits {
-            let numbers = filled.numbers;
-            return order_of(kind, numbers);
-        }
-        at = end;
-        kind += 1;
+    let filled = form::read_form(form, bytes);
+    if !filled.fits {
+        return no_order(1);
     }
-    no_order(1)
+    let numbers = filled.numbers;
+    order_of(kind, numbers)
 }
 
 fn print_filled(out: &mut [u8], at: usize, form: &[u8], numbers: &[u64]) -> usize

@@ -1,3 +1,4 @@
+pub mod Signs
 pub mod Says
 pub mod Puts
 pub mod Ends

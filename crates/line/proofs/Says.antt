@@ -6,19 +6,19 @@ use mathlib.Core.Logic.{_≢_}
 use mathlib.Core.List.{List, [], _∷_, _++_, map}
 use mathlib.Core.Option.{Option, none, some}
 use native.Mathlib.Omega.{arith}
-use borrow.Author.Tests.{lt-ltb, le-ltb, eqb-true, eq-eqb, ne-eqb}
-use lib.Dec.{eqb}
-use lib.ListN.{length, getD, take, drop, replicate, drop-of-length-le}
+use borrow.Author.Tests.{lt-ltb, le-ltb, ne-eqb}
+use lib.ListN.{length, getD, take, drop, replicate}
 use Rattle.record.specs.Lists.{all}
-use Rattle.record.proofs.Lists.{by, clash}
-use Rattle.decimal.specs.Decimal.{saturated}
+use Rattle.record.proofs.Lists.{by, clash, and-l, and-r}
+use Rattle.decimal.specs.Decimal.{saturated, numeralSize}
 use Rattle.decimal.proofs.RoundTrip.{saturated-same}
-use Rattle.form.specs.Spelling.{bytes}
-use Rattle.form.specs.Form.{isMark, taken, told}
+use Rattle.form.specs.Spelling.{bytes, nameSpelling, numberSpelling}
+use Rattle.form.specs.Form.{isMark, spelling, taken, told}
 use Rattle.form.specs.declared.Filled.{Filled}
-use Rattle.form.proofs.Forms.{slots, fill-taken, byte-missing}
-use Rattle.line.specs.Line.{setForm, editForm, ruleForm, editSaid, constraintSaid, faulty, Shape, editShape, ruleShape, setShapes, ruleShapes, shapes, fitsWord, readAs, orElse, readBy, lineRead}
+use Rattle.form.proofs.Forms.{slots, fill-taken}
+use Rattle.line.specs.Line.{setForm, editForm, ruleForm, editSaid, constraintSaid, faulty, Shape, editShape, ruleShape, setShapes, ruleShapes, shapes, fitsWord, said, readAs, orElse, readBy, lineRead}
 use Rattle.line.specs.declared.Line.{Line}
+use Rattle.line.proofs.Signs.{ends, ends-run, ends-number, otherwise, Sign, sign, Shows, ruledOut, ruled-out, allBut, third-sign, letter}
 
 -- the last arm of a match stands for all numbers from there on
 pub set-rest : (n : ℕ) → n ≢ 0 → n ≢ 1 → n ≢ 2 → setForm n ≡ setForm 3
@@ -165,127 +165,141 @@ rule-said rule s {t} e h x y =
     let n : length ns ≤ 2 = omega (arith, rule-slots rule, fill-taken (ruleForm rule) s ns q .0) in omega (arith, c, third-none ns n)) in
     all-small (ruleShape rule) s e l h x y z (λ ns a b c q. rw (a, b) q)
 
--- the first form that fits
-module _ (shape : Shape) (rest : List Shape) (s : List ℕ) {r : Line} (e : r ≡ readAs shape s) where
-  pub found-here : r .number ≢ 1 → r ≡ readBy (shape ∷ rest) s
-  unfolding readBy
-  found-here h = e ∙ rw (ne-eqb ((readAs shape s) .number) 1 (λ q. h (ap (λ (x : Line). x .number) e ∙ q)))
+-- the one form that the signs of a text leave
+module _ (signs : List Sign) (s : List ℕ) (w : Shows signs s) where
+  none-reads : (l : List Shape) → all (λ (shape : Shape). ruledOut signs (shape .form)) l ≡ true → readBy l s ≡ faulty 1
+  unfolding readBy readAs all
+  none-reads [] h = refl
+  none-reads (shape ∷ l) h =
+      rw (ruled-out signs (shape .form) s w (and-l (ruledOut signs (shape .form)) (all (λ (x : Shape). ruledOut signs (x .form)) l) h))
+      (none-reads l (and-r (ruledOut signs (shape .form)) (all (λ (x : Shape). ruledOut signs (x .form)) l) h))
 
-  pub found-later : r .number ≡ 1 → readBy (shape ∷ rest) s ≡ readBy rest s
-  unfolding readBy
-  found-later h = rw (eq-eqb ((readAs shape s) .number) 1 (sym (ap (λ (x : Line). x .number) e) ∙ h))
+  one-reads : (k : ℕ) (l : List Shape) → allBut (λ (shape : Shape). ruledOut signs (shape .form)) k l ≡ true
+      → readBy l s ≡ orElse (readAs (getD l k (editShape 0 0)) s) (faulty 1)
+  unfolding readBy readAs allBut
+  one-reads zero [] h = clash h refl
+  one-reads (suc k) [] h = clash h refl
+  one-reads zero (shape ∷ l) h = rw (none-reads l h)
+  one-reads (suc k) (shape ∷ l) h =
+      rw (ruled-out signs (shape .form) s w (and-l (ruledOut signs (shape .form)) (allBut (λ (x : Shape). ruledOut signs (x .form)) k l) h))
+      (one-reads k l (and-r (ruledOut signs (shape .form)) (allBut (λ (x : Shape). ruledOut signs (x .form)) k l) h))
 
-pub found-nowhere : (s : List ℕ) → faulty 1 ≡ readBy [] s
-unfolding readBy
-found-nowhere s = refl
+-- of a form alone
+alone : (shape : Shape) → ((ns : List ℕ) → ((shape .says) ns) .number ≡ 0) → (o : Option (List ℕ)) → orElse (said shape o) (faulty 1) ≡ said shape o
+alone shape z none = refl
+alone shape z (some ns) =
+    by (all fitsWord ns)
+    (λ (e : all fitsWord ns ≡ true). rw (e, z ns))
+    (λ (e : all fitsWord ns ≡ false). rw e)
 
-orElse-assoc : (a b c : Line) → orElse (orElse a b) c ≡ orElse a (orElse b c)
-orElse-assoc a b c = by (eqb (a .number) 1) (λ (e : eqb (a .number) 1 ≡ true). rw e) (λ (e : eqb (a .number) 1 ≡ false). rw (e, e))
+module _ (signs : List Sign) (s : List ℕ) (w : Shows signs s) {r : Line} where
+  by-form : (k : ℕ) (shape : Shape) → allBut (λ (x : Shape). ruledOut signs (x .form)) k shapes ≡ true → getD shapes k (editShape 0 0) ≡ shape
+      → ((ns : List ℕ) → ((shape .says) ns) .number ≡ 0) → r ≡ readAs shape s → r ≡ readBy shapes s
+  unfolding readAs
+  by-form k shape h e z q = q ∙ sym (one-reads signs s w k shapes h ∙ rw e (alone shape z (taken (shape .form) s)))
 
-pub by-append : (f g : List Shape) (s : List ℕ) → readBy (f ++ g) s ≡ orElse (readBy f s) (readBy g s)
-unfolding readBy
-by-append [] g s = refl
-by-append (h ∷ f) g s = rw (by-append f g s) (sym (orElse-assoc (readAs h s) (readBy f s) (readBy g s)))
+  by-none : all (λ (x : Shape). ruledOut signs (x .form)) shapes ≡ true → r ≡ faulty 1 → r ≡ readBy shapes s
+  by-none h q = q ∙ sym (none-reads signs s w shapes h)
 
--- the forms of set, and of the rules, one after the other
-pub set-next : (field : ℕ) → field < 4 → drop field setShapes ≡ editShape 1 field ∷ drop (field + 1) setShapes
-unfolding setShapes
-set-next zero h = refl
-set-next (suc zero) h = refl
-set-next (suc (suc zero)) h = refl
-set-next (suc (suc (suc zero))) h = refl
-set-next (suc (suc (suc (suc n)))) h = absurd (omega arith)
+-- the places that the code computes
+module _ (s : List ℕ) where
+  module _ (name : ℕ) (p : name ≡ 5 + numeralSize (drop 5 s)) where
+    edit-place : name + 4 ≡ ends (bytes "edit=@ do=") 0 s
+    unfolding bytes all isMark spelling nameSpelling numberSpelling
+    edit-place = sym (ends-number (bytes "edit=") 64 (bytes " do=") 0 s refl refl p ∙ ends-run (bytes " do=") name s refl)
 
-pub set-end : (field : ℕ) → 4 ≤ field → drop field setShapes ≡ []
-unfolding setShapes
-set-end field h = drop-of-length-le setShapes {i = field} h
+    rule-place : name + 8 ≡ ends (bytes "left=@ rule=..") 0 s
+    unfolding bytes all isMark spelling nameSpelling numberSpelling
+    rule-place = sym (ends-number (bytes "left=") 64 (bytes " rule=..") 0 s refl refl p ∙ ends-run (bytes " rule=..") name s refl)
 
-pub rule-next : (rule : ℕ) → rule < 3 → drop rule ruleShapes ≡ ruleShape rule ∷ drop (rule + 1) ruleShapes
-unfolding ruleShapes
-rule-next zero h = refl
-rule-next (suc zero) h = refl
-rule-next (suc (suc zero)) h = refl
-rule-next (suc (suc (suc n))) h = absurd (omega arith)
+    set-place : {chip : ℕ} → chip ≡ name + 13 + numeralSize (drop (name + 13) s) → chip + 7 ≡ ends (bytes "edit=@ do=set chip=# field=") 0 s
+    unfolding bytes all isMark spelling nameSpelling numberSpelling
+    set-place {chip} q =
+        sym (ends-number (bytes "edit=") 64 (bytes " do=set chip=# field=") 0 s refl refl p ∙ ends-number (bytes " do=set chip=") 35 (bytes " field=") name s refl refl q
+        ∙ ends-run (bytes " field=") chip s refl)
 
-pub rule-end : (rule : ℕ) → 3 ≤ rule → drop rule ruleShapes ≡ []
-unfolding ruleShapes
-rule-end rule h = drop-of-length-le ruleShapes {i = rule} h
+-- an edit's line
+module _ (s : List ℕ) (name : ℕ) (third : getD s 2 0 ≡ 105) (p : name ≡ 5 + numeralSize (drop 5 s)) where
+  module _ {x : ℕ} (l : x ≡ getD s (name + 4) 0) {r : Line} where
+    pub is-insert : x ≡ 105 → r ≡ readAs (editShape 0 0) s → r ≡ readBy shapes s
+    unfolding shapes setShapes ruleShapes editForm setForm ruleForm bytes all allBut ruledOut otherwise isMark
+    is-insert e = by-form (sign ".." 105 ∷ sign "edit=@ do=" 105 ∷ []) s (third-sign s 105 third, (letter s (edit-place s name p) l e, tt)) 0 (editShape 0 0) refl refl (λ ns. refl)
 
--- a loop over forms
-module _ (all-shapes : List Shape) (shape : Shape) (k : ℕ) (s : List ℕ) (inv : readBy all-shapes s ≡ readBy (drop k all-shapes) s) where
-  module _ (next : drop k all-shapes ≡ shape ∷ drop (k + 1) all-shapes) {r : Line} (e : r ≡ readAs shape s) where
-    pub loop-found : r .number ≢ 1 → r ≡ readBy all-shapes s
-    loop-found h = found-here shape (drop (k + 1) all-shapes) s e h ∙ sym (inv ∙ rw next)
+    pub is-remove : x ≡ 114 → r ≡ readAs (editShape 2 0) s → r ≡ readBy shapes s
+    unfolding shapes setShapes ruleShapes editForm setForm ruleForm bytes all allBut ruledOut otherwise isMark
+    is-remove e = by-form (sign ".." 105 ∷ sign "edit=@ do=" 114 ∷ []) s (third-sign s 105 third, (letter s (edit-place s name p) l e, tt)) 1 (editShape 2 0) refl refl (λ ns. refl)
 
-    pub loop-on : r .number ≡ 1 → readBy all-shapes s ≡ readBy (drop (k + 1) all-shapes) s
-    loop-on h = inv ∙ rw next (found-later shape (drop (k + 1) all-shapes) s e h)
+    pub no-kind : x ≢ 105 → x ≢ 114 → x ≢ 115 → r ≡ faulty 1 → r ≡ readBy shapes s
+    unfolding shapes setShapes ruleShapes editForm setForm ruleForm bytes all allBut ruledOut otherwise isMark
+    no-kind a b c =
+        by-none (sign ".." 105 ∷ sign "edit=@ do=" x ∷ []) s (third-sign s 105 third, (letter s (edit-place s name p) l refl, tt)) (rw (ne-eqb x 105 a, ne-eqb x 114 b, ne-eqb x 115 c) refl)
 
-pub loop-nowhere : (all-shapes : List Shape) (k : ℕ) (s : List ℕ) {r : Line} → readBy all-shapes s ≡ readBy (drop k all-shapes) s
-    → drop k all-shapes ≡ [] → r ≡ faulty 1 → r ≡ readBy all-shapes s
-loop-nowhere all-shapes k s inv e q = q ∙ sym (inv ∙ rw e (sym (found-nowhere s)))
+  module _ (set : getD s (name + 4) 0 ≡ 115) {chip : ℕ} (q : chip ≡ name + 13 + numeralSize (drop (name + 13) s)) {x : ℕ} (l : x ≡ getD s (chip + 7) 0) where
+    fields-shown : (c : ℕ) → x ≡ c → Shows (sign ".." 105 ∷ sign "edit=@ do=" 115 ∷ sign "edit=@ do=set chip=# field=" c ∷ []) s
+    fields-shown c e = (third-sign s 105 third, (letter s (edit-place s name p) refl set, (letter s (set-place s name p q) l e, tt)))
+
+    by-field : {r : Line} (field c : ℕ) → x ≡ c
+        → allBut (λ (shape : Shape). ruledOut (sign ".." 105 ∷ sign "edit=@ do=" 115 ∷ sign "edit=@ do=set chip=# field=" c ∷ []) (shape .form)) (2 + field) shapes ≡ true
+        → getD shapes (2 + field) (editShape 0 0) ≡ editShape 1 field → r ≡ readAs (editShape 1 field) s → r ≡ readBy shapes s
+    by-field field c e h g =
+        by-form (sign ".." 105 ∷ sign "edit=@ do=" 115 ∷ sign "edit=@ do=set chip=# field=" c ∷ []) s (fields-shown c e) (2 + field) (editShape 1 field) h g (λ ns. refl)
+
+    pub is-id : {r : Line} → x ≡ 105 → r ≡ readAs (editShape 1 0) s → r ≡ readBy shapes s
+    unfolding shapes setShapes ruleShapes editForm setForm ruleForm bytes all allBut ruledOut otherwise isMark
+    is-id e = by-field 0 105 e refl refl
+
+    pub is-size : {r : Line} → x ≡ 115 → r ≡ readAs (editShape 1 1) s → r ≡ readBy shapes s
+    unfolding shapes setShapes ruleShapes editForm setForm ruleForm bytes all allBut ruledOut otherwise isMark
+    is-size e = by-field 1 115 e refl refl
+
+    pub is-erase : {r : Line} → x ≡ 101 → r ≡ readAs (editShape 1 2) s → r ≡ readBy shapes s
+    unfolding shapes setShapes ruleShapes editForm setForm ruleForm bytes all allBut ruledOut otherwise isMark
+    is-erase e = by-field 2 101 e refl refl
+
+    pub is-page : {r : Line} → x ≡ 112 → r ≡ readAs (editShape 1 3) s → r ≡ readBy shapes s
+    unfolding shapes setShapes ruleShapes editForm setForm ruleForm bytes all allBut ruledOut otherwise isMark
+    is-page e = by-field 3 112 e refl refl
+
+    pub no-field : {r : Line} → x ≢ 105 → x ≢ 115 → x ≢ 101 → x ≢ 112 → r ≡ faulty 1 → r ≡ readBy shapes s
+    unfolding shapes setShapes ruleShapes editForm setForm ruleForm bytes all allBut ruledOut otherwise isMark
+    no-field a b c d =
+        by-none (sign ".." 105 ∷ sign "edit=@ do=" 115 ∷ sign "edit=@ do=set chip=# field=" x ∷ []) s (fields-shown x refl)
+        (rw (ne-eqb x 105 a, ne-eqb x 115 b, ne-eqb x 101 c, ne-eqb x 112 d) refl)
+
+-- a constraint's line
+module _ (s : List ℕ) (name : ℕ) (third : getD s 2 0 ≡ 102) (p : name ≡ 5 + numeralSize (drop 5 s)) {x : ℕ} (l : x ≡ getD s (name + 8) 0) {r : Line} where
+  by-rule : (rule c : ℕ) → x ≡ c → allBut (λ (shape : Shape). ruledOut (sign ".." 102 ∷ sign "left=@ rule=.." c ∷ []) (shape .form)) (6 + rule) shapes ≡ true
+      → getD shapes (6 + rule) (editShape 0 0) ≡ ruleShape rule → r ≡ readAs (ruleShape rule) s → r ≡ readBy shapes s
+  by-rule rule c e h g =
+      by-form (sign ".." 102 ∷ sign "left=@ rule=.." c ∷ []) s (third-sign s 102 third, (letter s (rule-place s name p) l e, tt)) (6 + rule) (ruleShape rule) h g (λ ns. refl)
+
+  pub is-notafter : x ≡ 116 → r ≡ readAs (ruleShape 0) s → r ≡ readBy shapes s
+  unfolding shapes setShapes ruleShapes editForm setForm ruleForm bytes all allBut ruledOut otherwise isMark
+  is-notafter e = by-rule 0 116 e refl refl
+
+  pub is-enables : x ≡ 97 → r ≡ readAs (ruleShape 1) s → r ≡ readBy shapes s
+  unfolding shapes setShapes ruleShapes editForm setForm ruleForm bytes all allBut ruledOut otherwise isMark
+  is-enables e = by-rule 1 97 e refl refl
+
+  pub is-noncommuting : x ≡ 110 → r ≡ readAs (ruleShape 2) s → r ≡ readBy shapes s
+  unfolding shapes setShapes ruleShapes editForm setForm ruleForm bytes all allBut ruledOut otherwise isMark
+  is-noncommuting e = by-rule 2 110 e refl refl
+
+  pub no-rule : x ≢ 116 → x ≢ 97 → x ≢ 110 → r ≡ faulty 1 → r ≡ readBy shapes s
+  unfolding shapes setShapes ruleShapes editForm setForm ruleForm bytes all allBut ruledOut otherwise isMark
+  no-rule a b c =
+      by-none (sign ".." 102 ∷ sign "left=@ rule=.." x ∷ []) s (third-sign s 102 third, (letter s (rule-place s name p) l refl, tt)) (rw (ne-eqb x 116 a, ne-eqb x 97 b, ne-eqb x 110 c) refl)
 
 -- the whole line
-pub too-long : (s : List ℕ) {r : Line} → 101 < length s → r ≡ faulty 1 → r ≡ lineRead s
-unfolding lineRead
-too-long s h e = rw (lt-ltb 101 (length s) h) e
-
--- an edit's line begins with another letter than a constraint's
-module _ (s : List ℕ) where
-  other-form : (shape : Shape) → taken (shape .form) (108 ∷ s) ≡ none → (readAs shape (108 ∷ s)) .number ≡ 1
-  unfolding readAs
-  other-form shape q = rw q refl
-
-  passed-over : (shape : Shape) (rest : List Shape) → shape .form ≡ 101 ∷ drop 1 (shape .form) → readBy (shape ∷ rest) (108 ∷ s) ≡ readBy rest (108 ∷ s)
-  unfolding isMark
-  passed-over shape rest e =
-      found-later shape rest (108 ∷ s) refl
-      (other-form shape (ap (λ (form : List ℕ). taken form (108 ∷ s)) e ∙ byte-missing 101 (drop 1 (shape .form)) refl (108 ∷ s) refl))
-
-  rule-begun : readBy shapes (108 ∷ s) ≡ readBy ruleShapes (108 ∷ s)
-  unfolding shapes setShapes editForm setForm bytes
-  rule-begun =
-      passed-over (editShape 0 0) (editShape 2 0 ∷ (setShapes ++ ruleShapes)) refl ∙ passed-over (editShape 2 0) (setShapes ++ ruleShapes) refl
-      ∙ passed-over (editShape 1 0) (editShape 1 1 ∷ editShape 1 2 ∷ editShape 1 3 ∷ ruleShapes) refl
-      ∙ passed-over (editShape 1 1) (editShape 1 2 ∷ editShape 1 3 ∷ ruleShapes) refl
-      ∙ passed-over (editShape 1 2) (editShape 1 3 ∷ ruleShapes) refl ∙ passed-over (editShape 1 3) ruleShapes refl
-
-no-edit : (s : List ℕ) → eqb (getD s 0 0) 108 ≡ true → readBy shapes s ≡ readBy ruleShapes s
-no-edit [] e = clash e refl
-no-edit (c ∷ s) e =
-    let q : c ≡ 108 = eqb-true c 108 e in
-    ap (λ (x : ℕ). readBy shapes (x ∷ s)) q ∙ rule-begun s ∙ sym (ap (λ (x : ℕ). readBy ruleShapes (x ∷ s)) q)
-
-pub nothing-begun : (s : List ℕ) → length s ≡ 0 → false ≡ eqb (getD s 0 0) 108
-nothing-begun [] h = refl
-nothing-begun (c ∷ s) h = absurd (omega arith)
-
-module _ (s : List ℕ) (h : length s ≤ 101) where
-  short : readBy shapes s ≡ lineRead s
+module _ (s : List ℕ) {r : Line} where
+  pub too-long : 101 < length s → r ≡ faulty 1 → r ≡ lineRead s
   unfolding lineRead
-  short = rw (le-ltb 101 (length s) h)
+  too-long h e = rw (lt-ltb 101 (length s) h) e
 
-  pub rule-first : {d : Line} → eqb (getD s 0 0) 108 ≡ true → d ≡ readBy ruleShapes s → d ≡ lineRead s
-  rule-first e q = q ∙ sym (no-edit s e) ∙ short
+  pub whole : length s ≤ 101 → r ≡ readBy shapes s → r ≡ lineRead s
+  unfolding lineRead
+  whole h e = rw (le-ltb 101 (length s) h) e
 
-  module _ {a : Line} (p : a ≡ readAs (editShape 0 0) s) where
-    pub is-insert : a .number ≢ 1 → a ≡ lineRead s
-    unfolding shapes
-    is-insert n = found-here (editShape 0 0) (editShape 2 0 ∷ (setShapes ++ ruleShapes)) s p n ∙ short
-
-    module _ (x : a .number ≡ 1) {b : Line} (q : b ≡ readAs (editShape 2 0) s) where
-      after-insert : readBy (editShape 2 0 ∷ (setShapes ++ ruleShapes)) s ≡ lineRead s
-      unfolding shapes
-      after-insert = sym (found-later (editShape 0 0) (editShape 2 0 ∷ (setShapes ++ ruleShapes)) s p x) ∙ short
-
-      pub is-remove : b .number ≢ 1 → b ≡ lineRead s
-      is-remove n = found-here (editShape 2 0) (setShapes ++ ruleShapes) s q n ∙ after-insert
-
-      module _ (y : b .number ≡ 1) {c : Line} (r : c ≡ readBy setShapes s) where
-        after-remove : orElse (readBy setShapes s) (readBy ruleShapes s) ≡ lineRead s
-        after-remove = sym (found-later (editShape 2 0) (setShapes ++ ruleShapes) s q y ∙ by-append setShapes ruleShapes s) ∙ after-insert
-
-        pub is-set : c .number ≢ 1 → c ≡ lineRead s
-        is-set n = r ∙ sym (rw (ne-eqb ((readBy setShapes s) .number) 1 (λ z. n (ap (λ (l : Line). l .number) r ∙ z)))) ∙ after-remove
-
-        pub is-rule : {d : Line} → c .number ≡ 1 → d ≡ readBy ruleShapes s → d ≡ lineRead s
-        is-rule z u = u ∙ sym (rw (eq-eqb ((readBy setShapes s) .number) 1 (sym (ap (λ (l : Line). l .number) r) ∙ z))) ∙ after-remove
+  pub no-line : {x : ℕ} → x ≡ getD s 2 0 → x ≢ 105 → x ≢ 102 → r ≡ faulty 1 → r ≡ readBy shapes s
+  unfolding shapes setShapes ruleShapes editForm setForm ruleForm bytes all allBut ruledOut otherwise isMark
+  no-line {x} l a b = by-none (sign ".." x ∷ []) s (third-sign s x (sym l), tt) (rw (ne-eqb x 105 a, ne-eqb x 102 b) refl)

@@ -3,11 +3,11 @@
 ghost use mathlib.Core.Path.{_≡_};
 ghost use mathlib.Core.List.{[], _∷_};
 ghost use Prim.Native.Nat.{_+_, _≤_};
-ghost use lib.Dec.{eqb};
 ghost use lib.ListN.{length, drop, getD};
+ghost use Rattle.decimal.specs.Decimal.{numeralSize};
 ghost use Rattle.decimal.specs.Written.{Written};
 ghost use Rattle.form.specs.Form.{fill, taken, told};
-ghost use Rattle.line.specs.Line.{setForm, editForm, ruleForm, editLine, constraintLine, faulty, editShape, ruleShape, setShapes, ruleShapes, readAs, readBy, lineRead};
+ghost use Rattle.line.specs.Line.{setForm, editForm, ruleForm, editLine, constraintLine, faulty, editShape, ruleShape, shapes, readAs, readBy, lineRead};
 ghost use Rattle.line.specs.Lines.{firstLine};
 use form::Filled;
 
@@ -122,67 +122,86 @@ fn read_rule_as(rule: u32, bytes: &[u8]) -> Line
     }
 }
 
-fn read_set(bytes: &[u8]) -> Line
-    ensures { λ r. ⌜ r ≡ readBy setShapes (now (bytes .entry)) ⌝ }
+// The byte at a place of a text, 0 past its end. Pub for the reader of logs.
+pub fn byte_at(bytes: &[u8], i: usize) -> u8
+    ensures { λ r. ⌜ r ≡ getD (now (bytes .entry)) i 0 ⌝ }
 {
-    let mut field = 0;
-    while field < 4 {
-        let line = read_edit_as(1, field, bytes);
-        if line.number != 1 {
-            return line;
-        }
-        field += 1;
+    if i < bytes.len() {
+        return bytes[i];
     }
-    fault(1)
+    0
 }
 
+// Where the number ends that starts at a place; there if none does. Pub for the reader of logs.
+pub fn number_end(bytes: &[u8], from: usize) -> usize
+    ensures { λ r. ⌜ (r ≡ from + numeralSize (drop from (now (bytes .entry)))) × (r ≤ from + length (now (bytes .entry))) ⌝ }
+{
+    if bytes.len() <= from {
+        return from;
+    }
+    let numeral = decimal::read_number(&bytes[from..]);
+    from + numeral.size
+}
+
+// Set, by the letter after `field=`; the name ends at `name`.
+fn read_set(bytes: &[u8], name: usize) -> Line
+    requires { ⌜ (length (now bytes) ≤ 101) × (name ≡ 5 + numeralSize (drop 5 (now bytes))) × (getD (now bytes) 2 0 ≡ 105) × (getD (now bytes) (name + 4) 0 ≡ 115) ⌝ }
+    ensures { λ r. ⌜ r ≡ readBy shapes (now (bytes .entry)) ⌝ }
+{
+    let chip = number_end(bytes, name + 13);
+    let letter = byte_at(bytes, chip + 7);
+    match letter {
+        b'i' => read_edit_as(1, 0, bytes),
+        b's' => read_edit_as(1, 1, bytes),
+        b'e' => read_edit_as(1, 2, bytes),
+        b'p' => read_edit_as(1, 3, bytes),
+        _ => fault(1),
+    }
+}
+
+// An edit, by the letter after `do=`.
+fn read_edit(bytes: &[u8]) -> Line
+    requires { ⌜ (length (now bytes) ≤ 101) × (getD (now bytes) 2 0 ≡ 105) ⌝ }
+    ensures { λ r. ⌜ r ≡ readBy shapes (now (bytes .entry)) ⌝ }
+{
+    let name = number_end(bytes, 5);
+    let letter = byte_at(bytes, name + 4);
+    match letter {
+        b'i' => read_edit_as(0, 0, bytes),
+        b'r' => read_edit_as(2, 0, bytes),
+        b's' => read_set(bytes, name),
+        _ => fault(1),
+    }
+}
+
+// A constraint, by its rule's third letter.
 fn read_rule(bytes: &[u8]) -> Line
-    ensures { λ r. ⌜ r ≡ readBy ruleShapes (now (bytes .entry)) ⌝ }
+    requires { ⌜ (length (now bytes) ≤ 101) × (getD (now bytes) 2 0 ≡ 102) ⌝ }
+    ensures { λ r. ⌜ r ≡ readBy shapes (now (bytes .entry)) ⌝ }
 {
-    let mut rule = 0;
-    while rule < 3 {
-        let line = read_rule_as(rule, bytes);
-        if line.number != 1 {
-            return line;
-        }
-        rule += 1;
+    let name = number_end(bytes, 5);
+    let letter = byte_at(bytes, name + 8);
+    match letter {
+        b't' => read_rule_as(0, bytes),
+        b'a' => read_rule_as(1, bytes),
+        b'n' => read_rule_as(2, bytes),
+        _ => fault(1),
     }
-    fault(1)
 }
 
-// No edit's line begins with this letter.
-fn begins_rule(bytes: &[u8]) -> bool
-    ensures { λ r. ⌜ r ≡ eqb (getD (now (bytes .entry)) 0 0) 108 ⌝ }
-{
-    if bytes.len() == 0 {
-        return false;
-    }
-    bytes[0] == b'l'
-}
-
-// What a line with its end says.
+// What a line with its end says, by the one form that its letters leave. The third letter tells `edit` from `left`.
 pub fn read_line(bytes: &[u8]) -> Line
     ensures { λ r. ⌜ r ≡ lineRead (now (bytes .entry)) ⌝ }
 {
     if 101 < bytes.len() {
         return fault(1);
     }
-    if begins_rule(bytes) {
-        return read_rule(bytes);
+    let third = byte_at(bytes, 2);
+    match third {
+        b'i' => read_edit(bytes),
+        b'f' => read_rule(bytes),
+        _ => fault(1),
     }
-    let insert = read_edit_as(0, 0, bytes);
-    if insert.number != 1 {
-        return insert;
-    }
-    let remove = read_edit_as(2, 0, bytes);
-    if remove.number != 1 {
-        return remove;
-    }
-    let set = read_set(bytes);
-    if set.number != 1 {
-        return set;
-    }
-    read_rule(bytes)
 }
 
 fn wide(n: u32) -> u64

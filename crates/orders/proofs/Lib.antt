@@ -1,2 +1,2 @@
+pub mod Letters
 pub mod Lines
-pub mod Starts

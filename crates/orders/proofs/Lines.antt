@@ -3,23 +3,18 @@ use mathlib.Core.Path.{_≡_, refl, sym, _∙_}
 use mathlib.Core.Bool.{true, false}
 use mathlib.Core.Logic.{_≢_}
 use mathlib.Core.List.{List, [], _∷_}
-use mathlib.Core.Option.{none}
 use Prim.Native.Nat.{ℕ, _≤_, _<_}
 use native.Mathlib.Omega.{arith}
 use borrow.Author.Tests.{lt-ltb, le-ltb, eqb-true, eq-eqb, ne-eqb}
 use lib.Dec.{eqb}
 use lib.ListN.{length, getD}
-use Rattle.record.specs.Lists.{all}
-use Rattle.record.proofs.Lists.{by, and-l, and-r}
-use Rattle.form.specs.Spelling.{bytes}
-use Rattle.form.specs.Form.{isMark, taken}
+use Rattle.record.proofs.Lists.{by}
 use Rattle.line.specs.declared.Line.{Line}
-use Rattle.line.specs.Line.{Shape, setForm, editForm, ruleForm, setShapes, ruleShapes, shapes, faulty, readAs, readBy, lineRead}
-use Rattle.line.specs.Lines.{lines}
+use Rattle.line.specs.Line.{faulty, lineRead}
+use Rattle.line.proofs.Says.{no-line}
 use Rattle.forms.specs.declared.Order.{Order}
-use Rattle.forms.specs.Forms.{tableOf, noOrder, cellsOf, orderFrom, orderBy}
-use Rattle.orders.specs.Orders.{orderTable, Starts, lineOrder, orderRead}
-use Rattle.orders.proofs.Starts.{passed, otherwise, not-taken}
+use Rattle.forms.specs.Forms.{noOrder, cellsOf, orderBy}
+use Rattle.orders.specs.Orders.{orderTable, lineOrder, orderRead}
 
 -- the cells of a row of five and of three
 pub five-cells : (row : List ℕ) → length row ≡ 5 → getD row 0 0 ∷ getD row 1 0 ∷ getD row 2 0 ∷ getD row 3 0 ∷ getD row 4 0 ∷ 0 ∷ 0 ∷ 0 ∷ [] ≡ cellsOf row
@@ -53,21 +48,6 @@ module _ (line : Line) {r : Order} where
     pub line-constraint : line .isedit ≡ false → r ≡ record { number = 0; kind = 27; cells = cellsOf (line .constraint) } → r ≡ lineOrder line
     line-constraint i e = rw (eq-eqb (line .number) 0 h, i) e
 
--- a line that every form of the exchanged text refuses
-module _ (beginning s : List ℕ) where
-  none-reads : (l : List Shape) → all (λ (shape : Shape). otherwise beginning (getD s (passed beginning s) 0) (shape .form)) l ≡ true → readBy l s ≡ faulty 1
-  unfolding readBy readAs all
-  none-reads [] h = refl
-  none-reads (shape ∷ l) h =
-      let c = getD s (passed beginning s) 0 in
-      let q : taken (shape .form) s ≡ none = not-taken beginning (shape .form) s (and-l (otherwise beginning c (shape .form)) (all (λ (x : Shape). otherwise beginning c (x .form)) l) h) in
-      rw q (none-reads l (and-r (otherwise beginning c (shape .form)) (all (λ (x : Shape). otherwise beginning c (x .form)) l) h))
-
-no-line : (s : List ℕ) → getD s 2 0 ≢ 102 → getD s 2 0 ≢ 105 → readBy shapes s ≡ faulty 1
-unfolding shapes setShapes ruleShapes editForm setForm ruleForm bytes all otherwise passed isMark
-no-line s l i =
-    none-reads (0 ∷ 0 ∷ []) s shapes (rw (ne-eqb 102 (getD s 2 0) (λ e. l (sym e)), ne-eqb 105 (getD s 2 0) (λ e. i (sym e))) refl)
-
 -- the whole line
 module _ (s : List ℕ) {r : Order} where
   pub order-long : 101 < length s → r ≡ noOrder 1 → r ≡ orderRead s
@@ -75,16 +55,15 @@ module _ (s : List ℕ) {r : Order} where
   order-long h e = rw (lt-ltb 101 (length s) h) e
 
   module _ (h : length s ≤ 101) where
-    -- the third byte is another than in every line of the exchanged text
+    -- the third letter is that of no line of the exchanged text
     pub order-of-table : {x : ℕ} → x ≡ getD s 2 0 → x ≢ 102 → x ≢ 105 → r ≡ orderBy orderTable s → r ≡ orderRead s
     unfolding orderRead lineRead
-    order-of-table p l i e =
-        rw (le-ltb 101 (length s) h, no-line s (λ q. l (p ∙ q)) (λ q. i (p ∙ q))) e
+    order-of-table l f i e = rw (le-ltb 101 (length s) h, sym (no-line s {r = faulty 1} l i f refl)) e
 
     -- the table says nothing of the line
-    pub order-of-line : Starts 460 26 s → r ≡ lineOrder (lineRead s) → r ≡ orderRead s
-    unfolding orderRead orderFrom orderTable tableOf bytes lines
+    pub order-of-line : noOrder 1 ≡ orderBy orderTable s → r ≡ lineOrder (lineRead s) → r ≡ orderRead s
+    unfolding orderRead
     order-of-line w e =
         by (eqb (lineRead s .number) 1)
-        (λ (one : eqb (lineRead s .number) 1 ≡ true). rw (le-ltb 101 (length s) h, one, ← (w .decides)) (e ∙ rw (eqb-true (lineRead s .number) 1 one)))
+        (λ (one : eqb (lineRead s .number) 1 ≡ true). rw (le-ltb 101 (length s) h, one, ← w) (e ∙ rw (eqb-true (lineRead s .number) 1 one)))
         (λ (other : eqb (lineRead s .number) 1 ≡ false). rw (le-ltb 101 (length s) h, other) e)

@@ -1,15 +1,13 @@
 -- The call log: the orders of a log, one to a line. Assumes nothing.
-use Prim.Native.Nat.{ℕ, _≤_}
-use mathlib.Core.Path.{_≡_}
+use Prim.Native.Nat.{ℕ}
 use mathlib.Core.Bool.{cond}
 use mathlib.Core.List.{List, [], _∷_}
 use lib.Dec.{ltb, eqb}
-use lib.ListN.{length, drop}
+use lib.ListN.{length}
 use Rattle.line.specs.declared.Line.{Line}
 use Rattle.line.specs.Line.{lineRead}
-use Rattle.line.specs.Lines.{lines}
 use Rattle.forms.specs.declared.Order.{Order}
-use Rattle.forms.specs.Forms.{tableOf, noOrder, cellsOf, orderFrom, orderBy}
+use Rattle.forms.specs.Forms.{tableOf, noOrder, cellsOf, orderBy}
 
 unfoldable pub orderTable : List ℕ
 orderTable =
@@ -45,12 +43,6 @@ orderTable =
     ∷ "ask=journal"
     ∷ "ask=page"
     ∷ [])
-
--- the forms from a place of the table on, the first of them of this kind, say all that the table says of a text
-pub record Starts (at kind : ℕ) (text : List ℕ) : Type 0 where
-  pub decides : orderFrom kind (lines (drop at orderTable)) text ≡ orderBy orderTable text
-  pub inside : at ≤ 460
-  pub counted : kind ≤ at
 
 -- document 01's own lines: 26 adds the edit, 27 the constraint of the row
 abbrev pub lineOrder : Line → Order

@@ -1,142 +1,158 @@
-// The orders of a call log, one to a line.
+// The orders of a call log, one to a line. The letters of a line leave one form of the table, and that alone is tried; specs/Orders.antt has the
+// forms in order.
 use forms::Order;
 use line::Line;
 ghost use mathlib.Core.Path.{_≡_};
-ghost use lib.ListN.{getD};
+ghost use Prim.Native.Nat.{_+_, _≤_};
+ghost use lib.ListN.{length, drop, getD};
+ghost use Rattle.decimal.specs.Decimal.{numeralSize};
 ghost use Rattle.line.specs.Line.{lineRead};
 ghost use Rattle.forms.specs.Forms.{cellsOf, orderBy};
-ghost use Rattle.orders.specs.Orders.{orderTable, Starts, lineOrder, orderRead};
+ghost use Rattle.orders.specs.Orders.{orderTable, lineOrder, orderRead};
 
-// The forms from a place of the table on, and the kind of the first of them.
-struct Start {
-    at: usize,
-    kind: usize,
-}
-
-// The byte at a place of a line, 0 past its end.
-fn byte_at(bytes: &[u8], i: usize) -> u8
-    ensures { λ r. ⌜ r ≡ getD (now (bytes .entry)) i 0 ⌝ }
+// A question, by the letter after `ask=`.
+fn ask_order(bytes: &[u8]) -> Order
+    requires { ⌜ getD (now bytes) 2 0 ≡ 107 ⌝ }
+    ensures { λ r. ⌜ r ≡ orderBy orderTable (now (bytes .entry)) ⌝ }
 {
-    if i < bytes.len() {
-        return bytes[i];
-    }
-    0
-}
-
-// The question that has this letter after `ask=`.
-fn ask_start(bytes: &[u8]) -> Start
-    requires { ⌜ Starts 381 19 (now bytes) ⌝ }
-    ensures { λ r. ⌜ Starts (r .at) (r .kind) (now (bytes .entry)) ⌝ }
-{
-    let letter = byte_at(bytes, 4);
+    let letter = line::byte_at(bytes, 4);
     match letter {
-        b't' => Start { at: 381, kind: 19 },
-        b'r' => Start { at: 390, kind: 20 },
-        b'h' => Start { at: 401, kind: 21 },
-        b's' => Start { at: 412, kind: 22 },
-        b'c' => Start { at: 425, kind: 23 },
-        b'j' => Start { at: 439, kind: 24 },
-        b'p' => Start { at: 451, kind: 25 },
-        _ => Start { at: 460, kind: 26 },
+        b't' => forms::order_as(b"ask=text\n", 19, bytes),
+        b'r' => forms::order_as(b"ask=report\n", 20, bytes),
+        b'h' => forms::order_as(b"ask=hidden\n", 21, bytes),
+        b's' => forms::order_as(b"ask=schedule\n", 22, bytes),
+        b'c' => forms::order_as(b"ask=catalogue\n", 23, bytes),
+        b'j' => forms::order_as(b"ask=journal\n", 24, bytes),
+        b'p' => forms::order_as(b"ask=page\n", 25, bytes),
+        _ => forms::no_order(1),
     }
 }
 
 // Show or suggest.
-fn show_start(bytes: &[u8]) -> Start
-    requires { ⌜ Starts 180 10 (now bytes) × (getD (now bytes) 3 0 ≡ 115) ⌝ }
-    ensures { λ r. ⌜ Starts (r .at) (r .kind) (now (bytes .entry)) ⌝ }
-{
-    if byte_at(bytes, 4) == b'u' {
-        return Start { at: 331, kind: 17 };
-    }
-    Start { at: 180, kind: 10 }
-}
-
-// A turn on, a turn back, or a test.
-fn turn_start(bytes: &[u8]) -> Start
-    requires { ⌜ Starts 195 11 (now bytes) × (getD (now bytes) 3 0 ≡ 116) ⌝ }
-    ensures { λ r. ⌜ Starts (r .at) (r .kind) (now (bytes .entry)) ⌝ }
-{
-    if byte_at(bytes, 4) == b'e' {
-        return Start { at: 366, kind: 18 };
-    }
-    if byte_at(bytes, 14) == b'-' {
-        return Start { at: 211, kind: 12 };
-    }
-    Start { at: 195, kind: 11 }
-}
-
-// The call that has this letter after `do=`.
-fn call_start(bytes: &[u8]) -> Start
-    requires { ⌜ Starts 149 8 (now bytes) ⌝ }
-    ensures { λ r. ⌜ Starts (r .at) (r .kind) (now (bytes .entry)) ⌝ }
-{
-    let letter = byte_at(bytes, 3);
-    match letter {
-        b'm' => Start { at: 149, kind: 8 },
-        b'h' => Start { at: 165, kind: 9 },
-        b's' => show_start(bytes),
-        b't' => turn_start(bytes),
-        b'a' => Start { at: 228, kind: 13 },
-        b'e' => Start { at: 244, kind: 14 },
-        b'b' => Start { at: 260, kind: 15 },
-        b'p' => Start { at: 284, kind: 16 },
-        _ => Start { at: 381, kind: 19 },
-    }
-}
-
-// Where the forms that begin as the bytes do start in the table: those before them have another byte there. The third byte tells the groups
-// apart, the letter after `=` the forms of a group.
-fn start_of(bytes: &[u8]) -> Start
-    ensures { λ r. ⌜ Starts (r .at) (r .kind) (now (bytes .entry)) ⌝ }
-{
-    let third = byte_at(bytes, 2);
-    match third {
-        b'k' => ask_start(bytes),
-        b'=' => call_start(bytes),
-        b'n' => Start { at: 0, kind: 0 },
-        b'l' => Start { at: 108, kind: 4 },
-        b'w' => Start { at: 134, kind: 6 },
-        _ => Start { at: 460, kind: 26 },
-    }
-}
-
-// The table of orders; specs/Orders.antt has the same lines.
-fn read_by_table(bytes: &[u8]) -> Order
+fn show_order(bytes: &[u8]) -> Order
+    requires { ⌜ (getD (now bytes) 2 0 ≡ 61) × (getD (now bytes) 3 0 ≡ 115) ⌝ }
     ensures { λ r. ⌜ r ≡ orderBy orderTable (now (bytes .entry)) ⌝ }
 {
-    let start = start_of(bytes);
-    forms::order_from(
-        b"lent=# edit=# kind=# chip=# field=# value=#\n\
-          lent=# left=# rule=# right=#\n\
-          lent=# rows=none\n\
-          lent=# rows=bench\n\
-          roll=# weight=#\n\
-          roll=none\n\
-          row=#\n\
-          row=none\n\
-          do=merge lent=#\n\
-          do=hide edit=#\n\
-          do=show edit=#\n\
-          do=turn pages=#\n\
-          do=turn pages=-#\n\
-          do=adopt edit=#\n\
-          do=elect edit=#\n\
-          do=bundle edit=# lent=#\n\
-          do=propose lent=# old=# edits=# rules=# keep=?\n\
-          do=suggest first=# second=# case=#\n\
-          do=test lent=#\n\
-          ask=text\n\
-          ask=report\n\
-          ask=hidden\n\
-          ask=schedule\n\
-          ask=catalogue\n\
-          ask=journal\n\
-          ask=page\n",
-        start.at,
-        start.kind,
-        bytes,
-    )
+    let letter = line::byte_at(bytes, 4);
+    match letter {
+        b'h' => forms::order_as(b"do=show edit=#\n", 10, bytes),
+        b'u' => forms::order_as(b"do=suggest first=# second=# case=#\n", 17, bytes),
+        _ => forms::no_order(1),
+    }
+}
+
+// On or back.
+fn turn_order(bytes: &[u8]) -> Order
+    requires { ⌜ (getD (now bytes) 2 0 ≡ 61) × (getD (now bytes) 3 0 ≡ 116) × (getD (now bytes) 4 0 ≡ 117) ⌝ }
+    ensures { λ r. ⌜ r ≡ orderBy orderTable (now (bytes .entry)) ⌝ }
+{
+    let sign = line::byte_at(bytes, 14);
+    if sign == b'-' {
+        return forms::order_as(b"do=turn pages=-#\n", 12, bytes);
+    }
+    forms::order_as(b"do=turn pages=#\n", 11, bytes)
+}
+
+// Turn or test.
+fn test_order(bytes: &[u8]) -> Order
+    requires { ⌜ (getD (now bytes) 2 0 ≡ 61) × (getD (now bytes) 3 0 ≡ 116) ⌝ }
+    ensures { λ r. ⌜ r ≡ orderBy orderTable (now (bytes .entry)) ⌝ }
+{
+    let letter = line::byte_at(bytes, 4);
+    match letter {
+        b'u' => turn_order(bytes),
+        b'e' => forms::order_as(b"do=test lent=#\n", 18, bytes),
+        _ => forms::no_order(1),
+    }
+}
+
+// A call, by the letter after `do=`.
+fn call_order(bytes: &[u8]) -> Order
+    requires { ⌜ getD (now bytes) 2 0 ≡ 61 ⌝ }
+    ensures { λ r. ⌜ r ≡ orderBy orderTable (now (bytes .entry)) ⌝ }
+{
+    let letter = line::byte_at(bytes, 3);
+    match letter {
+        b'm' => forms::order_as(b"do=merge lent=#\n", 8, bytes),
+        b'h' => forms::order_as(b"do=hide edit=#\n", 9, bytes),
+        b's' => show_order(bytes),
+        b't' => test_order(bytes),
+        b'a' => forms::order_as(b"do=adopt edit=#\n", 13, bytes),
+        b'e' => forms::order_as(b"do=elect edit=#\n", 14, bytes),
+        b'b' => forms::order_as(b"do=bundle edit=# lent=#\n", 15, bytes),
+        b'p' => forms::order_as(
+            b"do=propose lent=# old=# edits=# rules=# keep=?\n",
+            16,
+            bytes,
+        ),
+        _ => forms::no_order(1),
+    }
+}
+
+fn roll_order(bytes: &[u8]) -> Order
+    requires { ⌜ getD (now bytes) 2 0 ≡ 108 ⌝ }
+    ensures { λ r. ⌜ r ≡ orderBy orderTable (now (bytes .entry)) ⌝ }
+{
+    let letter = line::byte_at(bytes, 5);
+    if letter == b'n' {
+        return forms::order_as(b"roll=none\n", 5, bytes);
+    }
+    forms::order_as(b"roll=# weight=#\n", 4, bytes)
+}
+
+fn row_order(bytes: &[u8]) -> Order
+    requires { ⌜ getD (now bytes) 2 0 ≡ 119 ⌝ }
+    ensures { λ r. ⌜ r ≡ orderBy orderTable (now (bytes .entry)) ⌝ }
+{
+    let letter = line::byte_at(bytes, 4);
+    if letter == b'n' {
+        return forms::order_as(b"row=none\n", 7, bytes);
+    }
+    forms::order_as(b"row=#\n", 6, bytes)
+}
+
+// No rows of a lent record or all the bench's; the record's number ends at `number`.
+fn rows_order(bytes: &[u8], number: usize) -> Order
+    requires { ⌜ (length (now bytes) ≤ 101) × (number ≡ 5 + numeralSize (drop 5 (now bytes))) × (getD (now bytes) 2 0 ≡ 110) × (getD (now bytes) (number + 1) 0 ≡ 114) ⌝ }
+    ensures { λ r. ⌜ r ≡ orderBy orderTable (now (bytes .entry)) ⌝ }
+{
+    let letter = line::byte_at(bytes, number + 6);
+    match letter {
+        b'n' => forms::order_as(b"lent=# rows=none\n", 2, bytes),
+        b'b' => forms::order_as(b"lent=# rows=bench\n", 3, bytes),
+        _ => forms::no_order(1),
+    }
+}
+
+// A row for a lent record, by the letter after the record's number.
+fn lent_order(bytes: &[u8]) -> Order
+    requires { ⌜ (length (now bytes) ≤ 101) × (getD (now bytes) 2 0 ≡ 110) ⌝ }
+    ensures { λ r. ⌜ r ≡ orderBy orderTable (now (bytes .entry)) ⌝ }
+{
+    let number = line::number_end(bytes, 5);
+    let letter = line::byte_at(bytes, number + 1);
+    match letter {
+        b'e' => forms::order_as(b"lent=# edit=# kind=# chip=# field=# value=#\n", 0, bytes),
+        b'l' => forms::order_as(b"lent=# left=# rule=# right=#\n", 1, bytes),
+        b'r' => rows_order(bytes, number),
+        _ => forms::no_order(1),
+    }
+}
+
+// The groups of the table, by the third letter.
+fn read_by_table(bytes: &[u8]) -> Order
+    requires { ⌜ length (now bytes) ≤ 101 ⌝ }
+    ensures { λ r. ⌜ r ≡ orderBy orderTable (now (bytes .entry)) ⌝ }
+{
+    let third = line::byte_at(bytes, 2);
+    match third {
+        b'n' => lent_order(bytes),
+        b'k' => ask_order(bytes),
+        b'=' => call_order(bytes),
+        b'l' => roll_order(bytes),
+        b'w' => row_order(bytes),
+        _ => forms::no_order(1),
+    }
 }
 
 fn edit_order(row: [u32; 5]) -> Order
@@ -183,14 +199,14 @@ fn read_exchanged(bytes: &[u8]) -> Order
     line_order(line)
 }
 
-// What a line of a log says, its end included. The third byte tells the lines of the exchanged text, `left` and `edit`, from the table's.
+// What a line of a log says, its end included. The third letter tells the lines of the exchanged text, `left` and `edit`, from the table's.
 pub fn read_order(bytes: &[u8]) -> Order
     ensures { λ r. ⌜ r ≡ orderRead (now (bytes .entry)) ⌝ }
 {
     if 101 < bytes.len() {
         return forms::no_order(1);
     }
-    let third = byte_at(bytes, 2);
+    let third = line::byte_at(bytes, 2);
     match third {
         b'f' => read_exchanged(bytes),
         b'i' => read_exchanged(bytes),

@@ -1,55 +1,55 @@
 -- `line::read_rule` meets its contract. Assumes nothing.
-use Prim.Native.Nat.{_-_}
-use mathlib.Core.Path.{_≡_, refl}
-use lib.ListN.{drop}
+use native.Mathlib.Omega.{arith}
 use borrow.Author.Needs.{needs}
-use Rattle.line.proofs.Says.{loop-found, loop-on, loop-nowhere, rule-next, rule-end}
-use Rattle.line.specs.Line.{ruleShape, ruleShapes, readBy}
-use Rattle.form.specs.Spelling.{bytes}
+use Rattle.line.proofs.Says.{is-notafter, is-enables, is-noncommuting, no-rule}
 use Rattle.line.proofs.read_rule.Statement.{statement}
 use Rattle.line.proofs.read_rule.Tie as tie
 
-abbrev Inv-loop : tie.InvT-loop
-Inv-loop bytes rule₀ rule = readBy ruleShapes bytes ≡ readBy (drop rule ruleShapes) bytes
+number-end-requires : tie.Need-number-end-requires
+number-end-requires c κs = search needs
 
-abbrev μ-loop : tie.MeasureT-loop
-μ-loop bytes rule₀ rule = 3 - rule
+add-byte-at : tie.Need-add-byte-at
+add-byte-at c = omega (arith, c .before .before .pre .0, c .number-end .ensures .1)
 
-loop-holds : tie.Need-loop-holds Inv-loop μ-loop
-loop-holds c = refl
+byte-at-requires : tie.Need-byte-at-requires
+byte-at-requires c κs = search needs
 
-read-rule-as-requires : tie.Need-read-rule-as-requires Inv-loop μ-loop
+read-rule-as-requires : tie.Need-read-rule-as-requires
 read-rule-as-requires c κs = search needs
 
-returns : tie.Need-returns Inv-loop μ-loop
-returns c = loop-found ruleShapes (ruleShape (c .before .before .before .before .loop .rule)) (c .before .before .before .before .loop .rule) (c .before .before .before .before .before .before .args .bytes .now) (c .before .before .before .before .loop .inv) (rule-next (c .before .before .before .before .loop .rule) (c .before .before .before .loop-test .taken)) (c .before .before .read-rule-as .ensures) (c .if1 .taken)
+read-rule-as-requires-2 : tie.Need-read-rule-as-requires-2
+read-rule-as-requires-2 c κs = search needs
 
-add-rule : tie.Need-add-rule Inv-loop μ-loop
-add-rule c = search needs
+read-rule-as-requires-3 : tie.Need-read-rule-as-requires-3
+read-rule-as-requires-3 c κs = search needs
 
-loop-less : tie.Need-loop-less Inv-loop μ-loop
-loop-less c = search needs
-
-loop-again : tie.Need-loop-again Inv-loop μ-loop
-loop-again c = loop-on ruleShapes (ruleShape (c .before .before .before .before .loop .rule)) (c .before .before .before .before .loop .rule) (c .before .before .before .before .before .before .args .bytes .now) (c .before .before .before .before .loop .inv) (rule-next (c .before .before .before .before .loop .rule) (c .before .before .before .loop-test .taken)) (c .before .before .read-rule-as .ensures) (c .if1 .left)
-
-fault-requires : tie.Need-fault-requires Inv-loop μ-loop
+fault-requires : tie.Need-fault-requires
 fault-requires c κs = search needs
 
-returns-2 : tie.Need-returns-2 Inv-loop μ-loop
-returns-2 c = loop-nowhere ruleShapes (c .before .before .loop .rule) (c .before .before .before .before .args .bytes .now) (c .before .before .loop .inv) (rule-end (c .before .before .loop .rule) (c .before .loop-test .left)) (c .fault .ensures)
+returns : tie.Need-returns
+returns c = is-notafter (c .before .before .before .before .before .args .bytes .now) (c .before .before .before .number-end .result) (c .before .before .before .before .before .pre .1) (c .before .before .before .number-end .ensures .0) (c .before .before .byte-at .ensures) (c .before .match .keys1) (c .read-rule-as .ensures)
+
+returns-2 : tie.Need-returns-2
+returns-2 c = is-enables (c .before .before .before .before .before .args .bytes .now) (c .before .before .before .number-end .result) (c .before .before .before .before .before .pre .1) (c .before .before .before .number-end .ensures .0) (c .before .before .byte-at .ensures) (c .before .match .keys2) (c .read-rule-as2 .ensures)
+
+returns-3 : tie.Need-returns-3
+returns-3 c = is-noncommuting (c .before .before .before .before .before .args .bytes .now) (c .before .before .before .number-end .result) (c .before .before .before .before .before .pre .1) (c .before .before .before .number-end .ensures .0) (c .before .before .byte-at .ensures) (c .before .match .keys3) (c .read-rule-as3 .ensures)
+
+returns-4 : tie.Need-returns-4
+returns-4 c = no-rule (c .before .before .before .before .before .args .bytes .now) (c .before .before .before .number-end .result) (c .before .before .before .before .before .pre .1) (c .before .before .before .number-end .ensures .0) (c .before .before .byte-at .ensures) (c .before .match .rest .0 .0 .1) (c .before .match .rest .0 .1) (c .before .match .rest .1) (c .fault .ensures)
 
 pub read-rule-spec : {M : Type 1} → statement M
 read-rule-spec =
     tie.close
     (tie.spec
-    Inv-loop
-    μ-loop
-    loop-holds
+    number-end-requires
+    add-byte-at
+    byte-at-requires
     read-rule-as-requires
-    returns
-    add-rule
-    loop-less
-    loop-again
+    read-rule-as-requires-2
+    read-rule-as-requires-3
     fault-requires
-    returns-2)
+    returns
+    returns-2
+    returns-3
+    returns-4)

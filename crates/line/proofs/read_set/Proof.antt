@@ -1,55 +1,68 @@
 -- `line::read_set` meets its contract. Assumes nothing.
-use Prim.Native.Nat.{_-_}
-use mathlib.Core.Path.{_≡_, refl}
-use lib.ListN.{drop}
+use native.Mathlib.Omega.{arith}
 use borrow.Author.Needs.{needs}
-use Rattle.line.proofs.Says.{loop-found, loop-on, loop-nowhere, set-next, set-end}
-use Rattle.line.specs.Line.{editShape, setShapes, readBy}
-use Rattle.form.specs.Spelling.{bytes}
+use Rattle.line.proofs.Signs.{name-near}
+use Rattle.line.proofs.Says.{is-id, is-size, is-erase, is-page, no-field}
 use Rattle.line.proofs.read_set.Statement.{statement}
 use Rattle.line.proofs.read_set.Tie as tie
 
-abbrev Inv-loop : tie.InvT-loop
-Inv-loop bytes field₀ field = readBy setShapes bytes ≡ readBy (drop field setShapes) bytes
+add-number-end : tie.Need-add-number-end
+add-number-end c = omega (arith, name-near (c .before .args .bytes .now) (c .before .args .name) (c .before .pre .0) (c .before .pre .1))
 
-abbrev μ-loop : tie.MeasureT-loop
-μ-loop bytes field₀ field = 4 - field
+number-end-requires : tie.Need-number-end-requires
+number-end-requires c κs = search needs
 
-loop-holds : tie.Need-loop-holds Inv-loop μ-loop
-loop-holds c = refl
+add-byte-at : tie.Need-add-byte-at
+add-byte-at c = let s = c .before .before in omega (arith, s .pre .0, name-near (s .args .bytes .now) (s .args .name) (s .pre .0) (s .pre .1), c .number-end .ensures .1)
 
-read-edit-as-requires : tie.Need-read-edit-as-requires Inv-loop μ-loop
+byte-at-requires : tie.Need-byte-at-requires
+byte-at-requires c κs = search needs
+
+read-edit-as-requires : tie.Need-read-edit-as-requires
 read-edit-as-requires c κs = search needs
 
-returns : tie.Need-returns Inv-loop μ-loop
-returns c = loop-found setShapes (editShape 1 (c .before .before .before .before .loop .field)) (c .before .before .before .before .loop .field) (c .before .before .before .before .before .before .args .bytes .now) (c .before .before .before .before .loop .inv) (set-next (c .before .before .before .before .loop .field) (c .before .before .before .loop-test .taken)) (c .before .before .read-edit-as .ensures) (c .if1 .taken)
+read-edit-as-requires-2 : tie.Need-read-edit-as-requires-2
+read-edit-as-requires-2 c κs = search needs
 
-add-field : tie.Need-add-field Inv-loop μ-loop
-add-field c = search needs
+read-edit-as-requires-3 : tie.Need-read-edit-as-requires-3
+read-edit-as-requires-3 c κs = search needs
 
-loop-less : tie.Need-loop-less Inv-loop μ-loop
-loop-less c = search needs
+read-edit-as-requires-4 : tie.Need-read-edit-as-requires-4
+read-edit-as-requires-4 c κs = search needs
 
-loop-again : tie.Need-loop-again Inv-loop μ-loop
-loop-again c = loop-on setShapes (editShape 1 (c .before .before .before .before .loop .field)) (c .before .before .before .before .loop .field) (c .before .before .before .before .before .before .args .bytes .now) (c .before .before .before .before .loop .inv) (set-next (c .before .before .before .before .loop .field) (c .before .before .before .loop-test .taken)) (c .before .before .read-edit-as .ensures) (c .if1 .left)
-
-fault-requires : tie.Need-fault-requires Inv-loop μ-loop
+fault-requires : tie.Need-fault-requires
 fault-requires c κs = search needs
 
-returns-2 : tie.Need-returns-2 Inv-loop μ-loop
-returns-2 c = loop-nowhere setShapes (c .before .before .loop .field) (c .before .before .before .before .args .bytes .now) (c .before .before .loop .inv) (set-end (c .before .before .loop .field) (c .before .loop-test .left)) (c .fault .ensures)
+returns : tie.Need-returns
+returns c = is-id (c .before .before .before .before .before .args .bytes .now) (c .before .before .before .before .before .args .name) (c .before .before .before .before .before .pre .2) (c .before .before .before .before .before .pre .1) (c .before .before .before .before .before .pre .3) (c .before .before .before .number-end .ensures .0) (c .before .before .byte-at .ensures) (c .before .match .keys1) (c .read-edit-as .ensures)
+
+returns-2 : tie.Need-returns-2
+returns-2 c = is-size (c .before .before .before .before .before .args .bytes .now) (c .before .before .before .before .before .args .name) (c .before .before .before .before .before .pre .2) (c .before .before .before .before .before .pre .1) (c .before .before .before .before .before .pre .3) (c .before .before .before .number-end .ensures .0) (c .before .before .byte-at .ensures) (c .before .match .keys2) (c .read-edit-as2 .ensures)
+
+returns-3 : tie.Need-returns-3
+returns-3 c = is-erase (c .before .before .before .before .before .args .bytes .now) (c .before .before .before .before .before .args .name) (c .before .before .before .before .before .pre .2) (c .before .before .before .before .before .pre .1) (c .before .before .before .before .before .pre .3) (c .before .before .before .number-end .ensures .0) (c .before .before .byte-at .ensures) (c .before .match .keys3) (c .read-edit-as3 .ensures)
+
+returns-4 : tie.Need-returns-4
+returns-4 c = is-page (c .before .before .before .before .before .args .bytes .now) (c .before .before .before .before .before .args .name) (c .before .before .before .before .before .pre .2) (c .before .before .before .before .before .pre .1) (c .before .before .before .before .before .pre .3) (c .before .before .before .number-end .ensures .0) (c .before .before .byte-at .ensures) (c .before .match .keys4) (c .read-edit-as4 .ensures)
+
+returns-5 : tie.Need-returns-5
+returns-5 c = no-field (c .before .before .before .before .before .args .bytes .now) (c .before .before .before .before .before .args .name) (c .before .before .before .before .before .pre .2) (c .before .before .before .before .before .pre .1) (c .before .before .before .before .before .pre .3) (c .before .before .before .number-end .ensures .0) (c .before .before .byte-at .ensures) (c .before .match .rest .0 .0 .0 .1) (c .before .match .rest .0 .0 .1) (c .before .match .rest .0 .1) (c .before .match .rest .1) (c .fault .ensures)
 
 pub read-set-spec : {M : Type 1} → statement M
 read-set-spec =
     tie.close
     (tie.spec
-    Inv-loop
-    μ-loop
-    loop-holds
+    add-number-end
+    number-end-requires
+    add-byte-at
+    byte-at-requires
     read-edit-as-requires
-    returns
-    add-field
-    loop-less
-    loop-again
+    read-edit-as-requires-2
+    read-edit-as-requires-3
+    read-edit-as-requires-4
     fault-requires
-    returns-2)
+    returns
+    returns-2
+    returns-3
+    returns-4
+    returns-5)

@@ -1,36 +1,63 @@
-use Prim.Native.Nat.{ℕ, zero, suc, _+_, _-_, _*_, _≤_, _<_}
-use mathlib.Core.Path.{_≡_, refl, ap, sym, _∙_}
-use mathlib.Core.List.{List, [], _∷_, _++_}
-use lib.ListN.{length, getD, take, drop, set}
-use native.Mathlib.Omega.{arith}
+-- `orders::read_by_table` meets its contract. Assumes nothing.
+use mathlib.Core.Path.{sym, _∙_}
 use borrow.Author.Needs.{needs}
-use Rattle.orders.specs.Orders.{orderTable}
-use Rattle.forms.specs.Forms.{tableOf}
-use Rattle.form.specs.Spelling.{bytes}
+use Rattle.orders.proofs.Letters.{no-group}
 use Rattle.orders.proofs.read_by_table.Statement.{statement}
 use Rattle.orders.proofs.read_by_table.Tie as tie
-use Rattle.orders.proofs.read_by_table.Reads as reads
-use Rattle.orders.proofs.read_by_table.Lts as lts
-use Rattle.forms.proofs.order_from.Reads as order-from-reads
-use Rattle.orders.proofs.start_of.Reads as start-of-reads
 
--- src/lib.rt:37:9
-start-of-requires : tie.Need-start-of-requires
-start-of-requires c κs = search needs
+byte-at-requires : tie.Need-byte-at-requires
+byte-at-requires c κs = search needs
 
--- src/lib.rt:39:9
-slice-aggregate-order-from : tie.Need-slice-aggregate-order-from
-slice-aggregate-order-from c = search needs
+lent-order-requires : tie.Need-lent-order-requires
+lent-order-requires c κs = (c .before .before .before .pre, sym (c .before .byte-at .ensures) ∙ c .match .keys1)
 
--- src/lib.rt:38:5
-order-from-requires : tie.Need-order-from-requires
-order-from-requires c κs = (c .before .start-of .ensures .inside, c .before .start-of .ensures .counted)
+ask-order-requires : tie.Need-ask-order-requires
+ask-order-requires c κs = sym (c .before .byte-at .ensures) ∙ c .match .keys2
 
--- src/lib.rt:34:1
+call-order-requires : tie.Need-call-order-requires
+call-order-requires c κs = sym (c .before .byte-at .ensures) ∙ c .match .keys3
+
+roll-order-requires : tie.Need-roll-order-requires
+roll-order-requires c κs = sym (c .before .byte-at .ensures) ∙ c .match .keys4
+
+row-order-requires : tie.Need-row-order-requires
+row-order-requires c κs = sym (c .before .byte-at .ensures) ∙ c .match .keys5
+
+no-order-requires : tie.Need-no-order-requires
+no-order-requires c κs = search needs
+
 returns : tie.Need-returns
-unfolding orderTable tableOf bytes
-returns c = c .order-from .ensures ∙ c .before .before .start-of .ensures .decides
+returns c = c .lent-order .ensures
+
+returns-2 : tie.Need-returns-2
+returns-2 c = c .ask-order .ensures
+
+returns-3 : tie.Need-returns-3
+returns-3 c = c .call-order .ensures
+
+returns-4 : tie.Need-returns-4
+returns-4 c = c .roll-order .ensures
+
+returns-5 : tie.Need-returns-5
+returns-5 c = c .row-order .ensures
+
+returns-6 : tie.Need-returns-6
+returns-6 c = no-group (c .before .before .before .before .args .bytes .now) (c .before .before .byte-at .ensures) (c .before .match .rest .0 .0 .0 .0 .1) (c .before .match .rest .0 .0 .0 .1) (c .before .match .rest .0 .0 .1) (c .before .match .rest .0 .1) (c .before .match .rest .1) (c .no-order .ensures)
 
 pub read-by-table-spec : {M : Type 1} → statement M
 read-by-table-spec =
-    tie.close (tie.spec start-of-requires slice-aggregate-order-from order-from-requires returns)
+    tie.close
+    (tie.spec
+    byte-at-requires
+    lent-order-requires
+    ask-order-requires
+    call-order-requires
+    roll-order-requires
+    row-order-requires
+    no-order-requires
+    returns
+    returns-2
+    returns-3
+    returns-4
+    returns-5
+    returns-6)
