@@ -212,9 +212,9 @@ module _ (s : List ℕ) (number : ℕ) (p : number ≡ 5 + numeralSize (drop 5 s
       is-constraint e =
           by-form (sign ".." 110 ∷ sign "lent=# " 108 ∷ []) s (third-sign s 110 third, (letter s lent-place l e, tt)) 1 (bytes "lent=# left=# rule=# right=#\n") refl refl
 
-      pub no-row : x ≢ 101 → x ≢ 108 → x ≢ 114 → r ≡ noOrder 1 → r ≡ orderBy orderTable s
+      pub no-lent : x ≢ 101 → x ≢ 108 → x ≢ 114 → r ≡ noOrder 1 → r ≡ orderBy orderTable s
       unfolding orderTable tableOf bytes lines all allBut ruledOut otherwise isMark
-      no-row a b c =
+      no-lent a b c =
           by-none (sign ".." 110 ∷ sign "lent=# " x ∷ []) s (third-sign s 110 third, (letter s lent-place l refl, tt)) (rw (ne-eqb x 101 a, ne-eqb x 108 b, ne-eqb x 114 c) refl)
 
     module _ (rows : getD s (number + 1) 0 ≡ 114) {x : ℕ} (l : x ≡ getD s (number + 6) 0) {r : Order} where

@@ -3,7 +3,7 @@ use mathlib.Core.Path.{sym, _∙_}
 use native.Mathlib.Omega.{arith}
 use borrow.Author.Needs.{needs}
 use Rattle.form.specs.Spelling.{bytes}
-use Rattle.orders.proofs.Letters.{is-edit, is-constraint, no-row}
+use Rattle.orders.proofs.Letters.{is-edit, is-constraint, no-lent}
 use Rattle.orders.proofs.lent_order.Statement.{statement}
 use Rattle.orders.proofs.lent_order.Tie as tie
 
@@ -46,7 +46,7 @@ returns-3 : tie.Need-returns-3
 returns-3 c = c .rows-order .ensures
 
 returns-4 : tie.Need-returns-4
-returns-4 c = no-row (c .before .before .before .before .before .args .bytes .now) (c .before .before .before .number-end .result) (c .before .before .before .number-end .ensures .0) (c .before .before .before .before .before .pre .1) (c .before .before .byte-at .ensures) (c .before .match .rest .0 .0 .1) (c .before .match .rest .0 .1) (c .before .match .rest .1) (c .no-order .ensures)
+returns-4 c = no-lent (c .before .before .before .before .before .args .bytes .now) (c .before .before .before .number-end .result) (c .before .before .before .number-end .ensures .0) (c .before .before .before .before .before .pre .1) (c .before .before .byte-at .ensures) (c .before .match .rest .0 .0 .1) (c .before .match .rest .0 .1) (c .before .match .rest .1) (c .no-order .ensures)
 
 pub lent-order-spec : {M : Type 1} → statement M
 lent-order-spec =
