@@ -1,37 +1,33 @@
 -- What a line comes to, kind by kind. Assumes nothing.
 use mathlib.Core.Path.{_≡_, refl, sym, ap, _∙_}
-use mathlib.Core.Bool.{true, false, cond}
-use mathlib.Core.List.{List, [], _∷_}
+use mathlib.Core.Bool.{true, false}
+use mathlib.Core.List.{[], _∷_}
 use Prim.Native.Nat.{ℕ, _≤_, _<_}
 use native.Mathlib.Omega.{arith}
 use lib.Dec.{eqb, ltb}
 use mir.Syntax.{w32}
 use mir.Val.{toZ, ofZ}
 use mir.Facts.{toZ-ofZ}
-use lib.ListN.{getD}
 use borrow.Author.Tests.{lt-ltb, le-ltb, eqb-true, eqb-false}
 use Rattle.record.specs.declared.Record as declared
-use Rattle.record.specs.Stored.{stored, emptyRecord}
+use Rattle.record.specs.Stored.{stored}
 use Rattle.record.proofs.Lists.{le-by, or-by, or-no-l, or-no-r}
-use Rattle.row.specs.Row.{Row, cell}
+use Rattle.row.specs.Row.{cell}
 use Rattle.ground.specs.Ground.{Rows}
-use Rattle.table.specs.Table.{emptyTables}
-use Rattle.table.proofs.Tables.{empty-stored}
 use Rattle.turner.specs.declared.Turner.{Turner}
 use Rattle.turning.specs.declared.Turning.{Turning}
 use Rattle.turning.specs.Turning.{turningOf}
 use Rattle.ledger.specs.declared.Bench.{Bench}
 use Rattle.ledger.specs.declared.Outcome.{Outcome}
-use Rattle.ledger.specs.Ledger.{Call, addEdit, addConstraint, merge, hide, show, turn, adopt, start, fed}
-use Rattle.ledger.specs.Bench.{Answers, benchOf, outcome}
+use Rattle.ledger.specs.Ledger.{Call, addEdit, addConstraint, merge, hide, show, turn, adopt, start}
+use Rattle.ledger.specs.Bench.{Answers, benchOf}
 use Rattle.ledger.proofs.Valid.{Valid, start-valid, fed-valid}
 use Rattle.bench.specs.Changes.{plainAnswer, refusedWith, openAt, turnReply}
 use Rattle.bench.proofs.Moves.{open-same, turn-answers}
 use Rattle.lending.specs.declared.Lending.{Lending}
 use Rattle.lent_calls.specs.Calls.{proposalsOf}
-use Rattle.lending.specs.Lent.{Lent, recordNumber, withRecord}
 use Rattle.lending.specs.Kept.{Kept}
-use Rattle.desk.specs.Desk.{Desk, Cells, Effect, Request, outside, make, ledgerOf, benchIn, replied}
+use Rattle.desk.specs.Desk.{Desk, Cells, Effect, outside, make, ledgerOf, benchIn, replied}
 use Rattle.desk.specs.Lends.{lendings, lendingOf, lendEdit, lendConstraint, lendNothing, lendBench, lendSeat, lendNoRoll, lendName, lendNoRow}
 use Rattle.desk.proofs.Signs.{signed-fits}
 use Rattle.desk.specs.Requests.{requests, requestOf, mergeOf, hideOf, showOf, forwardOf, backOf, isTurn, signedPages, turnOf, adoptOf, addEditOf, addConstraintOf}

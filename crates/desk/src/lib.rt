@@ -7,7 +7,7 @@ use turner::Turner;
 use turning::Turning;
 ghost use mathlib.Core.Path.{_≡_};
 ghost use mathlib.Core.Bool.{false};
-ghost use Prim.Native.Nat.{ℕ, _<_, _≤_};
+ghost use Prim.Native.Nat.{_<_, _≤_};
 ghost use Rattle.lending.specs.Kept.{Kept};
 ghost use Rattle.row.specs.Row.{cell};
 ghost use Rattle.ground.specs.Ground.{Rows};

@@ -1,8 +1,7 @@
 // The questions of a call log, answered.
 use ledger::Bench;
 ghost use mathlib.Core.Path.{_≡_};
-ghost use Prim.Native.Nat.{ℕ, suc, _<_, _≤_};
-ghost use lib.ListN.{length};
+ghost use Prim.Native.Nat.{_<_};
 ghost use Rattle.forms.specs.Printed.{Printed};
 ghost use Rattle.desk.specs.Desk.{Desk, benchIn};
 ghost use Rattle.desk_asks.specs.Questions.{textIn, askText};

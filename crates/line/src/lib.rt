@@ -1,7 +1,6 @@
 // The lines of the exchanged text (document 01, "Text") as rows of numbers. Public for the crates of this workspace that read and write
 // texts; these lend what is long enough, so the writers require it.
 ghost use mathlib.Core.Path.{_≡_};
-ghost use mathlib.Core.List.{[], _∷_};
 ghost use Prim.Native.Nat.{_+_, _≤_};
 ghost use lib.ListN.{length, drop, getD};
 ghost use Rattle.decimal.specs.Decimal.{numeralSize};

@@ -3,7 +3,6 @@ use join::Joined;
 use ledger::Bench;
 use ledger::Outcome;
 use vote::Election;
-ghost use mathlib.Core.List.{[]};
 ghost use Rattle.ledger.specs.Ledger.{Call};
 ghost use Rattle.ledger.specs.Bench.{Answers};
 ghost use Rattle.merge.specs.Joins.{Joins};
