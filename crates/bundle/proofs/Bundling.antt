@@ -1,21 +1,20 @@
 -- A bundle's edits and constraints by the marks of its members. Assumes nothing.
 use mathlib.Core.Path.{_≡_, refl, sym, _∙_}
-use mathlib.Core.Logic.{_≢_}
 use mathlib.Core.Bool.{Bool, true, false, cond, or-false, or-true}
 use mathlib.Core.List.{List}
 use Prim.Native.Nat.{ℕ, _+_, _≤_, _<_}
 use native.Mathlib.Omega.{arith}
 use lib.Dec.{eqb}
-use lib.ListN.{length, take, getD, set}
-use lib.Seq.{take-length, getD-set-same, getD-set-other}
-use borrow.Author.Tests.{eq-eqb, ne-eqb, eqb-true, eqb-false}
+use lib.ListN.{length, take, getD}
+use lib.Seq.{take-length}
+use borrow.Author.Tests.{eq-eqb, ne-eqb}
 use Rattle.record.specs.declared.Edit.{Edit}
 use Rattle.record.specs.declared.Constraint.{Constraint}
 use Rattle.record.specs.declared.Record as declared
 use Rattle.record.specs.Lists.{mem, at, sift, _among_}
 use Rattle.record.specs.Record.{Record, names, written}
 use Rattle.record.specs.Stored.{stored, fillerEdit, fillerConstraint}
-use Rattle.record.proofs.Lists.{by, mem-at}
+use Rattle.record.proofs.Lists.{mem-at}
 use Rattle.pages.proofs.Padded.{take-padded}
 use Rattle.links.specs.Marks.{marksOf, placeIn}
 use Rattle.links.proofs.Names.{getD-place, place-known}
@@ -30,13 +29,6 @@ use Rattle.members.proofs.Rowing.{left-known, right-known}
 bit-is : (b : Bool) → eqb (cond b 1 0) 1 ≡ b
 bit-is true = refl
 bit-is false = refl
-
--- the bits of a test, one place after the other
-pub bits-more : (places : List ℕ) (i v : ℕ) (test : ℕ → Bool) (b : Bool) → i < length places → v ≡ cond b 1 0 → b ≡ test i → ((k : ℕ) → k < i → eqb (getD places k 0) 1 ≡ test k)
-    → (k : ℕ) → k < i + 1 → eqb (getD (set places i v) k 0) 1 ≡ test k
-bits-more places i v test b h e q w k l = by (eqb k i)
-    (λ z. let y : k ≡ i = omega (arith, eqb-true) in rw (y, getD-set-same places i v 0 h, e, q) (bit-is (test i)))
-    (λ z. let n : k ≢ i = λ y. omega (arith, eqb-false) in rw (getD-set-other places i k v 0 n) (w k (omega (arith, eqb-false))))
 
 -- the mark of an edit, at its index
 module _ (R : Record) (m table marks : List ℕ) (t : (x : ℕ) → getD table x 0 ≡ placeIn (names R) x) (e : marks ≡ marksOf R (λ y. mem y m)) where
@@ -60,13 +52,6 @@ module _ (R : Record) (m table marks : List ℕ) (t : (x : ℕ) → getD table x
         let u : mem l m ≡ true = sym (mark-of l i k q) ∙ eq-eqb (getD marks i 0) 1 h in
         rw (u, ne-eqb r 0 z) (mark-of r j kr qr ∙ sym (or-false (mem r m)))
 
--- the tables of a stored record
-pub stored-edits : (r : declared.Record) (R : Record) → r ≡ stored R → take (r .editcount) (r .edits) ≡ R .edits
-stored-edits r R q = rw (q, take-padded 127 fillerEdit (length (R .edits)) (R .edits) (omega arith)) (take-length (R .edits))
-
-pub stored-constraints : (r : declared.Record) (R : Record) → r ≡ stored R → take (r .constraintcount) (r .constraints) ≡ R .constraints
-stored-constraints r R q = rw (q, take-padded 512 fillerConstraint (length (R .constraints)) (R .constraints) (omega arith)) (take-length (R .constraints))
-
 -- the bundle of a stored record
 module _ (r : declared.Record) (R : Record) (q : r ≡ stored R) (f : Fit R) (e : ℕ) (i : e among written R) (marks : List ℕ) (g : marks ≡ marksOf R (λ y. mem y (members R e))) where
   pub edits-marked : (k : ℕ) → k < r .editcount → eqb (getD marks (k + 1) 0) 1 ≡ mem (getD (r .edits) k fillerEdit .name) (members R e)
@@ -85,8 +70,10 @@ module _ (r : declared.Record) (R : Record) (q : r ≡ stored R) (f : Fit R) (e 
       → record { edits = a; editcount = n; constraints = b; constraintcount = m } ≡ stored (bundle R e)
   unfolding bundle
   bundle-is a n b m ea eb =
-      let pa = rw (stored-edits r R q) at ea in
-      let pb = rw (stored-constraints r R q) at eb in
+      let te : take (r .editcount) (r .edits) ≡ R .edits = rw (q, take-padded 127 fillerEdit (length (R .edits)) (R .edits) (omega arith)) (take-length (R .edits)) in
+      let tc : take (r .constraintcount) (r .constraints) ≡ R .constraints = rw (q, take-padded 512 fillerConstraint (length (R .constraints)) (R .constraints) (omega arith)) (take-length (R .constraints)) in
+      let pa = rw te at ea in
+      let pb = rw tc at eb in
       λ j. record { edits = pa j .rows; editcount = pa j .count; constraints = pb j .rows; constraintcount = pb j .count }
 
 pub edits-within : (r : declared.Record) (R : Record) → r ≡ stored R → Fit R → r .editcount ≤ 127

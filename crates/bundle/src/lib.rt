@@ -14,7 +14,9 @@ ghost use Rattle.record.specs.Lists.{mem, sift, all, _among_};
 ghost use Rattle.record.specs.Stored.{stored, fillerEdit, fillerConstraint};
 ghost use Rattle.record.specs.Judgement.{settled};
 ghost use Rattle.links.specs.Marks.{marksOf, placeIn};
+ghost use Rattle.links.specs.Links.{Safe, Leads};
 ghost use Rattle.indexes.specs.Fit.{Fit};
+ghost use Rattle.members.specs.Rows.{leadsIn};
 ghost use Rattle.vote.specs.Bundle.{between};
 ghost use Rattle.vote.specs.Bundle as vote;
 ghost use Rattle.bundle.specs.Bundles.{siftedEdits, siftedConstraints, refusedBundle, bundleAnswer};
@@ -70,28 +72,6 @@ fn is_between(table: &[u8; 2304], marks: &[u8; 128], left: u16, right: u16) -> b
     marks[b] == 1
 }
 
-// Which constraints are between members, by place.
-pub fn between_marks(
-    constraints: [Constraint; 512],
-    n: usize,
-    table: &[u8; 2304],
-    marks: &[u8; 128],
-) -> [u8; 512]
-    requires { ⌜ (n ≤ 512) × (length (now table) ≡ 2304) × ((x : ℕ) → getD (now table) x 0 < 128) ⌝ }
-    ensures { λ r. ⌜ (length r ≡ 512) × ((R : theory.Record) (m : List ℕ) → ((x : ℕ) → getD (now (table .entry)) x 0 ≡ placeIn (theory.names R) x) → now (marks .entry) ≡ marksOf R (λ y. mem y m)
-        → ((i : ℕ) → i < n → (getD constraints i fillerConstraint .left among theory.names R) × (getD constraints i fillerConstraint .right among theory.names R))
-        → (i : ℕ) → i < n → eqb (getD r i 0) 1 ≡ between m (getD constraints i fillerConstraint .left) (getD constraints i fillerConstraint .right)) ⌝ }
-{
-    let mut places = [0u8; 512];
-    let mut i = 0;
-    while i < n {
-        let constraint = constraints[i];
-        places[i] = marks::bit(is_between(table, marks, constraint.left, constraint.right));
-        i += 1;
-    }
-    places
-}
-
 // The constraints between members.
 fn sift_constraints(
     constraints: [Constraint; 512],
@@ -122,11 +102,19 @@ fn sift_constraints(
     }
 }
 
-// The bundle of an edit that the record knows, by the table of the record's names and the marks of the members.
-pub fn bundle_of(multilog: Record, table: &[u8; 2304], marks: &[u8; 128]) -> Record
-    requires { ⌜ (length (now table) ≡ 2304) × ((x : ℕ) → getD (now table) x 0 < 128) ⌝ }
-    ensures { λ r. ⌜ ((R : theory.Record) (e : ℕ) → multilog ≡ stored R → Fit R → ((x : ℕ) → getD (now (table .entry)) x 0 ≡ placeIn (theory.names R) x)
-        → e among theory.written R → now (marks .entry) ≡ marksOf R (λ y. mem y (vote.members R e)) → r ≡ stored (vote.bundle R e)) ⌝ }
+// The bundle of an edit that the record knows, by the table of the record's names and the rows of what leads to a member: they are made once for
+// many edits.
+pub fn bundle_by(
+    multilog: Record,
+    table: &[u8; 2304],
+    head: &[u16; 384],
+    link: &[u16; 1024],
+    left: &[u8; 1024],
+    name: u16,
+) -> Record
+    requires { ⌜ (length (now table) ≡ 2304) × ((x : ℕ) → getD (now table) x 0 < 128) × Safe (now head) (now link) (now left) ⌝ }
+    ensures { λ r. ⌜ ((R : theory.Record) → multilog ≡ stored R → Fit R → ((x : ℕ) → getD (now (table .entry)) x 0 ≡ placeIn (theory.names R) x)
+        → Leads (leadsIn R) R 0 (now (head .entry)) (now (link .entry)) (now (left .entry)) → name among theory.written R → r ≡ stored (vote.bundle R name)) ⌝ }
 {
     let n = multilog.editcount;
     let m = multilog.constraintcount;
@@ -136,10 +124,11 @@ pub fn bundle_of(multilog: Record, table: &[u8; 2304], marks: &[u8; 128]) -> Rec
     if 512 < m {
         return record::empty();
     }
+    let marks = members::member_marks(table, head, link, left, name);
     let edits = multilog.edits;
     let constraints = multilog.constraints;
-    let kept = sift_edits(edits, n, marks);
-    let between = sift_constraints(constraints, m, table, marks);
+    let kept = sift_edits(edits, n, &marks);
+    let between = sift_constraints(constraints, m, table, &marks);
     let rows = kept.rows;
     let rules = between.rows;
     Record {
@@ -159,8 +148,7 @@ pub fn bundle(multilog: Record, name: u16) -> Record
     let head = rows.head;
     let link = rows.link;
     let left = rows.left;
-    let marks = members::member_marks(&table, &head, &link, &left, name);
-    bundle_of(multilog, &table, &marks)
+    bundle_by(multilog, &table, &head, &link, &left, name)
 }
 
 // Whether the edits at indexes 1 to n - 1 are marked.

@@ -4,17 +4,11 @@ use record::Constraint;
 use record::Edit;
 use record::Record;
 ghost use mathlib.Core.Path.{_≡_};
-ghost use mathlib.Core.Bool.{Bool};
-ghost use Prim.Native.Nat.{ℕ, _≤_, _<_};
-ghost use lib.Dec.{eqb};
-ghost use lib.ListN.{length, take, getD};
-ghost use Rattle.record.specs.declared.Edit as edit;
-ghost use Rattle.record.specs.declared.Constraint as constraint;
-ghost use Rattle.record.specs.Lists.{sift};
+ghost use Prim.Native.Nat.{_≤_};
+ghost use lib.ListN.{take};
 ghost use Rattle.record.specs.Record as theory;
-ghost use Rattle.record.specs.Stored.{stored, fillerEdit, fillerConstraint};
+ghost use Rattle.record.specs.Stored.{stored};
 ghost use Rattle.vote.specs.Tally.{sameEdit, sameConstraint, sameList, sameBundle};
-ghost use Rattle.equality.specs.Marked.{NextMark};
 
 fn same_edit(a: Edit, b: Edit) -> bool
     ensures { λ r. ⌜ r ≡ sameEdit a b ⌝ }
@@ -88,75 +82,4 @@ pub fn same_bundle(a: Record, b: Record) -> bool
     let v = a.constraints;
     let w = b.constraints;
     same_constraints(v, w, m)
-}
-
-// The next marked place from i on, below n.
-fn next_mark(marks: &[u8], i: usize, n: usize) -> usize
-    requires { ⌜ (i ≤ n) × (n ≤ length (now marks)) ⌝ }
-    ensures { λ r. ⌜ NextMark (now (marks .entry)) i n r ⌝ }
-{
-    let mut k = i;
-    while k < n {
-        if marks[k] == 1 {
-            return k;
-        }
-        k += 1;
-    }
-    k
-}
-
-// Whether the marked ones among the first edits of two arrays are equal: what sifting would leave is compared without being made.
-pub fn same_marked_edits(
-    a: [Edit; 127],
-    n: usize,
-    x: &[u8],
-    b: [Edit; 127],
-    m: usize,
-    y: &[u8],
-) -> bool
-    requires { ⌜ (n ≤ 127) × (m ≤ 127) × (n ≤ length (now x)) × (m ≤ length (now y)) ⌝ }
-    ensures { λ r. ⌜ ((p q : edit.Edit → Bool) → ((k : ℕ) → k < n → eqb (getD (now (x .entry)) k 0) 1 ≡ p (getD a k fillerEdit)) → ((k : ℕ) → k < m → eqb (getD (now (y .entry)) k 0) 1 ≡ q (getD b k fillerEdit))
-        → r ≡ sameList sameEdit (sift p (take n a)) (sift q (take m b))) ⌝ }
-{
-    let mut i = next_mark(x, 0, n);
-    let mut j = next_mark(y, 0, m);
-    while i < n {
-        if j == m {
-            return false;
-        }
-        if !same_edit(a[i], b[j]) {
-            return false;
-        }
-        i = next_mark(x, i + 1, n);
-        j = next_mark(y, j + 1, m);
-    }
-    j == m
-}
-
-// The same of constraints.
-pub fn same_marked_constraints(
-    a: [Constraint; 512],
-    n: usize,
-    x: &[u8],
-    b: [Constraint; 512],
-    m: usize,
-    y: &[u8],
-) -> bool
-    requires { ⌜ (n ≤ 512) × (m ≤ 512) × (n ≤ length (now x)) × (m ≤ length (now y)) ⌝ }
-    ensures { λ r. ⌜ ((p q : constraint.Constraint → Bool) → ((k : ℕ) → k < n → eqb (getD (now (x .entry)) k 0) 1 ≡ p (getD a k fillerConstraint)) → ((k : ℕ) → k < m → eqb (getD (now (y .entry)) k 0) 1 ≡ q (getD b k fillerConstraint))
-        → r ≡ sameList sameConstraint (sift p (take n a)) (sift q (take m b))) ⌝ }
-{
-    let mut i = next_mark(x, 0, n);
-    let mut j = next_mark(y, 0, m);
-    while i < n {
-        if j == m {
-            return false;
-        }
-        if !same_constraint(a[i], b[j]) {
-            return false;
-        }
-        i = next_mark(x, i + 1, n);
-        j = next_mark(y, j + 1, m);
-    }
-    j == m
 }
