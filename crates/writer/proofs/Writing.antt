@@ -7,8 +7,8 @@ use native.Mathlib.Numerals.{add-one}
 use native.Mathlib.Omega.{arith}
 use borrow.Author.Tests.{le-leb, lt-leb, leb-true, leb-false}
 use lib.Dec.{leb}
-use lib.ListN.{length, getD, take, drop, length-append}
-use lib.Seq.{take-suc, take-add}
+use lib.ListN.{length, getD, take, drop, length-append, length-drop}
+use lib.Seq.{take-suc, take-add, take-at, drop-at, drop-drop}
 use Rattle.decimal.specs.Written.{Written}
 use Rattle.decimal.proofs.Parts.{part-written, part-to-end}
 use Rattle.text.specs.Text.{joinedLines}
