@@ -11,7 +11,7 @@ use borrow.Author.Tests.{eqb-true, eqb-false, eq-eqb, ne-eqb, not-true}
 use lib.Dec.{eqb}
 use lib.ListN.{length, getD, drop, length-append}
 use lib.Seq.{drop-append-seam, getD-drop}
-use Rattle.record.specs.Lists.{mem}
+use Rattle.record.specs.Lists.{mem, all}
 use Rattle.record.proofs.Lists.{by, clash, and-l, and-r, mem-append, or-no-l, or-no-r}
 use Rattle.form.specs.Spelling.{nameSpelling, numberSpelling}
 use Rattle.form.specs.Form.{isMark, spelling, fill, more, starts, taken}
@@ -93,6 +93,22 @@ module _ (c : ℕ) (f : List ℕ) where
 fill-nothing : (ns : List ℕ) → fill [] ns ≡ []
 unfolding fill
 fill-nothing ns = refl
+
+-- a word without marks stands as it is
+abbrev pub plain : List ℕ → Bool
+plain word = all (λ c. not (isMark c)) word
+
+fill-word : (word f ns : List ℕ) → plain word ≡ true → fill (word ++ f) ns ≡ word ++ fill f ns
+unfolding all
+fill-word [] f ns h = refl
+fill-word (c ∷ word) f ns h =
+    fill-byte c (word ++ f) (not-true (isMark c) (and-l (not (isMark c)) (plain word) h)) ns
+    ∙ ap (λ (l : List ℕ). c ∷ l) (fill-word word f ns (and-r (not (isMark c)) (plain word) h))
+
+-- and the mark after it gives its number
+pub fill-worded : (word : List ℕ) (c : ℕ) (f ns : List ℕ) → plain word ≡ true → isMark c ≡ true
+    → fill (word ++ (c ∷ f)) ns ≡ (word ++ (spelling c) .write (getD ns 0 0)) ++ fill f (drop 1 ns)
+fill-worded word c f ns p m = fill-word word (c ∷ f) ns p ∙ rw (fill-mark c f m ns, append-assoc)
 
 taken-nothing : taken [] (fill [] []) ≡ some []
 unfolding fill taken
@@ -295,9 +311,9 @@ ended-behind w p e = record {
   plain = rw (mem-append, p, e .plain);
 }
 
-end : (ns : List ℕ) → fill (10 ∷ []) ns ≡ [] ++ (10 ∷ [])
+pub fill-end : (ns : List ℕ) → fill (10 ∷ []) ns ≡ 10 ∷ []
 unfolding fill isMark
-end ns = refl
+fill-end ns = refl
 
 none-there : mem 10 [] ≡ false
 unfolding mem
@@ -310,7 +326,7 @@ byte-plain c h = rw (ne-eqb 10 c (λ e. eqb-false c 10 h (sym e)))
 pub fill-ended : (f ns : List ℕ) → oneLine f ≡ true → Ended (fill f ns)
 unfolding oneLine
 fill-ended [] ns h = clash h refl
-fill-ended (c ∷ []) ns h = rw (eqb-true c 10 h) (record { inner = []; is = end ns; plain = none-there })
+fill-ended (c ∷ []) ns h = rw (eqb-true c 10 h) (record { inner = []; is = fill-end ns; plain = none-there })
 fill-ended (c ∷ d ∷ f) ns h =
     let n : eqb c 10 ≡ false = not-true (eqb c 10) (and-l (not (eqb c 10)) _ h) in
     let k : oneLine (d ∷ f) ≡ true = and-r (not (eqb c 10)) (oneLine (d ∷ f)) h in

@@ -2,9 +2,11 @@
 // written. Public for the crates of this workspace that read and write lines; what they lend is long enough, so the writers require it.
 ghost use mathlib.Core.Path.{_≡_};
 ghost use Prim.Native.Nat.{_≤_};
+ghost use mathlib.Core.List.{[], _∷_, _++_};
 ghost use mathlib.Core.Option.{none};
 ghost use lib.Dec.{leb};
 ghost use lib.ListN.{length, getD, set};
+ghost use Rattle.decimal.specs.Decimal.{decimal};
 ghost use Rattle.decimal.specs.Written.{Written};
 ghost use Rattle.form.specs.Spelling.{nameSpelling, answerSpelling, startsWith, numeralOf};
 ghost use Rattle.form.specs.Form.{isMark, spelling, fill, taken, told};
@@ -204,6 +206,37 @@ pub fn form_fits(form: &[u8], numbers: &[u64], room: usize) -> bool
         return true;
     }
     counted_fits(form, numbers, room)
+}
+
+// Writes a word to the start of out, and answers how many bytes that took.
+pub fn write_word(out: &mut [u8], word: &[u8]) -> usize
+    requires { ⌜ length (now word) ≤ length (now out) ⌝ }
+    ensures { λ r. ⌜ Written (now (word .entry)) (now (out .entry)) r (now (out .exit)) ⌝ }
+{
+    let mut i = 0;
+    while i < word.len() {
+        out[i] = word[i];
+        i += 1;
+    }
+    i
+}
+
+// Writes a word and a number after it.
+pub fn write_worded(out: &mut [u8], word: &[u8], n: u64) -> usize
+    requires { ⌜ length (now word ++ decimal n) ≤ length (now out) ⌝ }
+    ensures { λ r. ⌜ Written (now (word .entry) ++ decimal n) (now (out .entry)) r (now (out .exit)) ⌝ }
+{
+    let at = write_word(&mut out[..], word);
+    at + decimal::write_number(&mut out[at..], n)
+}
+
+// Writes a word, a number after it, and the end of the line.
+pub fn write_ended(out: &mut [u8], word: &[u8], n: u64) -> usize
+    requires { ⌜ length ((now word ++ decimal n) ++ (10 ∷ [])) ≤ length (now out) ⌝ }
+    ensures { λ r. ⌜ Written ((now (word .entry) ++ decimal n) ++ (10 ∷ [])) (now (out .entry)) r (now (out .exit)) ⌝ }
+{
+    let at = write_worded(&mut out[..], word, n);
+    at + write_word(&mut out[at..], b"\n")
 }
 
 // Writes the form with these numbers to the start of out, and answers how many bytes that took.

@@ -1,9 +1,10 @@
 // The lines of the exchanged text (document 01, "Text") as rows of numbers. Public for the crates of this workspace that read and write
 // texts; these lend what is long enough, so the writers require it.
 ghost use mathlib.Core.Path.{_≡_};
+ghost use mathlib.Core.List.{[], _∷_, _++_};
 ghost use Prim.Native.Nat.{_+_, _≤_};
 ghost use lib.ListN.{length, drop, getD};
-ghost use Rattle.decimal.specs.Decimal.{numeralSize};
+ghost use Rattle.decimal.specs.Decimal.{decimal, numeralSize};
 ghost use Rattle.decimal.specs.Written.{Written};
 ghost use Rattle.form.specs.Form.{fill, taken, told};
 ghost use Rattle.line.specs.Line.{setForm, editForm, ruleForm, editLine, constraintLine, faulty, editShape, ruleShape, shapes, readAs, readBy, lineRead};
@@ -246,32 +247,58 @@ pub fn constraint_line_length(row: [u32; 3]) -> usize
     }
 }
 
-fn write_set(out: &mut [u8], field: u32, numbers: &[u64]) -> usize
-    requires { ⌜ length (fill (setForm field) (now numbers)) ≤ length (now out) ⌝ }
-    ensures { λ r. ⌜ Written (fill (setForm field) (now (numbers .entry))) (now (out .entry)) r (now (out .exit)) ⌝ }
+// Writes two words, each with a number after it, and the end of the line.
+fn write_pair(out: &mut [u8], first: &[u8], m: u64, second: &[u8], n: u64) -> usize
+    requires { ⌜ length ((now first ++ decimal m) ++ ((now second ++ decimal n) ++ (10 ∷ []))) ≤ length (now out) ⌝ }
+    ensures { λ r. ⌜ Written ((now (first .entry) ++ decimal m) ++ ((now (second .entry) ++ decimal n) ++ (10 ∷ []))) (now (out .entry)) r (now (out .exit)) ⌝ }
+{
+    let at = form::write_worded(&mut out[..], first, m);
+    at + form::write_ended(&mut out[at..], second, n)
+}
+
+// Writes what stands after the name.
+fn write_field(out: &mut [u8], field: u32, place: u64, value: u64) -> usize
+    requires { ⌜ length (fill (drop 6 (setForm field)) (place ∷ value ∷ [])) ≤ length (now out) ⌝ }
+    ensures { λ r. ⌜ Written (fill (drop 6 (setForm field)) (place ∷ value ∷ [])) (now (out .entry)) r (now (out .exit)) ⌝ }
 {
     match field {
-        0 => form::write_form(
+        0 => write_pair(
             &mut out[..],
-            b"edit=@ do=set chip=# field=id value=#\n",
-            numbers,
+            b" do=set chip=",
+            place,
+            b" field=id value=",
+            value,
         ),
-        1 => form::write_form(
+        1 => write_pair(
             &mut out[..],
-            b"edit=@ do=set chip=# field=size value=#\n",
-            numbers,
+            b" do=set chip=",
+            place,
+            b" field=size value=",
+            value,
         ),
-        2 => form::write_form(
+        2 => write_pair(
             &mut out[..],
-            b"edit=@ do=set chip=# field=erase value=#\n",
-            numbers,
+            b" do=set chip=",
+            place,
+            b" field=erase value=",
+            value,
         ),
-        _ => form::write_form(
+        _ => write_pair(
             &mut out[..],
-            b"edit=@ do=set chip=# field=page value=#\n",
-            numbers,
+            b" do=set chip=",
+            place,
+            b" field=page value=",
+            value,
         ),
     }
+}
+
+fn write_set(out: &mut [u8], field: u32, name: u64, place: u64, value: u64) -> usize
+    requires { ⌜ length (fill (setForm field) (name ∷ place ∷ value ∷ [])) ≤ length (now out) ⌝ }
+    ensures { λ r. ⌜ Written (fill (setForm field) (name ∷ place ∷ value ∷ [])) (now (out .entry)) r (now (out .exit)) ⌝ }
+{
+    let at = form::write_worded(&mut out[..], b"edit=", name);
+    at + write_field(&mut out[at..], field, place, value)
 }
 
 // Writes an edit's line to the start of out, and answers how many bytes that took.
@@ -279,12 +306,13 @@ pub fn write_edit_line(out: &mut [u8], row: [u32; 5]) -> usize
     requires { ⌜ length (editLine row) ≤ length (now out) ⌝ }
     ensures { λ r. ⌜ Written (editLine row) (now (out .entry)) r (now (out .exit)) ⌝ }
 {
-    let numbers = [wide(row[0]), wide(row[2]), wide(row[4])];
+    let name = wide(row[0]);
+    let place = wide(row[2]);
     let kind = row[1];
     match kind {
-        0 => form::write_form(&mut out[..], b"edit=@ do=insert chip=#\n", &numbers),
-        1 => write_set(&mut out[..], row[3], &numbers),
-        _ => form::write_form(&mut out[..], b"edit=@ do=remove chip=#\n", &numbers),
+        0 => write_pair(&mut out[..], b"edit=", name, b" do=insert chip=", place),
+        1 => write_set(&mut out[..], row[3], name, place, wide(row[4])),
+        _ => write_pair(&mut out[..], b"edit=", name, b" do=remove chip=", place),
     }
 }
 
@@ -293,15 +321,24 @@ pub fn write_constraint_line(out: &mut [u8], row: [u32; 3]) -> usize
     requires { ⌜ length (constraintLine row) ≤ length (now out) ⌝ }
     ensures { λ r. ⌜ Written (constraintLine row) (now (out .entry)) r (now (out .exit)) ⌝ }
 {
-    let numbers = [wide(row[0]), wide(row[2])];
+    let left = wide(row[0]);
+    let right = wide(row[2]);
     let rule = row[1];
     match rule {
-        0 => form::write_form(&mut out[..], b"left=@ rule=notafter right=@\n", &numbers),
-        1 => form::write_form(&mut out[..], b"left=@ rule=enables right=@\n", &numbers),
-        _ => form::write_form(
+        0 => write_pair(
             &mut out[..],
-            b"left=@ rule=noncommuting right=@\n",
-            &numbers,
+            b"left=",
+            left,
+            b" rule=notafter right=",
+            right,
+        ),
+        1 => write_pair(&mut out[..], b"left=", left, b" rule=enables right=", right),
+        _ => write_pair(
+            &mut out[..],
+            b"left=",
+            left,
+            b" rule=noncommuting right=",
+            right,
         ),
     }
 }

@@ -13,13 +13,13 @@ use Rattle.record.specs.declared.Record as declared
 use Rattle.record.specs.Stored.{recordOf}
 use Rattle.row.specs.Row.{editRow, constraintRow}
 use Rattle.decimal.specs.Written.{Written}
-use Rattle.decimal.proofs.Parts.{part-written, part-to-end}
+use Rattle.decimal.proofs.Parts.{part-written, part-to-end, inside, second-room, written-both}
 use Rattle.line.specs.Line.{editLine, constraintLine}
 use Rattle.text.specs.Text.{joinedLines, rowsText, textOf}
 use Rattle.writer.specs.declared.Fit.{Fit}
 use Rattle.writer.specs.declared.Written as declared-written
 use Rattle.writer.specs.Placed.{fitOf, placed, placing, editText, constraintText}
-use Rattle.writer.proofs.Writing.{fit-first, fit-both, inside, second-room, written-both}
+use Rattle.writer.proofs.Writing.{fit-first, fit-both}
 
 -- a count past the table's end takes all of it
 take-least : {A : Type 0} (a : List A) (n limit : ℕ) {r : ℕ} → length a ≡ limit → r ≡ min n limit → take r a ≡ take n a

@@ -10,7 +10,7 @@ use lib.Dec.{leb}
 use lib.ListN.{length, getD, take, drop, length-append, length-drop}
 use lib.Seq.{take-suc, take-add, take-at, drop-at, drop-drop}
 use Rattle.decimal.specs.Written.{Written}
-use Rattle.decimal.proofs.Parts.{part-written, part-to-end}
+use Rattle.decimal.proofs.Parts.{out-length, second-room, inside, written-both}
 use Rattle.text.specs.Text.{joinedLines}
 use Rattle.writer.specs.declared.Fit.{Fit}
 use Rattle.writer.specs.Placed.{fitOf}
@@ -43,31 +43,6 @@ fit-first s t room e h =
     let p : leb (length s) room ≡ leb (length (s ++ t)) room = lt-leb (length s) room l ∙ sym (lt-leb (length (s ++ t)) room (omega (arith, length-append s t))) in
     let q : room - length s ≡ room - length (s ++ t) = omega (arith, length-append s t) in
     e ∙ (λ i. record { fits = p i; left = q i })
-
--- two texts, one after the other: what they leave of a lent part
-module _ (s before : List ℕ) {at : ℕ} {out : List ℕ} (u : Written s before at out) where
-  out-length : length s ≤ length before → length out ≡ length before
-  out-length h = ap length (u .1) ∙ length-append s (drop (length s) before) ∙ rw (length-drop (length s) before) (omega arith)
-
-  pub second-room : (t : List ℕ) → length (s ++ t) ≤ length before → length t ≤ length (take (length out - at) (drop at out))
-  second-room t h =
-      let l : length (s ++ t) ≡ length s + length t = length-append s t in
-      let o = out-length (omega arith) in
-      rw (part-to-end at out, length-drop) (omega (arith, u .0))
-
-  pub inside : length s ≤ length before → at ≤ length out
-  inside h = omega (arith, u .0, out-length h)
-
-  pub written-both : (t : List ℕ) → length (s ++ t) ≤ length before → {r : ℕ} {after : List ℕ} → Written t (take (length out - at) (drop at out)) r after → Written (s ++ t) before (at + r) (take at out ++ (after ++ drop (length out - at) (drop at out)))
-  written-both t h {r} {after} w =
-      let l : length (s ++ t) ≡ length s + length t = length-append s t in
-      let o = out-length (omega arith) in
-      let a : take at out ≡ s = ap (take at) (u .1) ∙ take-at s (drop (length s) before) at (sym (u .0)) in
-      let b : drop at out ≡ drop (length s) before = ap (drop at) (u .1) ∙ drop-at s (drop (length s) before) at (sym (u .0)) in
-      let c : drop (at + length t) out ≡ drop (length (s ++ t)) before = sym (drop-drop (length t) at out) ∙ ap (drop (length t)) b ∙ drop-drop (length t) (length s) before ∙ ap (λ (n : ℕ). drop n before) (sym l) in (
-        omega (arith, u .0, w .0),
-        part-written at out after t (omega (arith, u .0)) (w .1) ∙ rw (a, c) (sym (append-assoc s t (drop (length (s ++ t)) before))),
-      )
 
 -- the lines of the first i of some elements
 module _ {A : Type 0} (line : A → List ℕ) (a : List A) where

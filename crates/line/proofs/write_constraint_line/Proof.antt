@@ -1,12 +1,11 @@
 -- `line::write_constraint_line` meets its contract. Assumes nothing.
-use Prim.Native.Nat.{_-_}
-use mathlib.Core.Path.{ap}
+use mathlib.Core.Path.{ap, _∙_}
 use lib.ListN.{getD}
 use borrow.Author.Needs.{needs}
-use Rattle.line.proofs.Says.{rule-rest}
-use Rattle.line.specs.Line.{ruleForm, constraintLine}
 use Rattle.form.specs.Spelling.{bytes}
-use Rattle.line.proofs.Puts.{fits-as, written-as, constraint-line-is}
+use Rattle.line.specs.Line.{ruleForm, constraintLine}
+use Rattle.line.proofs.Says.{rule-rest}
+use Rattle.line.proofs.Puts.{fits-as, written-as, constraint-line-is, notafter-words, enables-words, noncommuting-words}
 use Rattle.line.proofs.write_constraint_line.Statement.{statement}
 use Rattle.line.proofs.write_constraint_line.Tie as tie
 
@@ -25,56 +24,56 @@ wide-requires-2 c κs = search needs
 array-read-rule : tie.Need-array-read-rule
 array-read-rule c = search needs
 
-slice-aggregate-write-form : tie.Need-slice-aggregate-write-form
-slice-aggregate-write-form c = search needs
+slice-aggregate-write-pair : tie.Need-slice-aggregate-write-pair
+slice-aggregate-write-pair c = search needs
 
-slice-aggregate-write-form-2 : tie.Need-slice-aggregate-write-form-2
-slice-aggregate-write-form-2 c = search needs
+slice-aggregate-write-pair-2 : tie.Need-slice-aggregate-write-pair-2
+slice-aggregate-write-pair-2 c = search needs
 
-write-form-requires : tie.Need-write-form-requires
-unfolding ruleForm bytes
-write-form-requires c κs = fits-as (constraintLine (c .before .before .before .before .before .before .before .args .t2)) _ (constraint-line-is (c .before .before .before .before .before .before .before .args .t2) (ruleForm 0) (ap ruleForm (c .before .before .before .match .keys1)) (c .before .before .before .before .before .wide .ensures) (c .before .before .before .before .wide2 .ensures)) (c .before .before .before .before .before .before .before .args .out .now) (c .before .before .before .before .before .before .before .pre)
+write-pair-requires : tie.Need-write-pair-requires
+unfolding bytes
+write-pair-requires c κs = let a = c .before .before .before .before .before .before .before .args in fits-as (constraintLine (a .t2)) _ (constraint-line-is (a .t2) (ruleForm 0) (ap ruleForm (c .before .before .before .match .keys1)) (c .before .before .before .before .before .wide .ensures) (c .before .before .before .before .wide2 .ensures) ∙ notafter-words _ _) (a .out .now) (c .before .before .before .before .before .before .before .pre)
 
-slice-aggregate-write-form-3 : tie.Need-slice-aggregate-write-form-3
-slice-aggregate-write-form-3 c = search needs
+slice-aggregate-write-pair-3 : tie.Need-slice-aggregate-write-pair-3
+slice-aggregate-write-pair-3 c = search needs
 
-slice-aggregate-write-form-4 : tie.Need-slice-aggregate-write-form-4
-slice-aggregate-write-form-4 c = search needs
+slice-aggregate-write-pair-4 : tie.Need-slice-aggregate-write-pair-4
+slice-aggregate-write-pair-4 c = search needs
 
-write-form-requires-2 : tie.Need-write-form-requires-2
-unfolding ruleForm bytes
-write-form-requires-2 c κs = fits-as (constraintLine (c .before .before .before .before .before .before .before .args .t2)) _ (constraint-line-is (c .before .before .before .before .before .before .before .args .t2) (ruleForm 1) (ap ruleForm (c .before .before .before .match .keys2)) (c .before .before .before .before .before .wide .ensures) (c .before .before .before .before .wide2 .ensures)) (c .before .before .before .before .before .before .before .args .out .now) (c .before .before .before .before .before .before .before .pre)
+write-pair-requires-2 : tie.Need-write-pair-requires-2
+unfolding bytes
+write-pair-requires-2 c κs = let a = c .before .before .before .before .before .before .before .args in fits-as (constraintLine (a .t2)) _ (constraint-line-is (a .t2) (ruleForm 1) (ap ruleForm (c .before .before .before .match .keys2)) (c .before .before .before .before .before .wide .ensures) (c .before .before .before .before .wide2 .ensures) ∙ enables-words _ _) (a .out .now) (c .before .before .before .before .before .before .before .pre)
 
-slice-aggregate-write-form-5 : tie.Need-slice-aggregate-write-form-5
-slice-aggregate-write-form-5 c = search needs
+slice-aggregate-write-pair-5 : tie.Need-slice-aggregate-write-pair-5
+slice-aggregate-write-pair-5 c = search needs
 
-slice-aggregate-write-form-6 : tie.Need-slice-aggregate-write-form-6
-slice-aggregate-write-form-6 c = search needs
+slice-aggregate-write-pair-6 : tie.Need-slice-aggregate-write-pair-6
+slice-aggregate-write-pair-6 c = search needs
 
-write-form-requires-3 : tie.Need-write-form-requires-3
-unfolding ruleForm bytes
-write-form-requires-3 c κs = fits-as (constraintLine (c .before .before .before .before .before .before .before .args .t2)) _ (constraint-line-is (c .before .before .before .before .before .before .before .args .t2) (ruleForm 2) (rule-rest (getD (c .before .before .before .before .before .before .before .args .t2) 1 0) (c .before .before .before .match .rest .0 .1) (c .before .before .before .match .rest .1)) (c .before .before .before .before .before .wide .ensures) (c .before .before .before .before .wide2 .ensures)) (c .before .before .before .before .before .before .before .args .out .now) (c .before .before .before .before .before .before .before .pre)
+write-pair-requires-3 : tie.Need-write-pair-requires-3
+unfolding bytes
+write-pair-requires-3 c κs = let a = c .before .before .before .before .before .before .before .args in fits-as (constraintLine (a .t2)) _ (constraint-line-is (a .t2) (ruleForm 2) (rule-rest (getD (a .t2) 1 0) (c .before .before .before .match .rest .0 .1) (c .before .before .before .match .rest .1)) (c .before .before .before .before .before .wide .ensures) (c .before .before .before .before .wide2 .ensures) ∙ noncommuting-words _ _) (a .out .now) (c .before .before .before .before .before .before .before .pre)
 
 same-length : tie.Need-same-length
 same-length c = search needs
 
 returns : tie.Need-returns
-unfolding ruleForm bytes
-returns c = written-as (constraintLine (c .before .before .before .before .before .before .before .before .before .before .args .t2)) _ (constraint-line-is (c .before .before .before .before .before .before .before .before .before .before .args .t2) (ruleForm 0) (ap ruleForm (c .before .before .before .before .before .before .match .keys1)) (c .before .before .before .before .before .before .before .before .wide .ensures) (c .before .before .before .before .before .before .before .wide2 .ensures)) (c .before .before .before .before .before .before .before .before .before .before .args .out .now) (c .before .before .write-form .ensures)
+unfolding bytes
+returns c = let a = c .before .before .before .before .before .before .before .before .before .before .args in written-as (constraintLine (a .t2)) _ (constraint-line-is (a .t2) (ruleForm 0) (ap ruleForm (c .before .before .before .before .before .before .match .keys1)) (c .before .before .before .before .before .before .before .before .wide .ensures) (c .before .before .before .before .before .before .before .wide2 .ensures) ∙ notafter-words _ _) (a .out .now) (c .before .before .write-pair .ensures)
 
 same-length-2 : tie.Need-same-length-2
 same-length-2 c = search needs
 
 returns-2 : tie.Need-returns-2
-unfolding ruleForm bytes
-returns-2 c = written-as (constraintLine (c .before .before .before .before .before .before .before .before .before .before .args .t2)) _ (constraint-line-is (c .before .before .before .before .before .before .before .before .before .before .args .t2) (ruleForm 1) (ap ruleForm (c .before .before .before .before .before .before .match .keys2)) (c .before .before .before .before .before .before .before .before .wide .ensures) (c .before .before .before .before .before .before .before .wide2 .ensures)) (c .before .before .before .before .before .before .before .before .before .before .args .out .now) (c .before .before .write-form2 .ensures)
+unfolding bytes
+returns-2 c = let a = c .before .before .before .before .before .before .before .before .before .before .args in written-as (constraintLine (a .t2)) _ (constraint-line-is (a .t2) (ruleForm 1) (ap ruleForm (c .before .before .before .before .before .before .match .keys2)) (c .before .before .before .before .before .before .before .before .wide .ensures) (c .before .before .before .before .before .before .before .wide2 .ensures) ∙ enables-words _ _) (a .out .now) (c .before .before .write-pair2 .ensures)
 
 same-length-3 : tie.Need-same-length-3
 same-length-3 c = search needs
 
 returns-3 : tie.Need-returns-3
-unfolding ruleForm bytes
-returns-3 c = written-as (constraintLine (c .before .before .before .before .before .before .before .before .before .before .args .t2)) _ (constraint-line-is (c .before .before .before .before .before .before .before .before .before .before .args .t2) (ruleForm 2) (rule-rest (getD (c .before .before .before .before .before .before .before .before .before .before .args .t2) 1 0) (c .before .before .before .before .before .before .match .rest .0 .1) (c .before .before .before .before .before .before .match .rest .1)) (c .before .before .before .before .before .before .before .before .wide .ensures) (c .before .before .before .before .before .before .before .wide2 .ensures)) (c .before .before .before .before .before .before .before .before .before .before .args .out .now) (c .before .before .write-form3 .ensures)
+unfolding bytes
+returns-3 c = let a = c .before .before .before .before .before .before .before .before .before .before .args in written-as (constraintLine (a .t2)) _ (constraint-line-is (a .t2) (ruleForm 2) (rule-rest (getD (a .t2) 1 0) (c .before .before .before .before .before .before .match .rest .0 .1) (c .before .before .before .before .before .before .match .rest .1)) (c .before .before .before .before .before .before .before .before .wide .ensures) (c .before .before .before .before .before .before .before .wide2 .ensures) ∙ noncommuting-words _ _) (a .out .now) (c .before .before .write-pair3 .ensures)
 
 pub write-constraint-line-spec : {M : Type 1} → statement M
 write-constraint-line-spec =
@@ -85,15 +84,15 @@ write-constraint-line-spec =
     array-read-wide-2
     wide-requires-2
     array-read-rule
-    slice-aggregate-write-form
-    slice-aggregate-write-form-2
-    write-form-requires
-    slice-aggregate-write-form-3
-    slice-aggregate-write-form-4
-    write-form-requires-2
-    slice-aggregate-write-form-5
-    slice-aggregate-write-form-6
-    write-form-requires-3
+    slice-aggregate-write-pair
+    slice-aggregate-write-pair-2
+    write-pair-requires
+    slice-aggregate-write-pair-3
+    slice-aggregate-write-pair-4
+    write-pair-requires-2
+    slice-aggregate-write-pair-5
+    slice-aggregate-write-pair-6
+    write-pair-requires-3
     same-length
     returns
     same-length-2

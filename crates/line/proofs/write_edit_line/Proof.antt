@@ -1,12 +1,12 @@
 -- `line::write_edit_line` meets its contract. Assumes nothing.
-use Prim.Native.Nat.{ℕ, _-_}
-use mathlib.Core.Path.{ap}
+use Prim.Native.Nat.{ℕ}
+use mathlib.Core.Path.{refl, ap, _∙_}
 use lib.ListN.{getD}
 use borrow.Author.Needs.{needs}
-use Rattle.line.proofs.Says.{kind-rest}
-use Rattle.line.specs.Line.{setForm, editForm, editLine}
 use Rattle.form.specs.Spelling.{bytes}
-use Rattle.line.proofs.Puts.{fits-as, written-as, edit-line-is}
+use Rattle.line.specs.Line.{setForm, editForm, editLine}
+use Rattle.line.proofs.Says.{kind-rest}
+use Rattle.line.proofs.Puts.{fits-as, written-as, edit-line-is, insert-words, remove-words}
 use Rattle.line.proofs.write_edit_line.Statement.{statement}
 use Rattle.line.proofs.write_edit_line.Tie as tie
 
@@ -22,65 +22,62 @@ array-read-wide-2 c = search needs
 wide-requires-2 : tie.Need-wide-requires-2
 wide-requires-2 c κs = search needs
 
+array-read-kind : tie.Need-array-read-kind
+array-read-kind c = search needs
+
+slice-aggregate-write-pair : tie.Need-slice-aggregate-write-pair
+slice-aggregate-write-pair c = search needs
+
+slice-aggregate-write-pair-2 : tie.Need-slice-aggregate-write-pair-2
+slice-aggregate-write-pair-2 c = search needs
+
+write-pair-requires : tie.Need-write-pair-requires
+unfolding bytes
+write-pair-requires c κs = let a = c .before .before .before .before .before .before .before .args in fits-as (editLine (a .t2)) _ (edit-line-is (a .t2) (editForm 0 (getD (a .t2) 3 0)) (ap (λ (k : ℕ). editForm k (getD (a .t2) 3 0)) (c .before .before .before .match .keys1)) (c .before .before .before .before .before .wide .ensures) (c .before .before .before .before .wide2 .ensures) refl ∙ insert-words _ _ _ _) (a .out .now) (c .before .before .before .before .before .before .before .pre)
+
+array-read-write-set : tie.Need-array-read-write-set
+array-read-write-set c = search needs
+
 array-read-wide-3 : tie.Need-array-read-wide-3
 array-read-wide-3 c = search needs
 
 wide-requires-3 : tie.Need-wide-requires-3
 wide-requires-3 c κs = search needs
 
-array-read-kind : tie.Need-array-read-kind
-array-read-kind c = search needs
-
-slice-aggregate-write-form : tie.Need-slice-aggregate-write-form
-slice-aggregate-write-form c = search needs
-
-slice-aggregate-write-form-2 : tie.Need-slice-aggregate-write-form-2
-slice-aggregate-write-form-2 c = search needs
-
-write-form-requires : tie.Need-write-form-requires
-unfolding editForm bytes
-write-form-requires c κs = fits-as (editLine (c .before .before .before .before .before .before .before .before .args .t2)) _ (edit-line-is (c .before .before .before .before .before .before .before .before .args .t2) (editForm 0 (getD (c .before .before .before .before .before .before .before .before .args .t2) 3 0)) (ap (λ (k : ℕ). editForm k (getD (c .before .before .before .before .before .before .before .before .args .t2) 3 0)) (c .before .before .before .match .keys1)) (c .before .before .before .before .before .before .wide .ensures) (c .before .before .before .before .before .wide2 .ensures) (c .before .before .before .before .wide3 .ensures)) (c .before .before .before .before .before .before .before .before .args .out .now) (c .before .before .before .before .before .before .before .before .pre)
-
-array-read-write-set : tie.Need-array-read-write-set
-array-read-write-set c = search needs
-
-slice-aggregate-write-set : tie.Need-slice-aggregate-write-set
-slice-aggregate-write-set c = search needs
-
 write-set-requires : tie.Need-write-set-requires
 unfolding editForm
-write-set-requires c κs = fits-as (editLine (c .before .before .before .before .before .before .before .args .t2)) _ (edit-line-is (c .before .before .before .before .before .before .before .args .t2) (setForm (getD (c .before .before .before .before .before .before .before .args .t2) 3 0)) (ap (λ (k : ℕ). editForm k (getD (c .before .before .before .before .before .before .before .args .t2) 3 0)) (c .before .before .match .keys2)) (c .before .before .before .before .before .wide .ensures) (c .before .before .before .before .wide2 .ensures) (c .before .before .before .wide3 .ensures)) (c .before .before .before .before .before .before .before .args .out .now) (c .before .before .before .before .before .before .before .pre)
+write-set-requires c κs = let a = c .before .before .before .before .before .before .args in fits-as (editLine (a .t2)) _ (edit-line-is (a .t2) (setForm (getD (a .t2) 3 0)) (ap (λ (k : ℕ). editForm k (getD (a .t2) 3 0)) (c .before .before .match .keys2)) (c .before .before .before .before .wide .ensures) (c .before .before .before .wide2 .ensures) (c .wide3 .ensures)) (a .out .now) (c .before .before .before .before .before .before .pre)
 
-slice-aggregate-write-form-3 : tie.Need-slice-aggregate-write-form-3
-slice-aggregate-write-form-3 c = search needs
+slice-aggregate-write-pair-3 : tie.Need-slice-aggregate-write-pair-3
+slice-aggregate-write-pair-3 c = search needs
 
-slice-aggregate-write-form-4 : tie.Need-slice-aggregate-write-form-4
-slice-aggregate-write-form-4 c = search needs
+slice-aggregate-write-pair-4 : tie.Need-slice-aggregate-write-pair-4
+slice-aggregate-write-pair-4 c = search needs
 
-write-form-requires-2 : tie.Need-write-form-requires-2
-unfolding editForm bytes
-write-form-requires-2 c κs = fits-as (editLine (c .before .before .before .before .before .before .before .before .args .t2)) _ (edit-line-is (c .before .before .before .before .before .before .before .before .args .t2) (editForm 2 (getD (c .before .before .before .before .before .before .before .before .args .t2) 3 0)) (kind-rest (getD (c .before .before .before .before .before .before .before .before .args .t2) 1 0) (getD (c .before .before .before .before .before .before .before .before .args .t2) 3 0) (c .before .before .before .match .rest .0 .1) (c .before .before .before .match .rest .1)) (c .before .before .before .before .before .before .wide .ensures) (c .before .before .before .before .before .wide2 .ensures) (c .before .before .before .before .wide3 .ensures)) (c .before .before .before .before .before .before .before .before .args .out .now) (c .before .before .before .before .before .before .before .before .pre)
+write-pair-requires-2 : tie.Need-write-pair-requires-2
+unfolding bytes
+write-pair-requires-2 c κs = let a = c .before .before .before .before .before .before .before .args in fits-as (editLine (a .t2)) _ (edit-line-is (a .t2) (editForm 2 (getD (a .t2) 3 0)) (kind-rest (getD (a .t2) 1 0) (getD (a .t2) 3 0) (c .before .before .before .match .rest .0 .1) (c .before .before .before .match .rest .1)) (c .before .before .before .before .before .wide .ensures) (c .before .before .before .before .wide2 .ensures) refl ∙ remove-words _ _ _ _) (a .out .now) (c .before .before .before .before .before .before .before .pre)
 
 same-length : tie.Need-same-length
 same-length c = search needs
 
 returns : tie.Need-returns
-unfolding editForm bytes
-returns c = written-as (editLine (c .before .before .before .before .before .before .before .before .before .before .before .args .t2)) _ (edit-line-is (c .before .before .before .before .before .before .before .before .before .before .before .args .t2) (editForm 0 (getD (c .before .before .before .before .before .before .before .before .before .before .before .args .t2) 3 0)) (ap (λ (k : ℕ). editForm k (getD (c .before .before .before .before .before .before .before .before .before .before .before .args .t2) 3 0)) (c .before .before .before .before .before .before .match .keys1)) (c .before .before .before .before .before .before .before .before .before .wide .ensures) (c .before .before .before .before .before .before .before .before .wide2 .ensures) (c .before .before .before .before .before .before .before .wide3 .ensures)) (c .before .before .before .before .before .before .before .before .before .before .before .args .out .now) (c .before .before .write-form .ensures)
+unfolding bytes
+returns c = let a = c .before .before .before .before .before .before .before .before .before .before .args in written-as (editLine (a .t2)) _ (edit-line-is (a .t2) (editForm 0 (getD (a .t2) 3 0)) (ap (λ (k : ℕ). editForm k (getD (a .t2) 3 0)) (c .before .before .before .before .before .before .match .keys1)) (c .before .before .before .before .before .before .before .before .wide .ensures) (c .before .before .before .before .before .before .before .wide2 .ensures) refl ∙ insert-words _ _ _ _) (a .out .now) (c .before .before .write-pair .ensures)
 
 same-length-2 : tie.Need-same-length-2
 same-length-2 c = search needs
 
 returns-2 : tie.Need-returns-2
 unfolding editForm
-returns-2 c = written-as (editLine (c .before .before .before .before .before .before .before .before .before .before .args .t2)) _ (edit-line-is (c .before .before .before .before .before .before .before .before .before .before .args .t2) (setForm (getD (c .before .before .before .before .before .before .before .before .before .before .args .t2) 3 0)) (ap (λ (k : ℕ). editForm k (getD (c .before .before .before .before .before .before .before .before .before .before .args .t2) 3 0)) (c .before .before .before .before .before .match .keys2)) (c .before .before .before .before .before .before .before .before .wide .ensures) (c .before .before .before .before .before .before .before .wide2 .ensures) (c .before .before .before .before .before .before .wide3 .ensures)) (c .before .before .before .before .before .before .before .before .before .before .args .out .now) (c .before .before .write-set .ensures)
+returns-2 c = let a = c .before .before .before .before .before .before .before .before .before .args in written-as (editLine (a .t2)) _ (edit-line-is (a .t2) (setForm (getD (a .t2) 3 0)) (ap (λ (k : ℕ). editForm k (getD (a .t2) 3 0)) (c .before .before .before .before .before .match .keys2)) (c .before .before .before .before .before .before .before .wide .ensures) (c .before .before .before .before .before .before .wide2 .ensures) (c .before .before .before .wide3 .ensures)) (a .out .now) (c .before .before .write-set .ensures)
 
 same-length-3 : tie.Need-same-length-3
 same-length-3 c = search needs
 
 returns-3 : tie.Need-returns-3
-unfolding editForm bytes
-returns-3 c = written-as (editLine (c .before .before .before .before .before .before .before .before .before .before .before .args .t2)) _ (edit-line-is (c .before .before .before .before .before .before .before .before .before .before .before .args .t2) (editForm 2 (getD (c .before .before .before .before .before .before .before .before .before .before .before .args .t2) 3 0)) (kind-rest (getD (c .before .before .before .before .before .before .before .before .before .before .before .args .t2) 1 0) (getD (c .before .before .before .before .before .before .before .before .before .before .before .args .t2) 3 0) (c .before .before .before .before .before .before .match .rest .0 .1) (c .before .before .before .before .before .before .match .rest .1)) (c .before .before .before .before .before .before .before .before .before .wide .ensures) (c .before .before .before .before .before .before .before .before .wide2 .ensures) (c .before .before .before .before .before .before .before .wide3 .ensures)) (c .before .before .before .before .before .before .before .before .before .before .before .args .out .now) (c .before .before .write-form2 .ensures)
+unfolding bytes
+returns-3 c = let a = c .before .before .before .before .before .before .before .before .before .before .args in written-as (editLine (a .t2)) _ (edit-line-is (a .t2) (editForm 2 (getD (a .t2) 3 0)) (kind-rest (getD (a .t2) 1 0) (getD (a .t2) 3 0) (c .before .before .before .before .before .before .match .rest .0 .1) (c .before .before .before .before .before .before .match .rest .1)) (c .before .before .before .before .before .before .before .before .wide .ensures) (c .before .before .before .before .before .before .before .wide2 .ensures) refl ∙ remove-words _ _ _ _) (a .out .now) (c .before .before .write-pair2 .ensures)
 
 pub write-edit-line-spec : {M : Type 1} → statement M
 write-edit-line-spec =
@@ -90,18 +87,17 @@ write-edit-line-spec =
     wide-requires
     array-read-wide-2
     wide-requires-2
+    array-read-kind
+    slice-aggregate-write-pair
+    slice-aggregate-write-pair-2
+    write-pair-requires
+    array-read-write-set
     array-read-wide-3
     wide-requires-3
-    array-read-kind
-    slice-aggregate-write-form
-    slice-aggregate-write-form-2
-    write-form-requires
-    array-read-write-set
-    slice-aggregate-write-set
     write-set-requires
-    slice-aggregate-write-form-3
-    slice-aggregate-write-form-4
-    write-form-requires-2
+    slice-aggregate-write-pair-3
+    slice-aggregate-write-pair-4
+    write-pair-requires-2
     same-length
     returns
     same-length-2

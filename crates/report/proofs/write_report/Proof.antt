@@ -1,6 +1,6 @@
 -- `report::write_report` meets its contract. Assumes nothing.
 use lib.ListN.{length-append}
-use Rattle.writer.proofs.Writing.{inside, second-room, written-both}
+use Rattle.decimal.proofs.Parts.{inside, second-room, written-both}
 use mathlib.Core.List.{map}
 use Rattle.form.specs.Form.{fill}
 use Rattle.text.specs.Text.{joinedLines}
