@@ -11,8 +11,7 @@ pub struct Numeral {
     pub value: u64,
 }
 
-// How many bytes n takes.
-pub fn number_length(n: u64) -> usize
+fn counted_length(n: u64) -> usize
     ensures { λ r. ⌜ r ≡ length (decimal n) ⌝ }
 {
     let mut rest = n;
@@ -22,6 +21,25 @@ pub fn number_length(n: u64) -> usize
         count += 1;
     }
     count
+}
+
+// How many bytes n takes.
+pub fn number_length(n: u64) -> usize
+    ensures { λ r. ⌜ r ≡ length (decimal n) ⌝ }
+{
+    if n < 10 {
+        return 1;
+    }
+    if n < 100 {
+        return 2;
+    }
+    if n < 1000 {
+        return 3;
+    }
+    if n < 10000 {
+        return 4;
+    }
+    counted_length(n)
 }
 
 // Numbers of two, three and four digits are written at once, since names and pages have so many.

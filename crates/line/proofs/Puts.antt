@@ -1,9 +1,10 @@
 -- The laws that the writers of lines cite. Assumes nothing.
-use Prim.Native.Nat.{ℕ, zero, suc, _≤_}
+use Prim.Native.Nat.{ℕ, zero, suc, _+_, _≤_}
 use mathlib.Core.Path.{_≡_, refl, ap, _∙_}
 use mathlib.Core.Bool.{true}
 use mathlib.Core.List.{List, [], _∷_, _++_}
-use lib.ListN.{length, getD, drop}
+use native.Mathlib.Omega.{arith}
+use lib.ListN.{length, getD, drop, length-append}
 use Rattle.record.specs.Lists.{all}
 use Rattle.decimal.specs.Decimal.{decimal}
 use Rattle.decimal.specs.Written.{Written}
@@ -37,18 +38,18 @@ unfolding constraintLine
 constraint-line-is row f e p q = rw (e, p, q)
 
 -- the forms as words, with a number after each
-abbrev pub Numbering : ℕ → Type 0
+abbrev Numbering : ℕ → Type 0
 Numbering c = (isMark c ≡ true) × (spelling c ≡ numberSpelling)
 
-pub name-mark : Numbering 64
+name-mark : Numbering 64
 unfolding isMark spelling nameSpelling
 name-mark = (refl, refl)
 
-pub number-mark : Numbering 35
+number-mark : Numbering 35
 unfolding isMark spelling
 number-mark = (refl, refl)
 
-pub fill-numbered : (word : List ℕ) (c : ℕ) (f ns : List ℕ) → plain word ≡ true → Numbering c → fill (word ++ (c ∷ f)) ns ≡ (word ++ decimal (getD ns 0 0)) ++ fill f (drop 1 ns)
+fill-numbered : (word : List ℕ) (c : ℕ) (f ns : List ℕ) → plain word ≡ true → Numbering c → fill (word ++ (c ∷ f)) ns ≡ (word ++ decimal (getD ns 0 0)) ++ fill f (drop 1 ns)
 unfolding numberSpelling
 fill-numbered word c f ns p m = fill-worded word c f ns p (m .0) ∙ rw (m .1)
 
@@ -116,3 +117,20 @@ module _ (m n : ℕ) where
   set-words field name =
       ap (λ (form : List ℕ). fill form (name ∷ m ∷ n ∷ [])) (named field)
       ∙ fill-numbered (bytes "edit=") 64 (drop 6 (setForm field)) (name ∷ m ∷ n ∷ []) named-word name-mark
+
+-- how many bytes they take
+pub words-length : (first second : List ℕ) (m n : ℕ) {text : List ℕ} {words r : ℕ} → text ≡ (first ++ decimal m) ++ ((second ++ decimal n) ++ (10 ∷ []))
+    → length first + (length second + 1) ≡ words → r ≡ words + length (decimal m) + length (decimal n) → r ≡ length text
+words-length first second m n {text} e w p =
+    let q : length text ≡ (length first + length (decimal m)) + ((length second + length (decimal n)) + 1) =
+    ap length e ∙ rw (length-append, length-append, length-append, length-append) in
+    omega arith
+
+pub set-length-is : (field name place value : ℕ) {r : ℕ} → r ≡ length (fill (drop 6 (setForm field)) (place ∷ value ∷ []))
+    → 5 + length (decimal name) + r ≡ length (fill (setForm field) (name ∷ place ∷ value ∷ []))
+unfolding bytes
+set-length-is field name place value e =
+    let rest = fill (drop 6 (setForm field)) (place ∷ value ∷ []) in
+    let q : length (fill (setForm field) (name ∷ place ∷ value ∷ [])) ≡ (5 + length (decimal name)) + length rest =
+    ap length (set-words place value field name) ∙ rw (length-append, length-append) in
+    omega arith

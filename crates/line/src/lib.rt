@@ -210,27 +210,43 @@ fn wide(n: u32) -> u64
     n as u64
 }
 
-fn set_length(field: u32, numbers: &[u64]) -> usize
-    ensures { λ r. ⌜ r ≡ length (fill (setForm field) (now (numbers .entry))) ⌝ }
+// How many bytes two numbers take beside words of so many.
+fn pair_length(words: usize, m: u64, n: u64) -> usize
+    requires { ⌜ words ≤ 100 ⌝ }
+    ensures { λ r. ⌜ (r ≡ words + length (decimal m) + length (decimal n)) × (r ≤ 140) ⌝ }
+{
+    words + decimal::number_length(m) + decimal::number_length(n)
+}
+
+// How many bytes stand after the name.
+fn field_length(field: u32, place: u64, value: u64) -> usize
+    ensures { λ r. ⌜ (r ≡ length (fill (drop 6 (setForm field)) (place ∷ value ∷ []))) × (r ≤ 140) ⌝ }
 {
     match field {
-        0 => form::form_length(b"edit=@ do=set chip=# field=id value=#\n", numbers),
-        1 => form::form_length(b"edit=@ do=set chip=# field=size value=#\n", numbers),
-        2 => form::form_length(b"edit=@ do=set chip=# field=erase value=#\n", numbers),
-        _ => form::form_length(b"edit=@ do=set chip=# field=page value=#\n", numbers),
+        0 => pair_length(30, place, value),
+        1 => pair_length(32, place, value),
+        2 => pair_length(33, place, value),
+        _ => pair_length(32, place, value),
     }
+}
+
+fn set_length(field: u32, name: u64, place: u64, value: u64) -> usize
+    ensures { λ r. ⌜ r ≡ length (fill (setForm field) (name ∷ place ∷ value ∷ [])) ⌝ }
+{
+    5 + decimal::number_length(name) + field_length(field, place, value)
 }
 
 // How many bytes an edit's line takes with its end.
 pub fn edit_line_length(row: [u32; 5]) -> usize
     ensures { λ r. ⌜ r ≡ length (editLine row) ⌝ }
 {
-    let numbers = [wide(row[0]), wide(row[2]), wide(row[4])];
+    let name = wide(row[0]);
+    let place = wide(row[2]);
     let kind = row[1];
     match kind {
-        0 => form::form_length(b"edit=@ do=insert chip=#\n", &numbers),
-        1 => set_length(row[3], &numbers),
-        _ => form::form_length(b"edit=@ do=remove chip=#\n", &numbers),
+        0 => pair_length(22, name, place),
+        1 => set_length(row[3], name, place, wide(row[4])),
+        _ => pair_length(22, name, place),
     }
 }
 
@@ -238,12 +254,13 @@ pub fn edit_line_length(row: [u32; 5]) -> usize
 pub fn constraint_line_length(row: [u32; 3]) -> usize
     ensures { λ r. ⌜ r ≡ length (constraintLine row) ⌝ }
 {
-    let numbers = [wide(row[0]), wide(row[2])];
+    let left = wide(row[0]);
+    let right = wide(row[2]);
     let rule = row[1];
     match rule {
-        0 => form::form_length(b"left=@ rule=notafter right=@\n", &numbers),
-        1 => form::form_length(b"left=@ rule=enables right=@\n", &numbers),
-        _ => form::form_length(b"left=@ rule=noncommuting right=@\n", &numbers),
+        0 => pair_length(27, left, right),
+        1 => pair_length(26, left, right),
+        _ => pair_length(31, left, right),
     }
 }
 

@@ -1,68 +1,33 @@
 -- `line::set_length` meets its contract. Assumes nothing.
-use Prim.Native.Nat.{_-_}
-use mathlib.Core.Path.{ap}
+use native.Mathlib.Omega.{arith}
+use mathlib.Core.Path.{_∙_}
 use borrow.Author.Needs.{needs}
-use Rattle.line.proofs.Says.{set-rest}
-use Rattle.line.specs.Line.{setForm}
-use Rattle.form.specs.Spelling.{bytes}
-use Rattle.line.proofs.Puts.{length-as, fill-as}
-use Rattle.form.specs.Form.{fill}
+use Rattle.decimal.proofs.Laws.{decimal-twenty}
+use Rattle.line.proofs.Puts.{set-length-is}
 use Rattle.line.proofs.set_length.Statement.{statement}
 use Rattle.line.proofs.set_length.Tie as tie
 
-slice-aggregate-form-length : tie.Need-slice-aggregate-form-length
-slice-aggregate-form-length c = search needs
+number-length-requires : tie.Need-number-length-requires
+number-length-requires c κs = search needs
 
-form-length-requires : tie.Need-form-length-requires
-form-length-requires c κs = search needs
+add-result : tie.Need-add-result
+add-result c = let s = c .before in omega (arith, decimal-twenty (s .args .name) (s .fits .name .fits), c .number-length .ensures)
 
-slice-aggregate-form-length-2 : tie.Need-slice-aggregate-form-length-2
-slice-aggregate-form-length-2 c = search needs
+field-length-requires : tie.Need-field-length-requires
+field-length-requires c κs = search needs
 
-form-length-requires-2 : tie.Need-form-length-requires-2
-form-length-requires-2 c κs = search needs
-
-slice-aggregate-form-length-3 : tie.Need-slice-aggregate-form-length-3
-slice-aggregate-form-length-3 c = search needs
-
-form-length-requires-3 : tie.Need-form-length-requires-3
-form-length-requires-3 c κs = search needs
-
-slice-aggregate-form-length-4 : tie.Need-slice-aggregate-form-length-4
-slice-aggregate-form-length-4 c = search needs
-
-form-length-requires-4 : tie.Need-form-length-requires-4
-form-length-requires-4 c κs = search needs
+add-result-2 : tie.Need-add-result-2
+add-result-2 c = let s = c .before .before in omega (arith, decimal-twenty (s .args .name) (s .fits .name .fits), c .before .number-length .ensures, c .field-length .ensures .1)
 
 returns : tie.Need-returns
-unfolding setForm bytes
-returns c = length-as _ (fill (setForm 0) (c .before .before .before .before .args .numbers .now)) (fill-as (setForm (c .before .before .before .before .args .field)) (setForm 0) (c .before .before .before .before .args .numbers .now) (ap setForm (c .before .before .match .keys1))) (c .form-length .ensures)
-
-returns-2 : tie.Need-returns-2
-unfolding setForm bytes
-returns-2 c = length-as _ (fill (setForm 1) (c .before .before .before .before .args .numbers .now)) (fill-as (setForm (c .before .before .before .before .args .field)) (setForm 1) (c .before .before .before .before .args .numbers .now) (ap setForm (c .before .before .match .keys2))) (c .form-length2 .ensures)
-
-returns-3 : tie.Need-returns-3
-unfolding setForm bytes
-returns-3 c = length-as _ (fill (setForm 2) (c .before .before .before .before .args .numbers .now)) (fill-as (setForm (c .before .before .before .before .args .field)) (setForm 2) (c .before .before .before .before .args .numbers .now) (ap setForm (c .before .before .match .keys3))) (c .form-length3 .ensures)
-
-returns-4 : tie.Need-returns-4
-unfolding setForm bytes
-returns-4 c = length-as _ (fill (setForm 3) (c .before .before .before .before .args .numbers .now)) (fill-as (setForm (c .before .before .before .before .args .field)) (setForm 3) (c .before .before .before .before .args .numbers .now) (set-rest (c .before .before .before .before .args .field) (c .before .before .match .rest .0 .0 .1) (c .before .before .match .rest .0 .1) (c .before .before .match .rest .1))) (c .form-length4 .ensures)
+returns c = let a = c .before .before .args in omega (arith, c .before .number-length .ensures, set-length-is (a .field) (a .name) (a .place) (a .value) (c .field-length .ensures .0))
 
 pub set-length-spec : {M : Type 1} → statement M
 set-length-spec =
     tie.close
     (tie.spec
-    slice-aggregate-form-length
-    form-length-requires
-    slice-aggregate-form-length-2
-    form-length-requires-2
-    slice-aggregate-form-length-3
-    form-length-requires-3
-    slice-aggregate-form-length-4
-    form-length-requires-4
-    returns
-    returns-2
-    returns-3
-    returns-4)
+    number-length-requires
+    add-result
+    field-length-requires
+    add-result-2
+    returns)
