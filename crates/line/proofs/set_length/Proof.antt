@@ -1,6 +1,5 @@
 -- `line::set_length` meets its contract. Assumes nothing.
 use native.Mathlib.Omega.{arith}
-use mathlib.Core.Path.{_∙_}
 use borrow.Author.Needs.{needs}
 use Rattle.decimal.proofs.Laws.{decimal-twenty}
 use Rattle.line.proofs.Puts.{set-length-is}
