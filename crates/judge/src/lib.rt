@@ -142,15 +142,17 @@ pub fn schedule(multilog: Record, hidden: [u8; 128]) -> Schedule
     edits_of(multilog, row)
 }
 
-// Whether a record is sound, and its bench schedule.
+// Whether a record is sound, the edits that must stand, and its bench schedule.
 pub struct Planned {
     pub sound: bool,
+    pub must: [u8; 128],
     pub schedule: Schedule,
 }
 
-// Both from the same linked rows, for a record that has just been joined.
+// All from the same linked rows, for a record that is about to be a bench's.
 pub fn plan(multilog: Record, hidden: [u8; 128]) -> Planned
-    ensures { λ r. ⌜ ((R : theory.Record) → multilog ≡ stored R → Fit R → (r .sound ≡ judgement.sound R) × (r .schedule ≡ scheduleOf R (markedEdits R hidden))) ⌝ }
+    ensures { λ r. ⌜ ((R : theory.Record) → multilog ≡ stored R → Fit R
+        → (r .sound ≡ judgement.sound R) × (r .must ≡ marksOf R (judgement.must R)) × (r .schedule ≡ scheduleOf R (markedEdits R hidden))) ⌝ }
 {
     let n = indexes::name_count(multilog);
     let rows = indexes::resolved(multilog);
@@ -162,6 +164,7 @@ pub fn plan(multilog: Record, hidden: [u8; 128]) -> Planned
     let row = schedules::schedule_row(n, &head, &link, &left, mustmarks, &hidden);
     Planned {
         sound: !ring,
+        must: mustmarks,
         schedule: edits_of(multilog, row),
     }
 }

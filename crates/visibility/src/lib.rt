@@ -15,16 +15,18 @@ pub fn hide(bench: Bench, edit: u32) -> Outcome
     if index == 0 {
         return bench::refused(bench, 5);
     }
-    let musts = judge::musts(multilog);
-    if musts[index] == 1 {
-        return bench::refused(bench, 9);
-    }
     let mut marks = bench.hidden;
     if marks[index] == 1 {
         return bench::refused(bench, 9);
     }
     marks[index] = 1;
-    change::change(bench, multilog, marks, bench::no_election())
+    let planned = judge::plan(multilog, marks);
+    let musts = planned.must;
+    if musts[index] == 1 {
+        return bench::refused(bench, 9);
+    }
+    let schedule = planned.schedule;
+    bench::reschedule(bench, multilog, marks, schedule, bench::no_election())
 }
 
 pub fn show(bench: Bench, edit: u32) -> Outcome

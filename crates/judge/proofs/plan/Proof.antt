@@ -32,6 +32,7 @@ returns c =
     let g = m .before .before .before .before .before .before .before .resolved .ensures .1 R e f in
     let n = m .before .before .before .before .before .before .before .before .name-count .ensures .1 R e f in (
       sound-ring R _ (c .before .before .before .before .before .before .has-ring .ensures R _ (g .notafters) n (musts-known R (f .formed)) (m .must-marks .ensures .1 R g ∙ must-musts R)),
+      m .must-marks .ensures .1 R g,
       c .edits-of .ensures R _ e f (c .before .schedule-row .ensures .3 R _ g n (m .must-marks .ensures .1 R g) (marked-hides R f _)),
     )
 

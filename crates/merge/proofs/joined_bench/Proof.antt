@@ -60,7 +60,7 @@ returns-3 c =
     joined-changes calls (s .args .bench) (s .args .joined) (s .args .election) n U e j z (p .before .carried .result) _ t (k o) (keeps o)
     (keeps-within L v U (keeps o))
     (p .before .carried .ensures (L .multilog) U (L .hidden) (bench-record L (s .args .bench) e) u (v .checked) (k o) (v .hidden-written) (bench-hidden L (s .args .bench) e))
-    (change-made (s .args .bench) (s .args .joined .after) (p .before .carried .result) (p .plan .result .schedule) (s .args .election) (c .reschedule .result) (λ R m f. p .plan .ensures R m f .1) (c .reschedule .ensures))
+    (change-made (s .args .bench) (s .args .joined .after) (p .before .carried .result) (p .plan .result .schedule) (s .args .election) (c .reschedule .result) (λ R m f. p .plan .ensures R m f .2) (c .reschedule .ensures))
 
 pub joined-bench-spec : {M : Type 1} → statement M
 joined-bench-spec =
