@@ -161,11 +161,11 @@ pub fn plan(multilog: Record, hidden: [u8; 128]) -> Planned
     let left = rows.left;
     let mustmarks = marks::must_marks(&head, &link, &left);
     let ring = links::has_ring(n, &head, &link, &left, mustmarks);
-    let row = schedules::schedule_row(n, &head, &link, &left, mustmarks, &hidden);
+    let pages = schedules::schedule_row(n, &head, &link, &left, mustmarks, &hidden);
     Planned {
         sound: !ring,
         must: mustmarks,
-        schedule: edits_of(multilog, row),
+        schedule: edits_of(multilog, pages),
     }
 }
 
