@@ -102,8 +102,8 @@ fn sift_constraints(
     }
 }
 
-// The bundle of an edit that the record knows, by the table of the record's names and the rows of what leads to a member: they are made once for
-// many edits.
+// The bundle of an edit that the record knows, by the table of the record's names and the rows of what leads to a member: they are made once for many
+// edits. Pub for `keeping`, which makes both.
 pub fn bundle_by(
     multilog: Record,
     table: &[u8; 2304],

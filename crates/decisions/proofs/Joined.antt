@@ -18,11 +18,11 @@ use Rattle.keyed.specs.Keyed.{precedes, Below, Ascending, inserted, united}
 use Rattle.table.specs.Table.{editKey, constraintKey, unite}
 use Rattle.table.specs.Checked.{Checked}
 use Rattle.unite.specs.Union.{Unites}
-use Rattle.proposal.specs.Proposal.{decisions}
+use Rattle.proposal.specs.Proposal.{decisions, decisionOn}
 use Rattle.insertion.specs.declared.Constraints.{Constraints}
 use Rattle.insertion.specs.Insertion.{tableOf}
 use Rattle.draft.proofs.Joins.{united-none}
-use Rattle.decisions.specs.Decisions.{decisionOn, onlyConstraints}
+use Rattle.decisions.specs.Decisions.{onlyConstraints}
 
 -- a union has at most the rows of both
 module _ {A : Type 0} (key : A → List ℕ) where

@@ -27,7 +27,7 @@ use Rattle.table.proofs.Tables.{held}
 use Rattle.links.specs.Marks.{nameAt, placeIn}
 use Rattle.links.proofs.Marks.{values-at}
 use Rattle.links.proofs.Names.{getD-among, place-known}
-use Rattle.proposal.specs.Proposal.{withConstraints, before, unordered, decisions, orders, finished}
+use Rattle.proposal.specs.Proposal.{withConstraints, before, unordered, decisions, orders, finished, decisionOn}
 use Rattle.proposal.proofs.Finished.{unordered-from}
 use Rattle.insertion.specs.declared.Constraints.{Constraints}
 use Rattle.insertion.specs.Insertion.{tableOf}
@@ -35,7 +35,7 @@ use Rattle.pairs.proofs.Sifting.{in-array}
 use Rattle.pairs.proofs.Unordered.{index-low, index-name}
 use Rattle.draft.proofs.Places.{place-none, place-some, place-mem}
 use Rattle.draft.proofs.Joins.{united-append, united-one, united-none, joins-next}
-use Rattle.decisions.specs.Decisions.{Paged, decided, pageOrder, decisionOn}
+use Rattle.decisions.specs.Decisions.{Paged, decided, pageOrder}
 
 -- a name other than INIT stands in the row where its place is not 0
 module _ (rest : List ℕ) (x : ℕ) (n : x ≡ 0 → ⊥) {page : ℕ} (e : page ≡ placeIn (0 ∷ rest) x) where

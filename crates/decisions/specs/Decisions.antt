@@ -6,7 +6,6 @@ use Prim.Native.Nat.{ℕ}
 use lib.Dec.{eqb, ltb}
 use lib.ListN.{getD}
 use Rattle.record.specs.declared.Constraint.{Constraint}
-use Rattle.record.specs.Lists.{mem}
 use Rattle.record.specs.Record.{Record, names, WellFormed}
 use Rattle.links.specs.Marks.{placeIn, valuesOf}
 use Rattle.proposal.specs.Proposal.{before}
@@ -16,10 +15,6 @@ pub record Paged (R : Record) (rest index pages : List ℕ) : Type 0 where
   pub formed : WellFormed R
   pub indexed : (x : ℕ) → getD index x 0 ≡ placeIn (names R) x
   pub paged : pages ≡ valuesOf R (placeIn (0 ∷ rest))
-
--- the decision on an edit by the row
-abbrev pub decisionOn : List ℕ → ℕ → Constraint
-decisionOn row x = cond (mem x row) (record { left = x; rule = 1; right = 0 }) (before x x)
 
 -- an edit with a page is marked required, one without aborted
 abbrev pub decided : ℕ → ℕ → Constraint

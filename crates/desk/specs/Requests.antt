@@ -30,10 +30,11 @@ forwardOf D c = cond (isPages (cell c 0)) (make (turn (pos (cell c 0)))) outside
 unfoldable pub backOf : Desk → Cells → Request
 backOf D c = cond (isPages (cell c 0)) (make (turn (negℤ (pos (cell c 0))))) outside
 
--- the same by the request's place: 3 is forward, 4 back
+-- the places of forward and back among the requests
 unfoldable pub isTurn : ℕ → Bool
 isTurn which = eqb which 3 || eqb which 4
 
+-- both turns by the request's place: 3 is forward
 unfoldable pub signedPages : ℕ → ℕ → ℤ
 signedPages which pages = cond (eqb which 3) (pos pages) (negℤ (pos pages))
 

@@ -1,27 +1,26 @@
 -- What a line that lends or makes a call prints and leaves. Assumes nothing.
 use mathlib.Core.Path.{_≡_, refl, sym, ap, _∙_}
-use mathlib.Core.Bool.{Bool, true, false, cond}
-use mathlib.Core.List.{List, [], _∷_, _++_}
+use mathlib.Core.Bool.{true, false, cond}
+use mathlib.Core.List.{List, [], _∷_}
 use Prim.Native.Nat.{ℕ, zero, suc, _≤_, _<_}
 use native.Mathlib.Omega.{arith}
 use lib.Dec.{eqb}
 use lib.ListN.{length}
 use borrow.Author.Tests.{eq-eqb, ne-eqb}
 use Rattle.ground.specs.Ground.{Rows}
-use Rattle.record.proofs.Lists.{by}
 use Rattle.turner.specs.declared.Turner.{Turner}
 use Rattle.ledger.specs.declared.Answer.{Answer}
 use Rattle.ledger.specs.declared.Bench.{Bench}
 use Rattle.ledger.specs.declared.Outcome.{Outcome}
-use Rattle.ledger.specs.Ledger.{Ledger, Call, start, fed, last, step}
+use Rattle.ledger.specs.Ledger.{Call, start, fed, last}
 use Rattle.ledger.specs.Bench.{benchOf, outcome}
-use Rattle.bench.specs.Changes.{refusedWith}
+use Rattle.ledger.proofs.Undone.{fed-more}
 use Rattle.forms.specs.Printed.{Printed}
-use Rattle.forms.proofs.Printing.{printed-as, printed-nothing}
+use Rattle.forms.proofs.Printing.{printed-nothing}
 use Rattle.answers.specs.Answers.{answerLine}
 use Rattle.lending.specs.declared.Lending.{Lending}
 use Rattle.lending.specs.Kept.{Kept}
-use Rattle.desk.specs.Desk.{Desk, Cells, Effect, Request, outside, make, ledgerOf, benchIn, requested, replied, printedOf}
+use Rattle.desk.specs.Desk.{Desk, Cells, Request, outside, make, ledgerOf, benchIn, requested, replied, printedOf}
 use Rattle.desk.specs.Lends.{lendingOf, lendings, lendEdit, lendConstraint, lendNothing, lendBench, lendSeat, lendNoRoll, lendName, lendNoRow}
 use Rattle.desk.specs.Requests.{requestOf}
 use Rattle.desk_calls.specs.Lines.{Holds, bit, pagesText, adoptionText, callText, callOf, outcomeText}
@@ -65,11 +64,6 @@ below (suc (suc (suc (suc (suc (suc zero)))))) P h a b c d e f g i = g
 below (suc (suc (suc (suc (suc (suc (suc zero))))))) P h a b c d e f g i = i
 below (suc (suc (suc (suc (suc (suc (suc (suc k)))))))) P h a b c d e f g i = absurd (omega arith)
 
-fed-one : (L : Ledger) (calls : List Call) (call : Call) → fed L (calls ++ (call ∷ [])) ≡ step (fed L calls) call .after
-unfolding fed
-fed-one L [] call = refl
-fed-one L (first ∷ rest) call = fed-one (step L first .after) rest call
-
 -- a line that lends makes no call, and prints nothing where it is accepted
 same-calls : (D : Desk) (kind : ℕ) (c : Cells) → kind < 8 → lendingOf kind D c .after .calls ≡ D .calls
 unfolding lendingOf lendings lendEdit lendConstraint lendNothing lendBench lendSeat lendNoRoll lendName lendNoRow
@@ -96,7 +90,7 @@ module _ (D : Desk) (which : ℕ) (c : Cells) (line : ℕ) (r : Outcome) where
       × (outcomeText which (r .answer) (r .bench .turner) line ≡ printedOf (requested D (λ a L. callText which a (L .opened) (last L)) q) line)
   unfolding replied requested benchIn ledgerOf outcomeText printedOf outcome benchOf
   by-request outside e = (ap (λ (x : Outcome). x .bench) e, ap (λ (x : Outcome). outcomeText which (x .answer) (x .bench .turner) line) e)
-  by-request (make call) e = (ap (λ (x : Outcome). x .bench) e ∙ ap benchOf (sym (fed-one start (D .calls) call)), ap (λ (x : Outcome). outcomeText which (x .answer) (x .bench .turner) line) e)
+  by-request (make call) e = (ap (λ (x : Outcome). x .bench) e ∙ ap benchOf (sym (fed-more start (D .calls) call)), ap (λ (x : Outcome). outcomeText which (x .answer) (x .bench .turner) line) e)
 
   same-lent : (q : Request) {lending : Lending} {edits constraints : Rows} → Kept (D .lent) lending edits constraints
       → Kept (requested D (λ a L. callText which a (L .opened) (last L)) q .after .lent) lending edits constraints

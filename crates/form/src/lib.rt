@@ -148,7 +148,7 @@ fn number_at(numbers: &[u64], k: usize) -> u64
     0
 }
 
-// How many bytes the form takes with these numbers.
+// How many bytes the form takes with these numbers. Pub for `report`, whose forms are short.
 pub fn form_length(form: &[u8], numbers: &[u64]) -> usize
     requires { ⌜ length (now form) ≤ 4096 ⌝ }
     ensures { λ r. ⌜ r ≡ length (fill (now (form .entry)) (now (numbers .entry))) ⌝ }
@@ -209,7 +209,7 @@ pub fn form_fits(form: &[u8], numbers: &[u64], room: usize) -> bool
 }
 
 // Writes a word to the start of out, and answers how many bytes that took.
-pub fn write_word(out: &mut [u8], word: &[u8]) -> usize
+fn write_word(out: &mut [u8], word: &[u8]) -> usize
     requires { ⌜ length (now word) ≤ length (now out) ⌝ }
     ensures { λ r. ⌜ Written (now (word .entry)) (now (out .entry)) r (now (out .exit)) ⌝ }
 {
@@ -221,7 +221,7 @@ pub fn write_word(out: &mut [u8], word: &[u8]) -> usize
     i
 }
 
-// Writes a word and a number after it.
+// Writes a word and a number after it. Pub for `line`, whose callers have seen that it fits.
 pub fn write_worded(out: &mut [u8], word: &[u8], n: u64) -> usize
     requires { ⌜ length (now word ++ decimal n) ≤ length (now out) ⌝ }
     ensures { λ r. ⌜ Written (now (word .entry) ++ decimal n) (now (out .entry)) r (now (out .exit)) ⌝ }
@@ -230,7 +230,7 @@ pub fn write_worded(out: &mut [u8], word: &[u8], n: u64) -> usize
     at + decimal::write_number(&mut out[at..], n)
 }
 
-// Writes a word, a number after it, and the end of the line.
+// Writes a word, a number after it, and the end of the line. Pub for `line`, as before.
 pub fn write_ended(out: &mut [u8], word: &[u8], n: u64) -> usize
     requires { ⌜ length ((now word ++ decimal n) ++ (10 ∷ [])) ≤ length (now out) ⌝ }
     ensures { λ r. ⌜ Written ((now (word .entry) ++ decimal n) ++ (10 ∷ [])) (now (out .entry)) r (now (out .exit)) ⌝ }
@@ -239,7 +239,8 @@ pub fn write_ended(out: &mut [u8], word: &[u8], n: u64) -> usize
     at + write_word(&mut out[at..], b"\n")
 }
 
-// Writes the form with these numbers to the start of out, and answers how many bytes that took.
+// Writes the form with these numbers to the start of out, and answers how many bytes that took. Pub for `forms` and `report`, which have seen that it
+// fits.
 pub fn write_form(out: &mut [u8], form: &[u8], numbers: &[u64]) -> usize
     requires { ⌜ length (fill (now form) (now numbers)) ≤ length (now out) ⌝ }
     ensures { λ r. ⌜ Written (fill (now (form .entry)) (now (numbers .entry))) (now (out .entry)) r (now (out .exit)) ⌝ }

@@ -72,7 +72,8 @@ fn print_filled(out: &mut [u8], at: usize, form: &[u8], numbers: &[u64]) -> usiz
     at + form::write_form(&mut out[at..], form, numbers)
 }
 
-// Prints the form that stands at a place of the table, with these numbers, and answers the place after it.
+// Prints the form that stands at a place of the table, with these numbers, and answers the place after it. Pub for `answers`, which knows the places
+// of its table.
 pub fn print_form(
     out: &mut [u8],
     at: usize,

@@ -1,7 +1,7 @@
 // Grounds for refusing a row (document 01, "What is turned away"), for tables of any kind: the definitions and their laws, and the steps of the walk
 // that finds the first faulty row. The functions are pub for the crates of this workspace that walk tables.
 ghost use mathlib.Core.Path.{_≡_};
-ghost use Prim.Native.Nat.{ℕ, _≤_, _<_};
+ghost use Prim.Native.Nat.{_≤_, _<_};
 ghost use Rattle.ground.specs.Walk.{asNew, stepped, lateNumber, laterNumber, lateFurther};
 
 // A step of the walk through a table in order and the lent rows that join it: a fault, or how far it goes on in the table, in the places taken and in the rows.
@@ -66,7 +66,8 @@ pub fn advance(there: bool, lower: bool, upper: bool, equal: bool, full: bool) -
     }
 }
 
-// The place where it is below n, and some place below the limit otherwise, so that the array may be read.
+// The place where it is below n, and some place below the limit otherwise, so that the array may be read. Pub for the walks of `refusal`, `table` and
+// `unite`, whose counts are within the limits.
 pub fn slot(place: usize, n: usize, limit: usize) -> usize
     requires { ⌜ (0 < limit) × (n ≤ limit) ⌝ }
     ensures { λ r. ⌜ (r < limit) × (place < n → r ≡ place) ⌝ }

@@ -64,6 +64,7 @@ pub fn index_table(multilog: Record) -> [u8; 2304]
     table
 }
 
+// The index of a name, 0 where the record has none. Pub for the crates that resolve names, which have the table whole.
 pub fn index_of(table: &[u8; 2304], name: usize) -> usize
     requires { ⌜ length (now table) ≡ 2304 ⌝ }
     ensures { λ r. ⌜ r ≡ getD (now (table .entry)) name 0 ⌝ }

@@ -1,29 +1,27 @@
 -- The undo rule over every list of calls, and what follows from it. Assumes nothing.
-use mathlib.Core.Path.{_≡_, refl, sym, ap, subst, _∙_}
-use mathlib.Core.Bool.{Bool, true, false, not, _&&_, _||_, cond}
+use mathlib.Core.Path.{_≡_, refl, sym, ap, _∙_}
+use mathlib.Core.Bool.{Bool, true, false, not}
 use mathlib.Core.Logic.{inl}
-use mathlib.Core.List.{List, [], _∷_, _++_, map}
+use mathlib.Core.List.{List, [], _∷_, _++_}
 use mathlib.Core.Option.{Option, none as nothing, some}
-use Prim.Native.Nat.{ℕ, zero, suc, _≤_, _<_}
+use Prim.Native.Nat.{ℕ, _≤_}
 use native.Mathlib.Omega.{arith}
-use lib.Dec.{eqb, leb}
+use lib.Dec.{eqb}
 use lib.IntN.{ℤ, pos, _+ℤ_, +ℤ-assoc, +ℤ-idr}
-use lib.ListN.{length, take, drop}
-use borrow.Author.Tests.{eqb-true, eqb-false, eq-eqb, ne-eqb, not-true, not-false, le-leb}
+use lib.ListN.{length, drop}
+use borrow.Author.Tests.{eqb-true, eq-eqb, ne-eqb, le-leb}
 use Rattle.record.specs.declared.Edit.{Edit}
 use Rattle.record.specs.Lists.{sift, mem, at, _among_, _within_}
 use Rattle.record.specs.Record.{Record, written, notafter, enables}
-use Rattle.record.specs.Sound.{Sound}
 use Rattle.record.specs.Schedule.{schedule}
-use Rattle.record.specs.Judgement.{sound, must}
+use Rattle.record.specs.Judgement.{must}
 use Rattle.record.proofs.Lists.{by, clash, is-by, mem-head, mem-tail, or-no-r}
 use Rattle.record.proofs.Scheduled.{schedule-sound}
-use Rattle.keyed.specs.Keyed.{united}
 use Rattle.keyed.proofs.Logic.{Has}
 use Rattle.keyed.proofs.Union.{united-old}
 use Rattle.row.specs.Row.{Row, isName, editOf}
 use Rattle.ground.specs.Ground.{_given_, _orelse_}
-use Rattle.table.specs.Table.{decoded, editKey, unite, addEditFault}
+use Rattle.table.specs.Table.{editKey, unite}
 use Rattle.table.proofs.Records.{joining-kept}
 use Rattle.vote.specs.declared.Election.{Election}
 use Rattle.vote.specs.Tally.{winner}
@@ -35,19 +33,18 @@ use Rattle.turner.proofs.Landed.{turned-lands}
 use Rattle.pages.specs.Pages.{run, emptyCatalogue}
 use Rattle.pages.proofs.Pages.{catalogue-of}
 use Rattle.catalogue.specs.Chips.{chips, places, rows, viewOf}
-use Rattle.ledger.specs.declared.Answer.{Answer}
 use Rattle.ledger.specs.declared.Bench.{Bench}
 use Rattle.ledger.specs.declared.Outcome.{Outcome}
-use Rattle.ledger.specs.Ledger.{Ledger, Call, addEdit, addConstraint, merge, hide, show, turn, adopt, Reply, start, pages, last, judge, noElection, answered, change, shown, adopted, act, refusal, step, fed}
+use Rattle.ledger.specs.Ledger.{Ledger, Call, addEdit, addConstraint, merge, hide, show, turn, adopt, Reply, start, pages, last, judge, change, shown, adopted, act, refusal, step, fed}
 use Rattle.ledger.specs.Bench.{openEdits, benchOf, outcome, Answers, Linked, none, more, answersOf, told, Undo}
-use Rattle.ledger.proofs.Valid.{Valid, well-formed, start-valid, fed-valid, step-valid, given-none, orelse-left, orelse-right}
+use Rattle.ledger.proofs.Valid.{Valid, well-formed, start-valid, fed-valid, given-none, orelse-left, orelse-right}
 
 -- what is shown of every valid ledger is promised of every list of calls
 pub from-valid : (bench : Bench) (call : Call) (r : Outcome) → ((L : Ledger) → Valid L → bench ≡ benchOf L → r ≡ outcome (step L call)) → Answers bench call r
 unfolding Answers
 from-valid bench call r f = λ calls e. f (fed start calls) (fed-valid start calls start-valid) e
 
-fed-more : (L : Ledger) (calls : List Call) (call : Call) → fed L (calls ++ (call ∷ [])) ≡ step (fed L calls) call .after
+pub fed-more : (L : Ledger) (calls : List Call) (call : Call) → fed L (calls ++ (call ∷ [])) ≡ step (fed L calls) call .after
 unfolding fed
 fed-more L [] call = refl
 fed-more L (k ∷ calls) call = fed-more (step L k .after) calls call

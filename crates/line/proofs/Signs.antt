@@ -21,7 +21,7 @@ use Rattle.decimal.proofs.RoundTrip.{size-nothing}
 use Rattle.form.specs.Spelling.{bytes}
 use Rattle.form.specs.Form.{isMark, spelling, more, starts, taken}
 use Rattle.form.proofs.Lawful.{lawful}
-use Rattle.form.proofs.Forms.{mark-taken, mark-missing, byte-taken, byte-missing}
+use Rattle.form.proofs.Forms.{mark-taken, mark-missing, byte-taken, byte-missing, plain}
 
 -- where the beginning of a form ends in a text, if it starts at a place
 unfoldable pub ends : List ℕ → ℕ → List ℕ → ℕ
@@ -96,20 +96,20 @@ otherwise-none (y ∷ beginning) (x ∷ form) at s h =
     (otherwise-none beginning form (at + 1) s (and-r (not (isMark x)) (otherwise beginning (getD s (ends beginning (at + 1) s) 0) form) g)))
 
 -- a run of bytes without a mark
-ends-plain : (run beginning : List ℕ) (at : ℕ) (s : List ℕ) → all (λ c. not (isMark c)) run ≡ true → ends (run ++ beginning) at s ≡ ends beginning (at + length run) s
+ends-plain : (run beginning : List ℕ) (at : ℕ) (s : List ℕ) → plain run ≡ true → ends (run ++ beginning) at s ≡ ends beginning (at + length run) s
 unfolding ends all
 ends-plain [] beginning at s h = let e : at ≡ at + 0 = omega arith in ap (λ (n : ℕ). ends beginning n s) e
 ends-plain (c ∷ run) beginning at s h =
-    let m : isMark c ≡ false = not-true (isMark c) (and-l (not (isMark c)) (all (λ x. not (isMark x)) run) h) in
+    let m : isMark c ≡ false = not-true (isMark c) (and-l (not (isMark c)) (plain run) h) in
     let e : at + 1 + length run ≡ at + length (c ∷ run) = omega arith in
-    rw m (ends-plain run beginning (at + 1) s (and-r (not (isMark c)) (all (λ x. not (isMark x)) run) h) ∙ ap (λ (n : ℕ). ends beginning n s) e)
+    rw m (ends-plain run beginning (at + 1) s (and-r (not (isMark c)) (plain run) h) ∙ ap (λ (n : ℕ). ends beginning n s) e)
 
-pub ends-run : (run : List ℕ) (at : ℕ) (s : List ℕ) → all (λ c. not (isMark c)) run ≡ true → ends run at s ≡ at + length run
+pub ends-run : (run : List ℕ) (at : ℕ) (s : List ℕ) → plain run ≡ true → ends run at s ≡ at + length run
 unfolding ends
 ends-run run at s h = ap (λ (l : List ℕ). ends l at s) (sym (append-nil run)) ∙ ends-plain run [] at s h
 
 -- a run and the number after it
-pub ends-number : (run : List ℕ) (mark : ℕ) (beginning : List ℕ) (at : ℕ) (s : List ℕ) {end : ℕ} → all (λ c. not (isMark c)) run ≡ true → isMark mark ≡ true
+pub ends-number : (run : List ℕ) (mark : ℕ) (beginning : List ℕ) (at : ℕ) (s : List ℕ) {end : ℕ} → plain run ≡ true → isMark mark ≡ true
     → end ≡ at + length run + (spelling mark) .size (drop (at + length run) s) → ends (run ++ (mark ∷ beginning)) at s ≡ ends beginning end s
 unfolding ends
 ends-number run mark beginning at s h m e = ends-plain run (mark ∷ beginning) at s h ∙ rw (m, e)

@@ -318,7 +318,7 @@ fn write_set(out: &mut [u8], field: u32, name: u64, place: u64, value: u64) -> u
     at + write_field(&mut out[at..], field, place, value)
 }
 
-// Writes an edit's line to the start of out, and answers how many bytes that took.
+// Writes an edit's line to the start of out, and answers how many bytes that took. Pub for `writer`, which has seen that all fits.
 pub fn write_edit_line(out: &mut [u8], row: [u32; 5]) -> usize
     requires { ⌜ length (editLine row) ≤ length (now out) ⌝ }
     ensures { λ r. ⌜ Written (editLine row) (now (out .entry)) r (now (out .exit)) ⌝ }
@@ -333,7 +333,7 @@ pub fn write_edit_line(out: &mut [u8], row: [u32; 5]) -> usize
     }
 }
 
-// Writes a constraint's line to the start of out, and answers how many bytes that took.
+// Writes a constraint's line to the start of out, and answers how many bytes that took. Pub for `writer`, as before.
 pub fn write_constraint_line(out: &mut [u8], row: [u32; 3]) -> usize
     requires { ⌜ length (constraintLine row) ≤ length (now out) ⌝ }
     ensures { λ r. ⌜ Written (constraintLine row) (now (out .entry)) r (now (out .exit)) ⌝ }

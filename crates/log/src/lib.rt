@@ -130,7 +130,7 @@ fn run_lending(
     )
 }
 
-// A line about votes that makes no proposal.
+// A line about votes that makes no proposal. The record is taken out here, so that no other line copies it.
 fn print_vote(
     bench: Bench,
     lending: Lending,

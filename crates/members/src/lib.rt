@@ -156,7 +156,8 @@ fn leading_rows(
     }
 }
 
-// The linked rows of what leads to a member, from the record and the table of its names. They serve every edit of the record.
+// The linked rows of what leads to a member, from the record and the table of its names. They serve every edit of the record. Pub for `bundle` and
+// `keeping`, which make the table.
 pub fn member_rows(multilog: Record, table: &[u8; 2304]) -> Rows
     requires { ⌜ (length (now table) ≡ 2304) × ((x : ℕ) → getD (now table) x 0 < 128) ⌝ }
     ensures { λ r. ⌜ Safe (r .head) (r .link) (r .left)
@@ -169,7 +170,8 @@ pub fn member_rows(multilog: Record, table: &[u8; 2304]) -> Rows
     leading_rows(multilog, table, &head, &link, &left)
 }
 
-// The members of the bundle of an edit that the record knows; head, link and left are the rows of what leads to a member.
+// The members of the bundle of an edit that the record knows; head, link and left are the rows of what leads to a member. Pub for `bundle`, which has
+// table and rows.
 pub fn member_marks(
     table: &[u8; 2304],
     head: &[u16; 384],

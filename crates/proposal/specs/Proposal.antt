@@ -45,8 +45,11 @@ unfoldable pub started : Record → Record → Record
 started M Q = let U = unite M Q in withConstraints U (firsts Q (unordered U))
 
 -- the edits of the row are marked required, the others aborted
+abbrev pub decisionOn : List ℕ → ℕ → Constraint
+decisionOn row x = cond (mem x row) (record { left = x; rule = 1; right = 0 }) (before x x)
+
 unfoldable pub decisions : List ℕ → List ℕ → List Constraint
-decisions row names = map (λ x. cond (mem x row) (record { left = x; rule = 1; right = 0 }) (before x x)) names
+decisions row names = map (decisionOn row) names
 
 -- an unordered pair of the row is ordered as scheduled
 unfoldable pub orders : List ℕ → List Constraint → List Constraint

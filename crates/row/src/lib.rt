@@ -5,7 +5,7 @@ use record::Constraint;
 use record::Edit;
 use record::Field;
 ghost use mathlib.Core.Path.{_≡_};
-ghost use Prim.Native.Nat.{ℕ, _<_, _≤_};
+ghost use Prim.Native.Nat.{_<_, _≤_};
 ghost use lib.ListN.{length, take};
 ghost use Rattle.keyed.specs.Keyed.{precedes};
 ghost use Rattle.row.specs.Row.{same, isName, bodyInRange, editInRange, isSide, constraintInRange, fieldOf, bodyOf, editOf, constraintOf, fieldNumber, editRow, constraintRow};
@@ -176,7 +176,7 @@ pub fn constraint_row(c: Constraint) -> [u32; 3]
     [left, rule, right]
 }
 
-// Whether the first k cells of a precede those of b.
+// Whether the first k cells of a precede those of b. Pub for `refusal` and `table`, whose rows have so many cells.
 pub fn below(a: &[u32], b: &[u32], k: usize) -> bool
     requires { ⌜ (k ≤ length (now a)) × (k ≤ length (now b)) ⌝ }
     ensures { λ r. ⌜ r ≡ precedes (take k (now (a .entry))) (take k (now (b .entry))) ⌝ }
@@ -194,7 +194,7 @@ pub fn below(a: &[u32], b: &[u32], k: usize) -> bool
     false
 }
 
-// Whether the first k cells of a and b are equal.
+// Whether the first k cells of a and b are equal. Pub for `equality`, `refusal` and `table`, whose rows have so many cells.
 pub fn alike(a: &[u32], b: &[u32], k: usize) -> bool
     requires { ⌜ (k ≤ length (now a)) × (k ≤ length (now b)) ⌝ }
     ensures { λ r. ⌜ r ≡ same (take k (now (a .entry))) (take k (now (b .entry))) ⌝ }

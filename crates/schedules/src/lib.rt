@@ -413,7 +413,7 @@ fn scheduled_marks(
     all
 }
 
-// The bench schedule.
+// The bench schedule. Pub for `judge` and `decisions`, whose arrays are safe.
 pub fn schedule_row(
     n: usize,
     head: &[u16; 384],
@@ -445,7 +445,8 @@ pub fn schedule_row(
     ordered_row(n, head, link, left, &turnhead, &turnlink, &right, marks)
 }
 
-// The page of each edit. From the end, so that where a row had a repeat its first place would count.
+// The page of each edit. From the end, so that where a row had a repeat its first place would count. Pub for `judge` and `decisions`, which have it
+// of a schedule.
 pub fn page_values(row: Row) -> [u8; 128]
     requires { ⌜ (length (row .indexes) ≡ 128) × (row .count ≤ 128) × ((q : ℕ) → getD (row .indexes) q 0 < 128) ⌝ }
     ensures { λ r. ⌜ (length r ≡ 128) × ((R : Record) (list : List ℕ) → distinct (names R) ≡ true → length (names R) ≤ 128 → RowIs R row list → r ≡ valuesOf R (placeIn list)) ⌝ }

@@ -16,7 +16,7 @@ ghost use Rattle.ground.specs.Ground.{known, misplaced};
 ghost use Rattle.table.specs.Table.{namesOf, pairNotAllowed, decision, constraintFurther};
 ghost use Rattle.table.specs.Checked.{Marked};
 
-// Whether row i is above the row before it.
+// Whether row i is above the row before it. Pub for `refusal` and `reader`, which walk the rows.
 pub fn edit_follows(t: &[[u32; 5]], i: usize) -> bool
     requires { ⌜ i < length (now t) ⌝ }
     ensures { λ r. ⌜ (Ascending (take 1) (take i (now (t .entry))) → not r ≡ misplaced 1 (take i (now (t .entry))) (getD (now (t .entry)) i [])) ⌝ }
@@ -27,7 +27,7 @@ pub fn edit_follows(t: &[[u32; 5]], i: usize) -> bool
     row::below(&t[i - 1][..], &t[i][..], 1)
 }
 
-// Whether the name of row i stands above it.
+// Whether the name of row i stands above it. Pub for `refusal` and `reader`, which walk the rows.
 pub fn edit_repeated(t: &[[u32; 5]], i: usize) -> bool
     requires { ⌜ i < length (now t) ⌝ }
     ensures { λ r. ⌜ r ≡ known 1 (getD (now (t .entry)) i []) (take i (now (t .entry))) ⌝ }
@@ -107,7 +107,7 @@ pub fn constraint_further(row: [u32; 3], marks: &[u8], adding: bool) -> u32
     0
 }
 
-// Whether row i is above the row before it.
+// Whether row i is above the row before it. Pub for `refusal` and `reader`, which walk the rows.
 pub fn constraint_follows(t: &[[u32; 3]], i: usize) -> bool
     requires { ⌜ i < length (now t) ⌝ }
     ensures { λ r. ⌜ (Ascending (take 3) (take i (now (t .entry))) → not r ≡ misplaced 3 (take i (now (t .entry))) (getD (now (t .entry)) i [])) ⌝ }
@@ -118,7 +118,7 @@ pub fn constraint_follows(t: &[[u32; 3]], i: usize) -> bool
     row::below(&t[i - 1][..], &t[i][..], 3)
 }
 
-// Whether row i stands above it already.
+// Whether row i stands above it already. Pub for `refusal` and `reader`, which walk the rows.
 pub fn constraint_repeated(t: &[[u32; 3]], i: usize) -> bool
     requires { ⌜ i < length (now t) ⌝ }
     ensures { λ r. ⌜ r ≡ known 3 (getD (now (t .entry)) i []) (take i (now (t .entry))) ⌝ }
@@ -155,7 +155,7 @@ pub fn mark_rows(t: &[[u32; 5]]) -> [u8; 2304]
     marks
 }
 
-// The marks of the first n edits, in range.
+// The marks of the first n edits, in range. Pub for `refusal`, whose count is of the table's rows.
 pub fn mark_edits(a: [Edit; 127], n: usize) -> [u8; 2304]
     requires { ⌜ n ≤ 127 ⌝ }
     ensures { λ r. ⌜ (all (λ e. editInRange (editRow e)) (take n a) ≡ true → Marked r (map nameOf (take n a))) ⌝ }

@@ -8,10 +8,10 @@ use borrow.Author.Needs.{needs}
 use Rattle.record.proofs.Lists.{length-mapped}
 use Rattle.record.specs.Record.{Record, written}
 use Rattle.record.specs.Stored.{padded, fillerEdit, fillerConstraint}
-use Rattle.proposal.specs.Proposal.{decisions}
+use Rattle.proposal.specs.Proposal.{decisions, decisionOn}
 use Rattle.indexes.proofs.Tables.{few-left, edit-count}
 use Rattle.unite.proofs.Joining.{decode-next, decode-end}
-use Rattle.decisions.specs.Decisions.{Paged, decisionOn}
+use Rattle.decisions.specs.Decisions.{Paged}
 use Rattle.decisions.proofs.Paging.{named, decision-here, decisions-end, held-edits}
 use Rattle.decisions.proofs.Joined.{only-start, only-stored, decisions-many, written-few}
 use Rattle.decisions.proofs.decisions_of.Statement.{statement}
