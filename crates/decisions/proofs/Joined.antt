@@ -2,7 +2,7 @@
 use mathlib.Core.Path.{_≡_, ap, _∙_}
 use mathlib.Core.Bool.{true}
 use mathlib.Core.List.{List, [], _∷_, map}
-use Prim.Native.Nat.{ℕ, suc, _+_, _≤_}
+use Prim.Native.Nat.{ℕ, _+_, _≤_}
 use native.Mathlib.Omega.{arith}
 use lib.Dec.{ltb}
 use lib.ListN.{length, take, length-map}
@@ -15,6 +15,7 @@ use Rattle.record.specs.Record.{Record, written, nameOf}
 use Rattle.record.specs.Stored.{padded, stored, emptyRecord, fillerConstraint}
 use Rattle.record.proofs.Lists.{by, clash}
 use Rattle.keyed.specs.Keyed.{precedes, Below, Ascending, inserted, united}
+use Rattle.keyed.proofs.Union.{length-inserted}
 use Rattle.table.specs.Table.{editKey, constraintKey, unite}
 use Rattle.table.specs.Checked.{Checked}
 use Rattle.unite.specs.Union.{Unites}
@@ -26,17 +27,10 @@ use Rattle.decisions.specs.Decisions.{onlyConstraints}
 
 -- a union has at most the rows of both
 module _ {A : Type 0} (key : A → List ℕ) where
-  length-inserted : (x : A) (t : List A) → length (inserted key x t) ≤ suc (length t)
-  unfolding inserted
-  length-inserted x [] = omega arith
-  length-inserted x (y ∷ t) =
-      by (precedes (key x) (key y)) (λ e. rw e (omega arith))
-      (λ e. by (precedes (key y) (key x)) (λ f. let l = length-inserted x t in rw (e, f) (omega arith)) (λ f. rw (e, f) (omega arith)))
-
   length-united : (t s : List A) → length (united key t s) ≤ length t + length s
   unfolding united
   length-united t [] = omega arith
-  length-united t (x ∷ s) = omega (arith, length-united (inserted key x t) s, length-inserted x t)
+  length-united t (x ∷ s) = omega (arith, length-united (inserted key x t) s, length-inserted key x t)
 
 module _ (row : List ℕ) where
   -- the name decides
