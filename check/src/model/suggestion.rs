@@ -44,9 +44,16 @@ pub fn suggest(first: Edit, second: Edit, case: Case) -> Vec<Constraint> {
         (Case::Concurrent, Deed::Insert, Deed::Insert) => {
             vec![Constraint::noncommuting(left, right)]
         }
-        (Case::Concurrent, ..) if one_field => vec![Constraint::noncommuting(left, right)],
+        (Case::Concurrent, one, other) if one_field || is_crossed(one, other) => {
+            vec![Constraint::noncommuting(left, right)]
+        }
         _ => Vec::new(),
     }
+}
+
+/// Document 02, A1: one of the two removes, the other inserts or sets any field.
+fn is_crossed(first: Deed, second: Deed) -> bool {
+    matches!(first, Deed::Remove) != matches!(second, Deed::Remove)
 }
 
 fn is_one_field(first: Deed, second: Deed) -> bool {

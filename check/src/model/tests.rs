@@ -612,9 +612,32 @@ mod proposals {
         assert!(after(first, other_field).is_empty() && concurrent(first, other_field).is_empty());
         assert!(after(first, removal).is_empty() && after(first, insertion).is_empty());
         assert!(after(insertion, insert(257, 5)).is_empty());
-        assert!(concurrent(insertion, first).is_empty() && concurrent(removal, removal).is_empty());
+        assert!(concurrent(insertion, first).is_empty() && concurrent(first, insertion).is_empty());
         assert!(after(insertion, insertion).is_empty());
         assert!(after(insertion, remove(261, 6)).is_empty());
+    }
+
+    /// Document 02, A1.
+    #[test]
+    fn suggestions_for_a_removal_that_crossed() {
+        let removal = remove(1025, 5);
+        let concurrent = |one, other| suggest(one, other, Case::Concurrent);
+        let after = |one, other| suggest(one, other, Case::After);
+        // Of either name the other edit may have, lower or higher, and of any field.
+        for name in [513, 1793] {
+            let sets = Field::ALL.map(|field| set(name, 5, field, 16384));
+            let row = [Constraint::noncommuting(name.min(1025), name.max(1025))];
+            for other in sets.into_iter().chain([insert(name, 5)]) {
+                assert_eq!(concurrent(removal, other), row);
+                assert_eq!(concurrent(other, removal), row);
+            }
+            let second = remove(name, 5);
+            assert!(concurrent(removal, second).is_empty() && after(removal, second).is_empty());
+            assert!(sets.iter().all(|&set| after(removal, set).is_empty()));
+            assert!(sets.iter().all(|&set| after(set, removal).is_empty()));
+            assert_eq!(after(removal, insert(name, 5)), [not_after(1025, name)]);
+            assert!(concurrent(removal, insert(name, 6)).is_empty());
+        }
     }
 }
 

@@ -1,7 +1,7 @@
 -- The laws that the code of suggestions cites, and that it does not matter which of two concurrent edits is named first. Assumes nothing.
-use Prim.Native.Nat.{ℕ, zero, suc, _≤_, _<_, min, max}
+use Prim.Native.Nat.{ℕ, zero, suc, _≤_, _<_, _-_, min, max}
 use mathlib.Core.Path.{_≡_, refl, sym, _∙_}
-use mathlib.Core.Bool.{Bool, true, false, not, _&&_, and-false}
+use mathlib.Core.Bool.{Bool, true, false, cond, not, _&&_, and-false}
 use mathlib.Core.Logic.{_≢_}
 use mathlib.Core.List.{[], _∷_}
 use native.Mathlib.Omega.{arith}
@@ -40,23 +40,6 @@ module _ (f : Bool) where
   remove-insert (suc zero) n m = absurd (m refl)
   remove-insert (suc (suc a)) n m = refl
 
-  beside-insert : (b : ℕ) → b ≢ 0 → Nothing ≡ concurrentTable 0 b f
-  unfolding concurrentTable
-  beside-insert zero n = absurd (n refl)
-  beside-insert (suc b) n = refl
-
-  beside-set : (b : ℕ) → b ≢ 1 → Nothing ≡ concurrentTable 1 b f
-  unfolding concurrentTable
-  beside-set zero n = refl
-  beside-set (suc zero) n = absurd (n refl)
-  beside-set (suc (suc b)) n = refl
-
-  beside-remove : (a b : ℕ) → a ≢ 0 → a ≢ 1 → Nothing ≡ concurrentTable a b f
-  unfolding concurrentTable
-  beside-remove zero b n m = absurd (n refl)
-  beside-remove (suc zero) b n m = absurd (m refl)
-  beside-remove (suc (suc a)) b n m = refl
-
 module _ (a b : ℕ) (f : Bool) where
   pub after-00 : a ≡ 0 → b ≡ 0 → Nothing ≡ afterTable a b f
   unfolding afterTable
@@ -82,32 +65,19 @@ module _ (a b : ℕ) (f : Bool) where
   pub after-2 : a ≢ 0 → a ≢ 1 → b ≢ 0 → Nothing ≡ afterTable a b f
   after-2 n m q = after-remove f a b n m q
 
-  pub beside-00 : a ≡ 0 → b ≡ 0 → Noncommuting ≡ concurrentTable a b f
-  unfolding concurrentTable
-  beside-00 p q = rw (p, q)
+-- concurrent edits: the row of the table for the kinds that the code's matches met
+pub beside : {a b m n : ℕ} {r : Bool} (f : Bool) → a ≡ m → b ≡ n → r ≡ concurrentTable m n f → r ≡ concurrentTable a b f
+beside f p q e = rw (p, q) e
 
-  pub beside-0 : a ≡ 0 → b ≢ 0 → Nothing ≡ concurrentTable a b f
-  beside-0 p q = rw p (beside-insert f b q)
-
-  pub beside-11 : a ≡ 1 → b ≡ 1 → f ≡ true → Noncommuting ≡ concurrentTable a b f
-  unfolding concurrentTable
-  beside-11 p q e = rw (p, q, e)
-
-  pub beside-11-other : a ≡ 1 → b ≡ 1 → f ≡ false → Nothing ≡ concurrentTable a b f
-  unfolding concurrentTable
-  beside-11-other p q e = rw (p, q, e)
-
-  pub beside-1 : a ≡ 1 → b ≢ 1 → Nothing ≡ concurrentTable a b f
-  beside-1 p q = rw p (beside-set f b q)
-
-  pub beside-2 : a ≢ 0 → a ≢ 1 → Nothing ≡ concurrentTable a b f
-  beside-2 n m = beside-remove f a b n m
+-- a kind that is neither insert nor set is remove
+pub remove-kind : (kind : ℕ) → kind ≢ 0 → kind ≢ 1 → kind ≡ suc (suc (kind - 2))
+remove-kind kind n m = omega arith
 
 after-case : (kind : ℕ) (a b : Row) → kind ≡ 0 → afterTable (cell a 1) (cell b 1) (eqb (cell a 3) (cell b 3)) ≡ adviceOf kind a b
 unfolding adviceOf
 after-case kind a b e = rw e
 
-concurrent-case : (kind : ℕ) (a b : Row) → kind ≢ 0 → concurrentTable (cell a 1) (cell b 1) (eqb (cell a 3) (cell b 3)) ≡ adviceOf kind a b
+concurrent-case : (kind : ℕ) (a b : Row) → kind ≢ 0 → cond (concurrentTable (cell a 1) (cell b 1) (eqb (cell a 3) (cell b 3))) Noncommuting Nothing ≡ adviceOf kind a b
 unfolding adviceOf
 concurrent-case zero a b n = absurd (n refl)
 concurrent-case (suc kind) a b n = refl
@@ -129,8 +99,8 @@ module _ (kind : ℕ) (a b : Row) where
   pub advise-after : {r : Advice} {f : Bool} → cell a 0 ≢ cell b 0 → cell a 2 ≡ cell b 2 → f ≡ eqb (cell a 3) (cell b 3) → kind ≡ 0 → r ≡ afterTable (cell a 1) (cell b 1) f → r ≡ advised kind a b
   advise-after n e q k t = t ∙ rw q (after-case kind a b k) ∙ one-place n e
 
-  pub advise-concurrent : {r : Advice} {f : Bool} → cell a 0 ≢ cell b 0 → cell a 2 ≡ cell b 2 → f ≡ eqb (cell a 3) (cell b 3) → kind ≢ 0 → r ≡ concurrentTable (cell a 1) (cell b 1) f → r ≡ advised kind a b
-  advise-concurrent n e q k t = t ∙ rw q (concurrent-case kind a b k) ∙ one-place n e
+  pub advise-concurrent : {f c : Bool} (d : Bool) → cell a 0 ≢ cell b 0 → cell a 2 ≡ cell b 2 → f ≡ eqb (cell a 3) (cell b 3) → kind ≢ 0 → c ≡ concurrentTable (cell a 1) (cell b 1) f → c ≡ d → cond d Noncommuting Nothing ≡ advised kind a b
+  advise-concurrent d n e q k t h = rw (← h, t, q) (concurrent-case kind a b k) ∙ one-place n e
 
 -- the rows of an advice
 module _ (a b : ℕ) {advice : Advice} where
@@ -194,21 +164,15 @@ pair-swapped x y =
     let q : max x y ≡ max y x = omega arith in
     λ i. (p i ∷ 2 ∷ q i ∷ []) ∷ []
 
-rows-swapped : (a b : ℕ) (f : Bool) (x y : ℕ) → rowsOf (concurrentTable a b f) x y ≡ rowsOf (concurrentTable a b f) y x
-unfolding concurrentTable
-rows-swapped zero zero f x y = pair-swapped x y
-rows-swapped zero (suc b) f x y = refl
-rows-swapped (suc zero) zero f x y = refl
-rows-swapped (suc zero) (suc zero) true x y = pair-swapped x y
-rows-swapped (suc zero) (suc zero) false x y = refl
-rows-swapped (suc zero) (suc (suc b)) f x y = refl
-rows-swapped (suc (suc a)) b f x y = refl
+rows-swapped : (c : Bool) (x y : ℕ) → rowsOf (cond c Noncommuting Nothing) x y ≡ rowsOf (cond c Noncommuting Nothing) y x
+rows-swapped true x y = pair-swapped x y
+rows-swapped false x y = refl
 
 advised-rows-swapped : (a b : Row) (x y : ℕ) → rowsOf (advised 1 a b) x y ≡ rowsOf (advised 1 a b) y x
 unfolding advised adviceOf
 advised-rows-swapped a b x y =
     by (not (eqb (cell a 0) (cell b 0)) && eqb (cell a 2) (cell b 2))
-    (λ (e : (not (eqb (cell a 0) (cell b 0)) && eqb (cell a 2) (cell b 2)) ≡ true). rw e (rows-swapped (cell a 1) (cell b 1) (eqb (cell a 3) (cell b 3)) x y))
+    (λ (e : (not (eqb (cell a 0) (cell b 0)) && eqb (cell a 2) (cell b 2)) ≡ true). rw e (rows-swapped (concurrentTable (cell a 1) (cell b 1) (eqb (cell a 3) (cell b 3))) x y))
     (λ (e : (not (eqb (cell a 0) (cell b 0)) && eqb (cell a 2) (cell b 2)) ≡ false). rw e)
 
 both-swapped : (x y : Bool) → (x && (y && true)) ≡ (y && (x && true))

@@ -1,1 +1,2 @@
 pub mod Advised
+pub mod Crossed

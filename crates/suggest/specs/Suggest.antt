@@ -1,6 +1,6 @@
--- Document 01, "Suggested constraints" (002, tables 2 and 3). Assumes nothing.
+-- Document 01, "Suggested constraints" (002, tables 2 and 3), as document 02, A1, changes it. Assumes nothing.
 use Prim.Native.Nat.{ℕ, zero, suc, min, max}
-use mathlib.Core.Bool.{Bool, cond, not, _&&_}
+use mathlib.Core.Bool.{Bool, true, false, cond, not, _&&_}
 use mathlib.Core.List.{List, [], _∷_}
 use lib.Dec.{ltb, eqb}
 use lib.ListN.{length, getD, replicate}
@@ -20,14 +20,17 @@ afterTable (suc zero) (suc (suc kind)) oneField = Nothing
 afterTable (suc (suc n)) zero oneField = Notafter
 afterTable (suc (suc n)) (suc kind) oneField = Nothing
 
--- concurrent
-unfoldable pub concurrentTable : ℕ → ℕ → Bool → Advice
-concurrentTable zero zero oneField = Noncommuting
-concurrentTable zero (suc kind) oneField = Nothing
-concurrentTable (suc zero) zero oneField = Nothing
-concurrentTable (suc zero) (suc zero) oneField = cond oneField Noncommuting Nothing
-concurrentTable (suc zero) (suc (suc kind)) oneField = Nothing
-concurrentTable (suc (suc n)) kind oneField = Nothing
+-- concurrent: whether they are noncommuting, a row for each pair of kinds; the rows of A1 are remove and insert, and remove and set of any field
+unfoldable pub concurrentTable : ℕ → ℕ → Bool → Bool
+concurrentTable zero zero oneField = true  -- insert, insert
+concurrentTable zero (suc zero) oneField = false  -- insert, set
+concurrentTable zero (suc (suc n)) oneField = true  -- insert, remove: A1
+concurrentTable (suc zero) zero oneField = false  -- set, insert
+concurrentTable (suc zero) (suc zero) oneField = oneField  -- set, set
+concurrentTable (suc zero) (suc (suc n)) oneField = true  -- set, remove: A1
+concurrentTable (suc (suc m)) zero oneField = true  -- remove, insert: A1
+concurrentTable (suc (suc m)) (suc zero) oneField = true  -- remove, set: A1
+concurrentTable (suc (suc m)) (suc (suc n)) oneField = false  -- remove, remove
 
 -- the rows for the names a and b, in table order; a noncommuting pair has the lower name on the left
 abbrev pub rowsOf : Advice → ℕ → ℕ → List Row
@@ -39,7 +42,7 @@ rowsOf Noncommuting a b = (min a b ∷ 2 ∷ max a b ∷ []) ∷ []
 -- case 0: B after A; 1: concurrent
 unfoldable pub adviceOf : ℕ → Row → Row → Advice
 adviceOf zero a b = afterTable (cell a 1) (cell b 1) (eqb (cell a 3) (cell b 3))
-adviceOf (suc n) a b = concurrentTable (cell a 1) (cell b 1) (eqb (cell a 3) (cell b 3))
+adviceOf (suc n) a b = cond (concurrentTable (cell a 1) (cell b 1) (eqb (cell a 3) (cell b 3))) Noncommuting Nothing
 
 -- two edits of one place and different names
 unfoldable pub advised : ℕ → Row → Row → Advice

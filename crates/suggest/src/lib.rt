@@ -1,4 +1,4 @@
-// Suggested constraints (document 01; 002, tables 2 and 3): rows for whoever asks, for two edits and the case that holds.
+// Suggested constraints (document 01 and document 02, A1; 002, tables 2 and 3): rows for whoever asks, for two edits and the case that holds.
 ghost use mathlib.Core.Path.{_≡_};
 ghost use Rattle.suggest.specs.Suggest.{afterTable, concurrentTable, advised, rowsOf, given, refused, suggested};
 ghost use Prim.Native.Nat.{min, max};
@@ -44,24 +44,26 @@ fn after(first: u32, second: u32, onefield: bool) -> Advice
     }
 }
 
-// Concurrent edits: kinds of A and B.
-fn concurrent(first: u32, second: u32, onefield: bool) -> Advice
+// Whether concurrent edits are noncommuting: kinds of A and B.
+fn concurrent(first: u32, second: u32, onefield: bool) -> bool
     ensures { λ r. ⌜ r ≡ concurrentTable first second onefield ⌝ }
 {
     match first {
         0 => match second {
-            0 => Advice::Noncommuting,
-            _ => Advice::Nothing,
+            0 => true, // insert, insert
+            1 => false, // insert, set
+            _ => true, // insert, remove
         },
         1 => match second {
-            1 => if onefield {
-                Advice::Noncommuting
-            } else {
-                Advice::Nothing
-            },
-            _ => Advice::Nothing,
+            0 => false, // set, insert
+            1 => onefield, // set, set
+            _ => true, // set, remove
         },
-        _ => Advice::Nothing,
+        _ => match second {
+            0 => true, // remove, insert
+            1 => true, // remove, set
+            _ => false, // remove, remove
+        },
     }
 }
 
@@ -82,7 +84,10 @@ fn advise(kind: u32, a: [u32; 5], b: [u32; 5]) -> Advice
     if kind == 0 {
         return after(a[1], b[1], onefield);
     }
-    concurrent(a[1], b[1], onefield)
+    if concurrent(a[1], b[1], onefield) {
+        return Advice::Noncommuting;
+    }
+    Advice::Nothing
 }
 
 fn same(x: u32, y: u32) -> bool

@@ -1,5 +1,6 @@
 -- `suggest::advise` meets its contract. Assumes nothing.
 use Prim.Native.Nat.{_-_}
+use mathlib.Core.Bool.{true, false}
 use borrow.Author.Needs.{needs}
 use Rattle.suggest.proofs.Advised.{one-name, other-place, advise-after, advise-concurrent}
 use Rattle.suggest.proofs.advise.Statement.{statement}
@@ -54,7 +55,10 @@ concurrent-requires : tie.Need-concurrent-requires
 concurrent-requires c κs = search needs
 
 returns-4 : tie.Need-returns-4
-returns-4 c = advise-concurrent (c .before .before .before .before .before .args .kind) (c .before .before .before .before .before .args .t2) (c .before .before .before .before .before .args .t3) (c .before .before .before .before .if1 .left) (c .before .before .before .if2 .left) (c .before .before .same .ensures) (c .before .if3 .left) (c .concurrent .ensures)
+returns-4 c = advise-concurrent (c .before .before .before .before .before .before .args .kind) (c .before .before .before .before .before .before .args .t2) (c .before .before .before .before .before .before .args .t3) true (c .before .before .before .before .before .if1 .left) (c .before .before .before .before .if2 .left) (c .before .before .before .same .ensures) (c .before .before .if3 .left) (c .before .concurrent .ensures) (c .if4 .taken)
+
+returns-5 : tie.Need-returns-5
+returns-5 c = advise-concurrent (c .before .before .before .before .before .before .args .kind) (c .before .before .before .before .before .before .args .t2) (c .before .before .before .before .before .before .args .t3) false (c .before .before .before .before .before .if1 .left) (c .before .before .before .before .if2 .left) (c .before .before .before .same .ensures) (c .before .before .if3 .left) (c .before .concurrent .ensures) (c .if4 .left)
 
 pub advise-spec : {M : Type 1} → statement M
 advise-spec =
@@ -76,4 +80,5 @@ advise-spec =
     array-read-concurrent
     array-read-concurrent-2
     concurrent-requires
-    returns-4)
+    returns-4
+    returns-5)

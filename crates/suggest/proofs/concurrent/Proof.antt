@@ -1,26 +1,57 @@
 -- `suggest::concurrent` meets its contract. Assumes nothing.
 use Prim.Native.Nat.{_-_}
-use Rattle.suggest.proofs.Advised.{beside-00, beside-0, beside-11, beside-11-other, beside-1, beside-2}
+use mathlib.Core.Path.{refl}
+use Rattle.suggest.specs.Suggest.{concurrentTable}
+use Rattle.suggest.proofs.Advised.{beside, remove-kind}
 use Rattle.suggest.proofs.concurrent.Statement.{statement}
 use Rattle.suggest.proofs.concurrent.Tie as tie
 
 returns : tie.Need-returns
-returns c = beside-00 (c .before .before .args .first) (c .before .before .args .second) (c .before .before .args .onefield) (c .before .match .keys1) (c .match2 .keys1)
+unfolding concurrentTable
+returns c = beside (c .before .before .args .onefield) (c .before .match .keys1) (c .match2 .keys1) refl
 
 returns-2 : tie.Need-returns-2
-returns-2 c = beside-0 (c .before .before .args .first) (c .before .before .args .second) (c .before .before .args .onefield) (c .before .match .keys1) (c .match2 .rest .1)
+unfolding concurrentTable
+returns-2 c = beside (c .before .before .args .onefield) (c .before .match .keys1) (c .match2 .keys2) refl
 
 returns-3 : tie.Need-returns-3
-returns-3 c = beside-11 (c .before .before .before .args .first) (c .before .before .before .args .second) (c .before .before .before .args .onefield) (c .before .before .match .keys2) (c .before .match3 .keys1) (c .if1 .taken)
+unfolding concurrentTable
+returns-3 c = beside (c .before .before .args .onefield) (c .before .match .keys1) (remove-kind _ (c .match2 .rest .0 .1) (c .match2 .rest .1)) refl
 
 returns-4 : tie.Need-returns-4
-returns-4 c = beside-11-other (c .before .before .before .args .first) (c .before .before .before .args .second) (c .before .before .before .args .onefield) (c .before .before .match .keys2) (c .before .match3 .keys1) (c .if1 .left)
+unfolding concurrentTable
+returns-4 c = beside (c .before .before .args .onefield) (c .before .match .keys2) (c .match3 .keys1) refl
 
 returns-5 : tie.Need-returns-5
-returns-5 c = beside-1 (c .before .before .args .first) (c .before .before .args .second) (c .before .before .args .onefield) (c .before .match .keys2) (c .match3 .rest .1)
+unfolding concurrentTable
+returns-5 c = beside (c .before .before .args .onefield) (c .before .match .keys2) (c .match3 .keys2) refl
 
 returns-6 : tie.Need-returns-6
-returns-6 c = beside-2 (c .before .args .first) (c .before .args .second) (c .before .args .onefield) (c .match .rest .0 .1) (c .match .rest .1)
+unfolding concurrentTable
+returns-6 c = beside (c .before .before .args .onefield) (c .before .match .keys2) (remove-kind _ (c .match3 .rest .0 .1) (c .match3 .rest .1)) refl
+
+returns-7 : tie.Need-returns-7
+unfolding concurrentTable
+returns-7 c = beside (c .before .before .args .onefield) (remove-kind _ (c .before .match .rest .0 .1) (c .before .match .rest .1)) (c .match4 .keys1) refl
+
+returns-8 : tie.Need-returns-8
+unfolding concurrentTable
+returns-8 c = beside (c .before .before .args .onefield) (remove-kind _ (c .before .match .rest .0 .1) (c .before .match .rest .1)) (c .match4 .keys2) refl
+
+returns-9 : tie.Need-returns-9
+unfolding concurrentTable
+returns-9 c = beside (c .before .before .args .onefield) (remove-kind _ (c .before .match .rest .0 .1) (c .before .match .rest .1)) (remove-kind _ (c .match4 .rest .0 .1) (c .match4 .rest .1)) refl
 
 pub concurrent-spec : {M : Type 1} → statement M
-concurrent-spec = tie.close (tie.spec returns returns-2 returns-3 returns-4 returns-5 returns-6)
+concurrent-spec =
+    tie.close
+    (tie.spec
+    returns
+    returns-2
+    returns-3
+    returns-4
+    returns-5
+    returns-6
+    returns-7
+    returns-8
+    returns-9)
