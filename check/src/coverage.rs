@@ -138,7 +138,7 @@ fn form_of(kind: Kind) -> &'static str {
 }
 
 fn tells_by_first_word(kind: Option<Kind>) -> bool {
-    matches!(kind, Some(Kind::Adopt | Kind::Elect | Kind::Bundle | Kind::Test))
+    matches!(kind, Some(Kind::Adopt | Kind::Elect | Kind::Bundle | Kind::Suggest | Kind::Test))
 }
 
 fn first_word(answer: &[u8]) -> String {
@@ -166,6 +166,7 @@ fn accepted_results(kind: Kind) -> &'static [&'static str] {
     match kind {
         Kind::Adopt | Kind::Elect => &["won=yes", "won=no"],
         Kind::Bundle => &["eligible=yes", "eligible=no"],
+        Kind::Suggest => &["rules=0", "rules=1", "rules=2"],
         Kind::Test => &["sound=yes", "sound=no"],
         Kind::AskReport => &["accepted", FULL],
         _ => &["accepted"],

@@ -2,7 +2,7 @@
 
 use super::Maker;
 use crate::model::text::write_constraint;
-use crate::model::{Constraint, EditRow, Field, Record, Rule, Tables};
+use crate::model::{Constraint, Edit, EditRow, Field, Record, Rule, Tables};
 
 impl Maker {
     pub(super) fn on_the_bench(&mut self) {
@@ -97,13 +97,30 @@ impl Maker {
 
     pub(super) fn suggest(&mut self) {
         for _ in 0..self.random.between(1, 4) {
-            let (first, second) = (self.name_for_call(), self.name_for_call());
+            let first = self.name_for_call();
+            let second = match self.random.one_in(4) {
+                true => self.name_for_call(),
+                false => self.name_beside(first),
+            };
             let case = if self.random.one_in(10) {
                 self.random.odd_number()
             } else {
                 self.random.below(2) as u32
             };
             self.say(&format!("do=suggest first={first} second={second} case={case}"));
+        }
+    }
+
+    /// Another edit of this one's place, if the bench has any: no others suggest
+    /// anything.
+    fn name_beside(&mut self, name: u32) -> u32 {
+        let edits = &self.session.bench.record().edits;
+        let place = edits.iter().find(|edit| u32::from(edit.name) == name).map(|it| it.body.place);
+        let beside = |it: &&Edit| Some(it.body.place) == place && u32::from(it.name) != name;
+        let others: Vec<u16> = edits.iter().filter(beside).map(|it| it.name).collect();
+        match others.is_empty() {
+            true => self.name_for_call(),
+            false => u32::from(self.random.pick(&others)),
         }
     }
 
