@@ -614,6 +614,7 @@ mod proposals {
         assert!(after(insertion, insert(257, 5)).is_empty());
         assert!(concurrent(insertion, first).is_empty() && concurrent(first, insertion).is_empty());
         assert!(after(insertion, insertion).is_empty());
+        assert!(concurrent(insertion, insertion).is_empty());
         assert!(after(insertion, remove(261, 6)).is_empty());
     }
 
