@@ -72,7 +72,7 @@ aborted row (y ∷ l) x i m =
 
 -- sifted lists of any kind
 module _ {A : Type 0} (p : A → Bool) where
-  sift-from : (l : List A) (x : A) → Has x (sift p l) → Has x l × (p x ≡ true)
+  pub sift-from : (l : List A) (x : A) → Has x (sift p l) → Has x l × (p x ≡ true)
   unfolding sift
   sift-from [] x h = absurd h
   sift-from (y ∷ l) x h =

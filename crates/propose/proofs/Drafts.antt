@@ -2,7 +2,7 @@
 use mathlib.Core.Path.{_≡_, refl, ap, sym, _∙_}
 use mathlib.Core.Bool.{Bool, true, false, not}
 use mathlib.Core.List.{List}
-use Prim.Native.Nat.{ℕ}
+use Prim.Native.Nat.{ℕ, _≤_}
 use borrow.Author.Tests.{not-false, ltb-false, ne-eqb}
 use lib.Dec.{ltb}
 use lib.ListN.{length}
@@ -92,12 +92,20 @@ module _ (M Q : Record) where
           unfolding proposed finished withConstraints
           last-is start new f e = f (started M Q) _ e u v
 
--- a draft without fault is checked
-pub drafted-checked : (M Q : Record) → Checked (unite M Q) → draftFault M Q ≡ 0 → Checked (proposed M Q)
-unfolding draftFault overfull proposed
-drafted-checked M Q k h =
+-- of a draft without fault the start is checked and sound, and the rows have places
+pub start-faultless : (M Q : Record) → Checked (unite M Q) → draftFault M Q ≡ 0
+    → Checked (started M Q) × (sound (started M Q) ≡ true) × (length (proposed M Q .constraints) ≤ 512)
+unfolding draftFault overfull
+start-faultless M Q k h =
     let a = orelse-none (8 given not (sound Q)) _ h in
     let b = orelse-none (3 given ltb 512 (length (started M Q .constraints))) _ (a .1) in
-    let c = orelse-none (8 given not (sound (started M Q))) _ (b .1) in
-    let s : Checked (started M Q) = started-checked M Q k (ltb-false 512 (length (started M Q .constraints)) (given-none 2 (ltb 512 (length (started M Q .constraints))) (b .0))) in
-    finished-checked (started M Q) s (ltb-false 512 (length (finished (started M Q) .constraints)) (given-none 2 (ltb 512 (length (finished (started M Q) .constraints))) (c .1)))
+    let c = orelse-none (8 given not (sound (started M Q))) _ (b .1) in (
+      started-checked M Q k (ltb-false 512 (length (started M Q .constraints)) (given-none 2 (ltb 512 (length (started M Q .constraints))) (b .0))),
+      not-false (sound (started M Q)) (given-none 7 (not (sound (started M Q))) (c .0)),
+      ltb-false 512 (length (proposed M Q .constraints)) (given-none 2 (ltb 512 (length (proposed M Q .constraints))) (c .1)),
+    )
+
+-- and it is checked itself
+pub drafted-checked : (M Q : Record) → Checked (unite M Q) → draftFault M Q ≡ 0 → Checked (proposed M Q)
+unfolding proposed
+drafted-checked M Q k h = let s = start-faultless M Q k h in finished-checked (started M Q) (s .0) (s .2)

@@ -1,0 +1,62 @@
+-- The product's own call makes such rows: a proposal that it accepts is sound and keeps the old one. Assumes nothing.
+use mathlib.Core.Path.{_≡_, refl}
+use mathlib.Core.Bool.{true, false, not, _&&_, _||_}
+use Prim.Native.Nat.{ℕ, _<_}
+use native.Mathlib.Omega.{arith}
+use lib.Dec.{eqb, ltb}
+use borrow.Author.Tests.{eq-eqb, lt-ltb, not-false}
+use Rattle.record.specs.Record.{Record, has}
+use Rattle.record.specs.Judgement.{sound}
+use Rattle.record.proofs.Lists.{clash, is-by, le-by, and-i, or-by, or-l, or-r}
+use Rattle.record.proofs.Judged.{sound-is}
+use Rattle.ground.specs.Ground.{_given_, _orelse_}
+use Rattle.ground.proofs.Grounds.{orelse-none, given-none}
+use Rattle.table.specs.Table.{emptyTables, lentFault, pairNotAllowed, unite}
+use Rattle.table.specs.Checked.{Checked}
+use Rattle.table.proofs.Records.{checked-sides, checked-wellformed, lent-checked, joined-checked}
+use Rattle.proposal.specs.Proposal.{started, proposed, Paired, Keeps, keeps}
+use Rattle.proposal.proofs.Joined.{con, has-in}
+use Rattle.proposal.proofs.Finished.{finished-well-formed, finished-sound}
+use Rattle.proposal.proofs.Proposed.{keeps-is}
+use Rattle.propose.specs.Propose.{draftFault, unkept, Lent, recordM, proposalQ, proposalFault, newProposal}
+use Rattle.propose.proofs.Drafts.{start-faultless}
+use Rattle.mergeability.specs.Mergeability.{SoundTables}
+
+-- without 6 a noncommuting pair has the lower name on the left
+lower : (a b : ℕ) → pairNotAllowed a 2 b ≡ false → a < b
+unfolding pairNotAllowed
+lower a b h =
+    is-by a b (λ e. clash (refused (or-l (eqb a b) (ltb b a) (eq-eqb a b e))) h)
+    (λ n. le-by b a (λ l. clash (refused (or-r (eqb a b) (ltb b a) (lt-ltb b a (omega (arith, n, l))))) h) (λ l. l))
+  where
+    refused : (eqb a b || ltb b a) ≡ true → pairNotAllowed a 2 b ≡ true
+    refused p =
+        or-r (eqb a 0) _ (or-r (eqb b 0 && not (eqb 2 1)) _
+        (or-by (eqb a b) (ltb b a) p (λ e. or-l _ _ (and-i _ _ e refl)) (λ e. or-r (eqb a b && not (eqb 2 0)) _ e)))
+
+checked-paired : (R : Record) → Checked R → Paired R
+checked-paired R k = record { lower = λ a b h. lower a b (checked-sides R k (con a 2 b) (has-in a 2 b (R .constraints) h) .pair) }
+
+-- a draft without fault is sound
+drafted-sound : (M Q : Record) → Checked (unite M Q) → draftFault M Q ≡ 0 → SoundTables (proposed M Q)
+unfolding proposed
+drafted-sound M Q k h =
+    let s = start-faultless M Q k h in
+    let w = checked-wellformed (started M Q) (s .0) in
+    let p = checked-paired (started M Q) (s .0) in
+    let f = finished-well-formed w p (s .1) in
+    record { formed = f; scheduled = sound-is _ f .0 (finished-sound w p (s .1)) }
+
+-- An accepted proposal is sound and keeps the old one: one more of a row.
+pub proposal-next : (t : Lent) → proposalFault t ≡ 0 → SoundTables (newProposal t) × Keeps (proposalQ t) (newProposal t)
+unfolding newProposal proposalFault unkept
+proposal-next t h =
+    let M = recordM t in
+    let Q = proposalQ t in
+    let a = orelse-none (lentFault emptyTables (t .edits) (t .constraints)) _ h in
+    let b = orelse-none (lentFault M (t .oldedits) (t .oldconstraints)) _ (a .1) in
+    let c = orelse-none (draftFault M Q) _ (b .1) in
+    let d = orelse-none (11 given not (keeps Q (proposed M Q))) _ (c .1) in
+    let k = joined-checked M (t .oldedits) (t .oldconstraints) (lent-checked (t .edits) (t .constraints) (a .0)) (b .0) in
+    rw (eq-eqb (proposalFault t) 0 h)
+    (drafted-sound M Q k (c .0), keeps-is Q (proposed M Q) .0 (not-false (keeps Q (proposed M Q)) (given-none 10 (not (keeps Q (proposed M Q))) (d .0))))

@@ -1,0 +1,3 @@
+pub mod Mergeability
+pub mod Counted
+pub mod Examples
