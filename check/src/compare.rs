@@ -16,6 +16,19 @@ pub trait Other {
     fn shelf(&mut self, text: &[u8]) -> Vec<u8>;
 }
 
+/// The model in place of another implementation.
+pub struct Model;
+
+impl Other for Model {
+    fn replay(&mut self, log: &[u8]) -> Vec<u8> {
+        log::run(log)
+    }
+
+    fn shelf(&mut self, text: &[u8]) -> Vec<u8> {
+        text::shelf(text).0
+    }
+}
+
 /// Programs that read standard input and print.
 pub struct Programs {
     pub replay: PathBuf,

@@ -2,6 +2,7 @@
 
 use crate::log::{self, Kind};
 use crate::model::Ground;
+use crate::table::{write_table, Row};
 use crate::trial::{Outcome, Trial};
 use std::collections::BTreeMap;
 use std::fmt;
@@ -82,37 +83,29 @@ impl Coverage {
         trials.map(|(_, count)| count).sum()
     }
 
-    /// Everything that was counted: its title, what it is, how often.
-    fn rows(&self) -> Vec<(String, String, u64)> {
-        let row = |title: &str, name: &str, count| (title.to_string(), name.to_string(), count);
-        let mut rows = Vec::new();
-        rows.extend(self.counts.iter().map(|((line, result), &count)| row(line, result, count)));
-        let number =
-            |ground: Ground| row("by number", &refused(ground), self.of_number(ground.number()));
+    /// Everything that was counted.
+    fn rows(&self) -> Vec<Row> {
+        let number = |ground: Ground| {
+            Row::new("by number", &refused(ground), self.of_number(ground.number()))
+        };
+        let of_trial = |((trial, outcome), &count): (&(Trial, Outcome), &u64)| {
+            Row::new(&trial.to_string(), outcome.word(), count)
+        };
+        let counts = self.counts.iter();
+        let mut rows: Vec<Row> =
+            counts.map(|((line, result), &count)| Row::new(line, result, count)).collect();
         rows.extend(Ground::ALL.map(number));
-        rows.extend(
-            self.trials
-                .iter()
-                .map(|((trial, outcome), &count)| row(&trial.to_string(), outcome.word(), count)),
-        );
-        rows.push(row("in all", "lines of logs", self.lines));
-        rows.push(row("in all", "texts", self.texts));
-        rows.push(row("in all", "too short", self.too_short()));
+        rows.extend(self.trials.iter().map(of_trial));
+        rows.push(Row::new("in all", "lines of logs", self.lines));
+        rows.push(Row::new("in all", "texts", self.texts));
+        rows.push(Row::new("in all", "too short", self.too_short()));
         rows
     }
 }
 
 impl fmt::Display for Coverage {
     fn fmt(&self, out: &mut fmt::Formatter) -> fmt::Result {
-        let mut last = String::new();
-        for (title, name, count) in self.rows() {
-            if last != title {
-                writeln!(out, "{title}")?;
-                last = title;
-            }
-            writeln!(out, "    {name:<20}{count:>10}")?;
-        }
-        Ok(())
+        write_table(&self.rows(), out)
     }
 }
 

@@ -6,7 +6,7 @@ use crate::model::{ConstraintRow, EditRow, Field, Ground, Rule};
 /// No line is longer than this before its end.
 pub const LINE_LIMIT: usize = 100;
 /// No form has more marks than this.
-const MARK_LIMIT: usize = 6;
+const MARK_LIMIT: usize = 8;
 /// What every number that doesn't fit 32 bits is read as.
 const TOO_LARGE: u64 = 1 << 32;
 

@@ -1,6 +1,8 @@
-//! What is lent to the calls of a log: its limits.
+//! What is lent to the calls of a log: its limits, and the lines that lend rows.
 
-use crate::model::{Ground, RollRow, BENCHES, CONSTRAINT_LIMIT, EDIT_LIMIT};
+use crate::model::{
+    ConstraintRow, EditRow, Ground, RollRow, Tables, BENCHES, CONSTRAINT_LIMIT, EDIT_LIMIT,
+};
 
 /// One row more than a record can take in, so that a table that is too long has
 /// its fault among the rows that are kept.
@@ -32,4 +34,24 @@ pub fn push_roll(roll: &mut Vec<RollRow>, bench: u32, weight: u32) -> Result<(),
         roll.push(RollRow { bench, weight });
     }
     Ok(())
+}
+
+/// The line that lends a row of edits to this record.
+pub fn edit_line(number: u32, row: &EditRow) -> String {
+    let EditRow { name, kind, place, field, value } = row;
+    format!("lent={number} edit={name} kind={kind} chip={place} field={field} value={value}")
+}
+
+/// The line that lends a row of constraints to this record.
+pub fn constraint_line(number: u32, row: &ConstraintRow) -> String {
+    let ConstraintRow { left, rule, right } = row;
+    format!("lent={number} left={left} rule={rule} right={right}")
+}
+
+/// The lines that lend a record, in place of what was lent before.
+pub fn lending(number: u32, tables: &Tables) -> String {
+    let edits = tables.edits.iter().map(|row| edit_line(number, row));
+    let constraints = tables.constraints.iter().map(|row| constraint_line(number, row));
+    let lines = std::iter::once(format!("lent={number} rows=none")).chain(edits).chain(constraints);
+    lines.map(|line| line + "\n").collect()
 }

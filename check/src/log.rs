@@ -209,7 +209,7 @@ impl Session {
 
     /// Changes a lent record.
     fn lend(&mut self, kind: Kind, numbers: Numbers) -> Result<(), Ground> {
-        let [number, second, third, fourth, fifth, sixth] = numbers;
+        let [number, second, third, fourth, fifth, sixth, ..] = numbers;
         let lent = &mut self.lent[record_number(number)?];
         match kind {
             Kind::LentEdit => {
@@ -272,7 +272,7 @@ impl Session {
     }
 
     fn propose(&mut self, numbers: Numbers, out: &mut Vec<u8>) -> Result<(), Ground> {
-        let [from, old, edits, constraints, keep, _] = numbers;
+        let [from, old, edits, constraints, keep, ..] = numbers;
         let (from, old) = (record_number(from)?, record_number(old)?);
         let room = Room { edits: edits as usize, constraints: constraints as usize };
         let proposal = propose(&self.lent[from], &self.lent[old], room)?;

@@ -1,13 +1,15 @@
 //! Compares another implementation of document 01 with the model of this package
-//! on random call logs and texts.
+//! on random call logs and texts, and runs random histories of elections on it.
 
 use check::compare::{
-    compare_log, compare_text, cut_log, cut_text, difference, Difference, Other, Programs,
+    compare_log, compare_text, cut_log, cut_text, difference, Difference, Model, Other, Programs,
 };
 use check::coverage::{Coverage, Parts};
 use check::library::{self, Library};
+use check::mergeability::{self, Counts, Finding, Voters};
 use check::trial::Trial;
 use check::{log, model, random};
+use std::fmt::Display;
 use std::io::{Read, Write};
 use std::path::PathBuf;
 use std::process::ExitCode;
@@ -15,28 +17,38 @@ use std::process::ExitCode;
 const USAGE: &str = "\
 usage: check [--seed N] [--logs N] [--calls N] [--replay PATH] [--shelf PATH]
        check [--seed N] [--logs N] [--calls N] --library
+       check [--seed N] [--logs N] --mergeability [--not-kept] [--library]
+       check [--seed N] [--logs N] --mergeability [--not-kept] --replay PATH --shelf PATH
        check [--seed N] [--calls N] --dump
        check [--seed N] --dump-text
        check --answer | --answer-text
 
   --seed N       the first seed (1)
-  --logs N       how many logs and texts, one of each to a seed (1000)
+  --logs N       how many logs and texts, one of each to a seed (1000), or histories (500)
   --calls N      about how many lines a log has (300)
   --replay PATH  a program to compare on logs
   --shelf PATH   a program to compare on texts
   --library      compare the library that this was built with, on logs and texts
+  --mergeability run histories of proposals and elections: all that is won has to
+                 form one sound record
+  --not-kept     with a planted fault, a voter that does not keep its old proposal:
+                 ends with 0 if a history is found that fails, with 1 if none is
   --dump         print the log of the seed
   --dump-text    print the text of the seed
   --answer       print the model's answers to a log on standard input
   --answer-text  print the model's report on a text on standard input
 
-Without a program only the model runs, and what occurred is counted.
+Without a program or the library only the model runs, and what occurred is counted.
 ";
+
+/// How many logs and texts, and how many histories, if it is not said.
+const LOGS: u64 = 1000;
+const HISTORIES: u64 = 500;
 
 #[derive(Clone, Copy, PartialEq, Eq)]
 enum Task {
     Compare,
-    CompareLibrary,
+    Mergeability,
     Dump,
     DumpText,
     Answer,
@@ -45,10 +57,12 @@ enum Task {
 
 struct Options {
     seed: u64,
-    logs: u64,
+    logs: Option<u64>,
     calls: usize,
     replay: Option<PathBuf>,
     shelf: Option<PathBuf>,
+    library: bool,
+    voters: Voters,
     task: Task,
 }
 
@@ -56,20 +70,24 @@ impl Options {
     fn read(mut words: impl Iterator<Item = String>) -> Option<Options> {
         let mut options = Options {
             seed: 1,
-            logs: 1000,
+            logs: None,
             calls: 300,
             replay: None,
             shelf: None,
+            library: false,
+            voters: Voters::Keep,
             task: Task::Compare,
         };
         while let Some(word) = words.next() {
             match word.as_str() {
                 "--seed" => options.seed = words.next()?.parse().ok()?,
-                "--logs" => options.logs = words.next()?.parse().ok()?,
+                "--logs" => options.logs = Some(words.next()?.parse().ok()?),
                 "--calls" => options.calls = words.next()?.parse().ok()?,
                 "--replay" => options.replay = Some(words.next()?.into()),
                 "--shelf" => options.shelf = Some(words.next()?.into()),
-                "--library" => options.task = Task::CompareLibrary,
+                "--library" => options.library = true,
+                "--mergeability" => options.task = Task::Mergeability,
+                "--not-kept" => options.voters = Voters::OneDoesNotKeep,
                 "--dump" => options.task = Task::Dump,
                 "--dump-text" => options.task = Task::DumpText,
                 "--answer" => options.task = Task::Answer,
@@ -77,8 +95,22 @@ impl Options {
                 _ => return None,
             }
         }
-        let programs = options.replay.is_some() || options.shelf.is_some();
-        (!programs || options.task != Task::CompareLibrary).then_some(options)
+        options.fit_together().then_some(options)
+    }
+
+    /// The library goes without programs, and histories go with both or none.
+    fn fit_together(&self) -> bool {
+        let programs = [&self.replay, &self.shelf].into_iter().flatten().count();
+        match self.task {
+            _ if self.library && programs > 0 => false,
+            Task::Mergeability => programs != 1,
+            _ => self.voters == Voters::Keep,
+        }
+    }
+
+    /// So many seeds if it is not said how many.
+    fn seeds(&self, count: u64) -> impl Iterator<Item = u64> {
+        (self.seed..).take(self.logs.unwrap_or(count) as usize)
     }
 }
 
@@ -88,8 +120,9 @@ fn main() -> ExitCode {
         return ExitCode::from(2);
     };
     match options.task {
+        Task::Compare if options.library => compare_library(&options),
         Task::Compare => compare(&options),
-        Task::CompareLibrary => compare_library(&options),
+        Task::Mergeability => run_histories(&options),
         Task::Dump => print(&random::log(options.seed, options.calls)),
         Task::DumpText => print(&random::text(options.seed)),
         Task::Answer => print(&log::run(&standard_input())),
@@ -110,30 +143,29 @@ fn print(bytes: &[u8]) -> ExitCode {
     }
 }
 
-/// The model in place of programs, when none is given.
-struct Model;
-
-impl Other for Model {
-    fn replay(&mut self, log: &[u8]) -> Vec<u8> {
-        log::run(log)
-    }
-
-    fn shelf(&mut self, text: &[u8]) -> Vec<u8> {
-        model::text::shelf(text).0
-    }
-}
-
-fn compare(options: &Options) -> ExitCode {
-    let (replay, shelf) = (options.replay.clone(), options.shelf.clone());
-    let logs = replay.is_some() || shelf.is_none();
-    let texts = shelf.is_some() || replay.is_none();
-    let mut other: Box<dyn Other> = match logs && texts && replay.is_none() {
-        true => Box::new(Model),
-        false => Box::new(Programs {
+/// The programs, or the model if none is given.
+fn programs(options: &Options) -> Box<dyn Other> {
+    match (options.replay.clone(), options.shelf.clone()) {
+        (None, None) => Box::new(Model),
+        (replay, shelf) => Box::new(Programs {
             replay: replay.unwrap_or_default(),
             shelf: shelf.unwrap_or_default(),
         }),
-    };
+    }
+}
+
+fn linked_library() -> Option<Library> {
+    let functions = library::archive();
+    if functions.is_none() {
+        eprintln!("this was built without the library: build it with --features library");
+    }
+    functions.map(Library::new)
+}
+
+fn compare(options: &Options) -> ExitCode {
+    let logs = options.replay.is_some() || options.shelf.is_none();
+    let texts = options.shelf.is_some() || options.replay.is_none();
+    let mut other = programs(options);
     compare_seeds(options, Parts { logs, texts, rooms: false }, |seed, coverage| {
         (!logs || same_log(seed, &random::log(seed, options.calls), &mut *other, coverage))
             && (!texts || same_text(seed, &random::text(seed), &mut *other, coverage))
@@ -141,11 +173,7 @@ fn compare(options: &Options) -> ExitCode {
 }
 
 fn compare_library(options: &Options) -> ExitCode {
-    let Some(functions) = library::archive() else {
-        eprintln!("this was built without the library: build it with --features library");
-        return ExitCode::from(2);
-    };
-    let mut library = Library::new(functions);
+    let Some(mut library) = linked_library() else { return ExitCode::from(2) };
     compare_seeds(options, Parts { logs: true, texts: true, rooms: true }, |seed, coverage| {
         let (log, text) = (random::log(seed, options.calls), random::text(seed));
         let library = &mut library;
@@ -163,17 +191,51 @@ fn compare_seeds(
     mut is_same: impl FnMut(u64, &mut Coverage) -> bool,
 ) -> ExitCode {
     let mut coverage = Coverage::default();
-    let mut seeds = (options.seed..).take(options.logs as usize);
-    if !seeds.all(|seed| is_same(seed, &mut coverage)) {
+    if !options.seeds(LOGS).all(|seed| is_same(seed, &mut coverage)) {
         return ExitCode::FAILURE;
     }
-    let missing = coverage.missing(parts);
+    show_counts(&coverage, coverage.missing(parts))
+}
+
+/// Prints what occurred and what is missing, and fails if anything is.
+fn show_counts(counts: &impl Display, missing: Vec<String>) -> ExitCode {
     let lines = missing.iter().map(|line| format!("did not occur: {line}\n"));
-    let printed = print(format!("{coverage}{}", lines.collect::<String>()).as_bytes());
+    let printed = print(format!("{counts}{}", lines.collect::<String>()).as_bytes());
     match missing.is_empty() {
         true => printed,
         false => ExitCode::FAILURE,
     }
+}
+
+/// Runs the history of each seed until one fails. With the planted fault histories
+/// have to fail: then the first is shown, and only what the fault is no reason for
+/// ends the run.
+fn run_histories(options: &Options) -> ExitCode {
+    let other = match options.library {
+        true => linked_library().map(|library| Box::new(library) as Box<dyn Other>),
+        false => Some(programs(options)),
+    };
+    let Some(mut other) = other else { return ExitCode::from(2) };
+    let mut counts = Counts::default();
+    for seed in options.seeds(HISTORIES) {
+        let is_first = counts.failing() == 0;
+        let findings = mergeability::run(seed, options.voters, &mut *other, &mut counts);
+        let is_expected = findings.iter().all(|finding| finding.is_expected(options.voters));
+        if !findings.is_empty() && (is_first || !is_expected) {
+            let title = if is_expected { "the planted fault shows" } else { "a finding" };
+            println!("{title}: history of seed {seed}");
+            findings.iter().for_each(show_finding);
+        }
+        if !is_expected {
+            return ExitCode::FAILURE;
+        }
+    }
+    show_counts(&counts, counts.missing(options.voters))
+}
+
+fn show_finding(finding: &Finding) {
+    println!("{}: {}", finding.demand.words(), finding.what);
+    finding.texts.iter().for_each(|(title, text)| show_lines(title, text));
 }
 
 fn same_log(seed: u64, log: &[u8], other: &mut dyn Other, coverage: &mut Coverage) -> bool {
@@ -249,15 +311,36 @@ fn show_lines(title: &str, bytes: &[u8]) {
 mod tests {
     use super::*;
 
+    fn options(words: &str) -> Option<Options> {
+        Options::read(words.split_whitespace().map(str::to_string))
+    }
+
     fn task(words: &str) -> Option<Task> {
-        Options::read(words.split_whitespace().map(str::to_string)).map(|options| options.task)
+        options(words).map(|options| options.task)
     }
 
     #[test]
     fn the_library_is_compared_without_programs() {
-        assert!(task("--library --seed 7 --logs 2") == Some(Task::CompareLibrary));
+        assert!(options("--library --seed 7 --logs 2").is_some_and(|options| options.library));
         assert!(task("--library --replay path").is_none());
         assert!(task("--shelf path --library").is_none());
         assert!(task("--shelf path") == Some(Task::Compare));
+    }
+
+    #[test]
+    fn histories_need_both_programs_or_none() {
+        assert!(task("--mergeability") == Some(Task::Mergeability));
+        assert!(task("--library --mergeability --not-kept") == Some(Task::Mergeability));
+        assert!(task("--mergeability --replay path --shelf path").is_some());
+        assert!(task("--mergeability --replay path").is_none());
+        assert!(task("--mergeability --replay path --shelf path --library").is_none());
+        assert!(task("--library --not-kept").is_none());
+    }
+
+    #[test]
+    fn it_may_be_said_how_many_seeds() {
+        let seeds = |words| options(words).unwrap().seeds(HISTORIES).collect::<Vec<u64>>();
+        assert_eq!(seeds("--mergeability").len(), 500);
+        assert_eq!(seeds("--mergeability --logs 2 --seed 7"), [7, 8]);
     }
 }

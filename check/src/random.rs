@@ -2,7 +2,7 @@
 
 mod damage;
 mod logs;
-mod tables;
+pub(crate) mod tables;
 mod texts;
 
 pub use logs::log;

@@ -164,9 +164,8 @@ pub fn any_constraint(edits: &[Edit], recipe: Recipe, random: &mut Random) -> Op
         let aborted = random.one_in(4);
         return Some(if aborted { Constraint::aborted(left) } else { Constraint::required(left) });
     }
-    // One direction for all, but not that of the names: low ones come late too.
-    let key = |name: u16| name.wrapping_mul(40_503).rotate_left(7);
-    let (first, second) = if key(left) < key(right) { (left, right) } else { (right, left) };
+    let is_first = direction(left) < direction(right);
+    let (first, second) = if is_first { (left, right) } else { (right, left) };
     let (from, to) = if recipe.straight { (first, second) } else { (left, right) };
     match random.below(2) {
         _ if left == right => None,
@@ -175,6 +174,12 @@ pub fn any_constraint(edits: &[Edit], recipe: Recipe, random: &mut Random) -> Op
         _ => Some(Constraint::enables(from, to)),
     }
     .filter(|constraint| constraint.is_allowed())
+}
+
+/// One direction for all straight records, but not that of the names: low ones
+/// come late too.
+pub fn direction(name: u16) -> u16 {
+    name.wrapping_mul(40_503).rotate_left(7)
 }
 
 /// Brings in two edits, each notafter the other and both required: 8.

@@ -2,7 +2,8 @@
 
 use super::super::tables::spoil;
 use super::Maker;
-use crate::model::{Constraint, ConstraintRow, Edit, EditRow, Record, Sound, Tables};
+use crate::lent::{constraint_line, edit_line};
+use crate::model::{Constraint, Edit, Record, Sound, Tables};
 
 impl Maker {
     /// Lends tables as a record, most often in place of what it was before.
@@ -12,16 +13,12 @@ impl Maker {
             self.say(&format!("lent={slot} rows=none"));
         }
         for row in &tables.edits {
-            let EditRow { name, kind, place, field, value } = row;
             let slot = self.said_slot(slot);
-            self.say(&format!(
-                "lent={slot} edit={name} kind={kind} chip={place} field={field} value={value}"
-            ));
+            self.say(&edit_line(slot, row));
         }
         for row in &tables.constraints {
-            let ConstraintRow { left, rule, right } = row;
             let slot = self.said_slot(slot);
-            self.say(&format!("lent={slot} left={left} rule={rule} right={right}"));
+            self.say(&constraint_line(slot, row));
         }
     }
 
