@@ -1,4 +1,4 @@
-//! A random run of document 02's request A8, which the paper calls mergeability:
+//! A random run of document 02's request A8, which 000 calls mergeability:
 //! with one roll, and with voters that keep their old proposals, all that is won
 //! over time, from whatever older and newer proposals, forms one sound record.
 //!
