@@ -1,4 +1,4 @@
--- Prefixes of sound records (000, definition 2), and the union of prefixes that are compatible two by two. No vote is known here. Assumes nothing.
+-- Prefixes of sound records, and the union of prefixes that are compatible two by two. No vote is known here. Assumes nothing.
 use mathlib.Core.Path.{_≡_}
 use mathlib.Core.Bool.{true, false}
 use mathlib.Core.Logic.{_⊎_, inl, inr}
@@ -8,7 +8,7 @@ use native.Mathlib.Omega.{arith}
 use Rattle.record.specs.Lists.{_among_}
 use Rattle.record.specs.Record.{Record, written, has, notafter, enables, WellFormed, Extends}
 use Rattle.record.specs.Sound.{Chain, link, chain, Ring}
-use Rattle.record.specs.Schedule.{musts, ring}
+use Rattle.record.specs.Schedule.{needs, musts, ring}
 use Rattle.record.specs.Judgement.{sound, must, never, settled}
 use Rattle.record.proofs.Lists.{by, clash, and-l, or-by, cons-by, nil-no, closure-least}
 use Rattle.record.proofs.Records.{written-names, none-before-init}
@@ -17,7 +17,8 @@ use Rattle.record.proofs.Judged.{init-must, sound-no-both}
 use Rattle.record.proofs.Extended.{must-extended, never-extended, sound-extended}
 use Rattle.record.proofs.Scheduled.{musts-known}
 
--- S is a prefix of R: contained in it, and closed to the left: what R puts before an edit of S, or lets enable it, is in S.
+-- S is a prefix of R: contained in it, and closed to the left for notafter (0) and enables (1): what leads in R to an edit of S is in S. Of 000's
+-- well-formed prefix (definition 2) the parts (i) and (iii).
 pub record Prefix (S R : Record) : Type 0 where
   pub contained : Extends S R
   pub closed : (a k b : ℕ) → k < 2 → b among written S → has a k b (R .constraints) ≡ true → has a k b (S .constraints) ≡ true
@@ -74,7 +75,7 @@ module _ {I : Type 0} {S : I → Record} {U : Record} (F : Family I S U) where
 
   -- an edit that must stand in the union must stand in a member
   must-some : (x : ℕ) → x among musts U → (x ≡ 0) ⊎ ((i : I) × (x among written (S i)) × (x among musts (S i)))
-  unfolding musts Rattle.record.specs.Schedule.needs
+  unfolding musts needs
   must-some =
       closure-least (enables U) _ (0 ∷ []) (λ x. (x ≡ 0) ⊎ ((i : I) × (x among written (S i)) × (x among musts (S i))))
       (λ a b e h. elim h [
