@@ -11,7 +11,7 @@ use lib.ListN.{length, take, drop, length-map}
 use borrow.Author.Tests.{eqb-true, eqb-false, eq-eqb, not-true, not-false}
 use Rattle.record.specs.Lists.{any, mem, _among_, _within_, first, grown, closure}
 use Rattle.record.specs.Record.{Record, names, written, has, WellFormed}
-use Rattle.record.specs.Schedule.{needs, musts, ready, order, ring, admits, scheduled, schedule}
+use Rattle.record.specs.Schedule.{needs, musts, ready, order, admits, scheduled, schedule}
 use Rattle.record.specs.Judgement.{sound, must}
 use Rattle.record.proofs.Lists.{by, clash, and-l, and-r, or-by, or-no-l, cons-by, nil-no, cons-within, sift-mem}
 use Rattle.record.proofs.Scheduled.{schedule-length, schedule-pages}
@@ -20,7 +20,7 @@ use Rattle.ground.specs.Ground.{Rows, _given_, _orelse_}
 use Rattle.table.specs.Table.{emptyTables, decoded, lentFault, addEditFault, addConstraintFault, recordFault, unite}
 use Rattle.table.specs.Checked.{Checked}
 use Rattle.table.proofs.Unions.{united-extends}
-use Rattle.table.proofs.Records.{empty-checked, joined-checked, added-edit-checked, added-constraint-checked, record-checked, checked-wellformed}
+use Rattle.table.proofs.Records.{empty-checked, empty-sound, joined-checked, added-edit-checked, added-constraint-checked, record-checked, checked-wellformed}
 use Rattle.vote.specs.declared.RollRow.{RollRow}
 use Rattle.vote.specs.declared.Election.{Election}
 use Rattle.vote.specs.Tally.{winner}
@@ -50,11 +50,7 @@ orelse-left a b h = by (eqb a 0) (eqb-true a 0) (λ e. absurd (eqb-false a 0 e (
 pub orelse-right : (a b : ℕ) → (a orelse b) ≡ 0 → b ≡ 0
 orelse-right a b h = let z = orelse-left a b h in rw (z) at h
 
--- the empty record is sound, and its schedule is INIT alone
-empty-sound : sound emptyTables ≡ true
-unfolding sound musts ring order ready needs names written has closure grown first any mem
-empty-sound = refl
-
+-- the schedule of the empty record is INIT alone
 empty-schedule : schedule emptyTables [] ≡ 0 ∷ []
 unfolding schedule scheduled admits musts order ready needs names written has closure grown first any mem
 empty-schedule = refl

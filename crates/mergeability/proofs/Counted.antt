@@ -43,7 +43,7 @@ module _ {roll : List RollRow} {sent : ℕ → List Record} (T : Sending roll se
       by (countOf (x .edit) (x .proposals) roll .election .won)
       (λ w. let i : Has B (recordOf (countOf (x .edit) (x .proposals) roll .bundle) ∷ countedIn roll l) = rw w at h in
       elim i [
-        | inl q ↦ record { election = record { edit = x .edit; held = held (x .proposals) }; chosen = c x (inl refl); winning = won-count (x .edit) (x .proposals) roll w ∙ ap some (sym q) }
+        | inl q ↦ record { election = record { edit = x .edit; held = held (x .proposals) }; choice = c x (inl refl); winning = won-count (x .edit) (x .proposals) roll w ∙ ap some (sym q) }
         | inr m ↦ later m
       ])
       (λ w. later (rw w at h))

@@ -27,16 +27,16 @@ use Rattle.vote.specs.Tally.{sameEdit, sameConstraint, sameList, sameBundle, ba
 use Rattle.proposal.specs.Proposal.{keeps}
 use Rattle.proposal.proofs.Proposed.{keeps-is}
 use Rattle.mergeability.specs.Mergeability.{Voter, SoundTables, OneBody, EachSound, EachOneBody, Sending, HeldElection, Chosen, EachChosen, wonBy, wonIn, uniteAll, Mergeable}
-use Rattle.mergeability.specs.Examples.{old, new, bad, roll, sent, holding, elections, Answers, Example, WithoutKeeping, halfWinnerOf, halfWonBundle, WithHalf, WithTwoRolls, aborted, Rivals}
+use Rattle.mergeability.specs.Examples.{old, new, bad, roll, sent, holding, elections, Results, Example, WithoutKeeping, halfWinnerOf, halfWonBundle, WithHalf, WithTwoRolls, aborted, Rivals}
 use Rattle.mergeability.proofs.Mergeability.{tables-sound, mergeability}
 
 -- those of the proposals that are sound, with one body to a name
-abbrev shown : List Record
-shown = old ∷ new ∷ bad ∷ aborted ∷ []
+abbrev samples : List Record
+samples = old ∷ new ∷ bad ∷ aborted ∷ []
 
 -- 257 inserts at place 5, 258 at place 6
-abbrev bodyOf : ℕ → Body
-bodyOf name = cond (eqb name 257) (Insert 5) (Insert 6)
+abbrev sampleBody : ℕ → Body
+sampleBody name = cond (eqb name 257) (Insert 5) (Insert 6)
 
 abbrev on257 : (ℕ → Record) → HeldElection
 on257 held = record { edit = 257; held = held }
@@ -64,59 +64,59 @@ weights one two = record { bench = 1; weight = one } ∷ record { bench = 2; wei
 
 -- all that is computed
 record Computed : Type 0 where
-  answers : Answers
-  sound-all : all (λ R. wellFormed R && sound R) shown ≡ true
-  kept : keeps old new ≡ true
-  required : must old 257 ≡ true
-  barred : never aborted 257 ≡ true
+  results : Results
+  sound-all : all (λ R. wellFormed R && sound R) samples ≡ true
+  kept-there : keeps old new ≡ true
+  must-there : must old 257 ≡ true
+  never-there : never aborted 257 ≡ true
   rivals-formed : wellFormed (uniteAll emptyTables (old ∷ aborted ∷ [])) ≡ true
   rivals-unsound : sound (uniteAll emptyTables (old ∷ aborted ∷ [])) ≡ false
   -- the votes of one bench that turned; those of two with half each; those of two on two rolls
-  turned : wonIn (weights 1 0) turnedElections ≡ old ∷ aborted ∷ []
-  halved : wonBy (halfWonBundle (weights 1 1)) halfElections ≡ old ∷ aborted ∷ []
-  two-rolls : (wonIn (weights 2 1) rivalElections ++ wonIn (weights 1 2) rivalElections) ≡ old ∷ aborted ∷ []
+  turned-won : wonIn (weights 1 0) turnedElections ≡ old ∷ aborted ∷ []
+  half-won : wonBy (halfWonBundle (weights 1 1)) halfElections ≡ old ∷ aborted ∷ []
+  two-rolls-won : (wonIn (weights 2 1) rivalElections ++ wonIn (weights 1 2) rivalElections) ≡ old ∷ aborted ∷ []
 
 computed : Computed
 unfolding keeps sound must never settled serialised ordered wellFormed ring order ready musts needs names written is has closure grown first any all sift mem ballots vote eligible bundle between members leads sameBundle sameList sameEdit sameConstraint editRow constraintRow same won greatest greatestOf silent weigh total winner winnerOf halfWinnerOf wonBy uniteAll unite united inserted precedes
 computed = record {
-  answers = record { first = refl; second = refl; third = refl; won = refl; united = refl };
+  results = record { first = refl; second = refl; third = refl; won-bundles = refl; union-is = refl };
   sound-all = refl;
-  kept = refl;
-  required = refl;
-  barred = refl;
+  kept-there = refl;
+  must-there = refl;
+  never-there = refl;
   rivals-formed = refl;
   rivals-unsound = refl;
-  turned = refl;
-  halved = refl;
-  two-rolls = refl;
+  turned-won = refl;
+  half-won = refl;
+  two-rolls-won = refl;
 }
 
-old-shown : Has old shown
-old-shown = inl refl
+old-sample : Has old samples
+old-sample = inl refl
 
-new-shown : Has new shown
-new-shown = inr (inl refl)
+new-sample : Has new samples
+new-sample = inr (inl refl)
 
-bad-shown : Has bad shown
-bad-shown = inr (inr (inl refl))
+bad-sample : Has bad samples
+bad-sample = inr (inr (inl refl))
 
-aborted-shown : Has aborted shown
-aborted-shown = inr (inr (inr (inl refl)))
+aborted-sample : Has aborted samples
+aborted-sample = inr (inr (inr (inl refl)))
 
 -- the proposal of a row of one, and of a row of two
-one-shown : {R : Record} → Has R shown → (P : Record) → Has P (R ∷ []) → Has P shown
-one-shown h P (inl q) = rw q h
-one-shown h P (inr z) = absurd z
+one-sample : {R : Record} → Has R samples → (P : Record) → Has P (R ∷ []) → Has P samples
+one-sample h P (inl q) = rw q h
+one-sample h P (inr z) = absurd z
 
-two-shown : {R S : Record} → Has R shown → Has S shown → (P : Record) → Has P (R ∷ S ∷ []) → Has P shown
-two-shown h i P (inl q) = rw q h
-two-shown h i P (inr m) = one-shown i P m
+two-samples : {R S : Record} → Has R samples → Has S samples → (P : Record) → Has P (R ∷ S ∷ []) → Has P samples
+two-samples h i P (inl q) = rw q h
+two-samples h i P (inr m) = one-sample i P m
 
-sound-shown : (R : Record) → Has R shown → SoundTables R
-sound-shown R h =
-    let t = all-has (λ R. wellFormed R && sound R) shown (computed .sound-all) R h in
+sample-sound : (R : Record) → Has R samples → SoundTables R
+sample-sound R h =
+    let t = all-has (λ R. wellFormed R && sound R) samples (computed .sound-all) R h in
     let w = well-formed R (and-l _ _ t) in
-    record { formed = w; scheduled = sound-is R w .0 (and-r (wellFormed R) _ t) }
+    record { formed = w; has-schedule = sound-is R w .0 (and-r (wellFormed R) _ t) }
 
 -- the edits of all of them
 abbrev edits : List Edit
@@ -126,32 +126,32 @@ old-edit : (e : Edit) → Has e (old .edits) → Has e edits
 old-edit e (inl q) = inl q
 old-edit e (inr z) = absurd z
 
-edits-shown : (R : Record) → Has R shown → (e : Edit) → Has e (R .edits) → Has e edits
-edits-shown R (inl q) e m = old-edit e (rw q at m)
-edits-shown R (inr (inl q)) e m = rw q at m
-edits-shown R (inr (inr (inl q))) e m = rw q at m
-edits-shown R (inr (inr (inr (inl q)))) e m = old-edit e (rw q at m)
-edits-shown R (inr (inr (inr (inr z)))) e m = absurd z
+sample-edits : (R : Record) → Has R samples → (e : Edit) → Has e (R .edits) → Has e edits
+sample-edits R (inl q) e m = old-edit e (rw q at m)
+sample-edits R (inr (inl q)) e m = rw q at m
+sample-edits R (inr (inr (inl q))) e m = rw q at m
+sample-edits R (inr (inr (inr (inl q)))) e m = old-edit e (rw q at m)
+sample-edits R (inr (inr (inr (inr z)))) e m = absurd z
 
-body-is : (e : Edit) → Has e edits → e .body ≡ bodyOf (e .name)
+body-is : (e : Edit) → Has e edits → e .body ≡ sampleBody (e .name)
 body-is e (inl q) = rw q refl
 body-is e (inr (inl q)) = rw q refl
 body-is e (inr (inr z)) = absurd z
 
-body-shown : (P Q : Record) → Has P shown → Has Q shown → OneBody P Q
+sample-bodies : (P Q : Record) → Has P samples → Has Q samples → OneBody P Q
 unfolding OneBody
-body-shown P Q h i d e m n q = body-is d (edits-shown P h d m) ∙ (ap bodyOf q ∙ sym (body-is e (edits-shown Q i e n)))
+sample-bodies P Q h i d e m n q = body-is d (sample-edits P h d m) ∙ (ap sampleBody q ∙ sym (body-is e (sample-edits Q i e n)))
 
 -- what is asked of the rows where every proposal is one of these
-abbrev AllShown : List RollRow → (ℕ → List Record) → Type 0
-AllShown roll sent = (k : ℕ) → Voter roll k → (P : Record) → Has P (sent k) → Has P shown
+abbrev AllSamples : List RollRow → (ℕ → List Record) → Type 0
+AllSamples roll sent = (k : ℕ) → Voter roll k → (P : Record) → Has P (sent k) → Has P samples
 
-module _ (roll : List RollRow) (sent : ℕ → List Record) (f : AllShown roll sent) where
-  each-sound : EachSound roll sent
-  each-sound k v P h = sound-shown P (f k v P h)
+module _ (roll : List RollRow) (sent : ℕ → List Record) (f : AllSamples roll sent) where
+  samples-sound : EachSound roll sent
+  samples-sound k v P h = sample-sound P (f k v P h)
 
-  each-one-body : EachOneBody roll sent
-  each-one-body j k v w P Q h i = body-shown P Q (f j v P h) (f k w Q i)
+  samples-one-body : EachOneBody roll sent
+  samples-one-body j k v w P Q h i = sample-bodies P Q (f j v P h) (f k w Q i)
 
 -- the benches of the example that are voters
 voters {ℓ} : {Z : Type ℓ} (k : ℕ) → Voter roll k → (k ≡ 1 → Z) → (k ≡ 2 → Z) → (k ≡ 3 → Z) → Z
@@ -164,15 +164,15 @@ voters {Z} k v f g h = go (v .row) (v .listed) (v .own) (v .weighs)
     go r (inr (inr (inr (inl q)))) o w = absurd (let z = ap (λ x. x .weight) q in omega arith)
     go r (inr (inr (inr (inr z)))) o w = absurd z
 
-sent-shown : AllShown roll sent
-sent-shown k v P h =
-    voters k v (λ e. two-shown old-shown new-shown P (rw e at h)) (λ e. one-shown bad-shown P (rw e at h)) (λ e. one-shown new-shown P (rw e at h))
+sent-samples : AllSamples roll sent
+sent-samples k v P h =
+    voters k v (λ e. two-samples old-sample new-sample P (rw e at h)) (λ e. one-sample bad-sample P (rw e at h)) (λ e. one-sample new-sample P (rw e at h))
 
 premises : Sending roll sent
 premises = record {
-  sound = each-sound roll sent sent-shown;
-  kept = λ k v. voters k v (λ e. rw e (keeps-is old new .0 (computed .kept), tt)) (λ e. rw e tt) (λ e. rw e tt);
-  bodies = each-one-body roll sent sent-shown;
+  each-sound = samples-sound roll sent sent-samples;
+  each-kept = λ k v. voters k v (λ e. rw e (keeps-is old new .0 (computed .kept-there), tt)) (λ e. rw e tt) (λ e. rw e tt);
+  each-one-body = samples-one-body roll sent sent-samples;
 }
 
 held-chosen : (P : Record) → Has P (old ∷ new ∷ []) → Chosen roll sent (holding P)
@@ -190,15 +190,15 @@ pub example : Example
 example = record {
   premises = premises;
   choices = choices;
-  answers = computed .answers;
-  mergeable = rw (← computed .answers .won) (mergeability premises elections choices);
+  results = computed .results;
+  mergeable = rw (← computed .results .won-bundles) (mergeability premises elections choices);
 }
 
 must-old : Must old 257
-must-old = let s = sound-shown old old-shown in must-is old (s .formed) (tables-sound s) 257 .0 (computed .required)
+must-old = let s = sample-sound old old-sample in must-is old (s .formed) (tables-sound s) 257 .0 (computed .must-there)
 
 never-aborted : Never aborted 257
-never-aborted = never-is aborted (sound-shown aborted aborted-shown .formed) 257 .0 (computed .barred)
+never-aborted = never-is aborted (sample-sound aborted aborted-sample .formed) 257 .0 (computed .never-there)
 
 not-mergeable : Mergeable (old ∷ aborted ∷ []) → ⊥
 unfolding written mem
@@ -213,34 +213,34 @@ rivals = record {
   not-mergeable = not-mergeable;
 }
 
-turned-shown : (roll : List RollRow) → AllShown roll turnedSent
-turned-shown roll k v = two-shown old-shown aborted-shown
+turned-samples : (roll : List RollRow) → AllSamples roll turnedSent
+turned-samples roll k v = two-samples old-sample aborted-sample
 
 pub keeping-needed : WithoutKeeping → ⊥
 unfolding Chosen
 keeping-needed f =
-    not-mergeable (rw (← computed .turned)
+    not-mergeable (rw (← computed .turned-won)
     (f (weights 1 0) turnedSent turnedElections
-    (each-sound (weights 1 0) turnedSent (turned-shown _)) (each-one-body (weights 1 0) turnedSent (turned-shown _)) chosen))
+    (samples-sound (weights 1 0) turnedSent (turned-samples _)) (samples-one-body (weights 1 0) turnedSent (turned-samples _)) chosen))
   where
     chosen : EachChosen (weights 1 0) turnedSent turnedElections
     chosen x (inl q) = rw q (λ k v. inr (inl refl))
     chosen x (inr (inl q)) = rw q (λ k v. inr (inr (inl refl)))
     chosen x (inr (inr z)) = absurd z
 
-rival-shown : (roll : List RollRow) → AllShown roll rivalSent
-rival-shown roll k v P h = by (eqb k 1) (λ e. one-shown old-shown P (rw e at h)) (λ e. one-shown aborted-shown P (rw e at h))
+rival-samples : (roll : List RollRow) → AllSamples roll rivalSent
+rival-samples roll k v P h = by (eqb k 1) (λ e. one-sample old-sample P (rw e at h)) (λ e. one-sample aborted-sample P (rw e at h))
 
 rival-premises : (roll : List RollRow) → Sending roll rivalSent
 rival-premises roll = record {
-  sound = each-sound roll rivalSent (rival-shown roll);
-  kept = λ k v. by (eqb k 1) (λ e. rw e tt) (λ e. rw e tt);
-  bodies = each-one-body roll rivalSent (rival-shown roll);
+  each-sound = samples-sound roll rivalSent (rival-samples roll);
+  each-kept = λ k v. by (eqb k 1) (λ e. rw e tt) (λ e. rw e tt);
+  each-one-body = samples-one-body roll rivalSent (rival-samples roll);
 }
 
 pub majority-needed : WithHalf → ⊥
 unfolding Chosen
-majority-needed f = not-mergeable (rw (← computed .halved) (f (weights 1 1) rivalSent halfElections (rival-premises _) chosen))
+majority-needed f = not-mergeable (rw (← computed .half-won) (f (weights 1 1) rivalSent halfElections (rival-premises _) chosen))
   where
     chosen : EachChosen (weights 1 1) rivalSent halfElections
     chosen x (inl q) = rw q (λ k v. by (eqb k 1) (λ e. rw e (inr (inl refl))) (λ e. rw e (inl refl)))
@@ -250,7 +250,7 @@ majority-needed f = not-mergeable (rw (← computed .halved) (f (weights 1 1) ri
 pub one-roll-needed : WithTwoRolls → ⊥
 unfolding Chosen
 one-roll-needed f =
-    not-mergeable (rw (← computed .two-rolls)
+    not-mergeable (rw (← computed .two-rolls-won)
     (f (weights 2 1) (weights 1 2) rivalSent rivalElections rivalElections (rival-premises _) (rival-premises _) (chosen _) (chosen _)))
   where
     chosen : (roll : List RollRow) → EachChosen roll rivalSent rivalElections

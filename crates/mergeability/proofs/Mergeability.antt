@@ -5,51 +5,49 @@ use mathlib.Core.Logic.{inl, inr}
 use mathlib.Core.List.{List, [], _∷_}
 use mathlib.Core.Option.{Option, none, some}
 use Prim.Native.Nat.{ℕ}
-use Rattle.record.specs.Lists.{any, all, mem, _among_, first, grown, closure}
-use Rattle.record.specs.Record.{Record, names, written, has, WellFormed}
-use Rattle.record.specs.Schedule.{needs, musts, ready, order, ring}
-use Rattle.record.specs.Judgement.{sound, settled, wellFormed}
+use Rattle.record.specs.Lists.{all, mem, _among_, first}
+use Rattle.record.specs.Record.{Record, written, has, WellFormed}
+use Rattle.record.specs.Judgement.{sound, settled}
 use Rattle.record.proofs.Lists.{by, clash}
-use Rattle.record.proofs.Records.{well-formed}
 use Rattle.record.proofs.Judged.{sound-is, must-is, never-is}
 use Rattle.keyed.proofs.Logic.{Has}
 use Rattle.table.specs.Table.{emptyTables}
+use Rattle.table.proofs.Records.{empty-checked, empty-sound, checked-wellformed}
 use Rattle.table.proofs.Unions.{mem-by, mem-has}
 use Rattle.vote.specs.declared.RollRow.{RollRow}
 use Rattle.vote.specs.Bundle.{bundle}
 use Rattle.proposal.proofs.Joined.{con, has-in, in-has}
-use Rattle.mergeability.specs.Mergeability.{Voter, SoundTables, OneBody, Sending, HeldElection, Chosen, EachChosen, wonBundle, Won, wonBy, wonIn, Unites, Mergeable, Merged}
+use Rattle.mergeability.specs.Mergeability.{Voter, SoundTables, OneBody, Sending, HeldElection, Chosen, EachChosen, wonBundle, Won, wonBy, wonIn, UnionOf, Mergeable, Merged}
 use Rattle.mergeability.proofs.Prefixes.{Compatible, compatible-sound, compatible-apart, Family, family-sound}
 use Rattle.mergeability.proofs.United.{all-unites, edits-ascending, constraints-ascending}
-use Rattle.mergeability.proofs.Votes.{Voted, voted, voted-formed, voted-prefix, voted-settled, voted-edit, kept-vote, either-keeps, empty-first, common-voter}
+use Rattle.mergeability.proofs.Votes.{IsVote, is-vote, vote-formed, vote-prefix, vote-settled, vote-edit, kept-vote, either-keeps, empty-first, common-voter}
 
 pub tables-sound : {R : Record} → SoundTables R → sound R ≡ true
-tables-sound {R} s = sound-is R (s .formed) .1 (s .scheduled)
+tables-sound {R} s = sound-is R (s .formed) .1 (s .has-schedule)
 
-empty-sound : SoundTables emptyTables
-unfolding wellFormed sound musts needs ring order ready names written has closure grown first any all mem
-empty-sound =
-    let w = well-formed emptyTables refl in
-    record { formed = w; scheduled = sound-is emptyTables w .0 refl }
+empty-tables : SoundTables emptyTables
+empty-tables =
+    let w = checked-wellformed emptyTables empty-checked in
+    record { formed = w; has-schedule = sound-is emptyTables w .0 empty-sound }
 
 module _ {roll : List RollRow} {sent : ℕ → List Record} (T : Sending roll sent) where
   -- a proposal of a voter, the empty one among them
   proposal-sound : (k : ℕ) → Voter roll k → (P : Record) → Has P (emptyTables ∷ sent k) → SoundTables P
-  proposal-sound k v P (inl e) = rw e empty-sound
-  proposal-sound k v P (inr h) = T .sound k v P h
+  proposal-sound k v P (inl e) = rw e empty-tables
+  proposal-sound k v P (inr h) = T .each-sound k v P h
 
   proposal-body : (k : ℕ) → Voter roll k → (P : Record) → Has P (emptyTables ∷ sent k) → OneBody P P
   unfolding OneBody
   proposal-body k v P (inl e) = rw e (λ c d h i q. absurd h)
-  proposal-body k v P (inr h) = T .bodies k k v v P P h h
+  proposal-body k v P (inr h) = T .each-one-body k k v v P P h h
 
-  -- Two bundles that are voted for in one sound proposal of a voter.
+  -- Two bundles that are votes of one sound proposal of a voter.
   record CommonProposal (e f : ℕ) (A B : Record) : Type 0 where
     proposal : Record
     sound-there : SoundTables proposal
     one-body : OneBody proposal proposal
-    first : Voted proposal e A
-    second : Voted proposal f B
+    first : IsVote proposal e A
+    second : IsVote proposal f B
 
   -- Two won bundles are votes of one proposal, the later of the two that a common voter's votes come from.
   common-proposal : {A B : Record} (v : Won roll sent A) (w : Won roll sent B) → CommonProposal (v .election .edit) (w .election .edit) A B
@@ -59,14 +57,14 @@ module _ {roll : List RollRow} {sent : ℕ → List Record} (T : Sending roll se
       let k = c .bench in
       let P = v .election .held k in
       let Q = w .election .held k in
-      let i = v .chosen k (c .voter) in
-      let j = w .chosen k (c .voter) in
-      let p = voted P (v .election .edit) A (c .first) in
-      let q = voted Q (w .election .edit) B (c .second) in
+      let i = v .choice k (c .voter) in
+      let j = w .choice k (c .voter) in
+      let p = is-vote P (v .election .edit) A (c .first) in
+      let q = is-vote Q (w .election .edit) B (c .second) in
       let s = proposal-sound k (c .voter) in
       let f = s P i .formed in
       let g = s Q j .formed in
-      elim (either-keeps (emptyTables ∷ sent k) (λ R h. s R h .formed) (empty-first (sent k) (T .kept k (c .voter))) P Q i j) [
+      elim (either-keeps (emptyTables ∷ sent k) (λ R h. s R h .formed) (empty-first (sent k) (T .each-kept k (c .voter))) P Q i j) [
         | inl h ↦ record { proposal = Q; sound-there = s Q j; one-body = proposal-body k (c .voter) Q j; first = kept-vote f g h p; second = q }
         | inr h ↦ record { proposal = P; sound-there = s P i; one-body = proposal-body k (c .voter) P i; first = p; second = kept-vote g f h q }
       ]
@@ -81,23 +79,23 @@ module _ {roll : List RollRow} {sent : ℕ → List Record} (T : Sending roll se
   won-compatible v w =
       let c = common-proposal v w in
       let s = c .sound-there in
-      record { whole = c .proposal; formed = s .formed; whole-sound = tables-sound s; first = voted-prefix (s .formed) (c .first); second = voted-prefix (s .formed) (c .second) }
+      record { whole = c .proposal; formed = s .formed; whole-sound = tables-sound s; first = vote-prefix (s .formed) (c .first); second = vote-prefix (s .formed) (c .second) }
 
   won-formed : {B : Record} → Won roll sent B → WellFormed B
-  won-formed v = let c = common-proposal v v in voted-formed (c .sound-there .formed) (c .first)
+  won-formed v = let c = common-proposal v v in vote-formed (c .sound-there .formed) (c .first)
 
   won-settled : {B : Record} → Won roll sent B → (x : ℕ) → x among written B → settled B x ≡ true
-  won-settled v = let c = common-proposal v v in voted-settled (c .sound-there .formed) (c .first)
+  won-settled v = let c = common-proposal v v in vote-settled (c .sound-there .formed) (c .first)
 
   -- one body to a name: both bundles have their edits from one proposal
   won-bodies : {A B : Record} → Won roll sent A → Won roll sent B → OneBody A B
   unfolding OneBody
   won-bodies v w d e h i q =
       let c = common-proposal v w in
-      c .one-body d e (voted-edit (c .first) d h) (voted-edit (c .second) e i) q
+      c .one-body d e (vote-edit (c .first) d h) (vote-edit (c .second) e i) q
 
   module _ (won : List Record) (all-won : (B : Record) → Has B won → Won roll sent B) where
-    module _ {U : Record} (u : Unites won U) where
+    module _ {U : Record} (u : UnionOf won U) where
       -- a name of the union is one of a member, and back
       union-written : (x : ℕ) → x among written U → (B : Record) × Has B won × (x among written B)
       unfolding written
@@ -131,7 +129,7 @@ module _ {roll : List RollRow} {sent : ℕ → List Record} (T : Sending roll se
       }
 
       union-sound : SoundTables U
-      union-sound = record { formed = union-formed; scheduled = sound-is U union-formed .0 (family-sound family) }
+      union-sound = record { formed = union-formed; has-schedule = sound-is U union-formed .0 (family-sound family) }
 
       union-body : OneBody U U
       unfolding OneBody
@@ -174,7 +172,7 @@ module _ {roll : List RollRow} {sent : ℕ → List Record} (T : Sending roll se
       go (some A) p later =
           let i : Has B (A ∷ wonIn roll l) = rw (p, wonBy) at h in
           elim i [
-            | inl q ↦ record { election = x; chosen = c x (inl refl); winning = p ∙ ap some (sym q) }
+            | inl q ↦ record { election = x; choice = c x (inl refl); winning = p ∙ ap some (sym q) }
             | inr m ↦ later m
           ]
 

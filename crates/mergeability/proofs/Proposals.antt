@@ -45,7 +45,7 @@ drafted-sound M Q k h =
     let w = checked-wellformed (started M Q) (s .0) in
     let p = checked-paired (started M Q) (s .0) in
     let f = finished-well-formed w p (s .1) in
-    record { formed = f; scheduled = sound-is _ f .0 (finished-sound w p (s .1)) }
+    record { formed = f; has-schedule = sound-is _ f .0 (finished-sound w p (s .1)) }
 
 -- An accepted proposal is sound and keeps the old one: one more of a row.
 pub proposal-next : (t : Lent) → proposalFault t ≡ 0 → SoundTables (newProposal t) × Keeps (proposalQ t) (newProposal t)

@@ -10,7 +10,7 @@ use Rattle.keyed.proofs.Order.{less-total}
 use Rattle.keyed.proofs.Union.{Agree, united-has, united-old, united-new, ascending-united}
 use Rattle.table.specs.Table.{editKey, constraintKey, emptyTables, unite}
 use Rattle.proposal.proofs.Joined.{constraints-agree}
-use Rattle.mergeability.specs.Mergeability.{OneBody, Unites, uniteAll}
+use Rattle.mergeability.specs.Mergeability.{OneBody, UnionOf, uniteAll}
 
 -- one of the two tables of a record
 module _ {A : Type 0} (key : A → List ℕ) (table : Record → List A) (joins : (R S : Record) → table (unite R S) ≡ united key (table R) (table S)) where
@@ -96,7 +96,7 @@ unfolding EachAgree
 all-agree l P Q i j = constraints-agree (P .constraints) (Q .constraints)
 
 -- The product's own union of records with one body to a name is their union, and its tables ascend.
-pub all-unites : (l : List Record) → PairwiseOneBody l → Unites l (uniteAll emptyTables l)
+pub all-unites : (l : List Record) → PairwiseOneBody l → UnionOf l (uniteAll emptyTables l)
 all-unites l f = record {
   edits = all-is editKey (λ R. R .edits) edits-join (λ x h. h) l (edits-agree l f);
   constraints = all-is constraintKey (λ R. R .constraints) constraints-join (λ x h. h) l (all-agree l);

@@ -27,24 +27,24 @@ use Rattle.mergeability.specs.Mergeability.{Voter, KeptRow, HeldElection
 use Rattle.mergeability.proofs.Prefixes.{Prefix}
 
 -- What a vote that is not silent says.
-pub record Voted (P : Record) (e : ℕ) (B : Record) : Type 0 where
+pub record IsVote (P : Record) (e : ℕ) (B : Record) : Type 0 where
   pub known : e among written P
   pub eligible-there : eligible P e ≡ true
   pub is : bundle P e ≡ B
 
-pub voted : (P : Record) (e : ℕ) (B : Record) → vote P e ≡ some B → Voted P e B
+pub is-vote : (P : Record) (e : ℕ) (B : Record) → vote P e ≡ some B → IsVote P e B
 unfolding vote
-voted P e B h =
+is-vote P e B h =
     by (mem e (written P) && eligible P e)
     (λ q. record { known = and-l _ _ q; eligible-there = and-r (mem e (written P)) _ q; is = (let r = rw q at h in cc) })
     (λ q. absurd (let r = rw q at h in let z : _≡_ {A = ℕ} 0 1 = cc in omega arith))
 
-module _ {P B : Record} {e : ℕ} (w : WellFormed P) (v : Voted P e B) where
-  pub voted-formed : WellFormed B
-  voted-formed = rw (← v .is) (bundle-well-formed w e)
+module _ {P B : Record} {e : ℕ} (w : WellFormed P) (v : IsVote P e B) where
+  pub vote-formed : WellFormed B
+  vote-formed = rw (← v .is) (bundle-well-formed w e)
 
-  pub voted-prefix : Prefix B P
-  voted-prefix = rw (← v .is) (record { contained = bundle-extended w e; closed = closed })
+  pub vote-prefix : Prefix B P
+  vote-prefix = rw (← v .is) (record { contained = bundle-extended w e; closed = closed })
     where
       closed : (a k b : ℕ) → k < 2 → b among written (bundle P e) → has a k b (P .constraints) ≡ true
           → has a k b (bundle P e .constraints) ≡ true
@@ -52,20 +52,20 @@ module _ {P B : Record} {e : ℕ} (w : WellFormed P) (v : Voted P e B) where
       closed a (suc zero) b l m h = bundle-enables w e a b (bundle-written w e b m .1) h
       closed a (suc (suc k)) b l m h = absurd (omega arith)
 
-  pub voted-settled : (x : ℕ) → x among written B → settled B x ≡ true
+  pub vote-settled : (x : ℕ) → x among written B → settled B x ≡ true
   unfolding eligible
-  voted-settled = rw (← v .is) (all-in (settled (bundle P e)) (written (bundle P e)) (v .eligible-there))
+  vote-settled = rw (← v .is) (all-in (settled (bundle P e)) (written (bundle P e)) (v .eligible-there))
 
 -- an edit of the bundle is one of the proposal, body and all
 bundle-edit : (P : Record) (e : ℕ) (d : Edit) → Has d (bundle P e .edits) → Has d (P .edits)
 unfolding bundle
 bundle-edit P e d h = sift-from (λ x. mem (x .name) (members P e)) (P .edits) d h .0
 
-pub voted-edit : {P B : Record} {e : ℕ} → Voted P e B → (d : Edit) → Has d (B .edits) → Has d (P .edits)
-voted-edit {P} {B} {e} v d h = bundle-edit P e d (rw (v .is) h)
+pub vote-edit : {P B : Record} {e : ℕ} → IsVote P e B → (d : Edit) → Has d (B .edits) → Has d (P .edits)
+vote-edit {P} {B} {e} v d h = bundle-edit P e d (rw (v .is) h)
 
 -- A vote stays in a proposal that keeps it.
-pub kept-vote : {P Q B : Record} {e : ℕ} → WellFormed P → WellFormed Q → Keeps P Q → Voted P e B → Voted Q e B
+pub kept-vote : {P Q B : Record} {e : ℕ} → WellFormed P → WellFormed Q → Keeps P Q → IsVote P e B → IsVote Q e B
 unfolding Keeps
 kept-vote {P} {Q} {B} {e} v w k h =
     let r = k e (h .known) (h .eligible-there) in

@@ -58,22 +58,22 @@ holding P = byBench P bad new wild
 abbrev pub elections : List HeldElection
 elections = record { edit = 257; held = holding old } ∷ record { edit = 258; held = holding old } ∷ record { edit = 258; held = holding new } ∷ []
 
-abbrev ended : Bool → ℕ → ℕ → Election
-ended won greatest silent = record { number = 0; won = won; greatest = greatest; silent = silent; total = 6 }
+abbrev electionAnswer : Bool → ℕ → ℕ → Election
+electionAnswer won greatest silent = record { number = 0; won = won; greatest = greatest; silent = silent; total = 6 }
 
--- The answers: the first and the third are won, the second is open. The won bundles united are the newer proposal.
-pub record Answers : Type 0 where
-  pub first : counted (ballots (holding old) 257 roll) ≡ ended true 4 0
-  pub second : counted (ballots (holding old) 258 roll) ≡ ended false 2 3
-  pub third : counted (ballots (holding new) 258 roll) ≡ ended true 4 0
-  pub won : wonIn roll elections ≡ old ∷ new ∷ []
-  pub united : uniteAll emptyTables (old ∷ new ∷ []) ≡ new
+-- The results: the first and the third are won, the second is open. The won bundles united are the newer proposal.
+pub record Results : Type 0 where
+  pub first : counted (ballots (holding old) 257 roll) ≡ electionAnswer true 4 0
+  pub second : counted (ballots (holding old) 258 roll) ≡ electionAnswer false 2 3
+  pub third : counted (ballots (holding new) 258 roll) ≡ electionAnswer true 4 0
+  pub won-bundles : wonIn roll elections ≡ old ∷ new ∷ []
+  pub union-is : uniteAll emptyTables (old ∷ new ∷ []) ≡ new
 
 -- The example meets the premises, so that the promise says this of it.
 pub record Example : Type 0 where
   pub premises : Sending roll sent
   pub choices : EachChosen roll sent elections
-  pub answers : Answers
+  pub results : Results
   pub mergeable : Mergeable (old ∷ new ∷ [])
 
 -- The promise without keeping.

@@ -27,7 +27,7 @@ pub record Voter (roll : List RollRow) (bench : ℕ) : Type 0 where
 -- A record is sound: its tables are well formed, and it has a sound schedule.
 pub record SoundTables (R : Record) : Type 0 where
   pub formed : WellFormed R
-  pub scheduled : SoundRecord R
+  pub has-schedule : SoundRecord R
 
 -- Edits with one name have one body.
 unfoldable pub OneBody : Record → Record → Type 0
@@ -53,11 +53,11 @@ module _ (roll : List RollRow) (sent : ℕ → List Record) where
 
   -- THE PREMISES
   pub record Sending : Type 0 where
-    pub sound : EachSound
-    pub kept : EachKept
-    pub bodies : EachOneBody
+    pub each-sound : EachSound
+    pub each-kept : EachKept
+    pub each-one-body : EachOneBody
 
--- An election: the edit that is voted on, and the proposal that is held of each bench.
+-- An election: the edit that is is-vote on, and the proposal that is held of each bench.
 pub record HeldElection : Type 0 where
   pub edit : ℕ
   pub held : ℕ → Record
@@ -76,7 +76,7 @@ wonBundle roll x = winner (ballots (x .held) (x .edit) roll)
 -- B is won in an election over such a choice.
 pub record Won (roll : List RollRow) (sent : ℕ → List Record) (B : Record) : Type 0 where
   pub election : HeldElection
-  pub chosen : Chosen roll sent (election .held)
+  pub choice : Chosen roll sent (election .held)
   pub winning : wonBundle roll election ≡ some B
 
 -- the bundles that are won in a list of elections, by whatever rule
@@ -89,14 +89,14 @@ abbrev pub wonIn : List RollRow → List HeldElection → List Record
 wonIn roll l = wonBy (wonBundle roll) l
 
 -- U is the union of some records: it has just their edits, with the bodies, and just their constraints.
-pub record Unites (l : List Record) (U : Record) : Type 0 where
+pub record UnionOf (l : List Record) (U : Record) : Type 0 where
   pub edits : (e : Edit) → Has e (U .edits) ↔ ((B : Record) × Has B l × Has e (B .edits))
   pub constraints : (c : Constraint) → Has c (U .constraints) ↔ ((B : Record) × Has B l × Has c (B .constraints))
 
 -- THE PROMISE of won bundles: united they are a sound record with one body to a name, and no edit of one can never stand there and must stand in
 -- another.
 pub record Mergeable (won : List Record) : Type 0 where
-  pub union : (U : Record) → Unites won U → SoundTables U × OneBody U U
+  pub union : (U : Record) → UnionOf won U → SoundTables U × OneBody U U
   pub no-rivals : (A B : Record) → Has A won → Has B won → (x : ℕ) → x among written A → Never A x → Must B x → ⊥
 
 -- the product's own union, of one record after the other
@@ -106,7 +106,7 @@ uniteAll R (B ∷ l) = uniteAll (unite R B) l
 
 -- THE PROMISE of the product's own union: it is their union, it is sound with one body to a name, and its tables ascend.
 pub record Merged (won : List Record) : Type 0 where
-  pub unites : Unites won (uniteAll emptyTables won)
+  pub unites : UnionOf won (uniteAll emptyTables won)
   pub sound : SoundTables (uniteAll emptyTables won)
   pub one-body : OneBody (uniteAll emptyTables won) (uniteAll emptyTables won)
   pub edits-ascend : Ascending editKey (uniteAll emptyTables won .edits)

@@ -11,8 +11,10 @@ use lib.ListN.{length, length-map}
 use Rattle.record.proofs.Lists.{by, and-l, and-r, or-no-l, or-no-r}
 use Rattle.record.specs.declared.Edit.{Edit}
 use Rattle.record.specs.declared.Constraint.{Constraint}
-use Rattle.record.specs.Lists.{all, mem, ascending}
+use Rattle.record.specs.Lists.{any, all, mem, ascending, first, grown, closure}
 use Rattle.record.specs.Record.{Record, written, names, nameOf, is, has, WellFormed}
+use Rattle.record.specs.Schedule.{needs, musts, ready, order, ring}
+use Rattle.record.specs.Judgement.{sound}
 use Rattle.keyed.specs.Keyed.{Below, Ascending, united}
 use Rattle.keyed.proofs.Logic.{Has, has-map, any-by, all-has, all-by}
 use Rattle.keyed.proofs.Order.{less-one}
@@ -41,6 +43,10 @@ empty-checked =
       sides = refl;
       pairs = refl;
     }
+
+pub empty-sound : sound emptyTables ≡ true
+unfolding sound musts ring order ready needs names written has closure grown first any mem
+empty-sound = refl
 
 -- a constraint without 5 and 6
 pub record Sides (known : List ℕ) (c : Constraint) : Type 0 where
