@@ -5,7 +5,7 @@ use mathlib.Core.Logic.{inl, inr}
 use mathlib.Core.List.{List, [], _∷_}
 use mathlib.Core.Option.{Option, none, some}
 use Prim.Native.Nat.{ℕ}
-use Rattle.record.specs.Lists.{all, mem, _among_, first}
+use Rattle.record.specs.Lists.{mem, _among_, first}
 use Rattle.record.specs.Record.{Record, written, has, WellFormed}
 use Rattle.record.specs.Judgement.{sound, settled}
 use Rattle.record.proofs.Lists.{by, clash}

@@ -1,41 +1,24 @@
 -- The product's own call makes such rows: a proposal that it accepts is sound and keeps the old one. Assumes nothing.
-use mathlib.Core.Path.{_≡_, refl}
-use mathlib.Core.Bool.{true, false, not, _&&_, _||_}
-use Prim.Native.Nat.{ℕ, _<_}
-use native.Mathlib.Omega.{arith}
-use lib.Dec.{eqb, ltb}
-use borrow.Author.Tests.{eq-eqb, lt-ltb, not-false}
-use Rattle.record.specs.Record.{Record, has}
-use Rattle.record.specs.Judgement.{sound}
-use Rattle.record.proofs.Lists.{clash, is-by, le-by, and-i, or-by, or-l, or-r}
+use mathlib.Core.Path.{_≡_}
+use mathlib.Core.Bool.{not}
+use borrow.Author.Tests.{eq-eqb, not-false}
+use Rattle.record.specs.Record.{Record}
 use Rattle.record.proofs.Judged.{sound-is}
 use Rattle.ground.specs.Ground.{_given_, _orelse_}
 use Rattle.ground.proofs.Grounds.{orelse-none, given-none}
-use Rattle.table.specs.Table.{emptyTables, lentFault, pairNotAllowed, unite}
+use Rattle.table.specs.Table.{emptyTables, lentFault, unite}
 use Rattle.table.specs.Checked.{Checked}
-use Rattle.table.proofs.Records.{checked-sides, checked-wellformed, lent-checked, joined-checked}
+use Rattle.table.proofs.Records.{checked-wellformed, lent-checked, joined-checked}
+use Rattle.fit.proofs.Fit.{checked-fit}
 use Rattle.proposal.specs.Proposal.{started, proposed, Paired, Keeps, keeps}
-use Rattle.proposal.proofs.Joined.{con, has-in}
 use Rattle.proposal.proofs.Finished.{finished-well-formed, finished-sound}
 use Rattle.proposal.proofs.Proposed.{keeps-is}
 use Rattle.propose.specs.Propose.{draftFault, unkept, Lent, recordM, proposalQ, proposalFault, newProposal}
 use Rattle.propose.proofs.Drafts.{start-faultless}
 use Rattle.mergeability.specs.Mergeability.{SoundTables}
 
--- without 6 a noncommuting pair has the lower name on the left
-lower : (a b : ℕ) → pairNotAllowed a 2 b ≡ false → a < b
-unfolding pairNotAllowed
-lower a b h =
-    is-by a b (λ e. clash (refused (or-l (eqb a b) (ltb b a) (eq-eqb a b e))) h)
-    (λ n. le-by b a (λ l. clash (refused (or-r (eqb a b) (ltb b a) (lt-ltb b a (omega (arith, n, l))))) h) (λ l. l))
-  where
-    refused : (eqb a b || ltb b a) ≡ true → pairNotAllowed a 2 b ≡ true
-    refused p =
-        or-r (eqb a 0) _ (or-r (eqb b 0 && not (eqb 2 1)) _
-        (or-by (eqb a b) (ltb b a) p (λ e. or-l _ _ (and-i _ _ e refl)) (λ e. or-r (eqb a b && not (eqb 2 0)) _ e)))
-
 checked-paired : (R : Record) → Checked R → Paired R
-checked-paired R k = record { lower = λ a b h. lower a b (checked-sides R k (con a 2 b) (has-in a 2 b (R .constraints) h) .pair) }
+checked-paired R k = record { lower = checked-fit R k .paired }
 
 -- a draft without fault is sound
 drafted-sound : (M Q : Record) → Checked (unite M Q) → draftFault M Q ≡ 0 → SoundTables (proposed M Q)

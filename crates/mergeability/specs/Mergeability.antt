@@ -57,7 +57,7 @@ module _ (roll : List RollRow) (sent : ℕ → List Record) where
     pub each-kept : EachKept
     pub each-one-body : EachOneBody
 
--- An election: the edit that is is-vote on, and the proposal that is held of each bench.
+-- An election: the edit that is voted on, and the proposal that is held of each bench.
 pub record HeldElection : Type 0 where
   pub edit : ℕ
   pub held : ℕ → Record
