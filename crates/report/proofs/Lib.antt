@@ -1,4 +1,4 @@
 pub mod Numbers
-pub mod Starting
+pub mod Room
 pub mod Reports
 pub mod Size

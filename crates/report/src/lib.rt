@@ -5,8 +5,8 @@ use record::Record;
 use writer::Fit;
 use writer::Written;
 ghost use mathlib.Core.Path.{_≡_};
-ghost use mathlib.Core.List.{List, [], _∷_, _++_, map};
-ghost use Prim.Native.Nat.{ℕ, _+_, _-_, _<_, _≤_};
+ghost use mathlib.Core.List.{_++_, map};
+ghost use Prim.Native.Nat.{_-_, _<_, _≤_};
 ghost use lib.Dec.{leb};
 ghost use lib.ListN.{length, take};
 ghost use Rattle.record.specs.Record as theory;
@@ -16,7 +16,7 @@ ghost use Rattle.decimal.specs.Written as part;
 ghost use Rattle.form.specs.Form.{fill};
 ghost use Rattle.text.specs.Text.{joinedLines, readText};
 ghost use Rattle.writer.specs.Placed.{placed, placing, fitOf};
-ghost use Rattle.report.specs.Report.{countsForm, reportForm, refusalForm, reportOf, refusalLine, printed, reported, reportedOut};
+ghost use Rattle.report.specs.Report.{countsForm, reportForm, reportOf, refusalLine, printed, reported, reportedOut};
 ghost use Rattle.report.specs.Rows.{numbersAt, numbered};
 
 // Number 0: the report's size. 12: it does not fit. Any other: the text is refused, at this line.
@@ -213,33 +213,12 @@ pub fn report_text(text: &[u8], out: &mut [u8]) -> Reported
     }
 }
 
-fn refusal_length(numbers: &[u64]) -> usize
-    ensures { λ r. ⌜ r ≡ length (fill refusalForm (now (numbers .entry))) ⌝ }
-{
-    form::form_length(b"refused=# line=#\n", numbers)
-}
-
-fn write_refusal(out: &mut [u8], numbers: &[u64]) -> usize
-    requires { ⌜ length (fill refusalForm (now numbers)) ≤ length (now out) ⌝ }
-    ensures { λ r. ⌜ part.Written (fill refusalForm (now (numbers .entry))) (now (out .entry)) r (now (out .exit)) ⌝ }
-{
-    form::write_form(&mut out[..], b"refused=# line=#\n", numbers)
-}
-
-// Writes the line of a refusal to the start of out where it fits.
-fn refusal_line(number: u32, line: usize, out: &mut [u8]) -> Written
+// Writes the line of a refusal to the start of out where it fits. Pub for the crates that print a refusal.
+pub fn refusal_line(number: u32, line: usize, out: &mut [u8]) -> Written
     ensures { λ r. ⌜ (r ≡ placing (refusalLine number line) 0 (now (out .entry))) × (now (out .exit) ≡ placed (refusalLine number line) 0 (now (out .entry))) ⌝ }
 {
     let numbers = [number as u64, line as u64];
-    let fit = size_fit(refusal_length(&numbers), out.len());
-    if !fit.fits {
-        return Written { number: 12, end: 0 };
-    }
-    let size = write_refusal(&mut out[..], &numbers);
-    Written {
-        number: 0,
-        end: size,
-    }
+    writer::place_form(b"refused=# line=#\n", &numbers, &mut out[..])
 }
 
 // Writes what is printed of a text, its report or its refusal, to the start of out where it fits.

@@ -1,4 +1,4 @@
-// A record is written as a text (document 01, "Text").
+// A record is written as a text, and a form where it fits (document 01, "Text").
 use record::Constraint;
 use record::Edit;
 use record::Record;
@@ -8,6 +8,7 @@ ghost use Prim.Native.Nat.{_≤_, min};
 ghost use lib.ListN.{length, take};
 ghost use Rattle.record.specs.Stored.{recordOf};
 ghost use Rattle.decimal.specs.Written as part;
+ghost use Rattle.form.specs.Form.{fill};
 ghost use Rattle.text.specs.Text.{joinedLines, textOf};
 ghost use Rattle.writer.specs.Placed.{placed, placing, fitOf, editText, constraintText};
 
@@ -15,6 +16,21 @@ ghost use Rattle.writer.specs.Placed.{placed, placing, fitOf, editText, 
 pub struct Written {
     pub number: u32,
     pub end: usize,
+}
+
+// Writes a form with these numbers to the start of out where it fits. Refused, out stays as it was. Pub for the crates that print one line.
+pub fn place_form(form: &[u8], numbers: &[u64], out: &mut [u8]) -> Written
+    ensures { λ r. ⌜ (r ≡ placing (fill (now (form .entry)) (now (numbers .entry))) 0 (now (out .entry)))
+        × (now (out .exit) ≡ placed (fill (now (form .entry)) (now (numbers .entry))) 0 (now (out .entry))) ⌝ }
+{
+    if !form::form_fits(form, numbers, out.len()) {
+        return Written { number: 12, end: 0 };
+    }
+    let size = form::write_form(&mut out[..], form, numbers);
+    Written {
+        number: 0,
+        end: size,
+    }
 }
 
 // Whether a text fits some room, and how much of it is then left.

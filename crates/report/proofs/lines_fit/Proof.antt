@@ -1,5 +1,5 @@
 -- `report::lines_fit` meets its contract. Assumes nothing.
-use Rattle.report.proofs.Starting.{all-lines}
+use Rattle.report.proofs.Room.{all-lines}
 use Rattle.writer.proofs.Writing.{Leaves, leaves-all, leaves-none, leaves-next, leaves-end}
 use Rattle.writer.specs.Placed.{fitOf}
 use Rattle.form.specs.Form.{fill}

@@ -1,5 +1,5 @@
 -- `report::report_fit` meets its contract. Assumes nothing.
-use Rattle.report.proofs.Starting.{size-fits}
+use Rattle.report.proofs.Room.{size-fits}
 use Rattle.writer.proofs.Writing.{fit-first, fit-both}
 use borrow.Author.Tests.{not-true, not-false}
 use mathlib.Core.List.{map}

@@ -1,5 +1,5 @@
 -- `report::size_fit` meets its contract. Assumes nothing.
-use Rattle.report.proofs.Starting.{size-none, size-some}
+use Rattle.report.proofs.Room.{size-none, size-some}
 use Rattle.report.proofs.size_fit.Statement.{statement}
 use Rattle.report.proofs.size_fit.Tie as tie
 

@@ -1,5 +1,5 @@
 -- `report::write_lines` meets its contract. Assumes nothing.
-use Rattle.report.proofs.Starting.{all-lines}
+use Rattle.report.proofs.Room.{all-lines}
 use Rattle.writer.proofs.Writing.{Writes, writes-none, writes-inside, writes-room, writes-next, writes-at, writes-same, writes-end}
 use Rattle.form.specs.Form.{fill}
 use Rattle.report.specs.Report.{reportForm}
