@@ -64,16 +64,16 @@ rule-slots (suc zero) = omega arith
 rule-slots (suc (suc n)) = omega arith
 
 -- the first three of the numbers that the code keeps
-kept-first : (ns : List ℕ) → getD (take 8 (map saturated ns ++ replicate 8 0)) 0 0 ≡ saturated (getD ns 0 0)
+pub kept-first : (ns : List ℕ) → getD (take 8 (map saturated ns ++ replicate 8 0)) 0 0 ≡ saturated (getD ns 0 0)
 kept-first [] = refl
 kept-first (a ∷ ns) = refl
 
-kept-second : (ns : List ℕ) → getD (take 8 (map saturated ns ++ replicate 8 0)) 1 0 ≡ saturated (getD ns 1 0)
+pub kept-second : (ns : List ℕ) → getD (take 8 (map saturated ns ++ replicate 8 0)) 1 0 ≡ saturated (getD ns 1 0)
 kept-second [] = refl
 kept-second (a ∷ []) = refl
 kept-second (a ∷ b ∷ ns) = refl
 
-kept-third : (ns : List ℕ) → getD (take 8 (map saturated ns ++ replicate 8 0)) 2 0 ≡ saturated (getD ns 2 0)
+pub kept-third : (ns : List ℕ) → getD (take 8 (map saturated ns ++ replicate 8 0)) 2 0 ≡ saturated (getD ns 2 0)
 kept-third [] = refl
 kept-third (a ∷ []) = refl
 kept-third (a ∷ b ∷ []) = refl
@@ -94,11 +94,11 @@ third-none (a ∷ b ∷ []) h = refl
 third-none (a ∷ b ∷ c ∷ ns) h = absurd (omega arith)
 
 -- What the code's answer says of a form with at most three numbers.
-no-fit : (o : Option (List ℕ)) → (told o) .fits ≡ false → o ≡ none
+pub no-fit : (o : Option (List ℕ)) → (told o) .fits ≡ false → o ≡ none
 no-fit none e = refl
 no-fit (some ns) e = clash refl e
 
-fit : {P : Type 0} (o : Option (List ℕ)) → (told o) .fits ≡ true → ((ns : List ℕ) → o ≡ some ns → P) → P
+pub fit : {P : Type 0} (o : Option (List ℕ)) → (told o) .fits ≡ true → ((ns : List ℕ) → o ≡ some ns → P) → P
 fit none e k = clash e refl
 fit (some ns) e k = k ns refl
 

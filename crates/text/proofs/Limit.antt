@@ -52,7 +52,7 @@ pub record FirstEnd (s : List ℕ) : Type 0 where
   pub plain : mem 10 inner ≡ false
   pub is : s ≡ (inner ++ (10 ∷ [])) ++ rest
 
-first-end : (s : List ℕ) → FirstEnd s ⊎ (mem 10 s ≡ false)
+pub first-end : (s : List ℕ) → FirstEnd s ⊎ (mem 10 s ≡ false)
 unfolding mem
 first-end [] = inr refl
 first-end (c ∷ s) =
@@ -78,7 +78,7 @@ not-ten : (c : ℕ) (s : List ℕ) → mem 10 (c ∷ s) ≡ false → eqb c 10 �
 unfolding mem
 not-ten c s h = let n : 10 ≢ c = eqb-false 10 c (or-no-l (eqb 10 c) (mem 10 s) h) in ne-eqb c 10 (λ e. n (sym e))
 
-begins : (c : ℕ) (s q : List ℕ) → mem 10 (c ∷ s) ≡ false → Begins (c ∷ s) (lines ((c ∷ s) ++ q))
+pub begins : (c : ℕ) (s q : List ℕ) → mem 10 (c ∷ s) ≡ false → Begins (c ∷ s) (lines ((c ∷ s) ++ q))
 unfolding lines mem
 begins c [] q h = rw (not-ten c [] h) (begins-joined c (lines q))
 begins c (d ∷ s) q h =
@@ -176,12 +176,12 @@ first-bytes-decide first rest h =
 orelse-small : (m a b : ℕ) → a ≤ m → b ≤ m → (a orelse b) ≤ m
 orelse-small m a b p q = by (eqb a 0) (λ (e : eqb a 0 ≡ true). rw e q) (λ (e : eqb a 0 ≡ false). rw e p)
 
-given-small : (m n : ℕ) (b : Bool) → n ≤ m → (n given b) ≤ m
+pub given-small : (m n : ℕ) (b : Bool) → n ≤ m → (n given b) ≤ m
 given-small m n true h = h
 given-small m n false h = omega arith
 
 -- a number that is given, or a later one
-first-small : (m n : ℕ) (b : Bool) (later : ℕ) → n ≤ m → later ≤ m → (n given b orelse later) ≤ m
+pub first-small : (m n : ℕ) (b : Bool) (later : ℕ) → n ≤ m → later ≤ m → (n given b orelse later) ≤ m
 first-small m n b later p q = orelse-small m (n given b) later (given-small m n b p) q
 
 row-small : (K : Kind) (joined above : Rows) (row : Row) → K .further row ≤ 13 → rowFault K joined above row ≤ 13
