@@ -1,0 +1,2 @@
+pub mod Unity
+pub mod Summed
