@@ -1,0 +1,56 @@
+-- `unity_text::print_unity` meets its contract. Assumes nothing.
+use borrow.Author.Needs.{needs}
+use Rattle.form.specs.Spelling.{bytes}
+use Rattle.unity_text.specs.Text.{unityForm}
+use Rattle.unity_text.proofs.Printing.{print-refused, print-accepted}
+use Rattle.unity_text.proofs.print_unity.Statement.{statement}
+use Rattle.unity_text.proofs.print_unity.Tie as tie
+
+text-unity-requires : tie.Need-text-unity-requires
+text-unity-requires c κs = search needs
+
+refusal-line-requires : tie.Need-refusal-line-requires
+refusal-line-requires c κs = search needs
+
+same-length : tie.Need-same-length
+same-length c = search needs
+
+returns : tie.Need-returns
+returns c =
+    let t = c .before .before .before .before .before .before in
+    let s = t .before .before .before .args in
+    print-refused (s .text .now) (t .text-unity .ensures) (s .out .now) (c .before .before .before .before .if1 .taken) (c .before .before .refusal-line .ensures)
+
+slice-aggregate-place-form : tie.Need-slice-aggregate-place-form
+slice-aggregate-place-form c = search needs
+
+slice-aggregate-place-form-2 : tie.Need-slice-aggregate-place-form-2
+slice-aggregate-place-form-2 c = search needs
+
+place-form-requires : tie.Need-place-form-requires
+place-form-requires c κs = search needs
+
+same-length-2 : tie.Need-same-length-2
+same-length-2 c = search needs
+
+returns-2 : tie.Need-returns-2
+unfolding unityForm bytes
+returns-2 c =
+    let f = c .before .before .before .before .before .before .before .before .before in
+    let t = f .before .before in
+    let s = t .before .before .before .args in
+    print-accepted (s .text .now) (t .text-unity .ensures) (s .out .now) (f .if1 .left) (c .before .before .place-form .ensures)
+
+pub print-unity-spec : {M : Type 1} → statement M
+print-unity-spec =
+    tie.close
+    (tie.spec
+    text-unity-requires
+    refusal-line-requires
+    same-length
+    returns
+    slice-aggregate-place-form
+    slice-aggregate-place-form-2
+    place-form-requires
+    same-length-2
+    returns-2)

@@ -1,0 +1,106 @@
+-- `unity_text::text_unity` meets its contract. Assumes nothing.
+use Prim.Native.Nat.{_-_}
+use native.Mathlib.Omega.{arith}
+use borrow.Author.Needs.{needs}
+use borrow.Author.Tests.{not-true, not-false}
+use lib.ListN.{length}
+use Rattle.line.proofs.Ends.{next-line}
+use Rattle.unity_text.proofs.Lines.{Upto, upto-start, upto-left, upto-few, upto-end, upto-unformed, upto-faulty, upto-next}
+use Rattle.unity_text.proofs.text_unity.Statement.{statement}
+use Rattle.unity_text.proofs.text_unity.Tie as tie
+
+abbrev Inv-loop : tie.InvT-loop
+Inv-loop text s₀ at₀ s at = Upto text s at
+
+abbrev μ-loop : tie.MeasureT-loop
+μ-loop text s₀ at₀ s at = length text - at
+
+nothing-summed-requires : tie.Need-nothing-summed-requires Inv-loop μ-loop
+nothing-summed-requires c κs = search needs
+
+loop-holds : tie.Need-loop-holds Inv-loop μ-loop
+loop-holds c = upto-start (c .before .before .args .text .now) (c .nothing-summed .ensures)
+
+line-end-requires : tie.Need-line-end-requires Inv-loop μ-loop
+line-end-requires c κs = search needs
+
+sub-read-answer : tie.Need-sub-read-answer Inv-loop μ-loop
+sub-read-answer c = let l = c .before .before in let x = next-line (l .before .before .before .args .text .now) (l .loop .at) (c .before .loop-test .taken) (c .line-end .ensures) in omega (arith, x .forward)
+
+part-read-answer-start : tie.Need-part-read-answer-start Inv-loop μ-loop
+part-read-answer-start c = let l = c .before .before in let x = next-line (l .before .before .before .args .text .now) (l .loop .at) (c .before .loop-test .taken) (c .line-end .ensures) in omega (arith, x .forward, x .inside)
+
+part-read-answer-end : tie.Need-part-read-answer-end Inv-loop μ-loop
+part-read-answer-end c = let l = c .before .before in let x = next-line (l .before .before .before .args .text .now) (l .loop .at) (c .before .loop-test .taken) (c .line-end .ensures) in omega (arith, x .inside)
+
+read-answer-requires : tie.Need-read-answer-requires Inv-loop μ-loop
+read-answer-requires c κs = search needs
+
+add-refused : tie.Need-add-refused Inv-loop μ-loop
+add-refused c = let l = c .before .before .before .before .before .before .before in omega (arith, upto-few (l .before .before .before .args .text .now) (l .loop .inv))
+
+refused-requires : tie.Need-refused-requires Inv-loop μ-loop
+refused-requires c κs = search needs
+
+returns : tie.Need-returns Inv-loop μ-loop
+returns c =
+    let a = c .before .before .before .before in
+    let l = a .before .before .before .before in
+    upto-unformed (l .before .before .before .args .text .now) (l .loop .inv) (a .before .before .before .loop-test .taken) (a .before .before .line-end .ensures) (a .read-answer .ensures) (not-true _ (c .before .before .if1 .taken)) (c .refused .ensures)
+
+with-answer-requires : tie.Need-with-answer-requires Inv-loop μ-loop
+with-answer-requires c κs = let l = c .before .before .before .before .before .before .before in upto-left (l .before .before .before .args .text .now) (l .loop .inv)
+
+refused-requires-2 : tie.Need-refused-requires-2 Inv-loop μ-loop
+refused-requires-2 c κs = search needs
+
+returns-2 : tie.Need-returns-2 Inv-loop μ-loop
+returns-2 c =
+    let w = c .before .before .before in
+    let a = w .before .before .before .before in
+    let l = a .before .before .before .before in
+    upto-faulty (l .before .before .before .args .text .now) (l .loop .inv) (a .before .before .before .loop-test .taken) (a .before .before .line-end .ensures) (a .read-answer .ensures) (not-false _ (w .before .before .if1 .left)) (w .with-answer .ensures) (c .before .if2 .taken) (c .refused2 .ensures)
+
+loop-less : tie.Need-loop-less Inv-loop μ-loop
+loop-less c =
+    let a = c .before .before .before .before .before .before in
+    let l = a .before .before .before .before in
+    let x = next-line (l .before .before .before .args .text .now) (l .loop .at) (a .before .before .before .loop-test .taken) (a .before .before .line-end .ensures) in
+    omega (arith, x .forward, x .inside)
+
+loop-again : tie.Need-loop-again Inv-loop μ-loop
+loop-again c =
+    let w = c .before .before in
+    let a = w .before .before .before .before in
+    let l = a .before .before .before .before in
+    upto-next (l .before .before .before .args .text .now) (l .loop .inv) (a .before .before .before .loop-test .taken) (a .before .before .line-end .ensures) (a .read-answer .ensures) (not-false _ (w .before .before .if1 .left)) (w .with-answer .ensures) (c .if2 .left)
+
+finished-requires : tie.Need-finished-requires Inv-loop μ-loop
+finished-requires c κs = upto-left (c .before .before .before .before .args .text .now) (c .before .loop .inv)
+
+returns-3 : tie.Need-returns-3 Inv-loop μ-loop
+returns-3 c = upto-end (c .before .before .before .before .before .args .text .now) (c .before .before .loop .inv) (c .before .loop-test .left) (c .finished .ensures)
+
+pub text-unity-spec : {M : Type 1} → statement M
+text-unity-spec =
+    tie.close
+    (tie.spec
+    Inv-loop
+    μ-loop
+    nothing-summed-requires
+    loop-holds
+    line-end-requires
+    sub-read-answer
+    part-read-answer-start
+    part-read-answer-end
+    read-answer-requires
+    add-refused
+    refused-requires
+    returns
+    with-answer-requires
+    refused-requires-2
+    returns-2
+    loop-less
+    loop-again
+    finished-requires
+    returns-3)
