@@ -1,4 +1,5 @@
-/* What a desk tool does with the library: document 01's three-edit text checked, reported and written back, and a bench kept by its log. */
+/* What a desk tool does with the library: document 01's three-edit text checked, reported and written back, a bench kept by its log, and how united
+ * the benches are, from some elections. */
 #include "catalogue.h"
 #include <stdio.h>
 #include <string.h>
@@ -22,6 +23,17 @@ static void call(const char *line) {
     printf("> %s", line);
     fwrite(out, 1, reply.size, stdout);
     strncat(kept, line, sizeof kept - size_of(kept) - 1);
+}
+
+/* Election answers: greatest group, silent weight, total. The row past the first three makes the least common denominator too wide. */
+static const uint32_t answers[][3] = {{1, 0, 524269}, {1, 0, 524261}, {1, 0, 524257}, {1, 0, 524243}};
+static const uint32_t united[][3] = {{3, 1, 6}, {2, 0, 3}, {0, 0, 0}};
+
+static void show_unity(const char *title, struct catalogue_unity_reply unity) {
+    printf("%s: number=%u row=%zu mean=%llu/%llu least=%llu/%llu greatest=%llu/%llu won=%zu empty=%zu\n", title, (unsigned)unity.number, unity.row,
+           (unsigned long long)unity.mean.numerator, (unsigned long long)unity.mean.denominator, (unsigned long long)unity.least.numerator,
+           (unsigned long long)unity.least.denominator, (unsigned long long)unity.greatest.numerator, (unsigned long long)unity.greatest.denominator,
+           unity.won, unity.empty);
 }
 
 int main(void) {
@@ -53,5 +65,9 @@ int main(void) {
     call("ask=page\n");
     call("do=turn pages=1\n");
     call("ask=catalogue\n");
+
+    show_unity("three elections", catalogue_unity(united, 3));
+    show_unity("three large totals", catalogue_unity(answers, 3));
+    show_unity("a fourth", catalogue_unity(answers, 4));
     return 0;
 }

@@ -1,11 +1,13 @@
-// The library for programs in other languages (include/catalogue.h): texts and call logs, as bytes in and bytes out. Nothing is kept between
-// calls: a bench is kept by its log.
+// The library for programs in other languages (include/catalogue.h): texts and call logs, as bytes in and bytes out, and tables of election
+// answers. Nothing is kept between calls: a bench is kept by its log.
+use unity_table::Unity;
 ghost use mathlib.Core.Path.{_≡_};
-ghost use mathlib.Core.List.{_++_};
+ghost use mathlib.Core.List.{_++_, map};
 ghost use Prim.Native.Nat.{ℕ, _+_, _≤_};
 ghost use lib.ListN.{length, take, drop};
 ghost use Rattle.text.specs.Text.{readText};
 ghost use Rattle.report.specs.Report.{reported, reportedOut};
+ghost use Rattle.unity_table.specs.Unity.{weightsOf, unityOf};
 ghost use Rattle.export.specs.Replies.{replyOf, checkedReply, rewrittenReply, rewrittenOut, answersTo, answersAfter, answeredReply, answeredOut, Worked};
 
 // Number 0: how many bytes were written. 12: they do not fit, or the place for them is too short. Any other: the text is refused, at this line.
@@ -168,4 +170,12 @@ pub extern "C" fn catalogue_continue(
         × (now (out .exit) ≡ answeredOut (answersAfter (now (kept .entry)) (now (log .entry))) (now (work .entry)) (now (out .entry)))) ⌝ }
 {
     answered(kept, log, &mut work[..], &mut out[..])
+}
+
+// How united the benches are, from a table of election answers.
+#[no_mangle]
+pub extern "C" fn catalogue_unity(answers: &[[u32; 3]]) -> Unity
+    ensures { λ r. ⌜ r ≡ unityOf (map weightsOf (now (answers .entry))) ⌝ }
+{
+    unity_table::unity_of(answers)
 }
