@@ -47,7 +47,7 @@ impl Other for Programs {
 
 /// What a program prints. A program that doesn't start or is ended by a signal
 /// says so in a line that no answer looks like.
-fn printed(path: &PathBuf, input: &[u8]) -> Vec<u8> {
+pub(crate) fn printed(path: &PathBuf, input: &[u8]) -> Vec<u8> {
     run(path, input).unwrap_or_else(|error| format!("({}: {error})\n", path.display()).into_bytes())
 }
 

@@ -13,3 +13,4 @@ pub mod random;
 mod slices;
 mod table;
 pub mod trial;
+pub mod unity;

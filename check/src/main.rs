@@ -1,14 +1,16 @@
 //! Compares another implementation of document 01 with the model of this package
-//! on random call logs and texts, and runs random histories of elections on it.
+//! on random call logs and texts, runs random histories of elections on it, and
+//! compares it on tables of election answers.
 
 use check::compare::{
-    compare_log, compare_text, cut_log, cut_text, difference, Difference, Model, Other, Programs,
+    compare_log, compare_text, cut_down, cut_log, cut_text, difference, Difference, Model, Other,
+    Programs,
 };
 use check::coverage::{Coverage, Parts};
 use check::library::{self, Library};
 use check::mergeability::{self, Counts, Finding, Voters};
 use check::trial::Trial;
-use check::{log, model, random};
+use check::{log, model, random, unity};
 use std::fmt::Display;
 use std::io::{Read, Write};
 use std::path::PathBuf;
@@ -19,40 +21,50 @@ usage: check [--seed N] [--logs N] [--calls N] [--replay PATH] [--shelf PATH]
        check [--seed N] [--logs N] [--calls N] --library
        check [--seed N] [--logs N] --mergeability [--not-kept] [--library]
        check [--seed N] [--logs N] --mergeability [--not-kept] --replay PATH --shelf PATH
+       check [--seed N] [--logs N] --tables [--library] [--unity PATH]
        check [--seed N] [--calls N] --dump
-       check [--seed N] --dump-text
-       check --answer | --answer-text
+       check [--seed N] --dump-text | --dump-table
+       check --answer | --answer-text | --answer-table
 
   --seed N       the first seed (1)
-  --logs N       how many logs and texts, one of each to a seed (1000), or histories (500)
+  --logs N       how many logs and texts, one of each to a seed (1000), histories (500)
+                 or tables (2000)
   --calls N      about how many lines a log has (300)
   --replay PATH  a program to compare on logs
   --shelf PATH   a program to compare on texts
-  --library      compare the library that this was built with, on logs and texts
+  --library      compare the library that this was built with
   --mergeability run histories of proposals and elections: all that is won has to
                  form one sound record
   --not-kept     with a planted fault, a voter that does not keep its old proposal:
                  ends with 0 if a history is found that fails, with 1 if none is
+  --tables       compare on tables of election answers
+  --unity PATH   a program to compare on the texts of such tables
   --dump         print the log of the seed
   --dump-text    print the text of the seed
+  --dump-table   print the text of the seed's table
   --answer       print the model's answers to a log on standard input
   --answer-text  print the model's report on a text on standard input
+  --answer-table print the model's answer to the text of a table on standard input
 
 Without a program or the library only the model runs, and what occurred is counted.
 ";
 
-/// How many logs and texts, and how many histories, if it is not said.
+/// How many logs and texts, histories and tables, if it is not said.
 const LOGS: u64 = 1000;
 const HISTORIES: u64 = 500;
+const TABLES: u64 = 2000;
 
 #[derive(Clone, Copy, PartialEq, Eq)]
 enum Task {
     Compare,
     Mergeability,
+    Tables,
     Dump,
     DumpText,
+    DumpTable,
     Answer,
     AnswerText,
+    AnswerTable,
 }
 
 struct Options {
@@ -61,6 +73,7 @@ struct Options {
     calls: usize,
     replay: Option<PathBuf>,
     shelf: Option<PathBuf>,
+    unity: Option<PathBuf>,
     library: bool,
     voters: Voters,
     task: Task,
@@ -74,6 +87,7 @@ impl Options {
             calls: 300,
             replay: None,
             shelf: None,
+            unity: None,
             library: false,
             voters: Voters::Keep,
             task: Task::Compare,
@@ -85,25 +99,32 @@ impl Options {
                 "--calls" => options.calls = words.next()?.parse().ok()?,
                 "--replay" => options.replay = Some(words.next()?.into()),
                 "--shelf" => options.shelf = Some(words.next()?.into()),
+                "--unity" => options.unity = Some(words.next()?.into()),
                 "--library" => options.library = true,
                 "--mergeability" => options.task = Task::Mergeability,
                 "--not-kept" => options.voters = Voters::OneDoesNotKeep,
+                "--tables" => options.task = Task::Tables,
                 "--dump" => options.task = Task::Dump,
                 "--dump-text" => options.task = Task::DumpText,
+                "--dump-table" => options.task = Task::DumpTable,
                 "--answer" => options.task = Task::Answer,
                 "--answer-text" => options.task = Task::AnswerText,
+                "--answer-table" => options.task = Task::AnswerTable,
                 _ => return None,
             }
         }
         options.fit_together().then_some(options)
     }
 
-    /// The library goes without programs, and histories go with both or none.
+    /// On logs and texts the library goes without programs, and histories go with
+    /// both or none. Tables have a program of their own, which goes with the library.
     fn fit_together(&self) -> bool {
         let programs = [&self.replay, &self.shelf].into_iter().flatten().count();
         match self.task {
             _ if self.library && programs > 0 => false,
+            _ if self.unity.is_some() && self.task != Task::Tables => false,
             Task::Mergeability => programs != 1,
+            Task::Tables => programs == 0 && self.voters == Voters::Keep,
             _ => self.voters == Voters::Keep,
         }
     }
@@ -123,10 +144,13 @@ fn main() -> ExitCode {
         Task::Compare if options.library => compare_library(&options),
         Task::Compare => compare(&options),
         Task::Mergeability => run_histories(&options),
+        Task::Tables => compare_tables(&options),
         Task::Dump => print(&random::log(options.seed, options.calls)),
         Task::DumpText => print(&random::text(options.seed)),
+        Task::DumpTable => print(&unity::text(options.seed)),
         Task::Answer => print(&log::run(&standard_input())),
         Task::AnswerText => print(&model::text::shelf(&standard_input()).0),
+        Task::AnswerTable => print(&unity::answer(&standard_input())),
     }
 }
 
@@ -154,12 +178,16 @@ fn programs(options: &Options) -> Box<dyn Other> {
     }
 }
 
-fn linked_library() -> Option<Library> {
-    let functions = library::archive();
+/// What is linked of the library. If nothing is, it says so.
+fn linked<Functions>(functions: Option<Functions>) -> Option<Functions> {
     if functions.is_none() {
         eprintln!("this was built without the library: build it with --features library");
     }
-    functions.map(Library::new)
+    functions
+}
+
+fn linked_library() -> Option<Library> {
+    linked(library::archive()).map(Library::new)
 }
 
 fn compare(options: &Options) -> ExitCode {
@@ -236,6 +264,41 @@ fn run_histories(options: &Options) -> ExitCode {
 fn show_finding(finding: &Finding) {
     println!("{}: {}", finding.demand.words(), finding.what);
     finding.texts.iter().for_each(|(title, text)| show_lines(title, text));
+}
+
+/// Compares the function on the table of each seed and the program on its text,
+/// until there is a difference.
+fn compare_tables(options: &Options) -> ExitCode {
+    let function = if options.library { linked(unity::archive()) } else { None };
+    if options.library && function.is_none() {
+        return ExitCode::from(2);
+    }
+    let function = function.map(unity::by_function);
+    let program = options.unity.clone().map(unity::by_program);
+    let mut counts = unity::Counts::default();
+    let is_same = |seed: u64| {
+        let (table, text) = (unity::written(&unity::table(seed)), unity::text(seed));
+        counts.count_table(&table);
+        counts.count_text(&text);
+        same_table(&format!("table of seed {seed}"), &table, &function)
+            && same_table(&format!("text of the table of seed {seed}"), &text, &program)
+    };
+    match options.seeds(TABLES).all(is_same) {
+        true => show_counts(&counts, counts.missing()),
+        false => ExitCode::FAILURE,
+    }
+}
+
+/// Where there is no other, nothing differs.
+fn same_table(what: &str, table: &[u8], other: &Option<unity::Other>) -> bool {
+    let Some(other) = other else { return true };
+    let difference = difference(&unity::answer(table), &other(table));
+    if let Some(difference) = &difference {
+        show(what, difference);
+        let cut = cut_down(table, |fewer| unity::answer(fewer) != other(fewer));
+        show_cut(&cut, &unity::answer(&cut), &other(&cut));
+    }
+    difference.is_none()
 }
 
 fn same_log(seed: u64, log: &[u8], other: &mut dyn Other, coverage: &mut Coverage) -> bool {
@@ -335,6 +398,16 @@ mod tests {
         assert!(task("--mergeability --replay path").is_none());
         assert!(task("--mergeability --replay path --shelf path --library").is_none());
         assert!(task("--library --not-kept").is_none());
+    }
+
+    #[test]
+    fn tables_go_with_the_library_and_a_program_of_their_own() {
+        assert!(task("--tables") == Some(Task::Tables));
+        assert!(task("--tables --library --unity path") == Some(Task::Tables));
+        assert!(task("--unity path").is_none());
+        assert!(task("--mergeability --unity path").is_none());
+        assert!(task("--tables --replay path").is_none());
+        assert!(task("--tables --not-kept").is_none());
     }
 
     #[test]

@@ -1,6 +1,6 @@
 //! Random call logs and texts, the same for the same seed.
 
-mod damage;
+pub(crate) mod damage;
 mod logs;
 pub(crate) mod tables;
 mod texts;
