@@ -11,7 +11,7 @@ use lib.Dec.{eqb}
 use lib.ListN.{length}
 use Rattle.record.proofs.Lists.{by}
 use Rattle.fraction.specs.declared.Fraction.{Fraction}
-use Rattle.fraction.specs.Fraction.{Positive, below, above, firstFrom, firstBy, leastFraction, greatestFraction, First}
+use Rattle.fraction.specs.Fraction.{Positive, isBelow, isAbove, firstFrom, firstBy, leastFraction, greatestFraction, First}
 
 module _ (before : Fraction → Fraction → Bool) where
   from-more : (f : Fraction) (l : List Fraction) (g : Fraction) → firstFrom before f (l ++ (g ∷ [])) ≡ cond (before g (firstFrom before f l)) g (firstFrom before f l)
@@ -25,18 +25,18 @@ module _ (before : Fraction → Fraction → Bool) where
   first-more [] g = refl
   first-more (f ∷ l) g = let n : eqb (suc (length l)) 0 ≡ false = ne-eqb (suc (length l)) 0 (λ e. omega arith) in rw n (from-more f l g)
 
-pub least-more : (l : List Fraction) (g : Fraction) → leastFraction (l ++ (g ∷ [])) ≡ cond (eqb (length l) 0 || below g (leastFraction l)) g (leastFraction l)
+pub least-more : (l : List Fraction) (g : Fraction) → leastFraction (l ++ (g ∷ [])) ≡ cond (eqb (length l) 0 || isBelow g (leastFraction l)) g (leastFraction l)
 unfolding leastFraction
-least-more l g = first-more below l g
+least-more l g = first-more isBelow l g
 
-pub greatest-more : (l : List Fraction) (g : Fraction) → greatestFraction (l ++ (g ∷ [])) ≡ cond (eqb (length l) 0 || below (greatestFraction l) g) g (greatestFraction l)
+pub greatest-more : (l : List Fraction) (g : Fraction) → greatestFraction (l ++ (g ∷ [])) ≡ cond (eqb (length l) 0 || isBelow (greatestFraction l) g) g (greatestFraction l)
 unfolding greatestFraction
-greatest-more l g = first-more above l g
+greatest-more l g = first-more isAbove l g
 
 -- Of fractions with denominators above 0, what is not below a fraction that is not below a third is not below that.
 module _ (f g h : Fraction) (pos : 0 < g .denominator) where
-  below-trans : below f g ≡ false → below g h ≡ false → below f h ≡ false
-  unfolding below
+  below-trans : isBelow f g ≡ false → isBelow g h ≡ false → isBelow f h ≡ false
+  unfolding isBelow
   below-trans p q =
       let a = ltb-false (f .numerator * g .denominator) (g .numerator * f .denominator) p in
       let b = ltb-false (g .numerator * h .denominator) (h .numerator * g .denominator) q in
@@ -49,14 +49,14 @@ module _ (f g h : Fraction) (pos : 0 < g .denominator) where
       omega arith in
       le-ltb (f .numerator * h .denominator) (h .numerator * f .denominator) (le-of-mul-le-mul-right c pos)
 
-below-turned : (f g : Fraction) → below f g ≡ true → below g f ≡ false
-unfolding below
+below-turned : (f g : Fraction) → isBelow f g ≡ true → isBelow g f ≡ false
+unfolding isBelow
 below-turned f g p =
     let a = ltb-true (f .numerator * g .denominator) (g .numerator * f .denominator) p in
     le-ltb (g .numerator * f .denominator) (f .numerator * g .denominator) (omega arith)
 
-below-self : (f : Fraction) → below f f ≡ false
-unfolding below
+below-self : (f : Fraction) → isBelow f f ≡ false
+unfolding isBelow
 below-self f = le-ltb (f .numerator * f .denominator) (f .numerator * f .denominator) (omega arith)
 
 -- The first is among them, and no other comes before it, where "not before" goes on from one fraction to the next.
@@ -90,16 +90,16 @@ module _ (before : Fraction → Fraction → Bool) (o : Ordered before) where
   pub first-is : (f : Fraction) (l : List Fraction) → Positive (f ∷ l) → First before (f ∷ l) (firstBy before (f ∷ l))
   first-is f l h = first-from f l (h .0) (h .1)
 
-pub below-ordered : Ordered below
+pub below-ordered : Ordered isBelow
 below-ordered = record { self = below-self; turned = below-turned; trans = below-trans }
 
-pub above-ordered : Ordered above
+pub above-ordered : Ordered isAbove
 above-ordered = record { self = below-self; turned = λ f g. below-turned g f; trans = λ f g h p q r. below-trans h g f p r q }
 
-pub least-is : (f : Fraction) (l : List Fraction) → Positive (f ∷ l) → First below (f ∷ l) (leastFraction (f ∷ l))
+pub least-is : (f : Fraction) (l : List Fraction) → Positive (f ∷ l) → First isBelow (f ∷ l) (leastFraction (f ∷ l))
 unfolding leastFraction
-least-is = first-is below below-ordered
+least-is = first-is isBelow below-ordered
 
-pub greatest-is : (f : Fraction) (l : List Fraction) → Positive (f ∷ l) → First above (f ∷ l) (greatestFraction (f ∷ l))
+pub greatest-is : (f : Fraction) (l : List Fraction) → Positive (f ∷ l) → First isAbove (f ∷ l) (greatestFraction (f ∷ l))
 unfolding greatestFraction
-greatest-is = first-is above above-ordered
+greatest-is = first-is isAbove above-ordered

@@ -11,7 +11,7 @@ use lib.Dec.{eqb}
 use lib.ListN.{length}
 use Rattle.keyed.proofs.Logic.{Has}
 use Rattle.fraction.specs.declared.Fraction.{Fraction}
-use Rattle.fraction.specs.Fraction.{Positive, Divided, LeastCommonDenominator, commonDenominator, numeratorOver, sumOf, zeroFraction, mean, lowestTerms, below, above, First, firstBy, leastFraction, greatestFraction}
+use Rattle.fraction.specs.Fraction.{Positive, Divided, LeastCommonDenominator, commonDenominator, numeratorOver, sumOf, zeroFraction, mean, lowestTerms, isBelow, isAbove, First, firstBy, leastFraction, greatestFraction}
 use Rattle.fraction.specs.Divisor.{gcd}
 use Rattle.fraction.proofs.Fractions.{same-fraction, common-denominator-is, numerator-times}
 use Rattle.fraction.proofs.Extremes.{Ordered, first-is, below-ordered, above-ordered}
@@ -101,8 +101,8 @@ reduced-has g (f ∷ l) h (inl e) = rw e (h .0)
 reduced-has g (f ∷ l) h (inr p) = reduced-has g l (h .1) p
 
 -- neither of two fractions is below the other: they are the same
-neither-below : (f g : Fraction) → gcd (f .numerator) (f .denominator) ≡ 1 → gcd (g .numerator) (g .denominator) ≡ 1 → 0 < g .denominator → below f g ≡ false → below g f ≡ false → f ≡ g
-unfolding below
+neither-below : (f g : Fraction) → gcd (f .numerator) (f .denominator) ≡ 1 → gcd (g .numerator) (g .denominator) ≡ 1 → 0 < g .denominator → isBelow f g ≡ false → isBelow g f ≡ false → f ≡ g
+unfolding isBelow
 neither-below f g p q h a b =
     let x = ltb-false (f .numerator * g .denominator) (g .numerator * f .denominator) a in
     let y = ltb-false (g .numerator * f .denominator) (f .numerator * g .denominator) b in
@@ -112,7 +112,7 @@ none-left : {A : Type 0} {x : A} {l : List A} → List·Permᴰ [] (x ∷ l) →
 none-left r = let n = length-reordered r in omega arith
 
 -- one law for both: neither of the two firsts comes before the other
-module _ (before : Fraction → Fraction → Bool) (o : Ordered before) (both : (f g : Fraction) → before f g ≡ false → before g f ≡ false → (below f g ≡ false) × (below g f ≡ false)) where
+module _ (before : Fraction → Fraction → Bool) (o : Ordered before) (both : (f g : Fraction) → before f g ≡ false → before g f ≡ false → (isBelow f g ≡ false) × (isBelow g f ≡ false)) where
   first-same : {l m : List Fraction} (x y : Fraction) → List·Permᴰ l m → Reduced l → First before l x → First before m y → x ≡ y
   first-same {l} {m} x y r h p q =
       let a : Has y l = has-reordered y (Permᴰ·symm r) (q .among) in
@@ -131,8 +131,8 @@ module _ (before : Fraction → Fraction → Bool) (o : Ordered before) (both : 
 
 pub least-reordered : (l m : List Fraction) → List·Permᴰ l m → Reduced l → leastFraction l ≡ leastFraction m
 unfolding leastFraction
-least-reordered = first-reordered below below-ordered (λ f g a b. (a, b))
+least-reordered = first-reordered isBelow below-ordered (λ f g a b. (a, b))
 
 pub greatest-reordered : (l m : List Fraction) → List·Permᴰ l m → Reduced l → greatestFraction l ≡ greatestFraction m
 unfolding greatestFraction
-greatest-reordered = first-reordered above above-ordered (λ f g a b. (b, a))
+greatest-reordered = first-reordered isAbove above-ordered (λ f g a b. (b, a))

@@ -6,6 +6,7 @@ use Rattle.fraction.specs.declared.Fraction.{Fraction}
 use Rattle.fraction.specs.declared.Bounded.{Bounded}
 use Rattle.fraction.specs.declared.BoundedFraction.{BoundedFraction}
 use Rattle.fraction.specs.Divisor.{lcm}
+use Rattle.fraction.specs.Fraction.{noFraction}
 
 -- 2^64, and the greatest number of 64 bits
 abbrev pub limit64 : ℕ
@@ -22,7 +23,7 @@ unfoldable pub bounded : ℕ → Bounded
 bounded n = cond (fits64 n) (record { fits = true; value = n }) (record { fits = false; value = 0 })
 
 abbrev pub unbounded : BoundedFraction
-unbounded = record { fits = false; fraction = record { numerator = 0; denominator = 0 } }
+unbounded = record { fits = false; fraction = noFraction }
 
 unfoldable pub boundedFraction : Fraction → BoundedFraction
 boundedFraction f = cond (fits64 (f .denominator) && fits64 (f .numerator)) (record { fits = true; fraction = f }) unbounded

@@ -44,6 +44,10 @@ numeratorOver d (f ∷ rest) = f .numerator * (d / f .denominator) + numeratorOv
 unfoldable pub sumOf : List Fraction → Fraction
 sumOf l = record { numerator = numeratorOver (commonDenominator l) l; denominator = commonDenominator l }
 
+-- what stands where there is no fraction
+abbrev pub noFraction : Fraction
+noFraction = record { numerator = 0; denominator = 0 }
+
 abbrev pub zeroFraction : Fraction
 zeroFraction = record { numerator = 0; denominator = 1 }
 
@@ -53,8 +57,8 @@ mean [] = zeroFraction
 mean (f ∷ rest) = lowestTerms (sumOf (f ∷ rest) .numerator) (sumOf (f ∷ rest) .denominator * length (f ∷ rest))
 
 -- which of two fractions is the lower one, denominators being above 0
-unfoldable pub below : Fraction → Fraction → Bool
-below f g = ltb (f .numerator * g .denominator) (g .numerator * f .denominator)
+unfoldable pub isBelow : Fraction → Fraction → Bool
+isBelow f g = ltb (f .numerator * g .denominator) (g .numerator * f .denominator)
 
 -- of some fractions the one that no other comes before
 pub record First (before : Fraction → Fraction → Bool) (l : List Fraction) (m : Fraction) : Type 0 where
@@ -71,10 +75,10 @@ firstBy before [] = zeroFraction
 firstBy before (f ∷ rest) = firstFrom before f rest
 
 unfoldable pub leastFraction : List Fraction → Fraction
-leastFraction l = firstBy below l
+leastFraction l = firstBy isBelow l
 
-abbrev pub above : Fraction → Fraction → Bool
-above f g = below g f
+abbrev pub isAbove : Fraction → Fraction → Bool
+isAbove f g = isBelow g f
 
 unfoldable pub greatestFraction : List Fraction → Fraction
-greatestFraction l = firstBy above l
+greatestFraction l = firstBy isAbove l

@@ -2,7 +2,7 @@
 ghost use mathlib.Core.Path.{_≡_};
 ghost use Prim.Native.Nat.{_*_, _<_};
 ghost use Rattle.fraction.specs.Divisor as divisor;
-ghost use Rattle.fraction.specs.Fraction.{lowestTerms, below};
+ghost use Rattle.fraction.specs.Fraction.{lowestTerms, isBelow};
 ghost use Rattle.fraction.specs.Bounded as bound;
 
 #[repr(C)]
@@ -59,7 +59,7 @@ pub fn lowest_terms(a: u64, b: u64) -> Fraction
 // Pub for `unity_table`, whose shares are of small numbers.
 pub fn is_below(f: Fraction, g: Fraction) -> bool
     requires { ⌜ (f .numerator * g .denominator < bound.limit64) × (g .numerator * f .denominator < bound.limit64) ⌝ }
-    ensures { λ r. ⌜ r ≡ below f g ⌝ }
+    ensures { λ r. ⌜ r ≡ isBelow f g ⌝ }
 {
     f.numerator * g.denominator < g.numerator * f.denominator
 }

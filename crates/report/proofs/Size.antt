@@ -5,7 +5,6 @@ use mathlib.Core.Logic.{inl, inr}
 use mathlib.Core.List.{List, [], _∷_, _++_, map}
 use Prim.Native.Nat.{ℕ, _+_, _*_, _≤_, _<_}
 use native.Mathlib.Omega.{arith}
-use borrow.Author.Tests.{le-leb}
 use lib.ListN.{length, length-append, length-map}
 use Rattle.record.specs.declared.Edit.{Edit}
 use Rattle.record.specs.Lists.{mem}
@@ -27,6 +26,7 @@ use Rattle.text.specs.Text.{joinedLines, Answer, Accepted, Refused, readText}
 use Rattle.text.proofs.RoundTrip.{accepted-text}
 use Rattle.text.proofs.Limit.{refusal-small}
 use Rattle.writer.specs.Placed.{placing}
+use Rattle.writer.proofs.Starting.{start-enough}
 use Rattle.report.specs.Report.{countsForm, reportForm, refusalForm, reportNumbers, reportOf, refusalLine, printed}
 
 counts-room : room countsForm ≤ 40
@@ -94,7 +94,4 @@ printed-size text = go (readText text) refl
 
 -- An output of 16,384 bytes takes what is printed of any text.
 pub printed-fits : (text out : List ℕ) → 16384 ≤ length out → (placing (printed (readText text)) 0 out) .number ≡ 0
-unfolding placing
-printed-fits text out h =
-    let x = printed (readText text) in
-    rw (le-leb (0 + length x) (length out) (omega (arith, printed-size text)))
+printed-fits text out h = start-enough (printed (readText text)) out 16384 (printed-size text) h

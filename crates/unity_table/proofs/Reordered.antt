@@ -11,7 +11,7 @@ use lib.ListN.{length}
 use Rattle.record.specs.Lists.{sift}
 use Rattle.record.proofs.Lists.{by}
 use Rattle.fraction.specs.declared.Fraction.{Fraction}
-use Rattle.fraction.specs.Fraction.{LowestTerms, Positive, sumOf, mean, below, above, First, leastFraction, greatestFraction}
+use Rattle.fraction.specs.Fraction.{LowestTerms, Positive, sumOf, mean, isBelow, isAbove, First, leastFraction, greatestFraction}
 use Rattle.fraction.proofs.Fractions.{lowest-terms-is, common-positive}
 use Rattle.fraction.proofs.Extremes.{least-is, greatest-is}
 use Rattle.fraction.proofs.Reordered.{reduced-positive, length-reordered, mean-reordered, least-reordered, greatest-reordered}
@@ -29,10 +29,10 @@ mean-lowest l f rest e =
     rw e (lowest-terms-is (sumOf (f ∷ rest) .numerator) (sumOf (f ∷ rest) .denominator * length (f ∷ rest)) d)
 
 -- The least and the greatest are shares of the table, and no share is below the one or above the other.
-pub least-share : (l : List Weights) (f : Fraction) (rest : List Fraction) → shares l ≡ f ∷ rest → First below (shares l) (leastFraction (shares l))
+pub least-share : (l : List Weights) (f : Fraction) (rest : List Fraction) → shares l ≡ f ∷ rest → First isBelow (shares l) (leastFraction (shares l))
 least-share l f rest e = rw e (least-is f rest (rw e at (shares-positive l)))
 
-pub greatest-share : (l : List Weights) (f : Fraction) (rest : List Fraction) → shares l ≡ f ∷ rest → First above (shares l) (greatestFraction (shares l))
+pub greatest-share : (l : List Weights) (f : Fraction) (rest : List Fraction) → shares l ≡ f ∷ rest → First isAbove (shares l) (greatestFraction (shares l))
 greatest-share l f rest e = rw e (greatest-is f rest (rw e at (shares-positive l)))
 
 -- another order

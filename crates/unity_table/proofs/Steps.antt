@@ -9,7 +9,7 @@ use lib.Dec.{eqb, ltb}
 use Rattle.record.proofs.Lists.{by}
 use Rattle.fraction.specs.declared.Fraction.{Fraction}
 use Rattle.fraction.specs.declared.BoundedFraction.{BoundedFraction}
-use Rattle.fraction.specs.Fraction.{below}
+use Rattle.fraction.specs.Fraction.{isBelow}
 use Rattle.fraction.specs.Bounded.{limit64, boundedFraction, plus, Addable}
 use Rattle.fraction.proofs.Fractions.{lowest-positive, lowest-atmost}
 use Rattle.fraction.proofs.Bounds.{fraction-told, fraction-value}
@@ -44,17 +44,16 @@ module _ (a : Weights) where
 pub small-product : (f g : Fraction) → Small f → Small g → f .numerator * g .denominator < limit64
 small-product f g p q = let m = mul-le-mul (p .numerator) (q .denominator) in omega arith
 
-pub won-fits : (s : Summed) → Room s → (won : ℕ) (b : Bool) → won ≡ cond b 1 0 → s .won + won < limit64
-won-fits s m won true e = let p = m .row in let q = m .won in omega arith
-won-fits s m won false e = let p = m .row in let q = m .won in omega arith
+pub won-fits : (s : Summed) → Room s → (won : ℕ) → won ≤ 1 → s .won + won < limit64
+won-fits s m won h = let p = m .row in let q = m .won in omega arith
 
 -- the state with one share more, from what the calls answer
-pub sum-told : (s : Summed) (a : Weights) (share sum lower higher : Fraction) (low high : Bool) (won : ℕ) → low ≡ below share (s .least) → lower ≡ cond (eqb (s .entered) 0 || low) share (s .least)
-    → high ≡ below (s .greatest) share → higher ≡ cond (eqb (s .entered) 0 || high) share (s .greatest) → won ≡ cond (isWon a) 1 0
+pub sum-told : (s : Summed) (a : Weights) (share sum lower higher : Fraction) (low high : Bool) (won : ℕ) → low ≡ isBelow share (s .least) → lower ≡ cond (eqb (s .entered) 0 || low) share (s .least)
+    → high ≡ isBelow (s .greatest) share → higher ≡ cond (eqb (s .entered) 0 || high) share (s .greatest) → won ≡ cond (isWon a) 1 0
     → record { number = 0; row = s .row + 1; sum = sum; least = lower; greatest = higher; entered = s .entered + 1; won = s .won + won; empty = s .empty } ≡ withSum s a share sum
 sum-told s a share sum lower higher low high won l p h q w =
-    let x : lower ≡ cond (eqb (s .entered) 0 || below share (s .least)) share (s .least) = p ∙ ap (λ (b : Bool). cond (eqb (s .entered) 0 || b) share (s .least)) l in
-    let y : higher ≡ cond (eqb (s .entered) 0 || below (s .greatest) share) share (s .greatest) = q ∙ ap (λ (b : Bool). cond (eqb (s .entered) 0 || b) share (s .greatest)) h in
+    let x : lower ≡ cond (eqb (s .entered) 0 || isBelow share (s .least)) share (s .least) = p ∙ ap (λ (b : Bool). cond (eqb (s .entered) 0 || b) share (s .least)) l in
+    let y : higher ≡ cond (eqb (s .entered) 0 || isBelow (s .greatest) share) share (s .greatest) = q ∙ ap (λ (b : Bool). cond (eqb (s .entered) 0 || b) share (s .greatest)) h in
     λ i. record { number = 0; row = s .row + 1; sum = sum; least = x i; greatest = y i; entered = s .entered + 1; won = s .won + w i; empty = s .empty }
 
 module _ (s : Summed) (a : Weights) (m : Room s) (h : outOfRange a ≡ false) (t : 0 < a .total) where

@@ -14,7 +14,7 @@ use Rattle.record.proofs.Lists.{by, and-l, and-r, or-no-l, or-no-r}
 use Rattle.vote.proofs.Front.{sift-append}
 use Rattle.fraction.specs.declared.Fraction.{Fraction}
 use Rattle.fraction.specs.Divisor.{gcd}
-use Rattle.fraction.specs.Fraction.{lowestTerms, Positive, commonDenominator, numeratorOver, sumOf, below, leastFraction, greatestFraction}
+use Rattle.fraction.specs.Fraction.{lowestTerms, Positive, commonDenominator, numeratorOver, sumOf, isBelow, leastFraction, greatestFraction}
 use Rattle.fraction.specs.Bounded.{fits64, plus}
 use Rattle.fraction.proofs.Fractions.{lowest-terms-is, lowest-positive, common-positive, sum-more}
 use Rattle.fraction.proofs.Reordered.{Reduced, reduced-positive}
@@ -165,8 +165,8 @@ passed-more above a p z =
       few = few;
       denominator = f .denominator;
       numerator = f .numerator;
-      least = rw (s, least-more (shares above) (shareOf a)) (choice-small (eqb (length (shares above)) 0 || below (shareOf a) (leastFraction (shares above))) (shareOf a) (leastFraction (shares above)) small (p .least));
-      greatest = rw (s, greatest-more (shares above) (shareOf a)) (choice-small (eqb (length (shares above)) 0 || below (greatestFraction (shares above)) (shareOf a)) (shareOf a) (greatestFraction (shares above)) small (p .greatest));
+      least = rw (s, least-more (shares above) (shareOf a)) (choice-small (eqb (length (shares above)) 0 || isBelow (shareOf a) (leastFraction (shares above))) (shareOf a) (leastFraction (shares above)) small (p .least));
+      greatest = rw (s, greatest-more (shares above) (shareOf a)) (choice-small (eqb (length (shares above)) 0 || isBelow (greatestFraction (shares above)) (shareOf a)) (shareOf a) (greatestFraction (shares above)) small (p .greatest));
     })
 
 pub passed : (l : List Weights) → running l .number ≡ 0 → Passed l
@@ -289,8 +289,8 @@ module _ (s : Summed) (l : List Weights) (a : Weights) (e : s ≡ summedOf l) wh
               let q = shares-more l a t in
               let i = open-is s l e z .is in
               let sum : added ≡ sumOf (shares (l ++ (a ∷ []))) = sym sum-next in
-              let lower : cond (eqb (length (shares l)) 0 || below (shareOf a) (leastFraction (shares l))) (shareOf a) (leastFraction (shares l)) ≡ leastFraction (shares (l ++ (a ∷ []))) = rw q (sym (least-more (shares l) (shareOf a))) in
-              let higher : cond (eqb (length (shares l)) 0 || below (greatestFraction (shares l)) (shareOf a)) (shareOf a) (greatestFraction (shares l)) ≡ greatestFraction (shares (l ++ (a ∷ []))) = rw q (sym (greatest-more (shares l) (shareOf a))) in
+              let lower : cond (eqb (length (shares l)) 0 || isBelow (shareOf a) (leastFraction (shares l))) (shareOf a) (leastFraction (shares l)) ≡ leastFraction (shares (l ++ (a ∷ []))) = rw q (sym (least-more (shares l) (shareOf a))) in
+              let higher : cond (eqb (length (shares l)) 0 || isBelow (greatestFraction (shares l)) (shareOf a)) (shareOf a) (greatestFraction (shares l)) ≡ greatestFraction (shares (l ++ (a ∷ []))) = rw q (sym (greatest-more (shares l) (shareOf a))) in
               let entered : length (shares l) + 1 ≡ length (shares (l ++ (a ∷ []))) = rw q (sym (length-append (shares l) (shareOf a ∷ []))) in
               let won = sym (count-more isWon l a) in
               let empty : countBy isEmpty l ≡ countBy isEmpty (l ++ (a ∷ [])) = sym (count-more isEmpty l a ∙ rw (ne-eqb (a .total) 0 (λ x. omega arith)) (omega arith)) in

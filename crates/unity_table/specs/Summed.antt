@@ -6,12 +6,12 @@ use Prim.Native.Nat.{ℕ, _+_, _≤_, _<_}
 use lib.Dec.{eqb}
 use lib.ListN.{length}
 use Rattle.fraction.specs.declared.Fraction.{Fraction}
-use Rattle.fraction.specs.Fraction.{sumOf, below, leastFraction, greatestFraction}
+use Rattle.fraction.specs.Fraction.{sumOf, noFraction, isBelow, leastFraction, greatestFraction}
 use Rattle.fraction.specs.Bounded.{fits64, plus}
 use Rattle.unity_table.specs.declared.Weights.{Weights}
 use Rattle.unity_table.specs.declared.Summed.{Summed}
 use Rattle.unity_table.specs.declared.Unity.{Unity}
-use Rattle.unity_table.specs.Unity.{electionLimit, totalLimit, isEmpty, isWon, shareOf, shares, weightsFault, Fault, decidingFault, countBy, noFraction, unityOf}
+use Rattle.unity_table.specs.Unity.{electionLimit, totalLimit, isEmpty, isWon, shareOf, shares, weightsFault, Fault, decidingFault, countBy, unityOf}
 
 -- no row is taken for the last one
 abbrev pub runningFault : List Weights → Weights → Bool → ℕ
@@ -70,8 +70,8 @@ withSum s a share sum =
       number = 0;
       row = s .row + 1;
       sum = sum;
-      least = extreme s (below share (s .least)) (s .least) share;
-      greatest = extreme s (below (s .greatest) share) (s .greatest) share;
+      least = extreme s (isBelow share (s .least)) (s .least) share;
+      greatest = extreme s (isBelow (s .greatest) share) (s .greatest) share;
       entered = s .entered + 1;
       won = s .won + cond (isWon a) 1 0;
       empty = s .empty;

@@ -10,7 +10,7 @@ use lib.ListN.{length, getD}
 use Rattle.record.specs.Lists.{sift}
 use Rattle.ground.specs.Ground.{_given_, _orelse_}
 use Rattle.fraction.specs.declared.Fraction.{Fraction}
-use Rattle.fraction.specs.Fraction.{lowestTerms, sumOf, mean, leastFraction, greatestFraction}
+use Rattle.fraction.specs.Fraction.{lowestTerms, sumOf, noFraction, mean, leastFraction, greatestFraction}
 use Rattle.fraction.specs.Bounded.{fits64}
 use Rattle.unity_table.specs.declared.Weights.{Weights}
 use Rattle.unity_table.specs.declared.Unity.{Unity}
@@ -88,10 +88,6 @@ countBy p l = length (sift p l)
 unfoldable pub summary : List Weights → Unity
 summary l =
     record { number = 0; row = 0; mean = mean (shares l); least = leastFraction (shares l); greatest = greatestFraction (shares l); won = countBy isWon l; empty = countBy isEmpty l }
-
--- what a refusal has in the place of a fraction
-abbrev pub noFraction : Fraction
-noFraction = record { numerator = 0; denominator = 0 }
 
 abbrev pub refusedUnity : Fault → Unity
 refusedUnity f = record { number = f .number; row = f .row; mean = noFraction; least = noFraction; greatest = noFraction; won = 0; empty = 0 }

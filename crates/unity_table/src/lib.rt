@@ -94,7 +94,7 @@ pub fn nothing_summed() -> Summed
     }
 }
 
-// The share that comes first, with one more.
+// The least or the greatest share, with one more: the first one takes the place of 0/1, which is no share.
 fn extreme(none: bool, before: bool, known: Fraction, share: Fraction) -> Fraction
     ensures { λ r. ⌜ r ≡ cond (none || before) share known ⌝ }
 {
@@ -108,7 +108,7 @@ fn extreme(none: bool, before: bool, known: Fraction, share: Fraction) -> Fracti
 }
 
 fn bit(b: bool) -> usize
-    ensures { λ r. ⌜ r ≡ cond b 1 0 ⌝ }
+    ensures { λ r. ⌜ (r ≡ cond b 1 0) × (r ≤ 1) ⌝ }
 {
     if b {
         return 1;

@@ -5,7 +5,7 @@ use mathlib.Core.List.{List, [], _∷_, _++_, map}
 use Prim.Native.Nat.{ℕ, zero, suc, _+_, _*_, _≤_, _<_, _^_}
 use native.Mathlib.Omega.{arith}
 use native.Mathlib.Nat.{div-le-self}
-use borrow.Author.Tests.{eqb-true, eqb-false, ltb-true, le-leb, not-false}
+use borrow.Author.Tests.{eqb-true, eqb-false, ltb-true, not-false}
 use lib.Dec.{eqb, leb}
 use lib.ListN.{length, getD, length-append}
 use Rattle.record.specs.Lists.{all}
@@ -19,6 +19,7 @@ use Rattle.form.proofs.Forms.{fill-wide}
 use Rattle.line.specs.Lines.{lines}
 use Rattle.text.proofs.Limit.{given-small, first-small}
 use Rattle.writer.specs.Placed.{placing}
+use Rattle.writer.proofs.Starting.{start-enough}
 use Rattle.report.specs.Report.{refusalForm, refusalLine}
 use Rattle.unity_table.specs.declared.Weights.{Weights}
 use Rattle.unity_table.specs.Unity.{electionLimit, isEmpty, isWon, shares, outOfRange, tooWide, weightsFault, Fault, isLast, decidingFault, countBy, summary}
@@ -143,7 +144,4 @@ printed-size text =
 
 -- An output of 1,024 bytes takes what is printed of any text.
 pub printed-fits : (text out : List ℕ) → 1024 ≤ length out → (placing (printedUnity (textUnity text)) 0 out) .number ≡ 0
-unfolding placing
-printed-fits text out h =
-    let p = printedUnity (textUnity text) in
-    rw (le-leb (0 + length p) (length out) (omega (arith, printed-size text)))
+printed-fits text out h = start-enough (printedUnity (textUnity text)) out 1024 (printed-size text) h

@@ -12,9 +12,9 @@ ghost use Rattle.unity_text.specs.Said.{saidOf};
 const LINE_LIMIT: usize = 101;
 
 // What a line says, or that it is not in form.
-pub struct Said {
-    pub fits: bool,
-    pub answer: Weights,
+struct Said {
+    fits: bool,
+    answer: Weights,
 }
 
 fn no_answer() -> Said

@@ -11,6 +11,11 @@ use lib.ListN.{length}
 use Rattle.decimal.specs.Written.{Written}
 use Rattle.writer.specs.Placed.{placed, placing}
 
+-- an output that is long enough takes the text
+pub start-enough : (text out : List ℕ) (n : ℕ) → length text ≤ n → n ≤ length out → (placing text 0 out) .number ≡ 0
+unfolding placing
+start-enough text out n p q = rw (le-leb (0 + length text) (length out) (omega arith))
+
 module _ (text out : List ℕ) {fits : Bool} (e : fits ≡ leb (length text) (length out)) where
   pub start-none : fits ≡ false → (record { number = 12; end = 0 } ≡ placing text 0 out) × (out ≡ placed text 0 out)
   unfolding placing placed

@@ -1,6 +1,6 @@
 -- `fraction::is_below` meets its contract. Assumes nothing.
 use borrow.Author.Needs.{needs}
-use Rattle.fraction.specs.Fraction.{below}
+use Rattle.fraction.specs.Fraction.{isBelow}
 use Rattle.fraction.proofs.is_below.Statement.{statement}
 use Rattle.fraction.proofs.is_below.Tie as tie
 
@@ -11,7 +11,7 @@ mul-result-2 : tie.Need-mul-result-2
 mul-result-2 c = search needs
 
 returns : tie.Need-returns
-unfolding below
+unfolding isBelow
 returns c = search needs
 
 pub is-below-spec : {M : Type 1} → statement M
