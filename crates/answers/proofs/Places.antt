@@ -7,7 +7,7 @@ use native.Mathlib.Omega.{arith}
 use borrow.Author.Tests.{eqb-true, eqb-false, leb-true}
 use lib.Dec.{eqb, leb}
 use lib.ListN.{length, getD, take, drop, List·getD-eq-default}
-use Rattle.record.proofs.Lists.{by, and-l, and-r}
+use Rattle.lists.proofs.Lists.{by, and-l, and-r}
 use Rattle.row.specs.Row.{same}
 use Rattle.row.proofs.Compared.{same-eq}
 use Rattle.form.specs.Spelling.{bytes}

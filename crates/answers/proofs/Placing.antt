@@ -8,7 +8,7 @@ use native.Mathlib.Omega.{arith}
 use borrow.Author.Tests.{le-leb, lt-leb}
 use lib.Dec.{leb}
 use lib.ListN.{length, take, drop, length-drop, take-append-drop}
-use Rattle.record.proofs.Lists.{le-by}
+use Rattle.lists.proofs.Lists.{le-by}
 use Rattle.decimal.proofs.Parts.{part-written, part-to-end}
 use Rattle.writer.specs.declared.Written.{Written}
 use Rattle.writer.specs.Placed.{placing, placed}

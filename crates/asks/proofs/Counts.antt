@@ -6,8 +6,8 @@ use Prim.Native.Nat.{ℕ, _+_, _≤_, _<_}
 use native.Mathlib.Omega.{arith}
 use lib.ListN.{length, getD, take, drop, length-append, length-drop}
 use lib.Seq.{getD-drop}
-use Rattle.record.specs.Lists.{sift}
-use Rattle.record.proofs.Lists.{by}
+use Rattle.lists.specs.Lists.{sift}
+use Rattle.lists.proofs.Lists.{by}
 use Rattle.vote.proofs.Front.{sift-passed, sift-left}
 use Rattle.asks.specs.Asks.{hides}
 

@@ -8,7 +8,7 @@ use native.Mathlib.Omega.{arith}
 use borrow.Author.Tests.{eq-eqb, ne-eqb}
 use lib.ListN.{length, getD, take, drop, length-take}
 use lib.Seq.{take-length}
-use Rattle.record.specs.Lists.{sift}
+use Rattle.lists.specs.Lists.{sift}
 use Rattle.record.specs.declared.Edit.{Edit}
 use Rattle.pages.proofs.Turns.{take-least}
 use Rattle.catalogue.specs.declared.Entry.{Entry}

@@ -4,7 +4,7 @@ use mathlib.Core.Bool.{Bool, cond}
 use mathlib.Core.List.{List, [], _∷_, _++_}
 use lib.Dec.{eqb}
 use lib.ListN.{length, getD, take, drop}
-use Rattle.record.specs.Lists.{sift}
+use Rattle.lists.specs.Lists.{sift}
 use Rattle.record.specs.declared.Edit.{Edit}
 use Rattle.catalogue.specs.declared.Cell.{Cell}
 use Rattle.catalogue.specs.declared.Entry.{Entry}

@@ -12,7 +12,7 @@ ghost use mathlib.Core.Bool.{cond};
 ghost use mathlib.Core.List.{[], _∷_};
 ghost use Prim.Native.Nat.{suc, _≤_, min};
 ghost use lib.ListN.{length, take, drop};
-ghost use Rattle.record.specs.Lists.{sift};
+ghost use Rattle.lists.specs.Lists.{sift};
 ghost use Rattle.forms.specs.Printed.{Printed, textsFrom};
 ghost use Rattle.answers.specs.Answers.{answerLine};
 ghost use Rattle.asks.specs.Asks.{hides, hiddenLine, hiddenText, pageLine, scheduleText, cellsText, isPresent, entryText, catalogueText, rowText, rowAt, journalText, pageText};

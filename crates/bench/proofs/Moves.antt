@@ -13,7 +13,7 @@ use lib.Seq.{take-length}
 use Rattle.record.specs.declared.Edit.{Edit}
 use Rattle.record.specs.declared.Record as declared
 use Rattle.record.specs.declared.Schedule.{Schedule}
-use Rattle.record.specs.Lists.{mem}
+use Rattle.lists.specs.Lists.{mem}
 use Rattle.record.specs.Record.{Record, nameOf, written}
 use Rattle.record.specs.Stored.{stored, editNamed, fillerEdit}
 use Rattle.record.specs.Schedule.{schedule}

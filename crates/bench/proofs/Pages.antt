@@ -9,11 +9,11 @@ use lib.Dec.{eqb}
 use lib.ListN.{length, take, drop, length-map, length-drop}
 use borrow.Author.Tests.{eqb-true}
 use Rattle.record.specs.declared.Edit.{Edit}
-use Rattle.record.specs.Lists.{mem, _among_, _within_}
+use Rattle.lists.specs.Lists.{mem, _among_, _within_}
 use Rattle.record.specs.Record.{Record, nameOf, written}
 use Rattle.record.specs.Schedule.{schedule}
 use Rattle.record.specs.Judgement.{sound}
-use Rattle.record.proofs.Lists.{by, clash, mem-head, mem-tail, or-by}
+use Rattle.lists.proofs.Lists.{by, clash, mem-head, mem-tail, or-by}
 use Rattle.record.proofs.Scheduled.{schedule-length, schedule-pages}
 use Rattle.table.specs.Checked.{Checked}
 use Rattle.table.proofs.Records.{checked-wellformed}

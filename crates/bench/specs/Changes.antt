@@ -6,7 +6,7 @@ use Prim.Native.Nat.{ℕ, _≤_}
 use lib.ListN.{take, drop}
 use Rattle.record.specs.declared.Record as declared
 use Rattle.record.specs.declared.Schedule.{Schedule}
-use Rattle.record.specs.Lists.{mem, _among_, _within_}
+use Rattle.lists.specs.Lists.{mem, _among_, _within_}
 use Rattle.record.specs.Record.{Record, written}
 use Rattle.record.specs.Stored.{stored, editNamed}
 use Rattle.record.specs.Schedule.{schedule}

@@ -11,10 +11,10 @@ use borrow.Author.Tests.{eq-eqb, ne-eqb}
 use Rattle.record.specs.declared.Edit.{Edit}
 use Rattle.record.specs.declared.Constraint.{Constraint}
 use Rattle.record.specs.declared.Record as declared
-use Rattle.record.specs.Lists.{mem, at, sift, _among_}
+use Rattle.lists.specs.Lists.{mem, at, sift, _among_}
 use Rattle.record.specs.Record.{Record, names, written}
 use Rattle.record.specs.Stored.{stored, fillerEdit, fillerConstraint}
-use Rattle.record.proofs.Lists.{mem-at}
+use Rattle.lists.proofs.Lists.{mem-at}
 use Rattle.pages.proofs.Padded.{take-padded}
 use Rattle.links.specs.Marks.{marksOf, placeIn}
 use Rattle.links.proofs.Names.{getD-place, place-known}

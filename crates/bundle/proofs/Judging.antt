@@ -10,11 +10,11 @@ use lib.ListN.{length, take, getD}
 use lib.Seq.{take-all, take-length}
 use borrow.Author.Tests.{ne-eqb, lt-ltb}
 use Rattle.record.specs.declared.Record as declared
-use Rattle.record.specs.Lists.{all, sift, mem, _among_, ascending}
+use Rattle.lists.specs.Lists.{all, sift, mem, _among_, ascending}
 use Rattle.record.specs.Record.{Record, nameOf, names, written}
 use Rattle.record.specs.Stored.{stored}
 use Rattle.record.specs.Judgement.{sound, settled}
-use Rattle.record.proofs.Lists.{by, cons-by, ascending-tail, ascending-head, mem-head, mem-tail}
+use Rattle.lists.proofs.Lists.{by, cons-by, ascending-tail, ascending-head, mem-head, mem-tail}
 use Rattle.record.proofs.Records.{written-names}
 use Rattle.row.specs.Row.{isName}
 use Rattle.ground.specs.Ground.{Rows}

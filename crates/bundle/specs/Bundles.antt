@@ -6,7 +6,7 @@ use lib.Dec.{eqb}
 use lib.ListN.{length}
 use Rattle.record.specs.declared.Edit.{Edit}
 use Rattle.record.specs.declared.Constraint.{Constraint}
-use Rattle.record.specs.Lists.{mem}
+use Rattle.lists.specs.Lists.{mem}
 use Rattle.record.specs.Record.{written}
 use Rattle.record.specs.Stored.{padded, stored, emptyRecord, fillerEdit, fillerConstraint}
 use Rattle.record.specs.Judgement.{sound}

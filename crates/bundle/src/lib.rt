@@ -10,7 +10,7 @@ ghost use lib.Dec.{eqb};
 ghost use lib.ListN.{length, getD, take};
 ghost use Rattle.record.specs.declared.Edit as edit;
 ghost use Rattle.record.specs.Record as theory;
-ghost use Rattle.record.specs.Lists.{mem, sift, all, _among_};
+ghost use Rattle.lists.specs.Lists.{mem, sift, all, _among_};
 ghost use Rattle.record.specs.Stored.{stored, fillerEdit, fillerConstraint};
 ghost use Rattle.record.specs.Judgement.{settled};
 ghost use Rattle.links.specs.Marks.{marksOf, placeIn};

@@ -11,7 +11,7 @@ use borrow.Author.Tests.{eqb-true, eqb-false, leb-true, leb-false}
 use Rattle.record.specs.declared.Body.{Body}
 use Rattle.record.specs.declared.Body.the-variants.{Insert, Set, Remove}
 use Rattle.record.specs.declared.Edit.{Edit}
-use Rattle.record.proofs.Lists.{by}
+use Rattle.lists.proofs.Lists.{by}
 use Rattle.pages.specs.Pages.{touched, runEdit, run, emptyCatalogue}
 use Rattle.pages.proofs.Padded.{getD-filled}
 use Rattle.catalogue.specs.declared.Entry.{Entry}

@@ -7,10 +7,10 @@ use lib.Dec.{eqb}
 use lib.ListN.{getD, drop}
 use Rattle.record.specs.declared.Record as declared
 use Rattle.record.specs.declared.Schedule.{Schedule}
-use Rattle.record.specs.Lists.{sift, mem, at, _among_, _within_}
+use Rattle.lists.specs.Lists.{sift, mem, at, _among_, _within_}
 use Rattle.record.specs.Record.{Record, names, written}
 use Rattle.record.specs.Stored.{stored, editNamed}
-use Rattle.record.proofs.Lists.{same-by, mem-at, sift-mem, mem-sift}
+use Rattle.lists.proofs.Lists.{same-by, mem-at, sift-mem, mem-sift}
 use Rattle.record.proofs.Records.{written-names}
 use Rattle.record.proofs.Scheduled.{schedule-same}
 use Rattle.links.specs.Marks.{marksOf}

@@ -6,7 +6,7 @@ use Prim.Native.Nat.{ℕ}
 use lib.Dec.{eqb}
 use borrow.Author.Tests.{ne-eqb}
 use Rattle.record.specs.declared.Record as declared
-use Rattle.record.specs.Lists.{any, all, mem}
+use Rattle.lists.specs.Lists.{any, all, mem}
 use Rattle.record.specs.Record.{written}
 use Rattle.record.specs.Judgement.{sound}
 use Rattle.row.specs.Row.{isName}

@@ -8,10 +8,10 @@ use native.Mathlib.Omega.{arith}
 use lib.ListN.{length, getD}
 use borrow.Author.Tests.{ne-eqb}
 use Rattle.record.specs.declared.Record as declared
-use Rattle.record.specs.Lists.{mem}
+use Rattle.lists.specs.Lists.{mem}
 use Rattle.record.specs.Record.{Record, written}
 use Rattle.record.specs.Stored.{stored}
-use Rattle.record.proofs.Lists.{is-by}
+use Rattle.lists.proofs.Lists.{is-by}
 use Rattle.ground.specs.Ground.{Rows}
 use Rattle.table.specs.Table.{emptyTables, decoded, lentFault}
 use Rattle.vote.specs.Bundle.{bundle, eligible, vote}

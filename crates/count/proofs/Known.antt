@@ -8,10 +8,10 @@ use lib.Dec.{eqb}
 use lib.ListN.{length, take, getD}
 use lib.Seq.{take-all, take-length}
 use borrow.Author.Tests.{eq-eqb, ne-eqb}
-use Rattle.record.specs.Lists.{any, all, mem}
+use Rattle.lists.specs.Lists.{any, all, mem}
 use Rattle.record.specs.Record.{written, nameOf}
 use Rattle.record.specs.Stored.{fillerEdit}
-use Rattle.record.proofs.Lists.{by, clash, and-l, and-r}
+use Rattle.lists.proofs.Lists.{by, clash, and-l, and-r}
 use Rattle.row.specs.Row.{Row, cell, isName, editInRange, editOf, editRow}
 use Rattle.ground.specs.Ground.{Rows}
 use Rattle.table.specs.Table.{namesOf}

@@ -8,10 +8,10 @@ use lib.Dec.{leb}
 use lib.ListN.{length, take, getD, length-map}
 use borrow.Author.Tests.{leb-true}
 use Rattle.record.specs.declared.Record as declared
-use Rattle.record.specs.Lists.{any, all}
+use Rattle.lists.specs.Lists.{any, all}
 use Rattle.record.specs.Record.{Record}
 use Rattle.record.specs.Stored.{stored}
-use Rattle.record.proofs.Lists.{and-l, and-r}
+use Rattle.lists.proofs.Lists.{and-l, and-r}
 use Rattle.row.specs.Row.{editOf, constraintOf}
 use Rattle.ground.specs.Ground.{Rows}
 use Rattle.ground.proofs.Grounds.{orelse-none}

@@ -8,10 +8,10 @@ use lib.Dec.{ltb}
 use lib.ListN.{length, take, getD, length-map}
 use lib.Seq.{take-all, length-take-le}
 use borrow.Author.Tests.{not-false, ltb-false}
-use Rattle.record.specs.Lists.{all, distinct}
+use Rattle.lists.specs.Lists.{all, distinct}
 use Rattle.record.specs.Stored.{padded}
-use Rattle.record.proofs.Lists.{by, or-no-l, or-no-r}
-use Rattle.keyed.proofs.Logic.{all-has, has-getD}
+use Rattle.lists.proofs.Lists.{by, or-no-l, or-no-r}
+use Rattle.lists.proofs.Logic.{all-has, has-getD}
 use Rattle.pages.proofs.Padded.{getD-padded}
 use Rattle.vote.specs.declared.RollRow.{RollRow}
 use Rattle.vote.specs.Tally.{Ballot, ballots, total}

@@ -13,7 +13,7 @@ ghost use mathlib.Core.Option.{none};
 ghost use Prim.Native.Nat.{_+_, _<_, _≤_};
 ghost use lib.ListN.{length};
 ghost use Rattle.record.specs.Record as theory;
-ghost use Rattle.record.specs.Lists.{any, all, mem};
+ghost use Rattle.lists.specs.Lists.{any, all, mem};
 ghost use Rattle.record.specs.Stored.{stored};
 ghost use Rattle.record.specs.Judgement.{sound};
 ghost use Rattle.ground.specs.Ground.{Rows};

@@ -10,12 +10,12 @@ use lib.Seq.{length-take-le}
 use Rattle.record.specs.declared.Edit.{Edit}
 use Rattle.record.specs.declared.Constraint.{Constraint}
 use Rattle.record.specs.declared.Record as declared
-use Rattle.record.specs.Lists.{mem}
+use Rattle.lists.specs.Lists.{mem}
 use Rattle.record.specs.Record.{Record, written, nameOf}
 use Rattle.record.specs.Stored.{padded, stored, emptyRecord, fillerConstraint}
-use Rattle.record.proofs.Lists.{by, clash}
-use Rattle.keyed.specs.Keyed.{precedes, Below, Ascending, inserted, united}
-use Rattle.keyed.proofs.Union.{length-inserted}
+use Rattle.lists.proofs.Lists.{by, clash}
+use Rattle.lists.specs.Keyed.{precedes, Below, Ascending, inserted, united}
+use Rattle.lists.proofs.Union.{length-inserted}
 use Rattle.table.specs.Table.{editKey, constraintKey, unite}
 use Rattle.table.specs.Checked.{Checked}
 use Rattle.unite.specs.Union.{Unites}

@@ -14,7 +14,7 @@ ghost use Rattle.record.specs.Record as theory;
 ghost use Rattle.record.specs.Stored.{stored};
 ghost use Rattle.record.specs.Schedule.{schedule};
 ghost use Rattle.record.specs.Judgement.{sound};
-ghost use Rattle.keyed.specs.Keyed.{Ascending, united};
+ghost use Rattle.lists.specs.Keyed.{Ascending, united};
 ghost use Rattle.table.specs.Table.{constraintKey};
 ghost use Rattle.table.specs.Checked.{Checked};
 ghost use Rattle.links.specs.Marks.{placeIn, valuesOf};

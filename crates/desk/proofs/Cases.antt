@@ -11,7 +11,7 @@ use mir.Facts.{toZ-ofZ}
 use borrow.Author.Tests.{lt-ltb, le-ltb, eqb-true, eqb-false}
 use Rattle.record.specs.declared.Record as declared
 use Rattle.record.specs.Stored.{stored}
-use Rattle.record.proofs.Lists.{le-by, or-by, or-no-l, or-no-r}
+use Rattle.lists.proofs.Lists.{le-by, or-by, or-no-l, or-no-r}
 use Rattle.row.specs.Row.{cell}
 use Rattle.ground.specs.Ground.{Rows}
 use Rattle.turner.specs.declared.Turner.{Turner}

@@ -9,7 +9,7 @@ use borrow.Author.Tests.{lt-ltb, eq-eqb, ne-eqb}
 use mir.Syntax.{w32}
 use mir.Val.{SFits, toZ, ofZ}
 use mir.Facts.{toZ-ofZ, toZ-pos}
-use Rattle.record.proofs.Lists.{by}
+use Rattle.lists.proofs.Lists.{by}
 use Rattle.desk.specs.Requests.{signedPages}
 
 forward-is : (n : ℕ) → n < 2147483648 → toZ w32 n ≡ pos n

@@ -10,7 +10,7 @@ use borrow.Author.Tests.{eq-eqb, ne-eqb}
 use Rattle.record.specs.declared.Record as declared
 use Rattle.record.specs.Record.{Record}
 use Rattle.record.specs.Stored.{stored, recordOf}
-use Rattle.record.proofs.Lists.{by}
+use Rattle.lists.proofs.Lists.{by}
 use Rattle.row.specs.Row.{cell}
 use Rattle.ground.specs.Ground.{Rows}
 use Rattle.ground.proofs.Grounds.{orelse-none}

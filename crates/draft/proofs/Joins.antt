@@ -6,8 +6,8 @@ use native.Mathlib.Numerals.{add-one}
 use lib.ListN.{length, take, getD}
 use lib.Seq.{take-suc, take-all}
 use Rattle.record.specs.declared.Constraint.{Constraint}
-use Rattle.keyed.specs.Keyed.{Ascending, inserted, united}
-use Rattle.keyed.proofs.Union.{ascending-united}
+use Rattle.lists.specs.Keyed.{Ascending, inserted, united}
+use Rattle.lists.proofs.Union.{ascending-united}
 use Rattle.table.specs.Table.{constraintKey}
 use Rattle.insertion.specs.declared.Constraints.{Constraints}
 use Rattle.insertion.specs.Insertion.{tableOf}

@@ -5,8 +5,8 @@ use mathlib.Core.List.{List, _∷_}
 use Prim.Native.Nat.{ℕ}
 use native.Mathlib.Omega.{arith}
 use borrow.Author.Tests.{ne-eqb}
-use Rattle.record.specs.Lists.{mem, at}
-use Rattle.record.proofs.Lists.{by, is-by}
+use Rattle.lists.specs.Lists.{mem, at}
+use Rattle.lists.proofs.Lists.{by, is-by}
 use Rattle.links.specs.Marks.{placeIn}
 
 module _ (l : List ℕ) (x : ℕ) where

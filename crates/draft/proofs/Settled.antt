@@ -8,15 +8,15 @@ use lib.Dec.{eqb}
 use lib.ListN.{length, take, getD}
 use lib.Seq.{length-take-le}
 use Rattle.record.specs.declared.Constraint.{Constraint}
-use Rattle.record.specs.Lists.{at, _among_}
+use Rattle.lists.specs.Lists.{at, _among_}
 use Rattle.record.specs.Record.{Record, names, written}
 use Rattle.record.specs.Judgement.{settled}
-use Rattle.record.proofs.Lists.{mem-at}
+use Rattle.lists.proofs.Lists.{mem-at}
 use Rattle.record.proofs.Records.{written-names}
 use Rattle.links.specs.Marks.{nameAt, placeIn}
 use Rattle.links.proofs.Marks.{marks-at}
 use Rattle.links.proofs.Names.{getD-place, place-known}
-use Rattle.keyed.specs.Keyed.{Ascending, inserted, united}
+use Rattle.lists.specs.Keyed.{Ascending, inserted, united}
 use Rattle.table.specs.Table.{constraintKey}
 use Rattle.proposal.specs.Proposal.{before, settledIn, settledFirst, firsts}
 use Rattle.insertion.specs.declared.Constraints.{Constraints}

@@ -11,7 +11,7 @@ ghost use lib.ListN.{length, getD, take};
 ghost use Rattle.record.specs.declared.Constraint.{Constraint};
 ghost use Rattle.record.specs.Record as theory;
 ghost use Rattle.record.specs.Stored.{stored};
-ghost use Rattle.keyed.specs.Keyed.{Ascending, united};
+ghost use Rattle.lists.specs.Keyed.{Ascending, united};
 ghost use Rattle.table.specs.Table.{constraintKey};
 ghost use Rattle.table.specs.Checked.{Checked};
 ghost use Rattle.proposal.specs.Proposal.{before, unordered, settledIn, settledFirst, firsts};

@@ -5,7 +5,7 @@ use mathlib.Core.Option.{Option, none, some}
 use Prim.Native.Nat.{ℕ, _-_}
 use lib.Dec.{eqb, leb, ltb}
 use lib.ListN.{length, getD}
-use Rattle.record.specs.Lists.{any, all, mem, distinct}
+use Rattle.lists.specs.Lists.{any, all, mem, distinct}
 use Rattle.record.specs.Record.{Record, written}
 use Rattle.record.specs.Judgement.{sound}
 use Rattle.row.specs.Row.{isName}

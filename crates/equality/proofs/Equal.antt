@@ -11,7 +11,7 @@ use Rattle.record.specs.declared.Constraint.{Constraint}
 use Rattle.record.specs.declared.Record as declared
 use Rattle.record.specs.Record.{Record}
 use Rattle.record.specs.Stored.{padded, stored, fillerEdit, fillerConstraint}
-use Rattle.record.proofs.Lists.{by, clash, and-l, and-r, and-i}
+use Rattle.lists.proofs.Lists.{by, clash, and-l, and-r, and-i}
 use Rattle.pages.proofs.Padded.{take-padded}
 use Rattle.row.specs.Row.{same, editRow, constraintRow}
 use Rattle.row.proofs.Cells.{edit-wide, constraint-wide}

@@ -6,7 +6,7 @@ use Prim.Native.Nat.{ℕ, suc, _+_, _≤_}
 use native.Mathlib.Omega.{arith}
 use lib.Dec.{eqb}
 use lib.ListN.{length}
-use Rattle.record.proofs.Lists.{by}
+use Rattle.lists.proofs.Lists.{by}
 use Rattle.line.specs.Lines.{lines, joined}
 use Rattle.ledger.specs.Ledger.{start, fed}
 use Rattle.ledger.specs.Bench.{benchOf}

@@ -8,7 +8,7 @@ use lib.Dec.{leb}
 use lib.ListN.{length, getD, set, take, drop, length-set}
 use lib.Seq.{take-suc, set-split, take-append-le, take-at, take-all, drop-append-add, set-at, drop-cons, length-take-le, append-snoc}
 use borrow.Author.Tests.{le-leb, lt-leb}
-use Rattle.record.proofs.Lists.{le-by}
+use Rattle.lists.proofs.Lists.{le-by}
 use Rattle.record.specs.Stored.{stored, recordOf}
 use Rattle.record.specs.Record.{Record}
 use Rattle.table.proofs.Tables.{stored-back}

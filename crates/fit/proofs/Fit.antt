@@ -11,12 +11,12 @@ use lib.ListN.{length, getD}
 use borrow.Author.Tests.{eqb-true, eqb-false, ltb-true, ltb-false, leb-true, not-true}
 use Rattle.record.specs.declared.Edit.{Edit}
 use Rattle.record.specs.declared.Constraint.{Constraint}
-use Rattle.record.specs.Lists.{all, mem, _among_}
+use Rattle.lists.specs.Lists.{all, mem, _among_}
 use Rattle.record.specs.Record.{Record, nameOf, written, names, has}
-use Rattle.record.proofs.Lists.{by, clash, and-l, and-r, or-no-l, or-no-r, cons-by, is-by}
+use Rattle.lists.proofs.Lists.{by, clash, and-l, and-r, or-no-l, or-no-r, cons-by, is-by}
 use Rattle.record.proofs.Records.{all-has}
-use Rattle.keyed.proofs.Logic.{Has}
-use Rattle.keyed.proofs.Logic as logic
+use Rattle.lists.proofs.Logic.{Has}
+use Rattle.lists.proofs.Logic as logic
 use Rattle.row.specs.Row.{cell, bodyCells, isName, isSide, editInRange, constraintInRange, editRow, constraintRow}
 use Rattle.table.specs.Table.{pairNotAllowed}
 use Rattle.table.specs.Checked.{Checked}

@@ -11,8 +11,8 @@ use borrow.Author.Tests.{eqb-true, eqb-false, eq-eqb, ne-eqb, not-true}
 use lib.Dec.{eqb}
 use lib.ListN.{length, getD, drop, length-append}
 use lib.Seq.{drop-append-seam, getD-drop}
-use Rattle.record.specs.Lists.{mem, all}
-use Rattle.record.proofs.Lists.{by, clash, and-l, and-r, mem-append, or-no-l, or-no-r}
+use Rattle.lists.specs.Lists.{mem, all}
+use Rattle.lists.proofs.Lists.{by, clash, and-l, and-r, mem-append, or-no-l, or-no-r}
 use Rattle.form.specs.Spelling.{nameSpelling, numberSpelling}
 use Rattle.form.specs.Form.{isMark, spelling, fill, more, starts, taken}
 use Rattle.form.proofs.Lawful.{stopped, lawful}

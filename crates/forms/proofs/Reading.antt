@@ -9,8 +9,8 @@ use native.Mathlib.Omega.{arith}
 use borrow.Author.Tests.{lt-ltb, le-ltb, ltb-true}
 use lib.ListN.{length, getD, take, drop, set, replicate, length-set, drop-of-length-le}
 use lib.Seq.{drop-cons, take-all, take-suc, take-suc-set}
-use Rattle.record.specs.Lists.{all}
-use Rattle.record.proofs.Lists.{by, clash, and-l, and-r}
+use Rattle.lists.specs.Lists.{all}
+use Rattle.lists.proofs.Lists.{by, clash, and-l, and-r}
 use Rattle.decimal.specs.Decimal.{saturated}
 use Rattle.decimal.proofs.RoundTrip.{saturated-test, saturated-same}
 use Rattle.form.specs.Form.{told}

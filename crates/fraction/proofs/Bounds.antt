@@ -6,7 +6,7 @@ use native.Mathlib.Omega.{arith}
 use native.Mathlib.Nat.{mul-zero, div-zero, mul-le-mul-right, le-div-iff-mul-le, div-lt-iff-lt-mul, mul-div-le}
 use borrow.Author.Tests.{lt-ltb, le-ltb, ltb-true, ltb-false}
 use lib.Dec.{ltb}
-use Rattle.record.proofs.Lists.{by, clash}
+use Rattle.lists.proofs.Lists.{by, clash}
 use Rattle.fraction.specs.declared.Fraction.{Fraction}
 use Rattle.fraction.specs.declared.Bounded.{Bounded}
 use Rattle.fraction.specs.declared.BoundedFraction.{BoundedFraction}

@@ -6,7 +6,7 @@ use native.Mathlib.Omega.{arith}
 use native.Mathlib.Nat.{mul-comm, mul-assoc, mul-one, mul-sub, mul-pos, mul-left-comm, eq-of-mul-eq-mul-left, mod-lt, mod-def, mul-div-mul-left, mul-div-cancel', dvd-refl, dvd-zero, dvd-trans, dvd-mul-left, dvd-mul-right, dvd-mod-iff, dvd-antisymm, dvd-one, le-of-dvd, pos-of-dvd-of-pos, mul-dvd-mul-left, dvd-of-mul-dvd-mul-left}
 use borrow.Author.Tests.{eqb-true, eqb-false}
 use lib.Dec.{eqb}
-use Rattle.record.proofs.Lists.{by, le-by}
+use Rattle.lists.proofs.Lists.{by, le-by}
 use Rattle.fraction.specs.Divisor.{GreatestCommonDivisor, LeastCommonMultiple, gcdIn, gcd, lcm}
 
 -- Euclid's step: what divides b divides a exactly if it divides the rest of a by b

@@ -9,7 +9,7 @@ use native.Mathlib.Nat.{mul-right-comm, mul-le-mul-right, le-of-mul-le-mul-right
 use borrow.Author.Tests.{ne-eqb, le-ltb, ltb-true, ltb-false}
 use lib.Dec.{eqb}
 use lib.ListN.{length}
-use Rattle.record.proofs.Lists.{by}
+use Rattle.lists.proofs.Lists.{by}
 use Rattle.fraction.specs.declared.Fraction.{Fraction}
 use Rattle.fraction.specs.Fraction.{Positive, isBelow, isAbove, firstFrom, firstBy, leastFraction, greatestFraction, First}
 

@@ -9,11 +9,11 @@ use native.Mathlib.Omega.{arith}
 use borrow.Author.Tests.{not-false, leb-false, lt-leb}
 use lib.Dec.{leb}
 use lib.ListN.{length, take, length-append}
-use Rattle.record.proofs.Lists.{by}
-use Rattle.record.specs.Lists.{any}
-use Rattle.keyed.specs.Keyed.{Below, Ascending, inserted, united}
-use Rattle.keyed.proofs.Logic.{Has, any-no, any-by}
-use Rattle.keyed.proofs.Union.{late, ascending-last, ascending-snoc, ascending-united, united-snoc, united-old, united-alone, inserted-known, length-inserted}
+use Rattle.lists.proofs.Lists.{by}
+use Rattle.lists.specs.Lists.{any}
+use Rattle.lists.specs.Keyed.{Below, Ascending, inserted, united}
+use Rattle.lists.proofs.Logic.{Has, any-no, any-by}
+use Rattle.lists.proofs.Union.{late, ascending-last, ascending-snoc, ascending-united, united-snoc, united-old, united-alone, inserted-known, length-inserted}
 use Rattle.row.specs.Row.{Row, same}
 use Rattle.row.proofs.Compared.{same-eq}
 use Rattle.ground.specs.Ground.{Rows, Kind, alike, known, noPlace, otherBody, misplaced, rowFault, tableFault, _given_, _orelse_}

@@ -6,9 +6,9 @@ use mathlib.Core.List.{List, [], _∷_, map}
 use Prim.Native.Nat.{ℕ, _≤_}
 use native.Mathlib.Omega.{arith}
 use lib.ListN.{length, take, length-map}
-use Rattle.keyed.specs.Keyed.{Ascending, united}
-use Rattle.keyed.proofs.Logic.{Has, has-map, has-mapped}
-use Rattle.keyed.proofs.Union.{ascending-map, map-united, Agree, united-comm, length-grown}
+use Rattle.lists.specs.Keyed.{Ascending, united}
+use Rattle.lists.proofs.Logic.{Has, has-map, has-mapped}
+use Rattle.lists.proofs.Union.{ascending-map, map-united, Agree, united-comm, length-grown}
 use Rattle.row.specs.Row.{Row, same}
 use Rattle.row.proofs.Compared.{neither-same}
 use Rattle.ground.specs.Ground.{Rows, tableFault}

@@ -10,12 +10,12 @@ use borrow.Author.Tests.{eqb-true, eq-eqb, ne-eqb}
 use lib.Dec.{eqb}
 use lib.ListN.{length, take, drop, getD, drop-of-length-le}
 use lib.Seq.{take-suc, drop-cons, take-all, split-at}
-use Rattle.record.proofs.Lists.{by, clash}
-use Rattle.record.specs.Lists.{any}
-use Rattle.keyed.specs.Keyed.{precedes, Below, Ascending}
-use Rattle.keyed.proofs.Logic.{Has, any-append, any-none}
-use Rattle.keyed.proofs.Order.{less-trans}
-use Rattle.keyed.proofs.Union.{late, late-has, below-has}
+use Rattle.lists.proofs.Lists.{by, clash}
+use Rattle.lists.specs.Lists.{any}
+use Rattle.lists.specs.Keyed.{precedes, Below, Ascending}
+use Rattle.lists.proofs.Logic.{Has, any-append, any-none}
+use Rattle.lists.proofs.Order.{less-trans}
+use Rattle.lists.proofs.Union.{late, late-has, below-has}
 use Rattle.row.specs.Row.{Row, same}
 use Rattle.row.proofs.Compared.{same-eq, less-other, more-other}
 use Rattle.ground.specs.Ground.{Rows, alike, known, firstFault, _given_, _orelse_}

@@ -11,11 +11,11 @@ use borrow.Author.Tests.{ltb-true, ltb-false}
 use lib.Dec.{leb, ltb}
 use lib.ListN.{length, take, drop, getD, drop-of-length-le, length-map}
 use lib.Seq.{take-suc, drop-cons, length-take-le, getD-take}
-use Rattle.record.proofs.Lists.{by}
-use Rattle.record.specs.Lists.{any}
-use Rattle.keyed.specs.Keyed.{precedes, Ascending}
-use Rattle.keyed.proofs.Logic.{Has, has-getD}
-use Rattle.keyed.proofs.Union.{late, late-snoc, late-is}
+use Rattle.lists.proofs.Lists.{by}
+use Rattle.lists.specs.Lists.{any}
+use Rattle.lists.specs.Keyed.{precedes, Ascending}
+use Rattle.lists.proofs.Logic.{Has, has-getD}
+use Rattle.lists.proofs.Union.{late, late-snoc, late-is}
 use Rattle.row.specs.Row.{same}
 use Rattle.row.proofs.Compared.{neither-same}
 use Rattle.ground.specs.declared.Step.{Step}

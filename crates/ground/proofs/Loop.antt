@@ -8,10 +8,10 @@ use borrow.Author.Tests.{eqb-true, eq-eqb}
 use lib.Dec.{ltb, leb, eqb}
 use lib.ListN.{length, take, drop, getD}
 use lib.Seq.{take-all, length-take-le}
-use Rattle.record.proofs.Lists.{by, clash}
-use Rattle.record.specs.Lists.{any}
-use Rattle.keyed.specs.Keyed.{precedes, Ascending, united}
-use Rattle.keyed.proofs.Logic.{Has, has-mapped}
+use Rattle.lists.proofs.Lists.{by, clash}
+use Rattle.lists.specs.Lists.{any}
+use Rattle.lists.specs.Keyed.{precedes, Ascending, united}
+use Rattle.lists.proofs.Logic.{Has, has-mapped}
 use Rattle.row.specs.Row.{Row, same}
 use Rattle.ground.specs.declared.Step.{Step}
 use Rattle.ground.specs.Ground.{Rows, Kind, alike, known, noPlace, otherBody, misplaced, rowFault, firstFault, tableFault, _given_, _orelse_}

@@ -10,11 +10,11 @@ use borrow.Author.Tests.{leb-false, ltb-true, ltb-false}
 use lib.Dec.{leb, ltb}
 use lib.ListN.{length, take, getD}
 use lib.Seq.{take-suc}
-use Rattle.record.proofs.Lists.{by, clash}
-use Rattle.record.specs.Lists.{any}
-use Rattle.keyed.specs.Keyed.{precedes, Ascending, inserted, united}
-use Rattle.keyed.proofs.Logic.{Has, has-getD, any-no}
-use Rattle.keyed.proofs.Union.{late, late-snoc, late-last, late-more, late-has, ascending-snoc, ascending-united, united-snoc, united-has, united-old, inserted-known, length-new}
+use Rattle.lists.proofs.Lists.{by, clash}
+use Rattle.lists.specs.Lists.{any}
+use Rattle.lists.specs.Keyed.{precedes, Ascending, inserted, united}
+use Rattle.lists.proofs.Logic.{Has, has-getD, any-no}
+use Rattle.lists.proofs.Union.{late, late-snoc, late-last, late-more, late-has, ascending-snoc, ascending-united, united-snoc, united-has, united-old, inserted-known, length-new}
 use Rattle.row.specs.Row.{same}
 use Rattle.row.proofs.Compared.{same-eq, neither-same}
 use Rattle.ground.specs.declared.Step.{Step}

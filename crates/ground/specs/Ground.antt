@@ -4,8 +4,8 @@ use mathlib.Core.List.{List, [], _∷_, _++_}
 use Prim.Native.Nat.{ℕ}
 use lib.Dec.{leb, eqb}
 use lib.ListN.{length, take}
-use Rattle.record.specs.Lists.{any}
-use Rattle.keyed.specs.Keyed.{precedes, united}
+use Rattle.lists.specs.Lists.{any}
+use Rattle.lists.specs.Keyed.{precedes, united}
 use Rattle.row.specs.Row.{Row, same}
 
 abbrev pub Rows : Type 0

@@ -5,8 +5,8 @@ use mathlib.Core.List.{[]}
 use Prim.Native.Nat.{ℕ, _≤_, _<_}
 use lib.Dec.{leb, eqb}
 use lib.ListN.{length, take, getD}
-use Rattle.record.specs.Lists.{any}
-use Rattle.keyed.specs.Keyed.{precedes}
+use Rattle.lists.specs.Lists.{any}
+use Rattle.lists.specs.Keyed.{precedes}
 use Rattle.row.specs.Row.{Row, same}
 use Rattle.ground.specs.declared.Step.{Step}
 use Rattle.ground.specs.Ground.{Rows, alike, known, misplaced, _given_, _orelse_}

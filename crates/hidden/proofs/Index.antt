@@ -8,11 +8,11 @@ use native.Mathlib.Numerals.{add-one}
 use lib.ListN.{length, getD, length-map, List·getD-map}
 use Rattle.record.specs.declared.Edit.{Edit}
 use Rattle.record.specs.declared.Record as declared
-use Rattle.record.specs.Lists.{mem, at, _among_}
+use Rattle.lists.specs.Lists.{mem, at, _among_}
 use Rattle.record.specs.Record.{Record, nameOf, written}
 use Rattle.record.specs.Stored.{padded, fillerEdit, stored}
-use Rattle.record.proofs.Lists.{by, mem-at, at-mem}
-use Rattle.keyed.proofs.Logic.{all-has, has-getD}
+use Rattle.lists.proofs.Lists.{by, mem-at, at-mem}
+use Rattle.lists.proofs.Logic.{all-has, has-getD}
 use Rattle.row.specs.Row.{editInRange, editRow}
 use Rattle.links.proofs.Names.{getD-place}
 use Rattle.pages.proofs.Padded.{getD-padded}

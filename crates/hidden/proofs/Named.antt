@@ -11,10 +11,10 @@ use lib.ListN.{length, getD, set, take, replicate, length-set, length-map}
 use lib.Seq.{take-suc, take-all, getD-set-same, getD-set-other}
 use borrow.Author.Tests.{eqb-true, eqb-false}
 use Rattle.record.specs.declared.Edit.{Edit}
-use Rattle.record.specs.Lists.{mem, at, _among_, _within_}
+use Rattle.lists.specs.Lists.{mem, at, _among_, _within_}
 use Rattle.record.specs.Record.{Record, nameOf, names, written}
 use Rattle.record.specs.Stored.{fillerEdit}
-use Rattle.record.proofs.Lists.{by, clash, is-by, mem-append, mem-at}
+use Rattle.lists.proofs.Lists.{by, clash, is-by, mem-append, mem-at}
 use Rattle.links.specs.Marks.{nameAt, marksOf}
 use Rattle.links.proofs.Names.{getD-among, getD-place, place-same, ascending-distinct}
 use Rattle.links.proofs.Marks.{zeros-get, values-are, marks-size, marks-at, marks-past}

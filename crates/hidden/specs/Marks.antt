@@ -4,7 +4,7 @@ use mathlib.Core.Bool.{Bool, _&&_, cond}
 use mathlib.Core.List.{List}
 use Prim.Native.Nat.{ℕ, suc}
 use lib.ListN.{getD}
-use Rattle.record.specs.Lists.{mem, at}
+use Rattle.lists.specs.Lists.{mem, at}
 
 -- INIT has index 0, the i-th written edit index i; 0 where the name is not written
 unfoldable pub indexOf : ℕ → List ℕ → ℕ

@@ -6,7 +6,7 @@ ghost use mathlib.Core.Bool.{Bool, false, cond};
 ghost use mathlib.Core.List.{List};
 ghost use Prim.Native.Nat.{ℕ, _≤_, _<_};
 ghost use lib.ListN.{length, getD};
-ghost use Rattle.record.specs.Lists.{mem, _among_, _within_};
+ghost use Rattle.lists.specs.Lists.{mem, _among_, _within_};
 ghost use Rattle.record.specs.Record as theory;
 ghost use Rattle.record.specs.Record.{written};
 ghost use Rattle.record.specs.Stored.{stored};

@@ -9,10 +9,10 @@ use lib.ListN.{length, getD, set, replicate}
 use lib.Seq.{getD-set-same, getD-set-other}
 use Rattle.record.specs.declared.Constraint.{Constraint}
 use Rattle.record.specs.declared.Record as declared
-use Rattle.record.specs.Lists.{any, mem, at, _among_}
+use Rattle.lists.specs.Lists.{any, mem, at, _among_}
 use Rattle.record.specs.Record.{Record, names, written, is, has, WellFormed}
 use Rattle.record.specs.Stored.{fillerConstraint, stored}
-use Rattle.record.proofs.Lists.{clash, is-by, or-by, mem-at, getD-mapped}
+use Rattle.lists.proofs.Lists.{clash, is-by, or-by, mem-at, getD-mapped}
 use Rattle.record.proofs.Records as records
 use Rattle.links.specs.Marks.{nameAt, placeIn}
 use Rattle.links.specs.Links.{Linked, Leads, RowOf}

@@ -13,10 +13,10 @@ use borrow.Author.Tests.{eq-eqb, ne-eqb}
 use Rattle.record.specs.declared.Edit.{Edit}
 use Rattle.record.specs.declared.Constraint.{Constraint}
 use Rattle.record.specs.declared.Record as declared
-use Rattle.record.specs.Lists.{mem, at, _among_}
+use Rattle.lists.specs.Lists.{mem, at, _among_}
 use Rattle.record.specs.Record.{Record, nameOf, written, names}
 use Rattle.record.specs.Stored.{padded, fillerEdit, fillerConstraint, stored}
-use Rattle.record.proofs.Lists.{by, is-by, getD-mapped}
+use Rattle.lists.proofs.Lists.{by, is-by, getD-mapped}
 use Rattle.links.specs.Marks.{nameAt, placeIn}
 use Rattle.links.proofs.Names.{getD-among, place-snoc, later-not, ascending-distinct}
 use Rattle.links.proofs.Marks.{zeros-get, length-mapped}

@@ -3,7 +3,7 @@ use mathlib.Core.Path.{_≡_}
 use mathlib.Core.Bool.{true}
 use Prim.Native.Nat.{ℕ, _≤_, _<_}
 use lib.ListN.{length}
-use Rattle.record.specs.Lists.{_among_, ascending}
+use Rattle.lists.specs.Lists.{_among_, ascending}
 use Rattle.record.specs.Record.{Record, names, has, WellFormed}
 
 pub record Fit (R : Record) : Type 0 where

@@ -8,11 +8,11 @@ use native.Mathlib.Numerals.{add-one}
 use native.Mathlib.Omega.{arith}
 use lib.ListN.{length, take, drop, getD, drop-of-length-le}
 use lib.Seq.{take-suc, drop-cons, length-take-le, getD-take}
-use Rattle.record.proofs.Lists.{by, clash}
-use Rattle.keyed.specs.Keyed.{precedes, Ascending, inserted}
-use Rattle.keyed.proofs.Logic.{Has, has-getD}
-use Rattle.keyed.proofs.Order.{less-irrefl, less-trans}
-use Rattle.keyed.proofs.Union.{below-has}
+use Rattle.lists.proofs.Lists.{by, clash}
+use Rattle.lists.specs.Keyed.{precedes, Ascending, inserted}
+use Rattle.lists.proofs.Logic.{Has, has-getD}
+use Rattle.lists.proofs.Order.{less-irrefl, less-trans}
+use Rattle.lists.proofs.Union.{below-has}
 use Rattle.insertion.specs.Insertion.{Place}
 
 has-snoc : {A : Type 0} (r x : A) (l : List A) → Has r (l ++ (x ∷ [])) → Has r l ⊎ (r ≡ x)

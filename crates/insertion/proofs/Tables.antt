@@ -8,13 +8,13 @@ use borrow.Author.Tests.{ltb-true, ltb-false, lt-ltb, le-ltb, not-true, not-fals
 use lib.Dec.{ltb}
 use lib.ListN.{length, take, drop, getD, replicate, length-append, length-drop, take-append-drop, List·getD-append}
 use lib.Seq.{take-append-le, take-append-seam, drop-append-le, drop-append-add, length-take-le, getD-drop}
-use Rattle.record.proofs.Lists.{by, and-l, and-r}
+use Rattle.lists.proofs.Lists.{by, and-l, and-r}
 use Rattle.record.specs.declared.Constraint.{Constraint}
 use Rattle.record.specs.declared.Record as declared
 use Rattle.record.specs.Record.{Record}
 use Rattle.record.specs.Stored.{padded, stored, fillerConstraint}
-use Rattle.keyed.specs.Keyed.{precedes, Ascending, inserted, united}
-use Rattle.keyed.proofs.Union.{length-grown}
+use Rattle.lists.specs.Keyed.{precedes, Ascending, inserted, united}
+use Rattle.lists.proofs.Union.{length-grown}
 use Rattle.table.specs.Table.{constraintKey}
 use Rattle.insertion.specs.declared.Constraints.{Constraints}
 use Rattle.insertion.specs.Insertion.{fullTable, tableOf, Place, putAt}

@@ -7,8 +7,8 @@ use lib.Dec.{ltb}
 use lib.ListN.{length, take, drop, replicate}
 use Rattle.record.specs.declared.Constraint.{Constraint}
 use Rattle.record.specs.Stored.{padded, fillerConstraint}
-use Rattle.keyed.specs.Keyed.{precedes}
-use Rattle.keyed.proofs.Logic.{Has}
+use Rattle.lists.specs.Keyed.{precedes}
+use Rattle.lists.proofs.Logic.{Has}
 use Rattle.insertion.specs.declared.Constraints.{Constraints}
 
 abbrev pub fullTable : Constraints

@@ -11,7 +11,7 @@ ghost use lib.ListN.{getD, take, length};
 ghost use Rattle.record.specs.declared.Constraint.{Constraint};
 ghost use Rattle.record.specs.Record as theory;
 ghost use Rattle.record.specs.Stored.{stored, fillerConstraint};
-ghost use Rattle.keyed.specs.Keyed.{precedes, Ascending, inserted};
+ghost use Rattle.lists.specs.Keyed.{precedes, Ascending, inserted};
 ghost use Rattle.table.specs.Table.{constraintKey};
 ghost use Rattle.insertion.specs.Insertion.{fullTable, tableOf, Place, putAt};
 

@@ -10,12 +10,12 @@ use borrow.Author.Tests.{le-ltb, ne-eqb, eqb-true}
 use lib.Dec.{eqb}
 use lib.ListN.{length, take, getD, set}
 use lib.Seq.{take-suc, take-suc-set}
-use Rattle.record.proofs.Lists.{by}
+use Rattle.lists.proofs.Lists.{by}
 use Rattle.record.specs.declared.Record as declared
 use Rattle.record.specs.declared.Constraint.{Constraint}
 use Rattle.record.specs.Record.{Record, written}
 use Rattle.record.specs.Stored.{padded, stored, recordOf, fillerEdit, fillerConstraint}
-use Rattle.keyed.specs.Keyed.{Ascending, inserted, united}
+use Rattle.lists.specs.Keyed.{Ascending, inserted, united}
 use Rattle.row.specs.Row.{Row, constraintOf}
 use Rattle.ground.specs.Ground.{Rows}
 use Rattle.table.specs.Table.{editRows, constraintRows, decoded, emptyTables, joinFault, namesOf, lentFault, addConstraintFault, recordFault, editKey, constraintKey, unite}

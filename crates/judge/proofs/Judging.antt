@@ -6,11 +6,11 @@ use Prim.Native.Nat.{ℕ, _≤_, _<_}
 use native.Mathlib.Omega.{arith}
 use lib.Dec.{eqb}
 use lib.ListN.{length, getD, replicate, List·getD-eq-default}
-use Rattle.record.specs.Lists.{mem, at, sift, _among_}
+use Rattle.lists.specs.Lists.{mem, at, sift, _among_}
 use Rattle.record.specs.Record.{Record, names}
 use Rattle.record.specs.Schedule.{musts, ring, schedule}
 use Rattle.record.specs.Judgement.{sound, must, never, settled}
-use Rattle.record.proofs.Lists.{same-by, sift-mem, mem-sift}
+use Rattle.lists.proofs.Lists.{same-by, sift-mem, mem-sift}
 use Rattle.links.specs.Marks.{nameAt, valuesOf, marksOf, placeIn}
 use Rattle.links.proofs.Names.{getD-among, place-getD, ascending-distinct}
 use Rattle.links.proofs.Marks.{zeros-get}

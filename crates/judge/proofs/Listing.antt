@@ -11,11 +11,11 @@ use borrow.Author.Tests.{eqb-true, eq-eqb, ne-eqb, not-true}
 use Rattle.record.specs.declared.Edit.{Edit}
 use Rattle.record.specs.declared.Record as declared
 use Rattle.record.specs.declared.Schedule.{Schedule}
-use Rattle.record.specs.Lists.{mem, _among_, distinct}
+use Rattle.lists.specs.Lists.{mem, _among_, distinct}
 use Rattle.record.specs.Record.{Record, nameOf, names, written}
 use Rattle.record.specs.Stored.{padded, fillerEdit, stored, editNamed}
 use Rattle.record.specs.Schedule.{scheduled, schedule}
-use Rattle.record.proofs.Lists.{by, clash, and-l, and-r, getD-mapped}
+use Rattle.lists.proofs.Lists.{by, clash, and-l, and-r, getD-mapped}
 use Rattle.record.proofs.Order.{Placed, order-placed, order-starts}
 use Rattle.record.proofs.Judged.{init-must}
 use Rattle.record.proofs.Scheduled.{musts-scheduled}

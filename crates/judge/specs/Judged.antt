@@ -5,7 +5,7 @@ use lib.Dec.{eqb}
 use lib.ListN.{length, getD, drop}
 use Rattle.record.specs.declared.Edit.{Edit}
 use Rattle.record.specs.declared.Schedule.{Schedule}
-use Rattle.record.specs.Lists.{sift, at}
+use Rattle.lists.specs.Lists.{sift, at}
 use Rattle.record.specs.Record.{Record, names}
 use Rattle.record.specs.Stored.{padded, fillerEdit, editNamed}
 use Rattle.record.specs.Schedule.{schedule}

@@ -9,7 +9,7 @@ ghost use mathlib.Core.List.{List, [], _∷_};
 ghost use Prim.Native.Nat.{ℕ, _≤_, _<_};
 ghost use lib.ListN.{length, getD};
 ghost use Rattle.record.specs.Record as theory;
-ghost use Rattle.record.specs.Lists.{mem};
+ghost use Rattle.lists.specs.Lists.{mem};
 ghost use Rattle.record.specs.Stored.{stored, fillerEdit};
 ghost use Rattle.record.specs.Schedule as theory_schedule;
 ghost use Rattle.record.specs.Judgement as judgement;

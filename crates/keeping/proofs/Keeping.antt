@@ -9,16 +9,16 @@ use lib.ListN.{length, take, getD, length-map}
 use lib.Seq.{take-all}
 use Rattle.record.specs.declared.Edit.{Edit}
 use Rattle.record.specs.declared.Record as declared
-use Rattle.record.specs.Lists.{all, _among_}
+use Rattle.lists.specs.Lists.{all, _among_}
 use Rattle.record.specs.Record.{Record, written, names, nameOf}
 use Rattle.record.specs.Stored.{stored}
 use Rattle.record.specs.Judgement.{settled}
-use Rattle.record.proofs.Lists.{by, clash}
+use Rattle.lists.proofs.Lists.{by, clash}
 use Rattle.links.proofs.Names.{getD-among}
 use Rattle.indexes.proofs.Tables.{edit-count, name-at}
 use Rattle.vote.specs.Bundle.{bundle, eligible}
 use Rattle.vote.specs.Tally.{sameBundle}
-use Rattle.keyed.proofs.Logic.{has-getD, all-has}
+use Rattle.lists.proofs.Logic.{has-getD, all-has}
 use Rattle.vote.proofs.Front.{all-more}
 use Rattle.vote.proofs.Elections.{same-is}
 use Rattle.proposal.specs.Proposal.{keeps}

@@ -4,7 +4,7 @@ use record::Record;
 ghost use mathlib.Core.Path.{_≡_};
 ghost use mathlib.Core.Bool.{not, _&&_, _||_};
 ghost use Prim.Native.Nat.{ℕ};
-ghost use Rattle.record.specs.Lists.{_within_};
+ghost use Rattle.lists.specs.Lists.{_within_};
 ghost use Rattle.record.specs.Record as theory;
 ghost use Rattle.record.specs.Stored.{stored};
 ghost use Rattle.indexes.specs.Fit.{Fit};

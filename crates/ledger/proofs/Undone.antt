@@ -11,14 +11,14 @@ use lib.IntN.{ℤ, pos, _+ℤ_, +ℤ-assoc, +ℤ-idr}
 use lib.ListN.{length, drop}
 use borrow.Author.Tests.{eqb-true, eq-eqb, ne-eqb, le-leb}
 use Rattle.record.specs.declared.Edit.{Edit}
-use Rattle.record.specs.Lists.{sift, mem, at, _among_, _within_}
+use Rattle.lists.specs.Lists.{sift, mem, at, _among_, _within_}
 use Rattle.record.specs.Record.{Record, written, notafter, enables}
 use Rattle.record.specs.Schedule.{schedule}
 use Rattle.record.specs.Judgement.{must}
-use Rattle.record.proofs.Lists.{by, clash, is-by, mem-head, mem-tail, or-no-r}
+use Rattle.lists.proofs.Lists.{by, clash, is-by, mem-head, mem-tail, or-no-r}
 use Rattle.record.proofs.Scheduled.{schedule-sound}
-use Rattle.keyed.proofs.Logic.{Has}
-use Rattle.keyed.proofs.Union.{united-old}
+use Rattle.lists.proofs.Logic.{Has}
+use Rattle.lists.proofs.Union.{united-old}
 use Rattle.row.specs.Row.{Row, isName, editOf}
 use Rattle.ground.specs.Ground.{_given_, _orelse_}
 use Rattle.table.specs.Table.{editKey, unite}

@@ -9,11 +9,11 @@ use lib.Dec.{eqb}
 use lib.IntN.{ℤ}
 use lib.ListN.{length, take, drop, length-map}
 use borrow.Author.Tests.{eqb-true, eqb-false, eq-eqb, not-true, not-false}
-use Rattle.record.specs.Lists.{any, mem, _among_, _within_, first, grown, closure}
+use Rattle.lists.specs.Lists.{any, mem, _among_, _within_, first, grown, closure}
 use Rattle.record.specs.Record.{Record, names, written, has, WellFormed}
 use Rattle.record.specs.Schedule.{needs, musts, ready, order, admits, scheduled, schedule}
 use Rattle.record.specs.Judgement.{sound, must}
-use Rattle.record.proofs.Lists.{by, clash, and-l, and-r, or-by, or-no-l, cons-by, nil-no, cons-within, sift-mem}
+use Rattle.lists.proofs.Lists.{by, clash, and-l, and-r, or-by, or-no-l, cons-by, nil-no, cons-within, sift-mem}
 use Rattle.record.proofs.Scheduled.{schedule-length, schedule-pages}
 use Rattle.row.specs.Row.{Row, isName}
 use Rattle.ground.specs.Ground.{Rows, _given_, _orelse_}

@@ -4,7 +4,7 @@ use mathlib.Core.List.{List, [], _∷_, map}
 use Prim.Native.Nat.{ℕ}
 use lib.ListN.{take}
 use Rattle.record.specs.declared.Edit.{Edit}
-use Rattle.record.specs.Lists.{mem}
+use Rattle.lists.specs.Lists.{mem}
 use Rattle.record.specs.Record.{Record}
 use Rattle.record.specs.Stored.{stored, editNamed}
 use Rattle.links.specs.Marks.{marksOf}

@@ -6,7 +6,7 @@ use Prim.Native.Nat.{ℕ, _-_}
 use lib.Dec.{eqb}
 use lib.IntN.{ℤ}
 use lib.ListN.{length, take, drop}
-use Rattle.record.specs.Lists.{sift, mem}
+use Rattle.lists.specs.Lists.{sift, mem}
 use Rattle.record.specs.Record.{Record, written}
 use Rattle.record.specs.Schedule.{schedule}
 use Rattle.record.specs.Judgement.{sound, must}

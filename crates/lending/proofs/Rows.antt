@@ -9,7 +9,7 @@ use lib.Dec.{eqb, leb, ltb}
 use lib.ListN.{length, getD, set, take, drop, length-drop, length-set, length-map}
 use lib.Seq.{take-suc, take-set-le, drop-set-lt, drop-set-add, take-suc-set, getD-set-same, getD-set-other, length-take-le}
 use borrow.Author.Tests.{eq-eqb, ne-eqb, eqb-true, eqb-false, lt-ltb, le-ltb, le-leb, lt-leb}
-use Rattle.record.proofs.Lists.{by, is-by, le-by}
+use Rattle.lists.proofs.Lists.{by, is-by, le-by}
 use Rattle.row.specs.Row.{Row}
 use Rattle.ground.specs.Ground.{Rows, _given_, _orelse_}
 use Rattle.lending.specs.Lent.{isLent, with, rowsFault, added}

@@ -11,7 +11,7 @@ use borrow.Author.Tests.{lt-ltb, le-ltb, le-leb, lt-leb}
 use Rattle.record.specs.declared.Record as declared
 use Rattle.record.specs.Record.{Record}
 use Rattle.record.specs.Stored.{stored, padded}
-use Rattle.record.proofs.Lists.{is-by}
+use Rattle.lists.proofs.Lists.{is-by}
 use Rattle.row.specs.Row.{Row, editRow, constraintRow}
 use Rattle.ground.specs.Ground.{Rows, _given_, _orelse_}
 use Rattle.table.specs.Table.{editRows, constraintRows}

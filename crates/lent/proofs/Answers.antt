@@ -9,11 +9,11 @@ use lib.ListN.{length, getD, replicate}
 use borrow.Author.Tests.{ne-eqb, eq-eqb}
 use Rattle.record.specs.declared.Record as declared
 use Rattle.record.specs.declared.Schedule.{Schedule}
-use Rattle.record.specs.Lists.{sift, at, mem, _among_}
+use Rattle.lists.specs.Lists.{sift, at, mem, _among_}
 use Rattle.record.specs.Record.{Record, names}
 use Rattle.record.specs.Stored.{stored}
 use Rattle.record.specs.Judgement.{sound, soundRow}
-use Rattle.record.proofs.Lists.{by, clash}
+use Rattle.lists.proofs.Lists.{by, clash}
 use Rattle.ground.specs.Ground.{Rows, _given_, _orelse_}
 use Rattle.table.specs.Table.{emptyTables, decoded, lentFault}
 use Rattle.table.specs.Checked.{Checked}

@@ -9,10 +9,10 @@ use lib.ListN.{length, getD, replicate, length-map, List·getD-append}
 use borrow.Author.Tests.{lt-ltb, le-ltb}
 use Rattle.record.specs.declared.Edit.{Edit}
 use Rattle.record.specs.declared.Record as declared
-use Rattle.record.specs.Lists.{mem, at, _among_}
+use Rattle.lists.specs.Lists.{mem, at, _among_}
 use Rattle.record.specs.Record.{Record, nameOf, written}
 use Rattle.record.specs.Stored.{stored, padded, fillerEdit, editNamed}
-use Rattle.record.proofs.Lists.{by, mem-at}
+use Rattle.lists.proofs.Lists.{by, mem-at}
 use Rattle.row.specs.Row.{Row, isName, editRow}
 use Rattle.ground.specs.Ground.{_given_, _orelse_}
 use Rattle.table.specs.Checked.{Checked}

@@ -3,7 +3,7 @@ use mathlib.Core.Bool.{Bool, false, not, _&&_, cond}
 use mathlib.Core.List.{List, map}
 use Prim.Native.Nat.{ℕ}
 use lib.Dec.{eqb, ltb}
-use Rattle.record.specs.Lists.{mem}
+use Rattle.lists.specs.Lists.{mem}
 use Rattle.record.specs.Record.{Record, written}
 use Rattle.record.specs.Stored.{editNamed}
 use Rattle.row.specs.Row.{isName, editRow}

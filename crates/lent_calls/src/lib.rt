@@ -11,7 +11,7 @@ ghost use mathlib.Core.Path.{_≡_};
 ghost use Prim.Native.Nat.{ℕ, _<_, _≤_};
 ghost use lib.ListN.{take};
 ghost use Rattle.record.specs.Record as theory;
-ghost use Rattle.record.specs.Lists.{_among_};
+ghost use Rattle.lists.specs.Lists.{_among_};
 ghost use Rattle.record.specs.Stored.{stored, editNamed};
 ghost use Rattle.row.specs.Row.{editRow};
 ghost use Rattle.table.specs.Checked.{Checked};

@@ -5,7 +5,7 @@ use mathlib.Core.Bool.{true}
 use mathlib.Core.List.{List, [], _∷_, _++_}
 use native.Mathlib.Omega.{arith}
 use lib.ListN.{length, getD, drop, length-append}
-use Rattle.record.specs.Lists.{all}
+use Rattle.lists.specs.Lists.{all}
 use Rattle.decimal.specs.Decimal.{decimal}
 use Rattle.decimal.specs.Written.{Written}
 use Rattle.form.specs.Spelling.{bytes, numberSpelling, nameSpelling}

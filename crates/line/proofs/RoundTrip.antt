@@ -10,8 +10,8 @@ use borrow.Author.Tests.{ltb-true, le-ltb, eqb-true, eq-eqb, lt-ltb}
 use lib.Dec.{ltb, eqb}
 use lib.ListN.{length, getD, take, drop, List·getD-eq-default}
 use lib.Seq.{getD-drop}
-use Rattle.record.specs.Lists.{all, mem}
-use Rattle.record.proofs.Lists.{by, clash, and-l, and-r}
+use Rattle.lists.specs.Lists.{all, mem}
+use Rattle.lists.proofs.Lists.{by, clash, and-l, and-r}
 use Rattle.form.specs.Spelling.{bytes, numberSpelling, nameSpelling, answerSpelling}
 use Rattle.form.specs.Form.{isMark, spelling, fill, taken}
 use Rattle.form.proofs.Forms.{slots, spelled-all, separate, differ, taken-fill, fill-taken, taken-other, room, Small, fill-room, oneLine, Ended, fill-ended}

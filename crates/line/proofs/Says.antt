@@ -8,8 +8,8 @@ use mathlib.Core.Option.{Option, none, some}
 use native.Mathlib.Omega.{arith}
 use borrow.Author.Tests.{lt-ltb, le-ltb, ne-eqb}
 use lib.ListN.{length, getD, take, drop, replicate}
-use Rattle.record.specs.Lists.{all}
-use Rattle.record.proofs.Lists.{by, clash, and-l, and-r}
+use Rattle.lists.specs.Lists.{all}
+use Rattle.lists.proofs.Lists.{by, clash, and-l, and-r}
 use Rattle.decimal.specs.Decimal.{saturated, numeralSize}
 use Rattle.decimal.proofs.RoundTrip.{saturated-same}
 use Rattle.form.specs.Spelling.{bytes, nameSpelling, numberSpelling}

@@ -11,8 +11,8 @@ use borrow.Author.Tests.{eqb-true, eqb-false, ne-eqb, not-true}
 use lib.Dec.{eqb}
 use lib.ListN.{length, getD, take, drop, drop-of-length-le, length-drop}
 use lib.Seq.{getD-drop, drop-drop}
-use Rattle.record.specs.Lists.{all}
-use Rattle.record.proofs.Lists.{by, is-by, clash, and-l, and-r, or-by}
+use Rattle.lists.specs.Lists.{all}
+use Rattle.lists.proofs.Lists.{by, is-by, clash, and-l, and-r, or-by}
 use Rattle.decimal.specs.Decimal.{numeralSize, numeralRead}
 use Rattle.decimal.specs.declared.Numeral.{Numeral}
 use Rattle.decimal.proofs.Parts.{part-to-end}

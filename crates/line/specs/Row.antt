@@ -4,7 +4,7 @@ use mathlib.Core.Bool.{Bool, _&&_, _||_}
 use mathlib.Core.List.{List}
 use lib.Dec.{ltb, eqb}
 use lib.ListN.{length, getD}
-use Rattle.record.specs.Lists.{all}
+use Rattle.lists.specs.Lists.{all}
 use Rattle.line.specs.Line.{fitsWord}
 
 -- numbers of 32 bits, a known kind and field, and 0 where insert and remove have nothing

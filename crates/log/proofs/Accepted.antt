@@ -4,7 +4,7 @@ use mathlib.Core.Bool.{true, false, cond}
 use mathlib.Core.List.{List, [], _∷_}
 use Prim.Native.Nat.{ℕ}
 use lib.Dec.{eqb}
-use Rattle.record.proofs.Lists.{by}
+use Rattle.lists.proofs.Lists.{by}
 use Rattle.ledger.specs.Ledger.{Ledger, Call, start, fed, judge, step, refusal}
 use Rattle.ledger.specs.Bench.{benchOf}
 use Rattle.desk.specs.Desk.{Desk, ledgerOf, benchIn}

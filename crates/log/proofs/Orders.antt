@@ -15,7 +15,7 @@ use Rattle.forms.specs.declared.Order.{Order}
 use Rattle.forms.specs.Printed.{Printed}
 use Rattle.answers.specs.Answers.{answerLine}
 use Rattle.lending.specs.declared.Lending.{Lending}
-use Rattle.record.proofs.Lists.{by, is-by, clash, and-l, and-r, or-by}
+use Rattle.lists.proofs.Lists.{by, is-by, clash, and-l, and-r, or-by}
 use Rattle.lending.specs.Kept.{Kept}
 use Rattle.desk.specs.Desk.{Desk, Cells, Effect, Request, outside, ledgerOf, benchIn, requested, replied, printedOf, tells}
 use Rattle.desk.specs.Lends.{lendingOf}

@@ -6,7 +6,7 @@ use mathlib.Core.List.{List}
 use Prim.Native.Nat.{ℕ, suc, _+_, _-_, _≤_, _<_}
 use native.Mathlib.Omega.{arith}
 use lib.ListN.{length, take, drop}
-use Rattle.record.proofs.Lists.{is-by, clash}
+use Rattle.lists.proofs.Lists.{is-by, clash}
 use Rattle.row.specs.Row.{cell}
 use Rattle.ground.specs.Ground.{Rows}
 use Rattle.turner.specs.declared.Turner.{Turner}

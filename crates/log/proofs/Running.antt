@@ -5,7 +5,7 @@ use Prim.Native.Nat.{ℕ, suc, _+_, _-_, _≤_, _<_}
 use native.Mathlib.Omega.{arith}
 use lib.ListN.{length, take, drop}
 use Rattle.ground.specs.Ground.{Rows}
-use Rattle.record.proofs.Lists.{is-by}
+use Rattle.lists.proofs.Lists.{is-by}
 use Rattle.ledger.specs.declared.Bench.{Bench}
 use Rattle.line.specs.Lines.{lines, firstLine}
 use Rattle.line.proofs.Ends.{next-line, no-lines}

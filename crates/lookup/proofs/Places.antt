@@ -10,10 +10,10 @@ use borrow.Author.Tests.{eq-eqb, ne-eqb, ltb-true, ltb-false, lt-ltb, le-ltb}
 use lib.Dec.{eqb, ltb}
 use lib.ListN.{length, take, getD, set, length-map}
 use lib.Seq.{take-suc, take-suc-set}
-use Rattle.record.proofs.Lists.{by, and-l, and-r}
+use Rattle.lists.proofs.Lists.{by, and-l, and-r}
 use Rattle.record.specs.declared.Edit.{Edit}
 use Rattle.record.specs.declared.Record as declared
-use Rattle.record.specs.Lists.{at, mem, ascending}
+use Rattle.lists.specs.Lists.{at, mem, ascending}
 use Rattle.record.specs.Record.{Record, nameOf, written, names}
 use Rattle.record.specs.Stored.{recordOf, stored}
 use Rattle.table.specs.Checked.{Checked}

@@ -6,7 +6,7 @@ ghost use mathlib.Core.Bool.{true};
 ghost use mathlib.Core.List.{map};
 ghost use Prim.Native.Nat.{ℕ, _≤_};
 ghost use lib.ListN.{take};
-ghost use Rattle.record.specs.Lists.{at, mem, ascending};
+ghost use Rattle.lists.specs.Lists.{at, mem, ascending};
 ghost use Rattle.record.specs.Record as theory;
 ghost use Rattle.record.specs.Record.{nameOf, written};
 ghost use Rattle.record.specs.Stored.{stored};

@@ -7,11 +7,11 @@ use native.Mathlib.Omega.{arith}
 use lib.Dec.{eqb}
 use lib.ListN.{length, getD}
 use borrow.Author.Tests.{eq-eqb, ne-eqb}
-use Rattle.record.specs.Lists.{mem, _among_, _within_, closure}
+use Rattle.lists.specs.Lists.{mem, _among_, _within_, closure}
 use Rattle.record.specs.Record.{Record, names, enables, WellFormed}
 use Rattle.record.specs.Schedule.{needs, musts, order, ring}
 use Rattle.record.specs.Judgement.{must, never, serialised, settled}
-use Rattle.record.proofs.Lists.{by, clash, is-by, same-by, mem-head, mem-tail, nil-no, nil-within, cons-within, one-within, any-same}
+use Rattle.lists.proofs.Lists.{by, clash, is-by, same-by, mem-head, mem-tail, nil-no, nil-within, cons-within, one-within, any-same}
 use Rattle.record.proofs.Records.{init-known, enabler-known}
 use Rattle.record.proofs.Order.{Closed, needs-holds, needs-closed, needs-known, needs-within, order-same, ring-grows}
 use Rattle.record.proofs.Judged.{init-must}

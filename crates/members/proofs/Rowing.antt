@@ -10,11 +10,11 @@ use lib.ListN.{length, getD, set, replicate, length-set}
 use lib.Seq.{getD-set-same, getD-set-other}
 use borrow.Author.Tests.{eqb-true, eqb-false, eq-eqb, not-true}
 use Rattle.record.specs.declared.Constraint.{Constraint}
-use Rattle.record.specs.Lists.{mem, at, _among_, closure}
+use Rattle.lists.specs.Lists.{mem, at, _among_, closure}
 use Rattle.record.specs.Record.{Record, names, written, has, notafter, noncommuting, WellFormed}
 use Rattle.record.specs.declared.Record as declared
 use Rattle.record.specs.Stored.{stored, fillerConstraint}
-use Rattle.record.proofs.Lists.{by, clash, is-by, and-l, and-r, mem-at, cons-by, nil-no, closure-holds, closure-least, closure-closed, closure-unique}
+use Rattle.lists.proofs.Lists.{by, clash, is-by, and-l, and-r, mem-at, cons-by, nil-no, closure-holds, closure-least, closure-closed, closure-unique}
 use Rattle.record.proofs.Records.{written-names, init-known, not-init, right-written, pair-by}
 use Rattle.links.specs.Marks.{nameAt, placeIn, marksOf}
 use Rattle.links.specs.Links.{Leads, RowOf}

@@ -6,7 +6,7 @@ ghost use mathlib.Core.Path.{_≡_};
 ghost use Prim.Native.Nat.{ℕ, min, _+_, _*_, _<_, _≤_};
 ghost use lib.ListN.{length, getD, set};
 ghost use Rattle.record.specs.Record as theory;
-ghost use Rattle.record.specs.Lists.{mem, _among_};
+ghost use Rattle.lists.specs.Lists.{mem, _among_};
 ghost use Rattle.record.specs.Stored.{stored};
 ghost use Rattle.links.specs.Marks.{marksOf, placeIn};
 ghost use Rattle.links.specs.Links.{Safe, Leads};

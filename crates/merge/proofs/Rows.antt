@@ -6,11 +6,11 @@ use Prim.Native.Nat.{ℕ}
 use native.Mathlib.Omega.{arith}
 use lib.Dec.{eqb}
 use borrow.Author.Tests.{eqb-true, eqb-false, ne-eqb}
-use Rattle.record.specs.Lists.{mem, _within_}
+use Rattle.lists.specs.Lists.{mem, _within_}
 use Rattle.record.specs.Record.{Record, nameOf, written}
 use Rattle.record.specs.Stored.{stored}
 use Rattle.record.specs.Judgement.{sound}
-use Rattle.record.proofs.Lists.{by, clash}
+use Rattle.lists.proofs.Lists.{by, clash}
 use Rattle.row.specs.Row.{Row}
 use Rattle.ground.specs.Ground.{Rows, _given_, _orelse_}
 use Rattle.links.specs.Marks.{marksOf}

@@ -8,8 +8,8 @@ use Prim.Native.Nat.{ℕ}
 use lib.Dec.{eqb}
 use Rattle.record.specs.Record.{Record}
 use Rattle.record.specs.Stored.{recordOf}
-use Rattle.record.proofs.Lists.{by, clash}
-use Rattle.keyed.proofs.Logic.{Has}
+use Rattle.lists.proofs.Lists.{by, clash}
+use Rattle.lists.proofs.Logic.{Has}
 use Rattle.table.proofs.Tables.{stored-back}
 use Rattle.vote.specs.declared.RollRow.{RollRow}
 use Rattle.vote.specs.Tally.{won, winner}

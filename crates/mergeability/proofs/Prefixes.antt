@@ -5,12 +5,12 @@ use mathlib.Core.Logic.{_⊎_, inl, inr}
 use mathlib.Core.List.{List, [], _∷_}
 use Prim.Native.Nat.{ℕ, _<_}
 use native.Mathlib.Omega.{arith}
-use Rattle.record.specs.Lists.{_among_}
+use Rattle.lists.specs.Lists.{_among_}
 use Rattle.record.specs.Record.{Record, written, has, notafter, enables, WellFormed, Extends}
 use Rattle.record.specs.Sound.{Chain, link, chain, Ring}
 use Rattle.record.specs.Schedule.{needs, musts, ring}
 use Rattle.record.specs.Judgement.{sound, must, never, settled}
-use Rattle.record.proofs.Lists.{by, clash, and-l, or-by, cons-by, nil-no, closure-least}
+use Rattle.lists.proofs.Lists.{by, clash, and-l, or-by, cons-by, nil-no, closure-least}
 use Rattle.record.proofs.Records.{written-names, none-before-init}
 use Rattle.record.proofs.Order.{needs-closed, ring-is}
 use Rattle.record.proofs.Judged.{init-must, sound-no-both}

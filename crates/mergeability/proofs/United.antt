@@ -4,10 +4,10 @@ use mathlib.Core.Logic.{_↔_, _⊎_, inl, inr, ⊎-elim}
 use mathlib.Core.List.{List, [], _∷_}
 use Prim.Native.Nat.{ℕ}
 use Rattle.record.specs.Record.{Record}
-use Rattle.keyed.specs.Keyed.{Ascending, united}
-use Rattle.keyed.proofs.Logic.{Has}
-use Rattle.keyed.proofs.Order.{less-total}
-use Rattle.keyed.proofs.Union.{Agree, united-has, united-old, united-new, ascending-united}
+use Rattle.lists.specs.Keyed.{Ascending, united}
+use Rattle.lists.proofs.Logic.{Has}
+use Rattle.lists.proofs.Order.{less-total}
+use Rattle.lists.proofs.Union.{Agree, united-has, united-old, united-new, ascending-united}
 use Rattle.table.specs.Table.{editKey, constraintKey, emptyTables, unite}
 use Rattle.proposal.proofs.Joined.{constraints-agree}
 use Rattle.mergeability.specs.Mergeability.{OneBody, UnionOf, uniteAll}

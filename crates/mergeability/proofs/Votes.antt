@@ -9,11 +9,11 @@ use native.Mathlib.Omega.{arith}
 use lib.Dec.{ltb}
 use borrow.Author.Tests.{ltb-true, ltb-false}
 use Rattle.record.specs.declared.Edit.{Edit}
-use Rattle.record.specs.Lists.{mem, _among_}
+use Rattle.lists.specs.Lists.{mem, _among_}
 use Rattle.record.specs.Record.{Record, written, has, WellFormed}
 use Rattle.record.specs.Judgement.{settled}
-use Rattle.record.proofs.Lists.{by, clash, and-l, and-r, nil-no, all-in}
-use Rattle.keyed.proofs.Logic.{Has}
+use Rattle.lists.proofs.Lists.{by, clash, and-l, and-r, nil-no, all-in}
+use Rattle.lists.proofs.Logic.{Has}
 use Rattle.table.specs.Table.{emptyTables}
 use Rattle.vote.specs.declared.RollRow.{RollRow}
 use Rattle.vote.specs.Bundle.{members, bundle, eligible, vote}

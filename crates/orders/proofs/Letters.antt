@@ -7,8 +7,8 @@ use Prim.Native.Nat.{ℕ, zero, suc, _+_}
 use native.Mathlib.Omega.{arith}
 use borrow.Author.Tests.{ne-eqb}
 use lib.ListN.{getD, drop}
-use Rattle.record.specs.Lists.{all}
-use Rattle.record.proofs.Lists.{clash, and-l, and-r}
+use Rattle.lists.specs.Lists.{all}
+use Rattle.lists.proofs.Lists.{clash, and-l, and-r}
 use Rattle.decimal.specs.Decimal.{numeralSize}
 use Rattle.form.specs.Spelling.{bytes, numberSpelling}
 use Rattle.form.specs.Form.{isMark, spelling, taken}

@@ -9,7 +9,7 @@ use lib.Dec.{leb}
 use lib.ListN.{length, getD, take, drop, length-append, length-take, length-drop, take-append-drop, drop-of-length-le}
 use lib.Seq.{slice, slice-cons, length-slice, length-take-le, take-take, take-suc, take-all, drop-append-le}
 use borrow.Author.Tests.{leb-true, leb-false}
-use Rattle.record.proofs.Lists.{by}
+use Rattle.lists.proofs.Lists.{by}
 use Rattle.pages.specs.Pages.{Kind, View, viewOf}
 use Rattle.pages.specs.Steps.{stepForward, stepBack, forward, back, turn, change}
 use Rattle.pages.proofs.Pages.{view-more, view-less}

@@ -8,7 +8,7 @@ use native.Mathlib.Numerals.{add-one}
 use native.Mathlib.Omega.{arith}
 use lib.ListN.{length, take, getD, set}
 use lib.Seq.{take-suc-set, take-set-le, take-all, length-take-le, getD-take}
-use Rattle.record.specs.Lists.{sift}
+use Rattle.lists.specs.Lists.{sift}
 use Rattle.vote.proofs.Front.{sift-passed, sift-left}
 
 module _ {A : Type 0} (p : A → Bool) where

@@ -11,12 +11,12 @@ use lib.ListN.{length, take, getD, set}
 use lib.Seq.{length-take-le}
 use Rattle.record.specs.declared.Constraint.{Constraint}
 use Rattle.record.specs.declared.Record as declared
-use Rattle.record.specs.Lists.{_among_, sift, at}
+use Rattle.lists.specs.Lists.{_among_, sift, at}
 use Rattle.record.specs.Record.{Record, names, notafter, WellFormed}
 use Rattle.record.specs.Stored.{stored}
-use Rattle.record.proofs.Lists.{mem-at}
+use Rattle.lists.proofs.Lists.{mem-at}
 use Rattle.record.proofs.Records.{written-names, init-known}
-use Rattle.keyed.proofs.Logic.{Has, has-getD}
+use Rattle.lists.proofs.Logic.{Has, has-getD}
 use Rattle.links.specs.Marks.{nameAt, placeIn}
 use Rattle.links.proofs.Names.{getD-place, place-known}
 use Rattle.table.proofs.Tables.{held}

@@ -7,7 +7,7 @@ ghost use mathlib.Core.Bool.{not, _&&_, _||_};
 ghost use Prim.Native.Nat.{ℕ, _≤_, _<_};
 ghost use lib.Dec.{eqb};
 ghost use lib.ListN.{length, getD, take};
-ghost use Rattle.record.specs.Lists.{_among_};
+ghost use Rattle.lists.specs.Lists.{_among_};
 ghost use Rattle.record.specs.Record as theory;
 ghost use Rattle.record.specs.Record.{names, notafter};
 ghost use Rattle.record.specs.Stored.{stored};

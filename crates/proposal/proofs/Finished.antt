@@ -8,20 +8,20 @@ use native.Mathlib.Omega.{arith}
 use lib.Dec.{eqb, ltb}
 use borrow.Author.Tests.{eqb-true, eqb-false, eq-eqb, not-true, not-false, ltb-true, ltb-false}
 use Rattle.record.specs.declared.Constraint.{Constraint}
-use Rattle.record.specs.Lists.{any, all, sift, mem, at, _among_, _within_}
+use Rattle.lists.specs.Lists.{any, all, sift, mem, at, _among_, _within_}
 use Rattle.record.specs.Record.{Record, names, written, is, has, notafter, enables, noncommuting, WellFormed, Extends}
 use Rattle.record.specs.Sound.{Sound, Must, Never, Ordered, earlier, later, right-never, Serialised, Settled}
 use Rattle.record.specs.Schedule.{schedule}
 use Rattle.record.specs.Judgement.{sound, settled}
-use Rattle.record.proofs.Lists.{by, clash, is-by, and-l, and-r, and-i, or-by, or-l, or-r, or-no-l, or-no-r, mem-head, mem-tail, cons-by, nil-no, mem-at}
+use Rattle.lists.proofs.Lists.{by, clash, is-by, and-l, and-r, and-i, or-by, or-l, or-r, or-no-l, or-no-r, mem-head, mem-tail, cons-by, nil-no, mem-at}
 use Rattle.record.proofs.Records.{sift-has, has-sift, pair-by, written-names, noncommuting-right, right-written, init-known}
 use Rattle.record.proofs.Records as records
 use Rattle.record.proofs.Order.{sound-init}
 use Rattle.record.proofs.Judged.{sound-is, must-is, never-is, settled-is}
 use Rattle.record.proofs.Scheduled.{schedule-sound, musts-scheduled, schedule-members}
-use Rattle.keyed.specs.Keyed.{Ascending}
-use Rattle.keyed.proofs.Logic.{Has}
-use Rattle.keyed.proofs.Union.{ascending-united}
+use Rattle.lists.specs.Keyed.{Ascending}
+use Rattle.lists.proofs.Logic.{Has}
+use Rattle.lists.proofs.Union.{ascending-united}
 use Rattle.table.specs.Table.{constraintKey}
 use Rattle.proposal.specs.Proposal.{withConstraints, before, unordered, decisions, orders, finished, Paired}
 use Rattle.proposal.proofs.Joined.{con, has-in, in-has, has-append, has-with, written-with, extends-with, with-well-formed, with-part}

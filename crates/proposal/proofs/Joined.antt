@@ -9,14 +9,14 @@ use lib.Dec.{eqb}
 use borrow.Author.Tests.{eqb-true, eq-eqb}
 use Rattle.record.specs.declared.Edit.{Edit}
 use Rattle.record.specs.declared.Constraint.{Constraint}
-use Rattle.record.specs.Lists.{any, all, mem, _among_}
+use Rattle.lists.specs.Lists.{any, all, mem, _among_}
 use Rattle.record.specs.Record.{Record, nameOf, written, is, has, WellFormed, Extends}
-use Rattle.record.proofs.Lists.{by, clash, or-by, or-l, or-r, same-by, mem-head, mem-tail, cons-by, nil-no}
+use Rattle.lists.proofs.Lists.{by, clash, or-by, or-l, or-r, same-by, mem-head, mem-tail, cons-by, nil-no}
 use Rattle.record.proofs.Records.{is-by, is-self, has-head, has-tail}
-use Rattle.keyed.specs.Keyed.{precedes, Ascending, united}
-use Rattle.keyed.proofs.Logic.{Has}
-use Rattle.keyed.proofs.Order.{less-total}
-use Rattle.keyed.proofs.Union.{Agree, agree-self, agree-sym, united-has, united-old, united-new, united-comm, united-part, ascending-united}
+use Rattle.lists.specs.Keyed.{precedes, Ascending, united}
+use Rattle.lists.proofs.Logic.{Has}
+use Rattle.lists.proofs.Order.{less-total}
+use Rattle.lists.proofs.Union.{Agree, agree-self, agree-sym, united-has, united-old, united-new, united-comm, united-part, ascending-united}
 use Rattle.table.specs.Table.{editKey, constraintKey, unite}
 use Rattle.table.proofs.Unions.{mem-by, mem-has, united-extends, joining-extends}
 use Rattle.proposal.specs.Proposal.{withConstraints}

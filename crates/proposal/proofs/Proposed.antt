@@ -8,14 +8,14 @@ use Prim.Native.Nat.{ℕ, _<_}
 use native.Mathlib.Omega.{arith}
 use Rattle.record.specs.declared.Edit.{Edit}
 use Rattle.record.specs.declared.Constraint.{Constraint}
-use Rattle.record.specs.Lists.{all, mem, _among_, _within_}
+use Rattle.lists.specs.Lists.{all, mem, _among_, _within_}
 use Rattle.record.specs.Record.{Record, written, has, notafter, WellFormed, Extends}
 use Rattle.record.specs.Judgement.{sound, settled}
-use Rattle.record.proofs.Lists.{by, clash, and-l, and-r, and-i, or-by, or-l, or-r, all-in, in-all}
+use Rattle.lists.proofs.Lists.{by, clash, and-l, and-r, and-i, or-by, or-l, or-r, all-in, in-all}
 use Rattle.record.proofs.Records.{right-written}
-use Rattle.keyed.specs.Keyed.{Ascending, united}
-use Rattle.keyed.proofs.Logic.{Has}
-use Rattle.keyed.proofs.Union.{ascending-united, agree-self}
+use Rattle.lists.specs.Keyed.{Ascending, united}
+use Rattle.lists.proofs.Logic.{Has}
+use Rattle.lists.proofs.Union.{ascending-united, agree-self}
 use Rattle.vote.specs.Bundle.{bundle, eligible}
 use Rattle.vote.specs.Tally.{sameBundle}
 use Rattle.vote.proofs.Bundles.{bundle-written, written-bundle, member-self}

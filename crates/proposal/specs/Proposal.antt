@@ -5,11 +5,11 @@ use mathlib.Core.List.{List, [], _∷_, _++_, map}
 use Prim.Native.Nat.{ℕ, _<_}
 use lib.Dec.{eqb, ltb}
 use Rattle.record.specs.declared.Constraint.{Constraint}
-use Rattle.record.specs.Lists.{all, sift, mem, at, _among_}
+use Rattle.lists.specs.Lists.{all, sift, mem, at, _among_}
 use Rattle.record.specs.Record.{Record, written, has, notafter}
 use Rattle.record.specs.Schedule.{schedule}
 use Rattle.record.specs.Judgement.{settled}
-use Rattle.keyed.specs.Keyed.{united}
+use Rattle.lists.specs.Keyed.{united}
 use Rattle.table.specs.Table.{constraintKey, unite}
 use Rattle.vote.specs.Bundle.{bundle, eligible}
 use Rattle.vote.specs.Tally.{sameBundle}

@@ -9,14 +9,14 @@ use borrow.Author.Tests.{lt-ltb}
 use lib.Dec.{eqb}
 use lib.ListN.{length}
 use Rattle.record.specs.declared.Constraint.{Constraint}
-use Rattle.record.specs.Lists.{mem, _among_}
+use Rattle.lists.specs.Lists.{mem, _among_}
 use Rattle.record.specs.Record.{Record, names, written}
 use Rattle.record.specs.Schedule.{schedule}
-use Rattle.record.proofs.Lists.{by}
+use Rattle.lists.proofs.Lists.{by}
 use Rattle.record.proofs.Records.{written-names, init-known, right-written, not-init}
-use Rattle.keyed.specs.Keyed.{united}
-use Rattle.keyed.proofs.Logic.{Has, all-has, all-by}
-use Rattle.keyed.proofs.Union.{ascending-united, united-has}
+use Rattle.lists.specs.Keyed.{united}
+use Rattle.lists.proofs.Logic.{Has, all-has, all-by}
+use Rattle.lists.proofs.Union.{ascending-united, united-has}
 use Rattle.row.specs.Row.{isName, isSide, editInRange, constraintInRange, editRow, constraintRow}
 use Rattle.row.proofs.Cells.{edit-in-range}
 use Rattle.table.specs.Table.{pairNotAllowed, constraintKey, unite}

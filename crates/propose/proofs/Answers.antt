@@ -9,9 +9,9 @@ use lib.Dec.{eqb, ltb}
 use lib.ListN.{length, take}
 use Rattle.record.specs.declared.Record as declared
 use Rattle.record.specs.Record.{Record, written}
-use Rattle.record.specs.Lists.{_within_}
+use Rattle.lists.specs.Lists.{_within_}
 use Rattle.record.specs.Stored.{stored, recordOf}
-use Rattle.record.proofs.Lists.{by}
+use Rattle.lists.proofs.Lists.{by}
 use Rattle.row.specs.Row.{editRow, constraintRow}
 use Rattle.ground.specs.Ground.{Rows, _given_, _orelse_}
 use Rattle.ground.proofs.Grounds.{orelse-none, orelse-first, orelse-second}

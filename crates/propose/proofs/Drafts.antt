@@ -11,7 +11,7 @@ use Rattle.record.specs.declared.Record as declared
 use Rattle.record.specs.Record.{Record}
 use Rattle.record.specs.Stored.{stored}
 use Rattle.record.specs.Judgement.{sound}
-use Rattle.keyed.specs.Keyed.{united}
+use Rattle.lists.specs.Keyed.{united}
 use Rattle.ground.specs.Ground.{_given_, _orelse_}
 use Rattle.ground.proofs.Grounds.{orelse-none, given-none}
 use Rattle.table.specs.Table.{emptyTables, constraintKey, unite}

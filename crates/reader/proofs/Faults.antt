@@ -8,9 +8,9 @@ use borrow.Author.Tests.{lt-leb, le-leb, leb-false}
 use lib.Dec.{leb}
 use lib.ListN.{length, take, getD}
 use lib.Seq.{length-take-le}
-use Rattle.record.specs.Lists.{any}
-use Rattle.keyed.specs.Keyed.{Ascending}
-use Rattle.keyed.proofs.Union.{united-alone}
+use Rattle.lists.specs.Lists.{any}
+use Rattle.lists.specs.Keyed.{Ascending}
+use Rattle.lists.proofs.Union.{united-alone}
 use Rattle.row.specs.Row.{Row}
 use Rattle.ground.specs.Ground.{Rows, Kind, known, noPlace, otherBody, misplaced, rowFault, _given_, _orelse_}
 use Rattle.ground.proofs.Grounds.{orelse-first, orelse-second, before-none}

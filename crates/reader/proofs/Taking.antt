@@ -9,8 +9,8 @@ use borrow.Author.Tests.{lt-ltb, le-ltb}
 use lib.Dec.{ltb}
 use lib.ListN.{length, take, getD, set, length-set}
 use lib.Seq.{length-take-le, take-set-le, take-suc-set, getD-set-same}
-use Rattle.keyed.specs.Keyed.{Ascending}
-use Rattle.keyed.proofs.Union.{ascending-snoc}
+use Rattle.lists.specs.Keyed.{Ascending}
+use Rattle.lists.proofs.Union.{ascending-snoc}
 use Rattle.row.specs.Row.{Row, cell}
 use Rattle.ground.specs.Ground.{Rows, Kind, misplaced, rowFault, _given_, _orelse_}
 use Rattle.ground.proofs.Grounds.{orelse-first, orelse-second}

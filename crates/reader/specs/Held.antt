@@ -5,7 +5,7 @@ use mathlib.Core.List.{List, []}
 use Prim.Native.Nat.{ℕ, _+_, _≤_}
 use lib.Dec.{ltb}
 use lib.ListN.{length, take, set}
-use Rattle.keyed.specs.Keyed.{Ascending}
+use Rattle.lists.specs.Keyed.{Ascending}
 use Rattle.row.specs.Row.{Row}
 use Rattle.ground.specs.Ground.{Rows, rowFault, _given_, _orelse_}
 use Rattle.table.specs.Table.{namesOf, editKind, constraintKind}

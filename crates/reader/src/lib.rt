@@ -8,7 +8,7 @@ ghost use Prim.Native.Nat.{ℕ, _<_, _≤_};
 ghost use lib.Dec.{leb};
 ghost use lib.ListN.{length, getD, take};
 ghost use Rattle.record.specs.Stored.{emptyRecord};
-ghost use Rattle.keyed.specs.Keyed.{Ascending};
+ghost use Rattle.lists.specs.Keyed.{Ascending};
 ghost use Rattle.ground.specs.Ground.{known, rowFault};
 ghost use Rattle.table.specs.Table.{editKind, constraintKind};
 ghost use Rattle.table.specs.Checked.{Marked};

@@ -11,7 +11,7 @@ ghost use Prim.Native.Nat.{ℕ, _<_, _≤_};
 ghost use lib.ListN.{length, getD, take};
 ghost use Rattle.record.specs.Record as theory;
 ghost use Rattle.record.specs.Stored.{recordOf, stored};
-ghost use Rattle.keyed.specs.Keyed.{Ascending};
+ghost use Rattle.lists.specs.Keyed.{Ascending};
 ghost use Rattle.row.specs.Row.{editRow, constraintRow};
 ghost use Rattle.ground.specs.Ground.{tableFault};
 ghost use Rattle.ground.specs.Walk.{PlaceOf, lateFault, stepAt};

@@ -8,9 +8,9 @@ use lib.Dec.{eqb, leb, ltb}
 use lib.ListN.{length, take, set, length-append}
 use lib.Seq.{take-length}
 use borrow.Author.Tests.{eqb-true, eqb-false, eq-eqb, ne-eqb, ltb-true, leb-true, leb-false, le-leb, lt-leb, lt-ltb, le-ltb}
-use Rattle.record.specs.Lists.{any, all, mem, distinct}
+use Rattle.lists.specs.Lists.{any, all, mem, distinct}
 use Rattle.record.specs.Stored.{padded}
-use Rattle.record.proofs.Lists.{by, clash, or-no-r}
+use Rattle.lists.proofs.Lists.{by, clash, or-no-r}
 use Rattle.pages.proofs.Padded.{take-padded, padded-more}
 use Rattle.vote.specs.declared.RollRow.{RollRow}
 use Rattle.vote.proofs.Front.{all-append}

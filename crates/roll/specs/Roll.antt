@@ -4,7 +4,7 @@ use mathlib.Core.List.{List, map}
 use Prim.Native.Nat.{ℕ}
 use lib.Dec.{leb, ltb}
 use lib.ListN.{length, replicate}
-use Rattle.record.specs.Lists.{all, mem, distinct}
+use Rattle.lists.specs.Lists.{all, mem, distinct}
 use Rattle.record.specs.Stored.{padded}
 use Rattle.vote.specs.declared.RollRow.{RollRow}
 use Rattle.roll.specs.declared.Roll.{Roll}

@@ -5,7 +5,7 @@ ghost use mathlib.Core.List.{List, [], _∷_, _++_, map};
 ghost use Prim.Native.Nat.{ℕ, _≤_};
 ghost use lib.ListN.{take};
 ghost use Rattle.vote.specs.declared.RollRow.{RollRow};
-ghost use Rattle.record.specs.Lists.{mem};
+ghost use Rattle.lists.specs.Lists.{mem};
 ghost use Rattle.roll.specs.Roll.{benchOf, faultyRoll, rollOf, rowFaulty};
 
 // At most 8 rows; rows past the count hold a filler, so that equal rolls are equal values. Every fault of a roll is 14.

@@ -7,7 +7,7 @@ use lib.Dec.{leb}
 use lib.ListN.{length, take}
 use lib.Seq.{take-all}
 use borrow.Author.Tests.{leb-true, leb-false}
-use Rattle.record.proofs.Lists.{by}
+use Rattle.lists.proofs.Lists.{by}
 use Rattle.vote.specs.declared.RollRow.{RollRow}
 use Rattle.vote.specs.declared.Election.{Election}
 use Rattle.election.specs.Election.{Proposals, electionOf}

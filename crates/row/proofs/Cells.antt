@@ -8,7 +8,7 @@ use native.Mathlib.Nat.{div-lt-iff-lt-mul}
 use borrow.Author.Tests.{eqb-true, eq-eqb, ne-eqb, lt-ltb, le-ltb, le-leb, lt-leb, leb-true, ltb-true}
 use lib.Dec.{leb, ltb, eqb}
 use lib.ListN.{length}
-use Rattle.record.proofs.Lists.{by, clash, and-l, and-r}
+use Rattle.lists.proofs.Lists.{by, clash, and-l, and-r}
 use Rattle.record.specs.declared.Field.{Field}
 use Rattle.record.specs.declared.Field.the-variants.{Id, Size, Erase, Page}
 use Rattle.record.specs.declared.Body.{Body}

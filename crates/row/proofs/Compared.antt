@@ -9,9 +9,9 @@ use borrow.Author.Tests.{eqb-true, eq-eqb, ne-eqb, lt-ltb, le-ltb}
 use lib.Dec.{eqb}
 use lib.ListN.{length, getD, take, drop, drop-of-length-le}
 use lib.Seq.{drop-cons, getD-take, length-take-le}
-use Rattle.record.proofs.Lists.{by, clash, and-l, and-r}
-use Rattle.keyed.specs.Keyed.{precedes}
-use Rattle.keyed.proofs.Order.{less-irrefl, less-total}
+use Rattle.lists.proofs.Lists.{by, clash, and-l, and-r}
+use Rattle.lists.specs.Keyed.{precedes}
+use Rattle.lists.proofs.Order.{less-irrefl, less-total}
 use Rattle.row.specs.Row.{same}
 
 pub same-eq : (a b : List ℕ) → same a b ≡ true → a ≡ b

@@ -7,7 +7,7 @@ use record::Field;
 ghost use mathlib.Core.Path.{_≡_};
 ghost use Prim.Native.Nat.{_<_, _≤_};
 ghost use lib.ListN.{length, take};
-ghost use Rattle.keyed.specs.Keyed.{precedes};
+ghost use Rattle.lists.specs.Keyed.{precedes};
 ghost use Rattle.row.specs.Row.{same, isName, bodyInRange, editInRange, isSide, constraintInRange, fieldOf, bodyOf, editOf, constraintOf, fieldNumber, editRow, constraintRow};
 
 // Bench 1 to 8, sequence 1 to 255.

@@ -11,11 +11,11 @@ use lib.Seq.{drop-cons}
 use borrow.Author.Tests.{ltb-true, lt-ltb, eq-eqb, ne-eqb}
 use Rattle.record.specs.declared.Constraint.{Constraint}
 use Rattle.record.specs.declared.Record as declared
-use Rattle.record.specs.Lists.{all, mem, at, _among_}
+use Rattle.lists.specs.Lists.{all, mem, at, _among_}
 use Rattle.record.specs.Record.{Record, names}
 use Rattle.record.specs.Stored.{stored}
 use Rattle.record.specs.Judgement.{fits, starts, soundRow}
-use Rattle.record.proofs.Lists.{by, is-by, same-by}
+use Rattle.lists.proofs.Lists.{by, is-by, same-by}
 use Rattle.links.specs.Marks.{placeIn}
 use Rattle.links.proofs.Names.{place-known}
 use Rattle.indexes.specs.Fit.{Fit}

@@ -9,9 +9,9 @@ use lib.Dec.{eqb}
 use lib.ListN.{length, getD, take, set, replicate}
 use lib.Seq.{getD-set-same, getD-set-other, take-suc, take-all, length-take-le}
 use borrow.Author.Tests.{eq-eqb, ne-eqb}
-use Rattle.record.specs.Lists.{all, mem, at, distinct, _among_}
+use Rattle.lists.specs.Lists.{all, mem, at, distinct, _among_}
 use Rattle.record.specs.Record.{Record, names}
-use Rattle.record.proofs.Lists.{by, clash, is-by, mem-append, at-append, mem-at, snoc-by, all-in, in-all, distinct-snoc}
+use Rattle.lists.proofs.Lists.{by, clash, is-by, mem-append, at-append, mem-at, snoc-by, all-in, in-all, distinct-snoc}
 use Rattle.record.proofs.Records.{init-known}
 use Rattle.links.specs.Marks.{nameAt, placeIn}
 use Rattle.links.proofs.Names.{getD-among, getD-place, place-getD, later-not, ascending-distinct, place-known, place-unknown}

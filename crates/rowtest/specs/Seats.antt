@@ -4,7 +4,7 @@ use mathlib.Core.Bool.{Bool, true, _&&_, cond}
 use mathlib.Core.List.{List}
 use Prim.Native.Nat.{ℕ, suc, _<_}
 use lib.ListN.{length, getD}
-use Rattle.record.specs.Lists.{all, mem, at, distinct, _among_}
+use Rattle.lists.specs.Lists.{all, mem, at, distinct, _among_}
 use Rattle.record.specs.Record.{Record, names}
 use Rattle.links.specs.Marks.{placeIn}
 

@@ -7,7 +7,7 @@ ghost use mathlib.Core.List.{List};
 ghost use Prim.Native.Nat.{ℕ, _≤_, _<_};
 ghost use lib.ListN.{length, getD};
 ghost use Rattle.record.specs.Record as theory;
-ghost use Rattle.record.specs.Lists.{all, mem, at};
+ghost use Rattle.lists.specs.Lists.{all, mem, at};
 ghost use Rattle.record.specs.Stored.{stored};
 ghost use Rattle.record.specs.Judgement.{fits, soundRow};
 ghost use Rattle.indexes.specs.Fit.{Fit};

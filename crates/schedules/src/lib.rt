@@ -5,7 +5,7 @@ ghost use mathlib.Core.List.{List, _∷_};
 ghost use Prim.Native.Nat.{ℕ, _<_, _≤_};
 ghost use lib.Dec.{ltb};
 ghost use lib.ListN.{length, getD};
-ghost use Rattle.record.specs.Lists.{mem, any, first, distinct, _within_};
+ghost use Rattle.lists.specs.Lists.{mem, any, first, distinct, _within_};
 ghost use Rattle.record.specs.Record.{Record, names, notafter};
 ghost use Rattle.record.specs.Schedule.{needs, musts, order, ring, admit, scheduled, schedule};
 ghost use Rattle.record.specs.Judgement.{must};

@@ -6,7 +6,7 @@ use mathlib.Core.List.{List, [], _∷_}
 use Prim.Native.Nat.{ℕ}
 use lib.Dec.{eqb}
 use borrow.Author.Tests.{eqb-true, not-true}
-use Rattle.record.specs.Lists.{any, all, sift, mem, at, _among_, distinct, first, grown, closure}
+use Rattle.lists.specs.Lists.{any, all, sift, mem, at, _among_, distinct, first, grown, closure}
 use Rattle.record.specs.Record.{Record, names, written, is, has, WellFormed}
 use Rattle.record.specs.Sound.{Sound, SoundRecord, Must, Never, Settled}
 use Rattle.record.specs.Schedule.{needs, musts, ready, order, ring, barred, admit, admits, scheduled, schedule}
@@ -15,7 +15,7 @@ use Rattle.row.specs.Row.{same as sameRow, editRow, constraintRow}
 use Rattle.vote.specs.Bundle.{leads, members, between, bundle, eligible, vote}
 use Rattle.vote.specs.Tally.{sameEdit, sameConstraint, sameList, sameBundle, ballots, total, weigh, greatestOf, greatest, silent, won}
 use Rattle.turner.specs.Turn.{landed, turned, answerOf}
-use Rattle.record.proofs.Lists.{by, clash, and-l, and-r, mem-sift, sift-mem}
+use Rattle.lists.proofs.Lists.{by, clash, and-l, and-r, mem-sift, sift-mem}
 use Rattle.record.proofs.Records.{well-formed}
 use Rattle.record.proofs.Judged.{sound-is, must-is, never-is, settled-is, row-is}
 use Rattle.record.proofs.Scheduled.{schedule-sound}

@@ -9,7 +9,7 @@ use lib.IntN.{ℤ, pos, negsuc}
 use Rattle.record.specs.declared.Body.the-variants.{Insert}
 use Rattle.record.specs.declared.Edit.{Edit}
 use Rattle.record.specs.declared.Constraint.{Constraint}
-use Rattle.record.specs.Lists.{all, sift, mem, _among_}
+use Rattle.lists.specs.Lists.{all, sift, mem, _among_}
 use Rattle.record.specs.Record.{Record, written}
 use Rattle.record.specs.Sound.{Sound, SoundRecord, Must, Never, Settled}
 use Rattle.record.specs.Schedule.{schedule}

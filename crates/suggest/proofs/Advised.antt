@@ -7,7 +7,7 @@ use mathlib.Core.List.{[], _∷_}
 use native.Mathlib.Omega.{arith}
 use borrow.Author.Tests.{lt-ltb, le-ltb, eq-eqb, ne-eqb, eqb-true, eqb-false}
 use lib.Dec.{eqb}
-use Rattle.record.proofs.Lists.{by}
+use Rattle.lists.proofs.Lists.{by}
 use Rattle.row.specs.Row.{Row, cell, editInRange}
 use Rattle.suggest.specs.Suggest.{afterTable, concurrentTable, adviceOf, advised, rowsOf, given, refused, suggested}
 use Rattle.suggest.specs.declared.Advice.{Advice}

@@ -8,8 +8,8 @@ use lib.ListN.{length, take, length-map}
 use Rattle.record.specs.declared.Edit.{Edit}
 use Rattle.record.specs.declared.Constraint.{Constraint}
 use Rattle.record.specs.declared.Record as declared
-use Rattle.keyed.specs.Keyed.{Ascending}
-use Rattle.keyed.proofs.Union.{ascending-map}
+use Rattle.lists.specs.Keyed.{Ascending}
+use Rattle.lists.proofs.Union.{ascending-map}
 use Rattle.row.specs.Row.{editRow, constraintRow, editOf, constraintOf}
 use Rattle.row.proofs.Cells.{edit-wide, constraint-wide, edit-back, edit-again, constraint-back, constraint-again}
 use Rattle.ground.proofs.Loop.{Elements}

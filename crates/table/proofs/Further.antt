@@ -7,8 +7,8 @@ use native.Mathlib.Omega.{arith}
 use borrow.Author.Tests.{eqb-true, eq-eqb, ne-eqb}
 use lib.Dec.{ltb, eqb}
 use lib.ListN.{length, getD}
-use Rattle.record.proofs.Lists.{by}
-use Rattle.record.specs.Lists.{mem}
+use Rattle.lists.proofs.Lists.{by}
+use Rattle.lists.specs.Lists.{mem}
 use Rattle.row.specs.Row.{cell}
 use Rattle.table.specs.Table.{unknown, pairNotAllowed, decision, constraintFurther}
 use Rattle.table.specs.Checked.{Marked}

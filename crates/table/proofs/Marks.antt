@@ -10,10 +10,10 @@ use borrow.Author.Tests.{eqb-true, eqb-false}
 use lib.Dec.{eqb}
 use lib.ListN.{length, take, getD, set, replicate, length-replicate}
 use lib.Seq.{take-suc, take-all, length-take-le, getD-take, getD-set-same, getD-set-other}
-use Rattle.record.proofs.Lists.{by}
+use Rattle.lists.proofs.Lists.{by}
 use Rattle.record.specs.declared.Edit.{Edit}
-use Rattle.record.specs.Lists.{mem, all}
-use Rattle.keyed.proofs.Logic.{all-has, has-getD}
+use Rattle.lists.specs.Lists.{mem, all}
+use Rattle.lists.proofs.Logic.{all-has, has-getD}
 use Rattle.row.specs.Row.{Row, cell, editInRange, editRow}
 use Rattle.row.proofs.Cells.{edit-in-range, name-small}
 use Rattle.table.specs.Checked.{Marked}

@@ -7,12 +7,12 @@ use borrow.Author.Tests.{eqb-true}
 use lib.Dec.{eqb}
 use lib.ListN.{length, replicate}
 use lib.Seq.{take-append-seam}
-use Rattle.record.proofs.Lists.{by}
+use Rattle.lists.proofs.Lists.{by}
 use Rattle.record.specs.declared.Record as declared
-use Rattle.record.specs.Lists.{all}
+use Rattle.lists.specs.Lists.{all}
 use Rattle.record.specs.Record.{Record, written, nameOf}
 use Rattle.record.specs.Stored.{padded, recordOf, stored, emptyRecord, fillerEdit, fillerConstraint}
-use Rattle.keyed.proofs.Logic.{all-by}
+use Rattle.lists.proofs.Logic.{all-by}
 use Rattle.row.specs.Row.{Row, editInRange, editRow}
 use Rattle.ground.specs.Ground.{Rows, tableFault, firstFault, _orelse_}
 use Rattle.ground.proofs.Grounds.{orelse-first, orelse-second}

@@ -6,14 +6,14 @@ use mathlib.Core.List.{List, [], _∷_, map}
 use Prim.Native.Nat.{ℕ}
 use borrow.Author.Tests.{eqb-true, eq-eqb}
 use lib.Dec.{eqb}
-use Rattle.record.proofs.Lists.{by, clash}
+use Rattle.lists.proofs.Lists.{by, clash}
 use Rattle.record.specs.declared.Edit.{Edit}
 use Rattle.record.specs.declared.Constraint.{Constraint}
-use Rattle.record.specs.Lists.{mem}
+use Rattle.lists.specs.Lists.{mem}
 use Rattle.record.specs.Record.{Record, written, nameOf, is, has, Extends}
-use Rattle.keyed.specs.Keyed.{Ascending, united}
-use Rattle.keyed.proofs.Logic.{Has, any-by, any-has}
-use Rattle.keyed.proofs.Union.{united-old, united-key, united-part, united-alone}
+use Rattle.lists.specs.Keyed.{Ascending, united}
+use Rattle.lists.proofs.Logic.{Has, any-by, any-has}
+use Rattle.lists.proofs.Union.{united-old, united-key, united-part, united-alone}
 use Rattle.table.specs.Table.{unite, editKey, constraintKey, emptyTables}
 
 -- a name in the table of edits is that of one of them

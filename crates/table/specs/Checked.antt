@@ -6,10 +6,10 @@ use Prim.Native.Nat.{ℕ, _≤_}
 use lib.Dec.{eqb}
 use lib.ListN.{length, getD}
 use Rattle.record.specs.declared.Record as declared
-use Rattle.record.specs.Lists.{mem, all}
+use Rattle.lists.specs.Lists.{mem, all}
 use Rattle.record.specs.Record.{Record, names}
 use Rattle.record.specs.Stored.{recordOf}
-use Rattle.keyed.specs.Keyed.{Ascending}
+use Rattle.lists.specs.Keyed.{Ascending}
 use Rattle.row.specs.Row.{editInRange, constraintInRange, editRow, constraintRow}
 use Rattle.table.specs.Table.{editKey, constraintKey, pairNotAllowed}
 

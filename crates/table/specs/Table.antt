@@ -5,9 +5,9 @@ use Prim.Native.Nat.{ℕ}
 use lib.Dec.{ltb, eqb}
 use Rattle.record.specs.declared.Edit.{Edit}
 use Rattle.record.specs.declared.Constraint.{Constraint}
-use Rattle.record.specs.Lists.{mem}
+use Rattle.lists.specs.Lists.{mem}
 use Rattle.record.specs.Record.{Record, written}
-use Rattle.keyed.specs.Keyed.{united}
+use Rattle.lists.specs.Keyed.{united}
 use Rattle.row.specs.Row.{Row, cell, editInRange, constraintInRange, editOf, constraintOf, editRow, constraintRow}
 use Rattle.ground.specs.Ground.{Rows, Kind, tableFault, _given_, _orelse_}
 

@@ -7,10 +7,10 @@ use Prim.Native.Nat.{ℕ, suc, _+_, _≤_, max}
 use native.Mathlib.Omega.{arith}
 use lib.ListN.{length, length-append}
 use borrow.Author.Tests.{not-true}
-use Rattle.record.specs.Lists.{any}
+use Rattle.lists.specs.Lists.{any}
 use Rattle.record.specs.Record.{Record}
-use Rattle.record.proofs.Lists.{by, clash, and-l, and-r, or-no-l, or-no-r}
-use Rattle.keyed.proofs.Logic.{any-append}
+use Rattle.lists.proofs.Lists.{by, clash, and-l, and-r, or-no-l, or-no-r}
+use Rattle.lists.proofs.Logic.{any-append}
 use Rattle.vote.specs.Tally.{Ballot, sameBundle, total, weigh, votesFor, group, greatestOf, greatest}
 use Rattle.vote.proofs.Elections.{same-is}
 use Rattle.tally.specs.Groups.{withVote, bundlesAfter, bundles}

@@ -11,10 +11,10 @@ use lib.ListN.{length, take, drop, getD, set, replicate, length-append, length-m
 use lib.Seq.{set-append-left, take-length, length-take-le, getD-take, drop-cons}
 use borrow.Author.Tests.{not-true, lt-ltb, le-ltb}
 use Rattle.record.specs.declared.Record as declared
-use Rattle.record.specs.Lists.{any}
+use Rattle.lists.specs.Lists.{any}
 use Rattle.record.specs.Record.{Record}
 use Rattle.record.specs.Stored.{padded, stored, emptyRecord}
-use Rattle.record.proofs.Lists.{by, clash, and-l, and-r, or-no-l, or-no-r, getD-mapped}
+use Rattle.lists.proofs.Lists.{by, clash, and-l, and-r, or-no-l, or-no-r, getD-mapped}
 use Rattle.pages.proofs.Padded.{length-padded, take-padded, padded-more, getD-padded, padded-past}
 use Rattle.vote.specs.declared.Election.{Election}
 use Rattle.vote.specs.Tally.{Ballot, sameBundle, total, weigh, isSilent, votesFor, group, greatestOf, greatest, silent, won, counted}

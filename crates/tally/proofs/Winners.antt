@@ -9,10 +9,10 @@ use lib.Dec.{ltb}
 use lib.ListN.{length, take, getD, length-map}
 use lib.Seq.{length-take-le, getD-take}
 use borrow.Author.Tests.{ltb-true, lt-ltb}
-use Rattle.record.specs.Lists.{any}
+use Rattle.lists.specs.Lists.{any}
 use Rattle.record.specs.Record.{Record}
 use Rattle.record.specs.Stored.{stored, emptyRecord}
-use Rattle.record.proofs.Lists.{by, clash, le-by, getD-mapped}
+use Rattle.lists.proofs.Lists.{by, clash, le-by, getD-mapped}
 use Rattle.vote.specs.Tally.{Ballot, sameBundle, total, weigh, votesFor, group, greatestOf, greatest, wins, won, winner}
 use Rattle.vote.proofs.Elections.{same-is, one-winner, winner-wins, open-is}
 use Rattle.tally.specs.declared.Group.{Group}

@@ -7,7 +7,7 @@ use Prim.Native.Nat.{ℕ, suc, _*_, _≤_, _<_}
 use lib.Dec.{ltb}
 use lib.ListN.{length, getD}
 use Rattle.record.specs.declared.Record as declared
-use Rattle.record.specs.Lists.{any}
+use Rattle.lists.specs.Lists.{any}
 use Rattle.record.specs.Record.{Record}
 use Rattle.record.specs.Stored.{padded, emptyRecord, stored}
 use Rattle.vote.specs.declared.Election.{Election}

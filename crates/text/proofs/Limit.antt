@@ -9,8 +9,8 @@ use native.Mathlib.Omega.{arith}
 use borrow.Author.Tests.{eqb-true, eqb-false, ne-eqb, lt-ltb, ltb-false}
 use lib.Dec.{eqb, ltb}
 use lib.ListN.{length, length-append}
-use Rattle.record.proofs.Lists.{by, or-no-l, or-no-r}
-use Rattle.record.specs.Lists.{mem}
+use Rattle.lists.proofs.Lists.{by, or-no-l, or-no-r}
+use Rattle.lists.specs.Lists.{mem}
 use Rattle.record.specs.Judgement.{sound}
 use Rattle.row.specs.Row.{Row, cell}
 use Rattle.ground.specs.Ground.{Rows, Kind, noPlace, otherBody, misplaced, rowFault, _given_, _orelse_}

@@ -8,10 +8,10 @@ use native.Mathlib.Omega.{arith}
 use borrow.Author.Tests.{eqb-true, eqb-false}
 use lib.Dec.{eqb}
 use lib.ListN.{length, length-append, length-map}
-use Rattle.record.proofs.Lists.{by}
+use Rattle.lists.proofs.Lists.{by}
 use Rattle.record.specs.Record.{Record}
 use Rattle.record.specs.Judgement.{sound}
-use Rattle.keyed.proofs.Logic.{Has, has-mapped, all-has, all-by}
+use Rattle.lists.proofs.Logic.{Has, has-mapped, all-has, all-by}
 use Rattle.row.specs.Row.{Row, cell, editInRange, constraintInRange, editOf, constraintOf, editRow, constraintRow}
 use Rattle.row.proofs.Cells.{edit-back, constraint-back}
 use Rattle.ground.specs.Ground.{Rows, rowFault}

@@ -7,8 +7,8 @@ use native.Mathlib.Omega.{arith}
 use borrow.Author.Tests.{eqb-true, eq-eqb, ltb-true, ltb-false, lt-ltb}
 use lib.Dec.{eqb, ltb}
 use lib.ListN.{length, getD}
-use Rattle.record.proofs.Lists.{clash, and-l, and-r}
-use Rattle.record.specs.Lists.{all}
+use Rattle.lists.proofs.Lists.{clash, and-l, and-r}
+use Rattle.lists.specs.Lists.{all}
 use Rattle.row.specs.Row.{Row, cell, bodyInRange, editInRange, constraintInRange}
 use Rattle.row.proofs.Cells.{edit-in-range, constraint-in-range, name-small, constraint-bounds}
 use Rattle.ground.specs.Ground.{Rows, Kind, rowFault, firstFault, tableFault, _given_}

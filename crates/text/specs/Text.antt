@@ -4,7 +4,7 @@ use mathlib.Core.List.{List, [], _∷_, _++_, map}
 use Prim.Native.Nat.{ℕ, suc}
 use lib.Dec.{ltb, eqb}
 use lib.ListN.{length}
-use Rattle.record.specs.Lists.{all}
+use Rattle.lists.specs.Lists.{all}
 use Rattle.record.specs.Record.{Record}
 use Rattle.record.specs.Judgement.{sound}
 use Rattle.row.specs.Row.{Row, cell, editRow}

@@ -7,8 +7,8 @@ use native.Mathlib.Omega.{arith}
 use borrow.Author.Tests.{ltb-true, ltb-false, lt-ltb, le-ltb}
 use lib.Dec.{ltb}
 use Rattle.record.specs.declared.Edit.{Edit}
-use Rattle.keyed.specs.Keyed.{precedes}
-use Rattle.keyed.proofs.Order.{less-one}
+use Rattle.lists.specs.Keyed.{precedes}
+use Rattle.lists.proofs.Order.{less-one}
 use Rattle.table.specs.Table.{editKey}
 use Rattle.unite.specs.declared.Choice.{Choice}
 use Rattle.unite.specs.Union.{chosen, ownFirst, joiningFirst, bothAtOnce}

@@ -10,14 +10,14 @@ use borrow.Author.Tests.{ltb-true, ltb-false}
 use lib.Dec.{ltb, eqb}
 use lib.ListN.{length, take, drop, getD, set, replicate, drop-of-length-le, length-map, length-drop, length-append, length-replicate}
 use lib.Seq.{take-suc, drop-cons, drop-drop, length-take-le, set-at, take-all, getD-take}
-use Rattle.record.proofs.Lists.{by, clash}
+use Rattle.lists.proofs.Lists.{by, clash}
 use Rattle.record.specs.declared.Edit.{Edit}
 use Rattle.record.specs.declared.Constraint.{Constraint}
 use Rattle.record.specs.declared.Record as declared
 use Rattle.record.specs.Stored.{padded, fillerEdit, fillerConstraint}
-use Rattle.keyed.specs.Keyed.{precedes, Below, Ascending, united}
-use Rattle.keyed.proofs.Order.{less-total}
-use Rattle.keyed.proofs.Union.{below-trans, united-first, united-joins, united-both}
+use Rattle.lists.specs.Keyed.{precedes, Below, Ascending, united}
+use Rattle.lists.proofs.Order.{less-total}
+use Rattle.lists.proofs.Union.{below-trans, united-first, united-joins, united-both}
 use Rattle.unite.specs.declared.Choice.{Choice}
 use Rattle.unite.specs.Union.{chosen, Unites, withEdits, withConstraints}
 

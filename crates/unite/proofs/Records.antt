@@ -9,8 +9,8 @@ use Rattle.record.specs.declared.Constraint.{Constraint}
 use Rattle.record.specs.declared.Record as declared
 use Rattle.record.specs.Record.{Record}
 use Rattle.record.specs.Stored.{padded, recordOf, stored, emptyRecord, fillerEdit, fillerConstraint}
-use Rattle.keyed.specs.Keyed.{united}
-use Rattle.keyed.proofs.Union.{length-grown}
+use Rattle.lists.specs.Keyed.{united}
+use Rattle.lists.proofs.Union.{length-grown}
 use Rattle.row.specs.Row.{Row, editOf, constraintOf}
 use Rattle.ground.specs.Ground.{Rows}
 use Rattle.table.specs.Table.{decoded, editKey, constraintKey, unite}

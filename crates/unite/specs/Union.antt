@@ -7,7 +7,7 @@ use Rattle.record.specs.declared.Edit.{Edit}
 use Rattle.record.specs.declared.Constraint.{Constraint}
 use Rattle.record.specs.declared.Record as declared
 use Rattle.record.specs.Stored.{padded, fillerEdit, fillerConstraint}
-use Rattle.keyed.specs.Keyed.{Ascending, united}
+use Rattle.lists.specs.Keyed.{Ascending, united}
 use Rattle.unite.specs.declared.Choice.{Choice}
 
 -- two tables in order whose union has places

@@ -12,7 +12,7 @@ ghost use lib.Dec.{eqb};
 ghost use lib.ListN.{length};
 ghost use Rattle.record.specs.Record as theory;
 ghost use Rattle.record.specs.Stored.{padded, recordOf, stored, fillerEdit, fillerConstraint};
-ghost use Rattle.keyed.specs.Keyed.{precedes, united};
+ghost use Rattle.lists.specs.Keyed.{precedes, united};
 ghost use Rattle.row.specs.Row.{editOf, constraintOf};
 ghost use Rattle.table.specs.Table.{decoded, editKey, constraintKey, unite};
 ghost use Rattle.unite.specs.Union.{Unites, withEdits, withConstraints, chosen};

@@ -9,8 +9,8 @@ use native.Mathlib.Nat.{div-le-self}
 use borrow.Author.Tests.{ne-eqb, ltb-true, lt-ltb, lt-leb}
 use lib.Dec.{leb}
 use lib.ListN.{length}
-use Rattle.record.specs.Lists.{sift}
-use Rattle.record.proofs.Lists.{by}
+use Rattle.lists.specs.Lists.{sift}
+use Rattle.lists.proofs.Lists.{by}
 use Rattle.ground.specs.Ground.{_given_}
 use Rattle.fraction.specs.declared.Fraction.{Fraction}
 use Rattle.fraction.specs.declared.BoundedFraction.{BoundedFraction}

@@ -8,8 +8,8 @@ use native.Mathlib.Nat.{mul-pos}
 use borrow.Author.Tests.{eqb-false}
 use lib.Dec.{eqb}
 use lib.ListN.{length}
-use Rattle.record.specs.Lists.{sift}
-use Rattle.record.proofs.Lists.{by}
+use Rattle.lists.specs.Lists.{sift}
+use Rattle.lists.proofs.Lists.{by}
 use Rattle.fraction.specs.declared.Fraction.{Fraction}
 use Rattle.fraction.specs.Fraction.{LowestTerms, Positive, sumOf, mean, isBelow, isAbove, First, leastFraction, greatestFraction}
 use Rattle.fraction.proofs.Fractions.{lowest-terms-is, common-positive}

@@ -9,8 +9,8 @@ use native.Mathlib.Nat.{div-le-self}
 use borrow.Author.Tests.{eqb-true, eqb-false, eq-eqb, ne-eqb, ltb-false, le-ltb, leb-true, leb-false, le-leb, lt-leb}
 use lib.Dec.{eqb, ltb, leb}
 use lib.ListN.{length, length-append, length-map}
-use Rattle.record.specs.Lists.{sift}
-use Rattle.record.proofs.Lists.{by, and-l, and-r, or-no-l, or-no-r}
+use Rattle.lists.specs.Lists.{sift}
+use Rattle.lists.proofs.Lists.{by, and-l, and-r, or-no-l, or-no-r}
 use Rattle.vote.proofs.Front.{sift-append}
 use Rattle.fraction.specs.declared.Fraction.{Fraction}
 use Rattle.fraction.specs.Divisor.{gcd}

@@ -7,7 +7,7 @@ use mathlib.Core.List.{List, [], _∷_, _++_, map}
 use Prim.Native.Nat.{ℕ, suc, _+_, _*_}
 use lib.Dec.{leb, ltb, eqb}
 use lib.ListN.{length, getD}
-use Rattle.record.specs.Lists.{sift}
+use Rattle.lists.specs.Lists.{sift}
 use Rattle.ground.specs.Ground.{_given_, _orelse_}
 use Rattle.fraction.specs.declared.Fraction.{Fraction}
 use Rattle.fraction.specs.Fraction.{lowestTerms, sumOf, noFraction, mean, leastFraction, greatestFraction}

@@ -8,8 +8,8 @@ use native.Mathlib.Omega.{arith}
 use borrow.Author.Tests.{eqb-false, ne-eqb}
 use lib.Dec.{eqb}
 use lib.ListN.{length, length-map}
-use Rattle.record.specs.Lists.{all}
-use Rattle.record.proofs.Lists.{by, and-l, and-r}
+use Rattle.lists.specs.Lists.{all}
+use Rattle.lists.proofs.Lists.{by, and-l, and-r}
 use Rattle.vote.proofs.Front.{all-append}
 use Rattle.line.specs.Lines.{lines}
 use Rattle.unity_table.specs.declared.Weights.{Weights}

@@ -10,8 +10,8 @@ use native.Mathlib.Omega.{arith}
 use borrow.Author.Tests.{eqb-true, eqb-false, ltb-false}
 use lib.Dec.{eqb, ltb}
 use lib.ListN.{length, length-append}
-use Rattle.record.specs.Lists.{mem}
-use Rattle.record.proofs.Lists.{by, clash, mem-snoc}
+use Rattle.lists.specs.Lists.{mem}
+use Rattle.lists.proofs.Lists.{by, clash, mem-snoc}
 use Rattle.form.specs.Spelling.{bytes}
 use Rattle.form.specs.Form.{taken}
 use Rattle.form.proofs.Forms.{spelled-all, fill-taken, oneLine, fill-ended}

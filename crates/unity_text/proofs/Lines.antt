@@ -6,7 +6,7 @@ use mathlib.Core.List.{List, [], _∷_, _++_, map, map-append, append-nil, appen
 use Prim.Native.Nat.{ℕ, suc, _+_, _-_, _≤_, _<_}
 use native.Mathlib.Omega.{arith}
 use lib.ListN.{length, take, drop, length-map}
-use Rattle.record.specs.Lists.{all}
+use Rattle.lists.specs.Lists.{all}
 use Rattle.vote.proofs.Front.{all-append}
 use Rattle.line.specs.Lines.{lines, firstLine}
 use Rattle.line.proofs.Ends.{NextLine, next-line, no-lines}

@@ -7,8 +7,8 @@ use Prim.Native.Nat.{ℕ, zero, suc, _+_, _≤_, _<_}
 use native.Mathlib.Omega.{arith}
 use borrow.Author.Tests.{leb-true, le-leb, le-ltb}
 use lib.ListN.{length, getD}
-use Rattle.record.specs.Lists.{all}
-use Rattle.record.proofs.Lists.{by, and-l, and-r}
+use Rattle.lists.specs.Lists.{all}
+use Rattle.lists.proofs.Lists.{by, and-l, and-r}
 use Rattle.form.specs.Spelling.{bytes, numberSpelling}
 use Rattle.form.specs.Form.{isMark, spelling}
 use Rattle.form.proofs.Forms.{slots, separate, spelled-all, taken-fill, fill-ended, room, fill-room}

@@ -8,8 +8,8 @@ use native.Mathlib.Nat.{div-le-self}
 use borrow.Author.Tests.{eqb-true, eqb-false, ltb-true, not-false}
 use lib.Dec.{eqb, leb}
 use lib.ListN.{length, getD, length-append}
-use Rattle.record.specs.Lists.{all}
-use Rattle.record.proofs.Lists.{by}
+use Rattle.lists.specs.Lists.{all}
+use Rattle.lists.proofs.Lists.{by}
 use Rattle.fraction.specs.declared.Fraction.{Fraction}
 use Rattle.fraction.specs.Divisor.{gcd}
 use Rattle.fraction.specs.Fraction.{lowestTerms, sumOf, mean}

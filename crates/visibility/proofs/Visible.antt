@@ -7,11 +7,11 @@ use native.Mathlib.Omega.{arith}
 use lib.Dec.{eqb}
 use lib.ListN.{length, getD, set}
 use borrow.Author.Tests.{eq-eqb, ne-eqb, not-true}
-use Rattle.record.specs.Lists.{sift, mem, at, _among_, _within_}
+use Rattle.lists.specs.Lists.{sift, mem, at, _among_, _within_}
 use Rattle.record.specs.Record.{Record, names, written}
 use Rattle.record.specs.Stored.{stored}
 use Rattle.record.specs.Judgement.{must}
-use Rattle.record.proofs.Lists.{by, clash, same-by, mem-at, mem-head, cons-within, sift-mem, mem-sift}
+use Rattle.lists.proofs.Lists.{by, clash, same-by, mem-at, mem-head, cons-within, sift-mem, mem-sift}
 use Rattle.row.specs.Row.{isName}
 use Rattle.links.specs.Marks.{marksOf}
 use Rattle.links.proofs.Names.{getD-place}

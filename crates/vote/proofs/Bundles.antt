@@ -8,11 +8,11 @@ use Prim.Native.Nat.{ℕ}
 use lib.Dec.{eqb}
 use borrow.Author.Tests.{eqb-true, not-true, not-false}
 use Rattle.record.specs.declared.Edit.{Edit}
-use Rattle.record.specs.Lists.{all, sift, mem, _among_, _within_, closure}
+use Rattle.lists.specs.Lists.{all, sift, mem, _among_, _within_, closure}
 use Rattle.record.specs.Record.{Record, nameOf, written, has, notafter, enables, noncommuting, WellFormed, Extends}
 use Rattle.record.specs.Sound.{Settled}
 use Rattle.record.specs.Judgement.{sound, settled}
-use Rattle.record.proofs.Lists.{by, clash, and-l, and-r, and-i, or-by, or-l, or-r, mem-head, mem-tail, cons-by, nil-no, sift-mem, mem-sift, all-in, in-all, closure-holds, closure-least, closure-closed}
+use Rattle.lists.proofs.Lists.{by, clash, and-l, and-r, and-i, or-by, or-l, or-r, mem-head, mem-tail, cons-by, nil-no, sift-mem, mem-sift, all-in, in-all, closure-holds, closure-least, closure-closed}
 use Rattle.record.proofs.Records.{sift-has, has-sift, pair-by, not-init, noncommuting-left}
 use Rattle.record.proofs.Judged.{settled-is}
 use Rattle.record.proofs.Extended.{sound-extended}

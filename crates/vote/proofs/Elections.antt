@@ -15,7 +15,7 @@ use Rattle.record.specs.declared.Body.the-variants.{Insert, Set, Remove}
 use Rattle.record.specs.declared.Edit.{Edit}
 use Rattle.record.specs.declared.Constraint.{Constraint}
 use Rattle.record.specs.Record.{Record}
-use Rattle.record.proofs.Lists.{by, clash, and-l, and-r, and-i, le-by}
+use Rattle.lists.proofs.Lists.{by, clash, and-l, and-r, and-i, le-by}
 use Rattle.row.specs.Row.{fieldOf, fieldNumber, bodyCells, editRow, constraintRow}
 use Rattle.row.proofs.Compared.{same-eq, same-refl}
 use Rattle.vote.specs.declared.RollRow.{RollRow}

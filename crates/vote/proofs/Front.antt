@@ -7,9 +7,9 @@ use native.Mathlib.Omega.{arith}
 use native.Mathlib.Numerals.{add-one}
 use lib.ListN.{length, take, getD, length-map}
 use lib.Seq.{take-suc, length-take-le, getD-take}
-use Rattle.record.specs.Lists.{any, all, sift}
-use Rattle.record.proofs.Lists.{by, clash}
-use Rattle.keyed.proofs.Logic.{any-append, any-has, all-has, has-getD}
+use Rattle.lists.specs.Lists.{any, all, sift}
+use Rattle.lists.proofs.Lists.{by, clash}
+use Rattle.lists.proofs.Logic.{any-append, any-has, all-has, has-getD}
 
 pub take-more : {A : Type 0} (a : List A) (i : ℕ) (d : A) → i < length a → take (i + 1) a ≡ take i a ++ (getD a i d ∷ [])
 take-more a i d h = rw (add-one i) (take-suc a i d h)

@@ -8,7 +8,7 @@ use borrow.Author.Tests.{le-leb, lt-leb, leb-true, leb-false}
 use lib.Dec.{leb}
 use lib.ListN.{length, take, drop, length-take, length-drop, length-append}
 use lib.Seq.{take-all}
-use Rattle.record.proofs.Lists.{by}
+use Rattle.lists.proofs.Lists.{by}
 use Rattle.record.specs.declared.Record as declared
 use Rattle.record.specs.Stored.{recordOf}
 use Rattle.row.specs.Row.{editRow, constraintRow}

@@ -4,11 +4,11 @@ use native.Mathlib.Omega.{arith}
 use Prim.Native.Nat.{_-_}
 use mathlib.Core.Path.{_≡_, _∙_, ap}
 use lib.ListN.{length}
-use Rattle.record.proofs.Lists.{length-mapped}
+use Rattle.lists.proofs.Lists.{length-mapped}
 use Rattle.asks.proofs.Counts.{Counting, counting-start, counting-next, counting-end}
 use Rattle.asks.specs.Asks.{isPresent}
 use Rattle.asks.proofs.Questions.{all-of}
-use Rattle.record.specs.Lists.{sift}
+use Rattle.lists.specs.Lists.{sift}
 use Rattle.asks.proofs.count_present.Statement.{statement}
 use Rattle.asks.proofs.count_present.Tie as tie
 

@@ -4,7 +4,7 @@ use native.Mathlib.Omega.{arith}
 use Prim.Native.Nat.{_-_}
 use mathlib.Core.Path.{_≡_, ap}
 use lib.ListN.{length, take}
-use Rattle.record.proofs.Lists.{length-mapped}
+use Rattle.lists.proofs.Lists.{length-mapped}
 use Rattle.forms.proofs.Printing.{Printing, printing-start, printing-place, printing-next, printing-end, printed-as}
 use Rattle.asks.specs.Asks.{entryText}
 use Rattle.asks.proofs.Questions.{all-of}

@@ -3,7 +3,7 @@ use borrow.Author.Needs.{needs}
 use native.Mathlib.Omega.{arith}
 use mathlib.Core.Path.{_∙_}
 use mathlib.Core.List.{[], _∷_}
-use Rattle.record.proofs.Lists.{length-mapped}
+use Rattle.lists.proofs.Lists.{length-mapped}
 use Rattle.forms.proofs.Printing.{printed-end}
 use Rattle.asks.proofs.Questions.{hidden-printed}
 use Rattle.answers.specs.Answers.{answerLine}

@@ -1,5 +1,5 @@
 use borrow.Author.Needs.{needs}
-use Rattle.record.specs.Lists.{mem}
+use Rattle.lists.specs.Lists.{mem}
 use Rattle.record.specs.Record.{names, written}
 use Rattle.record.specs.Stored.{padded}
 use Rattle.links.specs.Marks.{valuesOf, marksOf}

@@ -1,7 +1,7 @@
 -- `bundle::bundle_by` meets its contract. Assumes nothing.
 use native.Mathlib.Omega.{arith}
 use borrow.Author.Needs.{needs}
-use Rattle.record.specs.Lists.{mem}
+use Rattle.lists.specs.Lists.{mem}
 use Rattle.vote.specs.Bundle.{members}
 use Rattle.bundle.proofs.Bundling.{edits-marked, ends-known, bundle-is, edits-within, constraints-within}
 use Rattle.bundle.proofs.bundle_by.Statement.{statement}

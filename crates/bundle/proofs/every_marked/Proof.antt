@@ -6,7 +6,7 @@ use native.Mathlib.Omega.{arith}
 use lib.ListN.{length, take}
 use borrow.Author.Needs.{needs}
 use Rattle.record.specs.Record.{Record, names, written}
-use Rattle.record.specs.Lists.{all}
+use Rattle.lists.specs.Lists.{all}
 use Rattle.links.specs.Marks.{marksOf}
 use Rattle.bundle.proofs.Judging.{marked-more, unmarked, all-marked}
 use Rattle.bundle.proofs.every_marked.Statement.{statement}

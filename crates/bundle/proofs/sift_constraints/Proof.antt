@@ -5,10 +5,10 @@ use Prim.Native.Nat.{ℕ, _-_, _≤_, _<_}
 use native.Mathlib.Omega.{arith}
 use lib.ListN.{length-set, length, getD}
 use borrow.Author.Needs.{needs}
-use Rattle.record.proofs.Lists.{length-mapped}
+use Rattle.lists.proofs.Lists.{length-mapped}
 use Rattle.record.specs.Stored.{fillerConstraint}
 use Rattle.record.specs.Record.{Record, names}
-use Rattle.record.specs.Lists.{mem, _among_}
+use Rattle.lists.specs.Lists.{mem, _among_}
 use Rattle.record.specs.declared.Constraint.{Constraint}
 use Rattle.links.specs.Marks.{marksOf, placeIn}
 use Rattle.vote.specs.Bundle.{between}

@@ -7,7 +7,7 @@ use lib.ListN.{length-set, length, getD}
 use lib.Dec.{eqb}
 use borrow.Author.Tests.{eq-eqb, ne-eqb}
 use borrow.Author.Needs.{needs}
-use Rattle.record.proofs.Lists.{length-mapped}
+use Rattle.lists.proofs.Lists.{length-mapped}
 use Rattle.record.specs.Stored.{fillerEdit}
 use Rattle.record.specs.declared.Edit.{Edit}
 use Rattle.bundle.proofs.Sifting.{Sifting, sifting-start, sifting-kept, sifting-skip}

@@ -4,7 +4,7 @@ use mathlib.Core.Path.{_≡_, ap}
 use lib.ListN.{length}
 use native.Mathlib.Omega.{arith}
 use borrow.Author.Needs.{needs}
-use Rattle.record.proofs.Lists.{length-mapped}
+use Rattle.lists.proofs.Lists.{length-mapped}
 use Rattle.catalogue.specs.Chips.{cells, places}
 use Rattle.catalogue.proofs.Entries.{ran-within, ran-past}
 use Rattle.catalogue.proofs.run_edit.Statement.{statement}

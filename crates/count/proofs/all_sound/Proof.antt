@@ -7,7 +7,7 @@ use lib.ListN.{take}
 use borrow.Author.Tests.{not-true, not-false}
 use borrow.Author.Needs.{needs}
 use Rattle.record.specs.Judgement.{sound}
-use Rattle.record.specs.Lists.{all}
+use Rattle.lists.specs.Lists.{all}
 use Rattle.count.specs.Count.{lentProposals, Faultless}
 use Rattle.count.proofs.Proposals.{held-checked, bench-faultless, not-every, every-more, benches-end}
 use Rattle.election.specs.Election.{benches, held}

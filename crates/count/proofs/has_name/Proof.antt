@@ -4,7 +4,7 @@ use mathlib.Core.Bool.{false}
 use Prim.Native.Nat.{_-_, _≤_}
 use lib.ListN.{length, take}
 use borrow.Author.Needs.{needs}
-use Rattle.record.specs.Lists.{any}
+use Rattle.lists.specs.Lists.{any}
 use Rattle.count.proofs.Known.{named, name-found, name-next, name-missing}
 use Rattle.count.proofs.has_name.Statement.{statement}
 use Rattle.count.proofs.has_name.Tie as tie

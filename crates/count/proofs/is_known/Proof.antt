@@ -6,7 +6,7 @@ use Prim.Native.Nat.{_-_, _≤_}
 use lib.ListN.{take}
 use borrow.Author.Needs.{needs}
 use Rattle.record.specs.Record.{written}
-use Rattle.record.specs.Lists.{any, mem}
+use Rattle.lists.specs.Lists.{any, mem}
 use Rattle.ground.specs.Ground.{Rows}
 use Rattle.count.specs.Count.{lentProposals, Faultless}
 use Rattle.count.proofs.Proposals.{bench-faultless, some-bench, no-bench, benches-end}

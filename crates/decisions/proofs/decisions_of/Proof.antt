@@ -5,7 +5,7 @@ use mathlib.Core.List.{List, _∷_, map}
 use lib.ListN.{length, take, length-set}
 use native.Mathlib.Omega.{arith}
 use borrow.Author.Needs.{needs}
-use Rattle.record.proofs.Lists.{length-mapped}
+use Rattle.lists.proofs.Lists.{length-mapped}
 use Rattle.record.specs.Record.{Record, written}
 use Rattle.record.specs.Stored.{padded, fillerEdit, fillerConstraint}
 use Rattle.proposal.specs.Proposal.{decisions, decisionOn}

@@ -3,7 +3,7 @@ use Prim.Native.Nat.{ℕ}
 use mathlib.Core.Path.{ap, _∙_}
 use mathlib.Core.List.{List, _∷_}
 use Rattle.record.specs.Record.{written}
-use Rattle.keyed.proofs.Union.{ascending-united}
+use Rattle.lists.proofs.Union.{ascending-united}
 use Rattle.table.specs.Table.{constraintKey}
 use Rattle.proposal.specs.Proposal.{decisions}
 use Rattle.links.specs.Marks.{valuesOf, placeIn}

@@ -4,7 +4,7 @@ use mathlib.Core.Bool.{Bool, false, cond}
 use lib.ListN.{length, getD}
 use native.Mathlib.Omega.{arith}
 use borrow.Author.Needs.{needs}
-use Rattle.record.specs.Lists.{_among_}
+use Rattle.lists.specs.Lists.{_among_}
 use Rattle.record.specs.Record.{Record, written}
 use Rattle.hidden.proofs.Index.{Holds, holds, count-room}
 use Rattle.hidden.proofs.Named.{Indexed, indexed-none, indexed-next, indexed-end}

@@ -1,5 +1,5 @@
 use borrow.Author.Needs.{needs}
-use Rattle.record.specs.Lists.{mem}
+use Rattle.lists.specs.Lists.{mem}
 use Rattle.hidden.proofs.Named.{carried-test}
 use Rattle.hidden.proofs.carried.Statement.{statement}
 use Rattle.hidden.proofs.carried.Tie as tie

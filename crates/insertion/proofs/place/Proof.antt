@@ -3,7 +3,7 @@ use Prim.Native.Nat.{_-_, _≤_}
 use lib.ListN.{length, take}
 use native.Mathlib.Omega.{arith}
 use Rattle.record.specs.Stored.{fillerConstraint}
-use Rattle.keyed.specs.Keyed.{Ascending}
+use Rattle.lists.specs.Keyed.{Ascending}
 use Rattle.table.specs.Table.{constraintKey}
 use Rattle.lookup.proofs.Places.{middle-below}
 use Rattle.insertion.proofs.Places.{Between, array-start, array-low, array-high, array-place}

@@ -2,7 +2,7 @@
 use mathlib.Core.Path.{_≡_}
 use lib.ListN.{length}
 use native.Mathlib.Omega.{arith}
-use Rattle.record.proofs.Lists.{length-mapped}
+use Rattle.lists.proofs.Lists.{length-mapped}
 use Rattle.join.proofs.Answers.{front, record-is, within-edits, within-constraints}
 use borrow.Author.Needs.{needs}
 use Rattle.join.proofs.merge_record.Statement.{statement}

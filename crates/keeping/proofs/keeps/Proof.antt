@@ -6,8 +6,8 @@ use native.Mathlib.Omega.{arith}
 use mathlib.Core.Bool.{true}
 use borrow.Author.Needs.{needs}
 use borrow.Author.Tests.{not-true, not-false}
-use Rattle.record.proofs.Lists.{length-mapped}
-use Rattle.record.specs.Lists.{all, _within_}
+use Rattle.lists.proofs.Lists.{length-mapped}
+use Rattle.lists.specs.Lists.{all, _within_}
 use Rattle.record.specs.Record.{Record, written}
 use Rattle.record.specs.Stored.{stored, fillerEdit}
 use Rattle.indexes.specs.Fit.{Fit}

@@ -6,7 +6,7 @@ use lib.ListN.{length}
 use native.Mathlib.Omega.{arith}
 use borrow.Author.Needs.{needs}
 use borrow.Author.Tests.{leb-false, not-true, not-false}
-use Rattle.record.proofs.Lists.{is-by}
+use Rattle.lists.proofs.Lists.{is-by}
 use Rattle.ground.specs.Ground.{Rows}
 use Rattle.turner.specs.declared.Turner.{Turner}
 use Rattle.ledger.specs.declared.Bench.{Bench}

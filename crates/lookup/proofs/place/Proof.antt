@@ -4,7 +4,7 @@ use mathlib.Core.Path.{_≡_}
 use lib.ListN.{length}
 use native.Mathlib.Omega.{arith}
 use mathlib.Core.Bool.{true}
-use Rattle.record.specs.Lists.{ascending}
+use Rattle.lists.specs.Lists.{ascending}
 use Rattle.lookup.proofs.Places.{Between, between-start, between-low, between-high, middle-below, found-none, found-other, found-here}
 use borrow.Author.Needs.{needs, scaled-fits}
 use Rattle.lookup.proofs.place.Statement.{statement}

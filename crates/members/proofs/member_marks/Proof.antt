@@ -3,7 +3,7 @@ use mathlib.Core.Path.{ap, _∙_}
 use mathlib.Core.List.{[]}
 use native.Mathlib.Omega.{arith}
 use borrow.Author.Needs.{needs}
-use Rattle.record.proofs.Lists.{nil-within}
+use Rattle.lists.proofs.Lists.{nil-within}
 use Rattle.record.specs.Record.{names, written}
 use Rattle.links.specs.Marks.{placeIn}
 use Rattle.links.proofs.Marks.{none-marked}

@@ -3,8 +3,8 @@ use Prim.Native.Nat.{ℕ, _-_, _≤_}
 use mathlib.Core.Path.{_≡_}
 use lib.ListN.{length, getD, take}
 use native.Mathlib.Omega.{arith}
-use Rattle.record.proofs.Lists.{length-mapped}
-use Rattle.record.specs.Lists.{sift}
+use Rattle.lists.proofs.Lists.{length-mapped}
+use Rattle.lists.specs.Lists.{sift}
 use Rattle.record.specs.Record.{Record, names}
 use Rattle.record.specs.Stored.{fillerConstraint}
 use Rattle.links.specs.Marks.{placeIn}

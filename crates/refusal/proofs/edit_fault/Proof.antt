@@ -4,7 +4,7 @@ use mathlib.Core.Path.{_≡_, refl, sym, _∙_}
 use lib.ListN.{length, take}
 use native.Mathlib.Omega.{arith}
 use borrow.Author.Tests.{not-true, not-false}
-use Rattle.record.proofs.Lists.{length-mapped}
+use Rattle.lists.proofs.Lists.{length-mapped}
 use Rattle.ground.proofs.Walks.{bounds}
 use Rattle.ground.proofs.Loop.{State, state-start, state-end, state-outside, state-late, state-goes, state-stops, later-zero, late-zero}
 use Rattle.table.proofs.Elements.{editElements, edit-rows-ascend}

@@ -1,7 +1,7 @@
 -- `roll::empty_roll` meets its contract. Assumes nothing.
 use borrow.Author.Needs.{needs}
 use Rattle.record.specs.Stored.{padded}
-use Rattle.record.specs.Lists.{all, distinct}
+use Rattle.lists.specs.Lists.{all, distinct}
 use Rattle.roll.specs.Roll.{rollFaulty, rollOf}
 use Rattle.roll.proofs.empty_roll.Statement.{statement}
 use Rattle.roll.proofs.empty_roll.Tie as tie

@@ -2,7 +2,7 @@
 use Prim.Native.Nat.{_-_, _≤_}
 use mathlib.Core.Path.{_≡_, refl, sym, _∙_}
 use lib.ListN.{length, take, drop}
-use Rattle.keyed.specs.Keyed.{precedes}
+use Rattle.lists.specs.Keyed.{precedes}
 use Rattle.row.proofs.Compared.{less-here, less-not, less-more, less-end}
 use borrow.Author.Needs.{needs}
 use Rattle.row.proofs.below.Statement.{statement}

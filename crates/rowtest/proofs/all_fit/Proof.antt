@@ -10,7 +10,7 @@ use Rattle.rowtest.proofs.all_fit.Statement.{statement}
 use Rattle.rowtest.specs.Seats.{Indexed, Seated}
 use Rattle.indexes.specs.Fit.{Fit}
 use Rattle.record.specs.Judgement.{fits}
-use Rattle.record.specs.Lists.{all}
+use Rattle.lists.specs.Lists.{all}
 use Rattle.record.specs.Record.{Record}
 use Rattle.record.specs.Stored.{stored}
 use Rattle.rowtest.proofs.Fitting.{left-seat, right-seat, fitting-step, fitting-stop, fitting-end}

@@ -9,8 +9,8 @@ use Rattle.rowtest.specs.Seats.{Indexed}
 use Rattle.rowtest.proofs.Seating.{Seating, seating-start, unknown-not, repeated-not, seating-step, seating-end, index-unknown, index-known}
 use Rattle.indexes.specs.Fit.{Fit}
 use Rattle.record.specs.Record.{Record}
-use Rattle.record.specs.Lists.{at}
-use Rattle.record.proofs.Lists.{clash}
+use Rattle.lists.specs.Lists.{at}
+use Rattle.lists.proofs.Lists.{clash}
 use Rattle.rowtest.proofs.seat_row.Tie as tie
 
 abbrev Inv-loop : tie.InvT-loop

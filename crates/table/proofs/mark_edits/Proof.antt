@@ -6,7 +6,7 @@ use lib.ListN.{length, take}
 use native.Mathlib.Omega.{arith}
 use mathlib.Core.Bool.{true}
 use lib.Seq.{length-take-le}
-use Rattle.record.specs.Lists.{all}
+use Rattle.lists.specs.Lists.{all}
 use Rattle.record.specs.Record.{nameOf}
 use Rattle.row.specs.Row.{editInRange, editRow}
 use Rattle.table.specs.Checked.{Marked}

@@ -5,7 +5,7 @@ use mathlib.Core.List.{[]}
 use lib.ListN.{length, take}
 use native.Mathlib.Omega.{arith}
 use mathlib.Core.Bool.{true}
-use Rattle.record.specs.Lists.{all}
+use Rattle.lists.specs.Lists.{all}
 use Rattle.row.specs.Row.{cell, editInRange}
 use Rattle.table.specs.Table.{namesOf}
 use Rattle.table.specs.Checked.{Marked}

@@ -5,7 +5,7 @@ use Prim.Native.Nat.{_+_, _-_, _≤_}
 use native.Mathlib.Omega.{arith}
 use lib.ListN.{length, getD, take, drop}
 use borrow.Author.Needs.{needs}
-use Rattle.record.proofs.Lists.{length-mapped}
+use Rattle.lists.proofs.Lists.{length-mapped}
 use Rattle.record.specs.Stored.{stored}
 use Rattle.record.specs.Record.{Record}
 use Rattle.vote.specs.Tally.{Ballot}

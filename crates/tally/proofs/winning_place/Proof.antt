@@ -6,7 +6,7 @@ use native.Mathlib.Omega.{arith}
 use lib.Dec.{ltb}
 use lib.ListN.{length, getD}
 use borrow.Author.Needs.{needs}
-use Rattle.record.proofs.Lists.{length-mapped}
+use Rattle.lists.proofs.Lists.{length-mapped}
 use Rattle.tally.specs.Groups.{fillerGroup}
 use Rattle.tally.proofs.Winners.{winning-hit, winning-miss, winning-end}
 use Rattle.tally.proofs.winning_place.Statement.{statement}

@@ -1,7 +1,7 @@
 -- `unite::union` meets its contract. Assumes nothing.
 use mathlib.Core.Path.{_≡_}
 use lib.ListN.{length}
-use Rattle.record.proofs.Lists.{length-mapped}
+use Rattle.lists.proofs.Lists.{length-mapped}
 use Rattle.unite.proofs.Records.{uniting}
 use borrow.Author.Needs.{needs}
 use Rattle.unite.proofs.union.Statement.{statement}

@@ -1,6 +1,6 @@
 -- `unity_table::nothing_summed` meets its contract. Assumes nothing.
 use mathlib.Core.Path.{refl}
-use Rattle.record.specs.Lists.{sift}
+use Rattle.lists.specs.Lists.{sift}
 use Rattle.fraction.specs.Fraction.{commonDenominator, numeratorOver, sumOf, leastFraction, greatestFraction}
 use Rattle.unity_table.specs.Unity.{shares, decidingFault, countBy}
 use Rattle.unity_table.specs.Summed.{summed, summedOf}

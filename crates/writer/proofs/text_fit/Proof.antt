@@ -1,5 +1,5 @@
 -- `writer::text_fit` meets its contract. Assumes nothing.
-use Rattle.record.proofs.Lists.{length-mapped}
+use Rattle.lists.proofs.Lists.{length-mapped}
 use Rattle.writer.proofs.Texts.{text-fit-none, text-fit-both}
 use borrow.Author.Tests.{not-true, not-false}
 use mathlib.Core.Path.{_≡_}

@@ -1,5 +1,5 @@
 -- `writer::write_rows` meets its contract. Assumes nothing.
-use Rattle.record.proofs.Lists.{length-mapped}
+use Rattle.lists.proofs.Lists.{length-mapped}
 use Rattle.writer.proofs.Texts.{edits-fit, edits-inside, constraints-fit, both-at, both-written}
 use mathlib.Core.Path.{_≡_}
 use lib.ListN.{length}

@@ -1,3 +1,4 @@
+pub mod Lists
 pub mod Logic
 pub mod Order
 pub mod Union

@@ -8,8 +8,8 @@ use native.Mathlib.Omega.{arith}
 use borrow.Author.Tests.{ltb-true, ltb-false, lt-ltb, le-ltb}
 use lib.Dec.{ltb}
 use lib.ListN.{length}
-use Rattle.record.proofs.Lists.{by, clash}
-use Rattle.keyed.specs.Keyed.{precedes}
+use Rattle.lists.proofs.Lists.{by, clash}
+use Rattle.lists.specs.Keyed.{precedes}
 
 none-less : (b : List ℕ) → precedes [] b ≡ true → ⊥
 unfolding precedes

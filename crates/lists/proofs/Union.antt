@@ -7,11 +7,11 @@ use Prim.Native.Nat.{ℕ, suc, _≤_}
 use native.Mathlib.Omega.{arith}
 use lib.ListN.{length}
 use borrow.Author.Tests.{not-false}
-use Rattle.record.proofs.Lists.{by, clash, or-no-l, or-no-r}
-use Rattle.record.specs.Lists.{any}
-use Rattle.keyed.specs.Keyed.{precedes, Below, Ascending, inserted, united}
-use Rattle.keyed.proofs.Logic.{Has, any-append, any-none, any-no}
-use Rattle.keyed.proofs.Order.{less-irrefl, less-trans, less-total}
+use Rattle.lists.proofs.Lists.{by, clash, or-no-l, or-no-r}
+use Rattle.lists.specs.Lists.{any}
+use Rattle.lists.specs.Keyed.{precedes, Below, Ascending, inserted, united}
+use Rattle.lists.proofs.Logic.{Has, any-append, any-none, any-no}
+use Rattle.lists.proofs.Order.{less-irrefl, less-trans, less-total}
 
 module _ {A : Type 0} (key : A → List ℕ) where
   pub below-trans : (x y : A) (t : List A) → precedes (key x) (key y) ≡ true → Below key y t → Below key x t

@@ -6,8 +6,8 @@ use mathlib.Core.List.{List, [], _∷_, _++_, map}
 use Prim.Native.Nat.{ℕ, zero, suc, _<_}
 use native.Mathlib.Omega.{arith}
 use lib.ListN.{length, getD}
-use Rattle.record.specs.Lists.{any, all}
-use Rattle.record.proofs.Lists.{by, clash, or-no-l, or-no-r, and-l, and-r}
+use Rattle.lists.specs.Lists.{any, all}
+use Rattle.lists.proofs.Lists.{by, clash, or-no-l, or-no-r, and-l, and-r}
 
 -- membership: the library's List·Memᴰ as a type that computes
 abbrev pub Has : {A : Type 0} → A → List A → Type 0
