@@ -1,7 +1,6 @@
 // Printing of answers.
 use lent::Judgement;
 use libc::STDOUT_FILENO;
-ghost use Prim.Native.Nat.{_≤_};
 
 pub fn text(bytes: &[u8]) {
     io::write_all(STDOUT_FILENO, bytes);
@@ -67,37 +66,9 @@ pub fn refusal(label: &[u8], edits: &[[u32; 5]], constraints: &[[u32; 3]]) {
     text(b"\n");
 }
 
-fn least(a: usize, b: usize) -> usize
-    ensures { λ r. ⌜ r ≤ b ⌝ }
-{
-    if a < b { a } else { b }
-}
-
-// The same of the first n edits and m constraints.
-pub fn judged(label: &[u8], edits: [[u32; 5]; 3], n: usize, constraints: [[u32; 3]; 6], m: usize) {
-    let few = least(n, 3);
-    let rules = least(m, 6);
-    judgement(label, &edits[0..few], &constraints[0..rules]);
-}
-
-pub fn refused(label: &[u8], edits: [[u32; 5]; 3], n: usize, constraints: [[u32; 3]; 6], m: usize) {
-    let few = least(n, 3);
-    let rules = least(m, 6);
-    refusal(label, &edits[0..few], &constraints[0..rules]);
-}
-
-// Whether the first k names are a sound schedule of a lent record.
-pub fn row(
-    label: &[u8],
-    edits: [[u32; 5]; 3],
-    constraints: [[u32; 3]; 6],
-    m: usize,
-    names: [u32; 4],
-    k: usize,
-) {
-    let rules = least(m, 6);
-    let long = least(k, 4);
-    let answer = lent::test_row(&edits[0..3], &constraints[0..rules], &names[0..long]);
+// Whether the names are a sound schedule of a lent record.
+pub fn row(label: &[u8], edits: &[[u32; 5]], constraints: &[[u32; 3]], names: &[u32]) {
+    let answer = lent::test_row(edits, constraints, names);
     text(label);
     number(b": number=", wide(answer.number));
     number(b" sound=", bit(answer.sound));

@@ -1,22 +1,9 @@
 // Document 01, "Proposals and votes" and "What is turned away", run with a roll that is lent: P9, each fault of a roll, and adoptions on a bench.
+use crate::print;
 use ledger::Bench;
 use ledger::Outcome;
-use libc::STDOUT_FILENO;
 use vote::Election;
 use vote::RollRow;
-
-fn tell(label: &[u8], n: u64) {
-    io::write_all(STDOUT_FILENO, label);
-    io::print_decimal(STDOUT_FILENO, n);
-}
-
-fn bit(b: bool) -> u64 {
-    if b { 1 } else { 0 }
-}
-
-fn wide(n: u32) -> u64 {
-    n as u64
-}
 
 fn row(bench: u8, weight: u16) -> RollRow {
     RollRow {
@@ -41,13 +28,13 @@ fn rows(first: RollRow, second: RollRow, third: RollRow) -> [RollRow; 9] {
 }
 
 fn told(label: &[u8], answer: Election) {
-    io::write_all(STDOUT_FILENO, label);
-    tell(b": number=", wide(answer.number));
-    tell(b" won=", bit(answer.won));
-    tell(b" greatest=", wide(answer.greatest));
-    tell(b" silent=", wide(answer.silent));
-    tell(b" total=", wide(answer.total));
-    io::write_all(STDOUT_FILENO, b"\n");
+    print::text(label);
+    print::number(b": number=", print::wide(answer.number));
+    print::number(b" won=", print::bit(answer.won));
+    print::number(b" greatest=", print::wide(answer.greatest));
+    print::number(b" silent=", print::wide(answer.silent));
+    print::number(b" total=", print::wide(answer.total));
+    print::text(b"\n");
 }
 
 // Bench 1 inserts the chip at place 5, bench 2 at place 6; bench 3 has bench 1's edit with a decision of its own.
@@ -111,16 +98,16 @@ fn adopted(label: &[u8], outcome: Outcome) -> Bench {
     let answer = outcome.answer;
     let bench = outcome.bench;
     let turner = bench.turner;
-    io::write_all(STDOUT_FILENO, label);
-    tell(b": number=", wide(answer.number));
-    tell(b" undone=", answer.undone as u64);
-    tell(b" redone=", answer.redone as u64);
-    tell(b" won=", bit(answer.won));
-    tell(b" greatest=", wide(answer.greatest));
-    tell(b" total=", wide(answer.total));
-    tell(b" open=", turner.opened as u64);
-    tell(b" last=", turner.last as u64);
-    io::write_all(STDOUT_FILENO, b"\n");
+    print::text(label);
+    print::number(b": number=", print::wide(answer.number));
+    print::number(b" undone=", answer.undone as u64);
+    print::number(b" redone=", answer.redone as u64);
+    print::number(b" won=", print::bit(answer.won));
+    print::number(b" greatest=", print::wide(answer.greatest));
+    print::number(b" total=", print::wide(answer.total));
+    print::number(b" open=", turner.opened as u64);
+    print::number(b" last=", turner.last as u64);
+    print::text(b"\n");
     bench
 }
 
@@ -165,7 +152,7 @@ fn adoptions() {
     let _ = adopted(b"turn 1", bench::turn(b, 1));
 }
 
-fn main() {
+pub fn all() {
     p9();
     counts();
     faults();

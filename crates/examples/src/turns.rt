@@ -1,55 +1,42 @@
 // Document 01, "Entries and pages", run: P10 with both ends of a turn, a turn back over a remove, a set on an absent entry, an insert on a
 // present one, and a change.
+use crate::print;
 use catalogue::Catalogue;
 use catalogue::Changed;
-use libc::STDOUT_FILENO;
 use record::Body;
 use record::Edit;
 use record::Field;
 use record::Schedule;
-
-fn tell(label: &[u8], n: u64) {
-    io::write_all(STDOUT_FILENO, label);
-    io::print_decimal(STDOUT_FILENO, n);
-}
-
-fn bit(b: bool) -> u64 {
-    if b { 1 } else { 0 }
-}
-
-fn wide(n: u32) -> u64 {
-    n as u64
-}
 
 // A turn at page 3 of three pages.
 fn tell_turn(label: &[u8], by: i32) {
     let answer = turner::turn_answer(3, turner::turn_step(3, 3, by));
     let number = answer.number;
     let page = answer.opened;
-    io::write_all(STDOUT_FILENO, label);
-    tell(b"number=", wide(number as u32));
-    tell(b" page=", page as u64);
-    io::write_all(STDOUT_FILENO, b"\n");
+    print::text(label);
+    print::number(b"number=", print::wide(number as u32));
+    print::number(b" page=", page as u64);
+    print::text(b"\n");
 }
 
 // The entry at place 5 and its size.
 fn tell_entry(label: &[u8], catalogue: Catalogue) {
     let entry = catalogue.entries[5];
     let size = entry.cells[1];
-    io::write_all(STDOUT_FILENO, label);
-    tell(b"present=", bit(entry.present));
-    tell(b" filled=", bit(size.filled));
-    tell(b" size=", wide(size.value));
-    io::write_all(STDOUT_FILENO, b"\n");
+    print::text(label);
+    print::number(b"present=", print::bit(entry.present));
+    print::number(b" filled=", print::bit(size.filled));
+    print::number(b" size=", print::wide(size.value));
+    print::text(b"\n");
 }
 
 fn tell_change(label: &[u8], changed: Changed) {
     let undone = changed.undone;
     let redone = changed.redone;
-    io::write_all(STDOUT_FILENO, label);
-    tell(b"undone=", undone as u64);
-    tell(b" redone=", redone as u64);
-    io::write_all(STDOUT_FILENO, b"\n");
+    print::text(label);
+    print::number(b"undone=", undone as u64);
+    print::number(b" redone=", redone as u64);
+    print::text(b"\n");
 }
 
 fn insert() -> Edit {
@@ -85,7 +72,7 @@ fn three(third: Edit) -> Schedule {
     Schedule { edits, count: 3 }
 }
 
-fn main() {
+pub fn all() {
     tell_turn(b"turn -3: ", -3);
     tell_turn(b"turn -4: ", -4);
     tell_turn(b"turn +1: ", 1);

@@ -1,9 +1,9 @@
 // Document 01, "Text" and "What is turned away", run: what is printed of small texts, the specimens P1 to P7 and one text for each fault
 // among them, and the writer at a place.
-use libc::STDOUT_FILENO;
+use crate::print;
 
 fn tell(label: &[u8], text: &[u8]) {
-    io::write_all(STDOUT_FILENO, label);
+    print::text(label);
     console::show(text);
 }
 
@@ -114,11 +114,10 @@ fn tell_written(label: &[u8], text: &[u8], at: usize) {
     let mut out = [b'.'; 40];
     let written = writer::write_text(content, &mut out, at);
     let end = written.end;
-    io::write_all(STDOUT_FILENO, label);
-    io::print_decimal(STDOUT_FILENO, end as u64);
-    io::write_all(STDOUT_FILENO, b" ");
-    io::write_all(STDOUT_FILENO, &out);
-    io::write_all(STDOUT_FILENO, b"\n");
+    print::number(label, end as u64);
+    print::text(b" ");
+    print::text(&out);
+    print::text(b"\n");
 }
 
 fn places() {
@@ -129,7 +128,7 @@ fn places() {
     tell_written(b"nothing at 41: ", b"", 41);
 }
 
-fn main() {
+pub fn all() {
     specimens();
     faults_of_form();
     faults_of_rows();
