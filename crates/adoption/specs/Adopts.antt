@@ -1,4 +1,4 @@
--- The promise of an adoption after its count (document 01, "Proposals and votes" and "Entries and pages"). Assumes nothing.
+-- Inner: the promise of an adoption after its count (document 01, "Proposals and votes" and "Entries and pages"). Assumes nothing.
 use mathlib.Core.Path.{_≡_}
 use mathlib.Core.List.{List}
 use mathlib.Core.Option.{some}

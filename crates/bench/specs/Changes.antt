@@ -1,4 +1,4 @@
--- What the calls' code shares (document 01, "Entries and pages"): a refusal, a page opened, and the promise of a change. Assumes nothing.
+-- Inner: what the calls' code shares (document 01, "Entries and pages"): a refusal, a page opened, and the promise of a change. Assumes nothing.
 use mathlib.Core.Path.{_≡_}
 use mathlib.Core.Bool.{true, false}
 use mathlib.Core.List.{List, map}

@@ -1,4 +1,4 @@
--- Document 01, "Entries and pages": what a turn and a change promise of the view, for every row of edits. Assumes nothing.
+-- Inner: document 01, "Entries and pages": what a turn and a change promise of the view, for every row of edits. Assumes nothing.
 use mathlib.Core.Path.{_≡_}
 use mathlib.Core.List.{List, map}
 use Prim.Native.Nat.{ℕ, _-_, _≤_}

@@ -1,4 +1,4 @@
--- What is read of the schedule while decisions and orders are made. Inner: what they are says the crate proposal. Assumes nothing.
+-- Inner: what is read of the schedule while decisions and orders are made; what they are says the crate proposal. Assumes nothing.
 use mathlib.Core.Path.{_≡_}
 use mathlib.Core.Bool.{cond}
 use mathlib.Core.List.{List, [], _∷_}

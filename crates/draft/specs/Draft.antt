@@ -1,4 +1,4 @@
--- What is read of the old proposal while the rows "b notafter a" are made. Inner: what the rows are says the crate proposal. Assumes nothing.
+-- Inner: what is read of the old proposal while the rows "b notafter a" are made; what the rows are says the crate proposal. Assumes nothing.
 use mathlib.Core.Path.{_≡_}
 use mathlib.Core.List.{List}
 use Prim.Native.Nat.{ℕ}

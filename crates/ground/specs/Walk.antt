@@ -1,4 +1,4 @@
--- The walk that checks a lent table against an ascending one, step by step. Inner: no ground speaks of it. Assumes nothing.
+-- Inner: the walk that checks a lent table against an ascending one, step by step; no ground speaks of it. Assumes nothing.
 use mathlib.Core.Path.{_≡_}
 use mathlib.Core.Bool.{Bool, true, false, cond, not, _&&_}
 use mathlib.Core.List.{[]}

@@ -1,4 +1,4 @@
--- The index of an edit, and marks by name, between the marks by index of two records. Assumes nothing.
+-- Inner: the index of an edit, and marks by name, between the marks by index of two records. Assumes nothing.
 use mathlib.Core.Path.{_≡_}
 use mathlib.Core.Bool.{Bool, _&&_, cond}
 use mathlib.Core.List.{List}

@@ -1,4 +1,4 @@
--- Document 01, "The record": what a judgement asks of a record: it is within the limits, and no row of its tables has a fault. Assumes nothing.
+-- Inner: document 01, "The record": what a judgement asks of a record: it is within the limits, and no row of its tables has a fault. Assumes nothing.
 use mathlib.Core.Path.{_≡_}
 use mathlib.Core.Bool.{true}
 use Prim.Native.Nat.{ℕ, _≤_, _<_}

@@ -1,4 +1,4 @@
--- Document 01, "What is turned away", number 3: a record's table of constraints that rows join one by one, until one has no place left. Assumes nothing.
+-- Inner: document 01, "What is turned away", number 3: a record's table of constraints that rows join one by one, until one has no place left. Assumes nothing.
 use mathlib.Core.Bool.{true, false, cond}
 use mathlib.Core.List.{List, _∷_, _++_}
 use mathlib.Core.Path.{_≡_}

@@ -1,4 +1,4 @@
--- Document 01, "What is turned away": the answer to rows that join a record, a number and the record afterwards. Assumes nothing.
+-- Inner: document 01, "What is turned away": the answer to rows that join a record, a number and the record afterwards. Assumes nothing.
 use mathlib.Core.Bool.{cond}
 use Prim.Native.Nat.{ℕ}
 use lib.Dec.{eqb}

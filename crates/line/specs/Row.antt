@@ -1,4 +1,4 @@
--- Document 01, "Text": the rows that have a line of their own. Names and places have ranges besides. Assumes nothing.
+-- Inner: document 01, "Text": the rows that have a line of their own. Names and places have ranges besides. Assumes nothing.
 use Prim.Native.Nat.{ℕ}
 use mathlib.Core.Bool.{Bool, _&&_, _||_}
 use mathlib.Core.List.{List}

@@ -1,4 +1,4 @@
--- A log that is run in part. Assumes nothing.
+-- Inner: a log that is run in part. Assumes nothing.
 use mathlib.Core.Path.{_≡_}
 use mathlib.Core.List.{List}
 use Prim.Native.Nat.{ℕ, _+_, _-_, _≤_, _<_}

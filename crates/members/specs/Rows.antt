@@ -1,4 +1,4 @@
--- Document 01, "Proposals and votes": the rows by which the members of a bundle are found, by index. A row's key is the index that it leads to; 128,
+-- Inner: document 01, "Proposals and votes": the rows by which the members of a bundle are found, by index. A row's key is the index that it leads to; 128,
 -- no edit's index, stands for no row. Assumes nothing.
 use mathlib.Core.Bool.{Bool, not, _&&_, cond}
 use Prim.Native.Nat.{ℕ, zero, suc}

@@ -1,4 +1,4 @@
--- What the calls that bring in rows share (document 01, "Entries and pages" and "What is turned away"): the number of the rows, then 8, then a change.
+-- Inner: what the calls that bring in rows share (document 01, "Entries and pages" and "What is turned away"): the number of the rows, then 8, then a change.
 -- Assumes nothing.
 use mathlib.Core.Path.{_≡_}
 use mathlib.Core.Bool.{cond}

@@ -1,4 +1,4 @@
--- The rows of a text as the reader holds them while it goes on. Inner: Text.antt says what is read. Assumes nothing.
+-- Inner: the rows of a text as the reader holds them while it goes on; Text.antt says what is read. Assumes nothing.
 use mathlib.Core.Path.{_≡_}
 use mathlib.Core.Bool.{Bool, true, false, not}
 use mathlib.Core.List.{List, []}

@@ -1,4 +1,4 @@
--- The numbers of the report's lines as the code takes them out of a judgement. Inner: Report.antt says what is printed. Assumes nothing.
+-- Inner: the numbers of the report's lines as the code takes them out of a judgement; Report.antt says what is printed. Assumes nothing.
 use mathlib.Core.List.{List, [], _∷_}
 use Prim.Native.Nat.{ℕ, suc}
 use lib.ListN.{getD}

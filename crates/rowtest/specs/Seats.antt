@@ -1,4 +1,4 @@
--- Document 01, "A row of names is a sound schedule": the place of each edit in the row that is tested. Assumes nothing.
+-- Inner: document 01, "A row of names is a sound schedule": the place of each edit in the row that is tested. Assumes nothing.
 use mathlib.Core.Path.{_≡_}
 use mathlib.Core.Bool.{Bool, true, _&&_, cond}
 use mathlib.Core.List.{List}

@@ -1,4 +1,4 @@
--- How two stored tables are united, element by element. Inner: what a union is says the crate table. Assumes nothing.
+-- Inner: how two stored tables are united, element by element; what a union is says the crate table. Assumes nothing.
 use mathlib.Core.Bool.{Bool, true, false}
 use mathlib.Core.List.{List}
 use Prim.Native.Nat.{ℕ, _≤_}

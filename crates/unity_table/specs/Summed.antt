@@ -1,4 +1,4 @@
--- The answers so far as the code holds them, one by one. Inner: Unity.antt says what is answered. Assumes nothing.
+-- Inner: the answers so far as the code holds them, one by one; Unity.antt says what is answered. Assumes nothing.
 use mathlib.Core.Path.{_≡_}
 use mathlib.Core.Bool.{Bool, false, cond, _&&_, _||_}
 use mathlib.Core.List.{List, [], _∷_, _++_}

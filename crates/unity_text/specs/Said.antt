@@ -1,4 +1,4 @@
--- What the code keeps of a line: numbers that do not fit 32 bits are cut off at 2^32. Inner: Text.antt says what a line says. Assumes nothing.
+-- Inner: what the code keeps of a line: numbers that do not fit 32 bits are cut off at 2^32; Text.antt says what a line says. Assumes nothing.
 use mathlib.Core.List.{List}
 use mathlib.Core.Option.{Option}
 use Prim.Native.Nat.{ℕ}
