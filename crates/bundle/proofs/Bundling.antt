@@ -23,8 +23,7 @@ use Rattle.vote.specs.Bundle.{members, between, bundle}
 use Rattle.bundle.specs.Bundles.{siftedEdits, siftedConstraints}
 use Rattle.indexes.specs.Fit.{Fit}
 use Rattle.indexes.proofs.Tables.{name-at, edit-count, constraint-count, constraint-at, length-names}
-use Rattle.indexes.proofs.Resolving.{has-at}
-use Rattle.members.proofs.Rowing.{left-known, right-known}
+use Rattle.indexes.proofs.Resolving.{has-at, left-known, right-known}
 
 bit-is : (b : Bool) → eqb (cond b 1 0) 1 ≡ b
 bit-is true = refl
@@ -63,7 +62,7 @@ module _ (r : declared.Record) (R : Record) (q : r ≡ stored R) (f : Fit R) (e 
   ends-known k h =
       let l : k < length (R .constraints) = omega (arith, constraint-count r R q) in
       let s = has-at (R .constraints) k fillerConstraint l in
-      rw (constraint-at r R q k fillerConstraint l) (left-known R f _ _ _ s, right-known R f _ _ _ s)
+      rw (constraint-at r R q k fillerConstraint l) (left-known (f .formed) _ _ _ s, right-known (f .formed) _ _ _ s)
 
   pub bundle-is : (a : List Edit) (n : ℕ) (b : List Constraint) (m : ℕ) → record { rows = a; count = n } ≡ siftedEdits (sift (λ x. mem (x .name) (members R e)) (take (r .editcount) (r .edits)))
       → record { rows = b; count = m } ≡ siftedConstraints (sift (λ c. between (members R e) (c .left) (c .right)) (take (r .constraintcount) (r .constraints)))

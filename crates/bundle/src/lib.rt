@@ -1,4 +1,5 @@
 // Bundles (document 01, "Proposals and votes"): the bundle of an edit, whether it is eligible, and both asked of a lent record.
+use links::ROWS;
 use record::Constraint;
 use record::Edit;
 use record::Record;
@@ -104,17 +105,10 @@ fn sift_constraints(
 
 // The bundle of an edit that the record knows, by the table of the record's names and the rows of what leads to a member: they are made once for many
 // edits. Pub for `keeping`, which makes both.
-pub fn bundle_by(
-    multilog: Record,
-    table: &[u8; 2304],
-    head: &[u16; 384],
-    link: &[u16; 1024],
-    left: &[u8; 1024],
-    name: u16,
-) -> Record
-    requires { ⌜ (length (now table) ≡ 2304) × ((x : ℕ) → getD (now table) x 0 < 128) × Safe (now head) (now link) (now left) ⌝ }
+pub fn bundle_by(multilog: Record, table: &[u8; 2304], rows: &[u16; ROWS], name: u16) -> Record
+    requires { ⌜ (length (now table) ≡ 2304) × ((x : ℕ) → getD (now table) x 0 < 128) × Safe (now rows) ⌝ }
     ensures { λ r. ⌜ ((R : theory.Record) → multilog ≡ stored R → Fit R → ((x : ℕ) → getD (now (table .entry)) x 0 ≡ placeIn (theory.names R) x)
-        → Leads (leadsIn R) R 0 (now (head .entry)) (now (link .entry)) (now (left .entry)) → name among theory.written R → r ≡ stored (vote.bundle R name)) ⌝ }
+        → Leads (leadsIn R) R 0 (now (rows .entry)) → name among theory.written R → r ≡ stored (vote.bundle R name)) ⌝ }
 {
     let n = multilog.editcount;
     let m = multilog.constraintcount;
@@ -124,7 +118,7 @@ pub fn bundle_by(
     if 512 < m {
         return record::empty();
     }
-    let marks = members::member_marks(table, head, link, left, name);
+    let marks = members::member_marks(table, rows, name);
     let edits = multilog.edits;
     let constraints = multilog.constraints;
     let kept = sift_edits(edits, n, &marks);
@@ -145,10 +139,7 @@ pub fn bundle(multilog: Record, name: u16) -> Record
 {
     let table = indexes::index_table(multilog);
     let rows = members::member_rows(multilog, &table);
-    let head = rows.head;
-    let link = rows.link;
-    let left = rows.left;
-    bundle_by(multilog, &table, &head, &link, &left, name)
+    bundle_by(multilog, &table, &rows, name)
 }
 
 // Whether the edits at indexes 1 to n - 1 are marked.

@@ -29,12 +29,9 @@ fn pages(multilog: Record) -> [u8; 128]
 {
     let n = indexes::name_count(multilog);
     let rows = indexes::resolved(multilog);
-    let head = rows.head;
-    let link = rows.link;
-    let left = rows.left;
-    let mustmarks = marks::must_marks(&head, &link, &left);
+    let mustmarks = marks::must_marks(&rows);
     let hidden = [0u8; 128];
-    let row = schedules::schedule_row(n, &head, &link, &left, mustmarks, &hidden);
+    let row = schedules::schedule_row(n, &rows, mustmarks, &hidden);
     schedules::page_values(row)
 }
 

@@ -1,24 +1,23 @@
 -- The linked rows of a record's constraints are those of its three rules. Assumes nothing.
 use mathlib.Core.Path.{_≡_, refl, sym, ap, _∙_}
-use mathlib.Core.Bool.{true, false, _||_}
-use mathlib.Core.Logic.{_⊎_, inl, inr}
+use mathlib.Core.Bool.{true}
+use mathlib.Core.Logic.{inl, inr}
 use mathlib.Core.List.{List, [], _∷_, map}
-use Prim.Native.Nat.{ℕ, zero, suc, _+_, _-_, _*_, _≤_, _<_}
+use Prim.Native.Nat.{ℕ, zero, suc, _+_, _*_, _<_}
 use native.Mathlib.Omega.{arith}
-use lib.ListN.{length, getD, set, replicate}
-use lib.Seq.{getD-set-same, getD-set-other}
+use lib.ListN.{length, getD}
 use Rattle.record.specs.declared.Constraint.{Constraint}
 use Rattle.record.specs.declared.Record as declared
-use Rattle.lists.specs.Lists.{any, mem, at, _among_}
-use Rattle.record.specs.Record.{Record, names, written, is, has, WellFormed}
+use Rattle.lists.specs.Lists.{any, at, _among_}
+use Rattle.record.specs.Record.{Record, names, is, has, WellFormed}
 use Rattle.record.specs.Stored.{fillerConstraint, stored}
-use Rattle.lists.proofs.Lists.{clash, is-by, or-by, mem-at, getD-mapped}
+use Rattle.lists.proofs.Lists.{clash, or-by, mem-at, getD-mapped}
 use Rattle.record.proofs.Records as records
 use Rattle.links.specs.Marks.{nameAt, placeIn}
-use Rattle.links.specs.Links.{Linked, Leads, RowOf}
+use Rattle.links.specs.Links.{leftAt, withRow, Leads}
 use Rattle.links.proofs.Names.{getD-place, ascending-distinct, place-known}
 use Rattle.links.proofs.Marks.{length-mapped}
-use Rattle.links.proofs.Links.{Linking, linking-start, linking-step, linking-end}
+use Rattle.links.proofs.Links.{Linking, linking-step, linking-end}
 use Rattle.marks.specs.Resolved.{Resolved}
 use Rattle.indexes.specs.Fit.{Fit}
 use Rattle.indexes.proofs.Tables.{names-few, constraint-at}
@@ -29,6 +28,13 @@ keyOf R c = c .rule * 128 + placeIn (names R) (c .right)
 
 unfoldable pub keysOf : Record → List ℕ
 keysOf R = map (keyOf R) (R .constraints)
+
+-- the index of its left end, and of all
+abbrev leftOf : Record → Constraint → ℕ
+leftOf R c = placeIn (names R) (c .left)
+
+unfoldable pub leftsOf : Record → List ℕ
+leftsOf R = map (leftOf R) (R .constraints)
 
 pub keys-length : (R : Record) → length (keysOf R) ≡ length (R .constraints)
 unfolding keysOf
@@ -61,29 +67,15 @@ module _ {R : Record} (w : WellFormed R) where
   pub right-known : (a k b : ℕ) → has a k b (R .constraints) ≡ true → b among names R
   right-known a k b h = elim (w .right a k b h) [ inl i ↦ records.written-names R b i | inr z ↦ rw (z .1) (records.init-known R) ]
 
--- the rows below j have their left index
-pub record Resolving (R : Record) (heads links lefts : List ℕ) (j : ℕ) : Type 0 where
-  pub linking : Linking (keysOf R) heads links j
-  pub lefts-at : (i : ℕ) → i < j → getD lefts i 0 ≡ placeIn (names R) (getD (R .constraints) i fillerConstraint .left)
+module _ (R : Record) (f : Fit R) (rows : List ℕ) (j : ℕ) (q : j ≡ length (R .constraints)) (g : Linking (keysOf R) (leftsOf R) rows j) where
+  left-at : (i : ℕ) → i < length (R .constraints) → leftAt rows i ≡ placeIn (names R) (getD (R .constraints) i fillerConstraint .left)
+  unfolding leftsOf
+  left-at i h = g .left i (omega arith) ∙ getD-mapped (leftOf R) (R .constraints) i fillerConstraint 0 h
 
-pub resolving-start : (R : Record) (lefts : List ℕ) → Resolving R (replicate 384 0) (replicate 1024 0) lefts 0
-resolving-start R lefts = record { linking = linking-start (keysOf R); lefts-at = λ i h. absurd (omega arith) }
-
-pub resolving-step : (R : Record) (heads links lefts : List ℕ) (j key v : ℕ) → length heads ≡ 384 → length links ≡ 1024 → length lefts ≡ 1024 → j < 1024
-    → j < length (R .constraints) → key < 384 → key ≡ keyOf R (getD (R .constraints) j fillerConstraint)
-    → v ≡ placeIn (names R) (getD (R .constraints) j fillerConstraint .left)
-    → Resolving R heads links lefts j → Resolving R (set heads key (j + 1)) (set links j (getD heads key 0)) (set lefts j v) (j + 1)
-resolving-step R heads links lefts j key v a b c l u k e q g = record {
-  linking = linking-step (keysOf R) heads links j key a b l k (keys-at R j fillerConstraint u ∙ sym e) (g .linking);
-  lefts-at = λ i h. is-by i j (λ z. rw (z, getD-set-same lefts j v 0 (omega arith)) q)
-      (λ z. rw (getD-set-other lefts j i v 0 z) (g .lefts-at i (omega (arith, z))));
-}
-
-module _ (R : Record) (f : Fit R) (heads links lefts : List ℕ) (j : ℕ) (q : j ≡ length (R .constraints)) (g : Resolving R heads links lefts j) where
   -- the row of a key: its rule, its right edit, its left edit
   record Row (i k y : ℕ) : Type 0 where
-    pub left : getD lefts i 0 < length (names R)
-    pub holds : has (nameAt R (getD lefts i 0)) k (nameAt R y) (R .constraints) ≡ true
+    pub left : leftAt rows i < length (names R)
+    pub holds : has (nameAt R (leftAt rows i)) k (nameAt R y) (R .constraints) ≡ true
 
   row-at : (i k y : ℕ) → i < length (keysOf R) → y < length (names R) → getD (keysOf R) i 0 ≡ k * 128 + y → Row i k y
   unfolding keyOf
@@ -99,19 +91,19 @@ module _ (R : Record) (f : Fit R) (heads links lefts : List ℕ) (j : ℕ) (q : 
       let n : y < 128 = omega (arith, names-few R f) in
       let rule-is : c .rule ≡ k = omega arith in
       let right-is : at (c .right) (names R) ≡ y = omega arith in
-      let left-is : getD lefts i 0 ≡ at (c .left) (names R) = g .lefts-at i (omega arith) ∙ place-known (c .left) (names R) a in
+      let left-is : leftAt rows i ≡ at (c .left) (names R) = left-at i u ∙ place-known (c .left) (names R) a in
       record {
         left = omega (arith, mem-at (c .left) (names R) a);
         holds = rw (left-is, getD-place (c .left) (names R) a, ← right-is, getD-place (c .right) (names R) b, ← rule-is) s;
       }
 
-  leads-rule : (k : ℕ) → Leads (λ a b. has a k b (R .constraints)) R (k * 128) heads links lefts
+  leads-rule : (k : ℕ) → Leads (λ a b. has a k b (R .constraints)) R (k * 128) rows
   unfolding keyOf
   leads-rule k = record {
     apart = ascending-distinct (names R) (f .ascends);
     few = names-few R f;
     keys = keysOf R;
-    linked = linking-end (keysOf R) heads links j (q ∙ sym (keys-length R)) (g .linking);
+    linked = linking-end (keysOf R) (leftsOf R) rows j (q ∙ sym (keys-length R)) g;
     known = λ i y h l e. row-at i k y h l e .left;
     holds = λ i y h l e. row-at i k y h l e .holds;
     row-of = λ a b h. at-has (R .constraints) fillerConstraint a k b h (λ i u x y z. record {
@@ -119,12 +111,12 @@ module _ (R : Record) (f : Fit R) (heads links lefts : List ℕ) (j : ℕ) (q : 
       low = omega (arith, keys-length R);
       left-known = left-known (f .formed) a k b h;
       right-known = right-known (f .formed) a k b h;
-      left = g .lefts-at i (omega arith) ∙ ap (placeIn (names R)) x ∙ place-known a (names R) (left-known (f .formed) a k b h);
+      left = left-at i u ∙ ap (placeIn (names R)) x ∙ place-known a (names R) (left-known (f .formed) a k b h);
       key = keys-at R i fillerConstraint u ∙ rw (y, z, place-known b (names R) (right-known (f .formed) a k b h));
     });
   }
 
-  pub resolving-end : Resolved R heads links lefts
+  pub resolving-end : Resolved R rows
   resolving-end = record { formed = f .formed; paired = f .paired; notafters = leads-rule 0; enablers = leads-rule 1; pairs = leads-rule 2 }
 
 pub getD-any : {A : Type 0} (l : List A) (i : ℕ) (d e : A) → i < length l → getD l i d ≡ getD l i e
@@ -133,7 +125,7 @@ getD-any (x ∷ l) zero d e h = refl
 getD-any (x ∷ l) (suc i) d e h = getD-any l i d e (omega arith)
 
 -- one turn of the loop that links the constraints: the row's key and its left index as the table gives them
-module _ (r : declared.Record) (table heads links lefts : List ℕ) (j : ℕ) (d : Constraint) (key right left : ℕ) (R : Record) (q : r ≡ stored R) (f : Fit R)
+module _ (r : declared.Record) (table rows : List ℕ) (j : ℕ) (d : Constraint) (key right left : ℕ) (R : Record) (q : r ≡ stored R) (f : Fit R)
     (t : (x : ℕ) → getD table x 0 ≡ placeIn (names R) x) (h : j < length (R .constraints)) (u : right ≡ getD table (getD (r .constraints) j d .right) 0)
     (v : left ≡ getD table (getD (r .constraints) j d .left) 0) (k : getD (r .constraints) j d .rule < 3 → key ≡ getD (r .constraints) j d .rule * 128 + right) where
   same : getD (r .constraints) j d ≡ getD (R .constraints) j fillerConstraint
@@ -145,7 +137,8 @@ module _ (r : declared.Record) (table heads links lefts : List ℕ) (j : ℕ) (d
       let low : getD (r .constraints) j d .rule < 3 = rw same (f .rules _ _ _ (has-at (R .constraints) j fillerConstraint h)) in
       k low ∙ rw (u, t (getD (r .constraints) j d .right), same)
 
-  pub turn-resolving : length heads ≡ 384 → length links ≡ 1024 → length lefts ≡ 1024 → j < 1024 → key < 384 → Resolving R heads links lefts j
-      → Resolving R (set heads key (j + 1)) (set links j (getD heads key 0)) (set lefts j left) (j + 1)
-  turn-resolving a b c l m g =
-      resolving-step R heads links lefts j key left a b c l h m key-is (v ∙ t (getD (r .constraints) j d .left) ∙ ap (λ e. placeIn (names R) (e .left)) same) g
+  pub turn-resolving : length rows ≡ 2432 → j < 1024 → key < 384 → Linking (keysOf R) (leftsOf R) rows j → Linking (keysOf R) (leftsOf R) (withRow rows j key left) (j + 1)
+  unfolding leftsOf
+  turn-resolving a l m =
+      linking-step (keysOf R) (leftsOf R) rows j key left a l m (keys-at R j fillerConstraint h ∙ sym key-is)
+      (getD-mapped (leftOf R) (R .constraints) j fillerConstraint 0 h ∙ sym (v ∙ t (getD (r .constraints) j d .left) ∙ ap (leftOf R) same))

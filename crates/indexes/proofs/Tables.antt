@@ -1,12 +1,10 @@
 -- What stands in a stored record, and the index of each name. Assumes nothing.
-use mathlib.Core.Path.{_≡_, refl, sym, ap, _∙_}
-use mathlib.Core.Bool.{true, false, cond}
-use mathlib.Core.List.{List, [], _∷_, _++_, map}
-use Prim.Native.Nat.{ℕ, zero, suc, min, _+_, _-_, _≤_, _<_}
+use mathlib.Core.Path.{_≡_, sym, ap, _∙_}
+use mathlib.Core.List.{List}
+use Prim.Native.Nat.{ℕ, suc, min, _+_, _-_, _≤_, _<_}
 use native.Mathlib.Omega.{arith}
 use native.Mathlib.Nat.{min-le-right, min-eq-left}
 use native.Mathlib.Numerals.{add-one}
-use lib.Dec.{eqb}
 use lib.ListN.{length, getD, take, set, replicate, length-set, List·getD-append}
 use lib.Seq.{getD-set-same, getD-set-other, take-suc, take-all, length-take-le}
 use borrow.Author.Tests.{eq-eqb, ne-eqb}
@@ -16,7 +14,7 @@ use Rattle.record.specs.declared.Record as declared
 use Rattle.lists.specs.Lists.{mem, at, _among_}
 use Rattle.record.specs.Record.{Record, nameOf, written, names}
 use Rattle.record.specs.Stored.{padded, fillerEdit, fillerConstraint, stored}
-use Rattle.lists.proofs.Lists.{by, is-by, getD-mapped}
+use Rattle.lists.proofs.Lists.{is-by, getD-mapped}
 use Rattle.links.specs.Marks.{nameAt, placeIn}
 use Rattle.links.proofs.Names.{getD-among, place-snoc, later-not, ascending-distinct}
 use Rattle.links.proofs.Marks.{zeros-get, length-mapped}

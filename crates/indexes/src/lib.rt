@@ -1,5 +1,6 @@
 // A record by index: its names resolved once, its constraints as linked rows. Functions are pub for the crates that judge records. They are safe
 // for any counts and names; what they give is said of a record that is stored with checked tables.
+use links::ROWS;
 use record::Record;
 ghost use mathlib.Core.Path.{_≡_};
 ghost use Prim.Native.Nat.{ℕ, min, _+_, _*_, _<_, _≤_};
@@ -11,14 +12,8 @@ ghost use Rattle.links.specs.Links.{Safe};
 ghost use Rattle.marks.specs.Resolved.{Resolved};
 ghost use Rattle.indexes.specs.Fit.{Fit};
 
-// The constraints by index: a row counted from 1 leads by link[row - 1] to the one before it of the same rule and right edit.
-pub struct Rows {
-    pub head: [u16; 384],
-    pub link: [u16; 1024],
-    pub left: [u8; 1024],
-}
-
-fn within(count: usize, limit: usize) -> usize
+// Pub for `members`.
+pub fn within(count: usize, limit: usize) -> usize
     ensures { λ r. ⌜ r ≡ min count limit ⌝ }
 {
     if count <= limit { count } else { limit }
@@ -87,33 +82,27 @@ fn key_of(rule: u8, right: usize) -> usize
     }
 }
 
-fn rows_of(multilog: Record, table: &[u8; 2304]) -> Rows
+fn rows_of(multilog: Record, table: &[u8; 2304]) -> [u16; ROWS]
     requires { ⌜ (length (now table) ≡ 2304) × ((x : ℕ) → getD (now table) x 0 < 128) ⌝ }
-    ensures { λ r. ⌜ Safe (r .head) (r .link) (r .left)
-        × ((R : theory.Record) → multilog ≡ stored R → Fit R → ((x : ℕ) → getD (now (table .entry)) x 0 ≡ placeIn (theory.names R) x) → Resolved R (r .head) (r .link) (r .left)) ⌝ }
+    ensures { λ r. ⌜ Safe r
+        × ((R : theory.Record) → multilog ≡ stored R → Fit R → ((x : ℕ) → getD (now (table .entry)) x 0 ≡ placeIn (theory.names R) x) → Resolved R r) ⌝ }
 {
-    let mut head = [0u16; 384];
-    let mut link = [0u16; 1024];
-    let mut left = [0u8; 1024];
+    let mut rows = [0u16; ROWS];
     let count = within(multilog.constraintcount, 512);
     let mut j: usize = 0;
     while j < count {
         let constraint = multilog.constraints[j];
+        let left = index_of(table, links::wide16(constraint.left));
         let right = index_of(table, links::wide16(constraint.right));
-        left[j] = index_of(table, links::wide16(constraint.left)) as u8;
-        links::link_row(j, key_of(constraint.rule, right), &mut head, &mut link);
+        links::link_row(&mut rows, j, key_of(constraint.rule, right), left);
         j += 1;
     }
-    Rows {
-        head: head,
-        link: link,
-        left: left,
-    }
+    rows
 }
 
 // The linked rows of a record.
-pub fn resolved(multilog: Record) -> Rows
-    ensures { λ r. ⌜ Safe (r .head) (r .link) (r .left) × ((R : theory.Record) → multilog ≡ stored R → Fit R → Resolved R (r .head) (r .link) (r .left)) ⌝ }
+pub fn resolved(multilog: Record) -> [u16; ROWS]
+    ensures { λ r. ⌜ Safe r × ((R : theory.Record) → multilog ≡ stored R → Fit R → Resolved R r) ⌝ }
 {
     let table = index_table(multilog);
     rows_of(multilog, &table)

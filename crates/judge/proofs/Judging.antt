@@ -1,12 +1,11 @@
 -- Hidden edits by marks, and the judgement as one value. Assumes nothing.
-use mathlib.Core.Path.{_≡_, refl, sym, ap, _∙_}
-use mathlib.Core.Bool.{Bool, true, false, not}
-use mathlib.Core.List.{List, [], _∷_}
-use Prim.Native.Nat.{ℕ, _≤_, _<_}
-use native.Mathlib.Omega.{arith}
+use mathlib.Core.Path.{_≡_, sym, ap}
+use mathlib.Core.Bool.{Bool, not}
+use mathlib.Core.List.{List, []}
+use Prim.Native.Nat.{ℕ, _≤_}
 use lib.Dec.{eqb}
 use lib.ListN.{length, getD, replicate, List·getD-eq-default}
-use Rattle.lists.specs.Lists.{mem, at, sift, _among_}
+use Rattle.lists.specs.Lists.{mem, at, _among_}
 use Rattle.record.specs.Record.{Record, names}
 use Rattle.record.specs.Schedule.{musts, ring, schedule}
 use Rattle.record.specs.Judgement.{sound, must, never, settled}

@@ -1,13 +1,12 @@
 -- A row of indexes as the edits of a stored schedule. Assumes nothing.
 use mathlib.Core.Path.{_≡_, refl, sym, ap, _∙_}
-use mathlib.Core.Bool.{true, false, not, cond}
+use mathlib.Core.Bool.{true, not}
 use mathlib.Core.List.{List, [], _∷_, _++_, map, map-append, append-assoc}
 use Prim.Native.Nat.{ℕ, zero, suc, _+_, _-_, _≤_, _<_}
 use native.Mathlib.Omega.{arith}
-use lib.Dec.{eqb}
 use lib.ListN.{length, getD, take, drop, set, replicate, length-append, length-drop}
 use lib.Seq.{take-suc, take-all, getD-drop, set-append-seam, length-take-le}
-use borrow.Author.Tests.{eqb-true, eq-eqb, ne-eqb, not-true}
+use borrow.Author.Tests.{eq-eqb, ne-eqb, not-true}
 use Rattle.record.specs.declared.Edit.{Edit}
 use Rattle.record.specs.declared.Record as declared
 use Rattle.record.specs.declared.Schedule.{Schedule}
@@ -15,8 +14,8 @@ use Rattle.lists.specs.Lists.{mem, _among_, distinct}
 use Rattle.record.specs.Record.{Record, nameOf, names, written}
 use Rattle.record.specs.Stored.{padded, fillerEdit, stored, editNamed}
 use Rattle.record.specs.Schedule.{scheduled, schedule}
-use Rattle.lists.proofs.Lists.{by, clash, and-l, and-r, getD-mapped}
-use Rattle.record.proofs.Order.{Placed, order-placed, order-starts}
+use Rattle.lists.proofs.Lists.{clash, and-l, and-r, getD-mapped}
+use Rattle.record.proofs.Order.{order-placed, order-starts}
 use Rattle.record.proofs.Judged.{init-must}
 use Rattle.record.proofs.Scheduled.{musts-scheduled}
 use Rattle.links.specs.Marks.{nameAt}

@@ -32,11 +32,8 @@ pub fn sound(multilog: Record) -> bool
 {
     let n = indexes::name_count(multilog);
     let rows = indexes::resolved(multilog);
-    let head = rows.head;
-    let link = rows.link;
-    let left = rows.left;
-    let mustmarks = marks::must_marks(&head, &link, &left);
-    !links::has_ring(n, &head, &link, &left, mustmarks)
+    let mustmarks = marks::must_marks(&rows);
+    !links::has_ring(n, &rows, mustmarks)
 }
 
 // The edits that must stand.
@@ -44,10 +41,7 @@ pub fn musts(multilog: Record) -> [u8; 128]
     ensures { λ r. ⌜ ((R : theory.Record) → multilog ≡ stored R → Fit R → r ≡ marksOf R (judgement.must R)) ⌝ }
 {
     let rows = indexes::resolved(multilog);
-    let head = rows.head;
-    let link = rows.link;
-    let left = rows.left;
-    marks::must_marks(&head, &link, &left)
+    marks::must_marks(&rows)
 }
 
 // The edits that can never stand.
@@ -56,11 +50,8 @@ pub fn nevers(multilog: Record) -> [u8; 128]
 {
     let n = indexes::name_count(multilog);
     let rows = indexes::resolved(multilog);
-    let head = rows.head;
-    let link = rows.link;
-    let left = rows.left;
-    let mustmarks = marks::must_marks(&head, &link, &left);
-    marks::never_marks(n, &head, &link, &left, mustmarks)
+    let mustmarks = marks::must_marks(&rows);
+    marks::never_marks(n, &rows, mustmarks)
 }
 
 // The edits that are settled.
@@ -69,12 +60,9 @@ pub fn settleds(multilog: Record) -> [u8; 128]
 {
     let n = indexes::name_count(multilog);
     let rows = indexes::resolved(multilog);
-    let head = rows.head;
-    let link = rows.link;
-    let left = rows.left;
-    let mustmarks = marks::must_marks(&head, &link, &left);
-    let nevermarks = marks::never_marks(n, &head, &link, &left, mustmarks);
-    marks::settled_marks(n, &head, &link, &left, mustmarks, nevermarks)
+    let mustmarks = marks::must_marks(&rows);
+    let nevermarks = marks::never_marks(n, &rows, mustmarks);
+    marks::settled_marks(n, &rows, mustmarks, nevermarks)
 }
 
 // The needs of the edit at an index; past the edits those of INIT.
@@ -83,14 +71,11 @@ pub fn needs(multilog: Record, index: usize) -> [u8; 128]
 {
     let n = indexes::name_count(multilog);
     let rows = indexes::resolved(multilog);
-    let head = rows.head;
-    let link = rows.link;
-    let left = rows.left;
-    let mustmarks = marks::must_marks(&head, &link, &left);
+    let mustmarks = marks::must_marks(&rows);
     if index >= n {
-        return marks::needs_marks(&head, &link, &left, mustmarks, 0);
+        return marks::needs_marks(&rows, mustmarks, 0);
     }
-    marks::needs_marks(&head, &link, &left, mustmarks, index)
+    marks::needs_marks(&rows, mustmarks, index)
 }
 
 fn filler() -> Edit
@@ -134,11 +119,8 @@ pub fn schedule(multilog: Record, hidden: [u8; 128]) -> Schedule
 {
     let n = indexes::name_count(multilog);
     let rows = indexes::resolved(multilog);
-    let head = rows.head;
-    let link = rows.link;
-    let left = rows.left;
-    let mustmarks = marks::must_marks(&head, &link, &left);
-    let row = schedules::schedule_row(n, &head, &link, &left, mustmarks, &hidden);
+    let mustmarks = marks::must_marks(&rows);
+    let row = schedules::schedule_row(n, &rows, mustmarks, &hidden);
     edits_of(multilog, row)
 }
 
@@ -156,12 +138,9 @@ pub fn plan(multilog: Record, hidden: [u8; 128]) -> Planned
 {
     let n = indexes::name_count(multilog);
     let rows = indexes::resolved(multilog);
-    let head = rows.head;
-    let link = rows.link;
-    let left = rows.left;
-    let mustmarks = marks::must_marks(&head, &link, &left);
-    let ring = links::has_ring(n, &head, &link, &left, mustmarks);
-    let pages = schedules::schedule_row(n, &head, &link, &left, mustmarks, &hidden);
+    let mustmarks = marks::must_marks(&rows);
+    let ring = links::has_ring(n, &rows, mustmarks);
+    let pages = schedules::schedule_row(n, &rows, mustmarks, &hidden);
     Planned {
         sound: !ring,
         must: mustmarks,
@@ -175,14 +154,11 @@ pub fn judge(multilog: Record) -> Judged
 {
     let n = indexes::name_count(multilog);
     let rows = indexes::resolved(multilog);
-    let head = rows.head;
-    let link = rows.link;
-    let left = rows.left;
-    let mustmarks = marks::must_marks(&head, &link, &left);
-    let nevermarks = marks::never_marks(n, &head, &link, &left, mustmarks);
-    let settledmarks = marks::settled_marks(n, &head, &link, &left, mustmarks, nevermarks);
+    let mustmarks = marks::must_marks(&rows);
+    let nevermarks = marks::never_marks(n, &rows, mustmarks);
+    let settledmarks = marks::settled_marks(n, &rows, mustmarks, nevermarks);
     let nothing = [0u8; 128];
-    let row = schedules::schedule_row(n, &head, &link, &left, mustmarks, &nothing);
+    let row = schedules::schedule_row(n, &rows, mustmarks, &nothing);
     let pages = schedules::page_values(row);
     Judged {
         must: mustmarks,

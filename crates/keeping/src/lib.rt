@@ -34,20 +34,14 @@ pub fn keeps(old: Record, new: Record) -> bool
     }
     let oldtable = indexes::index_table(old);
     let oldrows = members::member_rows(old, &oldtable);
-    let oldhead = oldrows.head;
-    let oldlink = oldrows.link;
-    let oldleft = oldrows.left;
     let newtable = indexes::index_table(new);
     let newrows = members::member_rows(new, &newtable);
-    let newhead = newrows.head;
-    let newlink = newrows.link;
-    let newleft = newrows.left;
     let edits = old.edits;
     let mut i: usize = 0;
     while i < n {
         let e = edits[i];
-        let before = bundle::bundle_by(old, &oldtable, &oldhead, &oldlink, &oldleft, e.name);
-        let after = bundle::bundle_by(new, &newtable, &newhead, &newlink, &newleft, e.name);
+        let before = bundle::bundle_by(old, &oldtable, &oldrows, e.name);
+        let after = bundle::bundle_by(new, &newtable, &newrows, e.name);
         if !is_kept(before, after) {
             return false;
         }

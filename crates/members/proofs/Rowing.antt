@@ -1,32 +1,30 @@
 -- The linked rows of a record's constraints are those of what leads to a member. Assumes nothing.
 use mathlib.Core.Path.{_≡_, refl, sym, ap, _∙_}
 use mathlib.Core.Bool.{true, false, not}
-use mathlib.Core.Logic.{inl, inr}
 use mathlib.Core.List.{List, [], _∷_}
 use Prim.Native.Nat.{ℕ, zero, suc, _+_, _*_, _≤_, _<_, min, max}
 use native.Mathlib.Omega.{arith}
 use lib.Dec.{eqb}
-use lib.ListN.{length, getD, set, replicate, length-set}
-use lib.Seq.{getD-set-same, getD-set-other}
+use lib.ListN.{length, getD}
 use borrow.Author.Tests.{eqb-true, eqb-false, eq-eqb, not-true}
 use Rattle.record.specs.declared.Constraint.{Constraint}
 use Rattle.lists.specs.Lists.{mem, at, _among_, closure}
 use Rattle.record.specs.Record.{Record, names, written, has, notafter, noncommuting, WellFormed}
 use Rattle.record.specs.declared.Record as declared
 use Rattle.record.specs.Stored.{stored, fillerConstraint}
-use Rattle.lists.proofs.Lists.{by, clash, is-by, and-l, and-r, mem-at, cons-by, nil-no, closure-holds, closure-least, closure-closed, closure-unique}
-use Rattle.record.proofs.Records.{written-names, init-known, not-init, right-written, pair-by}
+use Rattle.lists.proofs.Lists.{by, clash, and-l, and-r, mem-at, cons-by, nil-no, closure-holds, closure-least, closure-closed, closure-unique}
+use Rattle.record.proofs.Records.{written-names, not-init, right-written, pair-by}
 use Rattle.links.specs.Marks.{nameAt, placeIn, marksOf}
-use Rattle.links.specs.Links.{Leads, RowOf}
+use Rattle.links.specs.Links.{leftAt, withRow, Leads, RowOf}
 use Rattle.links.proofs.Marks.{marks-same}
 use Rattle.links.proofs.Names.{getD-place, ascending-distinct, place-known}
-use Rattle.links.proofs.Links.{Linking, linking-start, linking-step, linking-end, Growing, growing-step}
+use Rattle.links.proofs.Links.{with-row-size, Linking, linking-step, linking-end, Growing, growing-step}
 use Rattle.vote.specs.Bundle.{leads, members}
 use Rattle.vote.proofs.Bundles.{leads-notafter, leads-enables, leads-rival, leads-by, leads-known}
 use Rattle.members.specs.Rows.{rivalKey, enabledKey, forwardKey, backwardKey, leadsIn}
 use Rattle.indexes.specs.Fit.{Fit}
 use Rattle.indexes.proofs.Tables.{names-few, constraint-at}
-use Rattle.indexes.proofs.Resolving.{has-at, at-has, getD-any}
+use Rattle.indexes.proofs.Resolving.{has-at, at-has, left-known, right-known, getD-any}
 
 abbrev pub indexIn : Record → ℕ → ℕ
 indexIn R x = placeIn (names R) x
@@ -38,26 +36,34 @@ abbrev pub backwardOf : Record → Constraint → ℕ
 backwardOf R c = backwardKey R (indexIn R (c .left)) (c .rule) (indexIn R (c .right))
 
 -- two rows to a constraint
-unfoldable pub keysFrom : Record → List Constraint → List ℕ
-keysFrom R [] = []
-keysFrom R (c ∷ l) = forwardOf R c ∷ backwardOf R c ∷ keysFrom R l
+unfoldable pub bothOf : (Constraint → ℕ) → (Constraint → ℕ) → List Constraint → List ℕ
+bothOf f g [] = []
+bothOf f g (c ∷ l) = f c ∷ g c ∷ bothOf f g l
 
-keys-length : (R : Record) (l : List Constraint) → length (keysFrom R l) ≡ 2 * length l
-unfolding keysFrom
-keys-length R [] = refl
-keys-length R (c ∷ l) = omega (arith, keys-length R l)
+module _ (f g : Constraint → ℕ) where
+  both-length : (l : List Constraint) → length (bothOf f g l) ≡ 2 * length l
+  unfolding bothOf
+  both-length [] = refl
+  both-length (c ∷ l) = omega (arith, both-length l)
 
-keys-forward : (R : Record) (l : List Constraint) (i : ℕ) (d : Constraint) → i < length l → getD (keysFrom R l) (2 * i) 0 ≡ forwardOf R (getD l i d)
-unfolding keysFrom
-keys-forward R [] i d h = absurd (omega arith)
-keys-forward R (c ∷ l) zero d h = refl
-keys-forward R (c ∷ l) (suc i) d h = let e : 2 * suc i ≡ suc (suc (2 * i)) = omega arith in rw e (keys-forward R l i d (omega arith))
+  both-first : (l : List Constraint) (i : ℕ) (d : Constraint) → i < length l → getD (bothOf f g l) (2 * i) 0 ≡ f (getD l i d)
+  unfolding bothOf
+  both-first [] i d h = absurd (omega arith)
+  both-first (c ∷ l) zero d h = refl
+  both-first (c ∷ l) (suc i) d h = let e : 2 * suc i ≡ suc (suc (2 * i)) = omega arith in rw e (both-first l i d (omega arith))
 
-keys-backward : (R : Record) (l : List Constraint) (i : ℕ) (d : Constraint) → i < length l → getD (keysFrom R l) (2 * i + 1) 0 ≡ backwardOf R (getD l i d)
-unfolding keysFrom
-keys-backward R [] i d h = absurd (omega arith)
-keys-backward R (c ∷ l) zero d h = refl
-keys-backward R (c ∷ l) (suc i) d h = let e : 2 * suc i + 1 ≡ suc (suc (2 * i + 1)) = omega arith in rw e (keys-backward R l i d (omega arith))
+  both-second : (l : List Constraint) (i : ℕ) (d : Constraint) → i < length l → getD (bothOf f g l) (2 * i + 1) 0 ≡ g (getD l i d)
+  unfolding bothOf
+  both-second [] i d h = absurd (omega arith)
+  both-second (c ∷ l) zero d h = refl
+  both-second (c ∷ l) (suc i) d h = let e : 2 * suc i + 1 ≡ suc (suc (2 * i + 1)) = omega arith in rw e (both-second l i d (omega arith))
+
+-- their keys and left ends
+abbrev pub keysOf : Record → List ℕ
+keysOf R = bothOf (forwardOf R) (backwardOf R) (R .constraints)
+
+abbrev pub leftsOf : Record → List ℕ
+leftsOf R = bothOf (λ c. indexIn R (c .left)) (λ c. indexIn R (c .right)) (R .constraints)
 
 -- a row is one of the two of some constraint
 halves-by {ℓ} : {P : Type ℓ} (n : ℕ) → ((k : ℕ) → n ≡ 2 * k → P) → ((k : ℕ) → n ≡ 2 * k + 1 → P) → P
@@ -65,52 +71,31 @@ halves-by zero f g = f 0 refl
 halves-by (suc n) f g = halves-by n (λ k e. g k (omega arith)) (λ k e. f (suc k) (omega arith))
 
 -- the rows of the constraints below j are linked
-pub record Rowing (R : Record) (heads links lefts : List ℕ) (j : ℕ) : Type 0 where
-  pub linking : Linking (keysFrom R (R .constraints)) heads links (2 * j)
-  pub forward-left : (i : ℕ) → i < j → getD lefts (2 * i) 0 ≡ indexIn R (getD (R .constraints) i fillerConstraint .left)
-  pub backward-left : (i : ℕ) → i < j → getD lefts (2 * i + 1) 0 ≡ indexIn R (getD (R .constraints) i fillerConstraint .right)
-
-pub rowing-start : (R : Record) (lefts : List ℕ) → Rowing R (replicate 384 0) (replicate 1024 0) lefts 0
-rowing-start R lefts = record { linking = linking-start (keysFrom R (R .constraints)); forward-left = λ i h. absurd (omega arith); backward-left = λ i h. absurd (omega arith) }
+abbrev pub Rowing : Record → List ℕ → ℕ → Type 0
+Rowing R rows j = Linking (keysOf R) (leftsOf R) rows (2 * j)
 
 -- the rows of one constraint more
-abbrev pub headsMore : List ℕ → ℕ → ℕ → ℕ → List ℕ
-headsMore heads j f g = set (set heads f (2 * j + 1)) g (2 * j + 1 + 1)
+abbrev pub withBoth : List ℕ → ℕ → ℕ → ℕ → ℕ → ℕ → List ℕ
+withBoth rows j a b f g = withRow (withRow rows (2 * j) f a) (2 * j + 1) g b
 
-abbrev pub linksMore : List ℕ → List ℕ → ℕ → ℕ → ℕ → List ℕ
-linksMore heads links j f g = set (set links (2 * j) (getD heads f 0)) (2 * j + 1) (getD (set heads f (2 * j + 1)) g 0)
-
-abbrev pub leftsMore : List ℕ → ℕ → ℕ → ℕ → List ℕ
-leftsMore lefts j a b = set (set lefts (2 * j) a) (2 * j + 1) b
-
-pub growing-both : (heads links lefts : List ℕ) (j a b f g : ℕ) → j < 512 → a < 128 → b < 128 → f ≤ 128 → g ≤ 128 → Growing heads links lefts (2 * j)
-    → Growing (headsMore heads j f g) (linksMore heads links j f g) (leftsMore lefts j a b) (2 * (j + 1))
-growing-both heads links lefts j a b f g h ka kb kf kg w =
-    let one = growing-step heads links lefts (2 * j) f a (omega arith) (omega arith) ka w in
-    let two = growing-step (set heads f (2 * j + 1)) (set links (2 * j) (getD heads f 0)) (set lefts (2 * j) a) (2 * j + 1) g b (omega arith) (omega arith) kb one in
+pub growing-both : (rows : List ℕ) (j a b f g : ℕ) → j < 512 → a < 128 → b < 128 → f ≤ 128 → g ≤ 128 → Growing rows (2 * j) → Growing (withBoth rows j a b f g) (2 * (j + 1))
+growing-both rows j a b f g h ka kb kf kg w =
+    let one = growing-step rows (2 * j) f a (omega arith) (omega arith) ka w in
+    let two = growing-step (withRow rows (2 * j) f a) (2 * j + 1) g b (omega arith) (omega arith) kb one in
     let e : 2 * (j + 1) ≡ 2 * j + 1 + 1 = omega arith in
     rw e two
 
-module _ (R : Record) (heads links lefts : List ℕ) (j a b f g : ℕ) (sh : length heads ≡ 384) (sl : length links ≡ 1024) (sf : length lefts ≡ 1024) (h : j < 512)
-    (u : j < length (R .constraints)) (ea : a ≡ indexIn R (getD (R .constraints) j fillerConstraint .left)) (eb : b ≡ indexIn R (getD (R .constraints) j fillerConstraint .right))
+module _ (R : Record) (rows : List ℕ) (j a b f g : ℕ) (size : length rows ≡ 2432) (h : j < 512) (u : j < length (R .constraints))
+    (ea : a ≡ indexIn R (getD (R .constraints) j fillerConstraint .left)) (eb : b ≡ indexIn R (getD (R .constraints) j fillerConstraint .right))
     (ef : f ≡ forwardOf R (getD (R .constraints) j fillerConstraint)) (eg : g ≡ backwardOf R (getD (R .constraints) j fillerConstraint)) (kf : f ≤ 128) (kg : g ≤ 128) where
-  pub rowing-step : Rowing R heads links lefts j → Rowing R (headsMore heads j f g) (linksMore heads links j f g) (leftsMore lefts j a b) (j + 1)
+  pub rowing-step : Rowing R rows j → Rowing R (withBoth rows j a b f g) (j + 1)
   rowing-step w =
-      let keys = keysFrom R (R .constraints) in
-      let one = linking-step keys heads links (2 * j) f sh sl (omega arith) (omega arith) (keys-forward R (R .constraints) j fillerConstraint u ∙ sym ef) (w .linking) in
-      let two = linking-step keys (set heads f (2 * j + 1)) (set links (2 * j) (getD heads f 0)) (2 * j + 1) g (length-set heads f (2 * j + 1) ∙ sh) (length-set links (2 * j) (getD heads f 0) ∙ sl) (omega arith) (omega arith)
-      (keys-backward R (R .constraints) j fillerConstraint u ∙ sym eg) one in
+      let one = linking-step (keysOf R) (leftsOf R) rows (2 * j) f a size (omega arith) (omega arith)
+      (both-first (forwardOf R) (backwardOf R) (R .constraints) j fillerConstraint u ∙ sym ef) (both-first (λ c. indexIn R (c .left)) (λ c. indexIn R (c .right)) (R .constraints) j fillerConstraint u ∙ sym ea) w in
+      let two = linking-step (keysOf R) (leftsOf R) (withRow rows (2 * j) f a) (2 * j + 1) g b (with-row-size rows (2 * j) f a ∙ size) (omega arith) (omega arith)
+      (both-second (forwardOf R) (backwardOf R) (R .constraints) j fillerConstraint u ∙ sym eg) (both-second (λ c. indexIn R (c .left)) (λ c. indexIn R (c .right)) (R .constraints) j fillerConstraint u ∙ sym eb) one in
       let e : 2 * (j + 1) ≡ 2 * j + 1 + 1 = omega arith in
-      let s1 = length-set lefts (2 * j) a in
-      record {
-        linking = rw e two;
-        forward-left = λ i k. is-by i j
-            (λ q. rw (q, getD-set-other (set lefts (2 * j) a) (2 * j + 1) (2 * j) b 0 (λ z. omega arith), getD-set-same lefts (2 * j) a 0 (omega arith)) ea)
-            (λ q. rw (getD-set-other (set lefts (2 * j) a) (2 * j + 1) (2 * i) b 0 (λ z. omega arith), getD-set-other lefts (2 * j) (2 * i) a 0 (λ z. q (omega arith))) (w .forward-left i (omega (arith, q))));
-        backward-left = λ i k. is-by i j
-            (λ q. rw (q, getD-set-same (set lefts (2 * j) a) (2 * j + 1) b 0 (omega arith)) eb)
-            (λ q. rw (getD-set-other (set lefts (2 * j) a) (2 * j + 1) (2 * i + 1) b 0 (λ z. q (omega arith)), getD-set-other lefts (2 * j) (2 * i + 1) a 0 (λ z. omega arith)) (w .backward-left i (omega (arith, q))));
-      }
+      rw e two
 
 -- a name at its index
 at-index : (R : Record) (x : ℕ) → x among names R → nameAt R (indexIn R x) ≡ x
@@ -128,12 +113,6 @@ unfolding leadsIn
 leads-in R a b h e = rw (h, e)
 
 module _ (R : Record) (f : Fit R) where
-  pub left-known : (a k b : ℕ) → has a k b (R .constraints) ≡ true → a among names R
-  left-known a k b h = written-names R a (f .formed .left a k b h)
-
-  pub right-known : (a k b : ℕ) → has a k b (R .constraints) ≡ true → b among names R
-  right-known a k b h = elim (f .formed .right a k b h) [ inl i ↦ written-names R b i | inr z ↦ rw (z .1) (init-known R) ]
-
   right-not-init : (a k b : ℕ) → has a k b (R .constraints) ≡ true → (k ≡ 1 → ⊥) → eqb b 0 ≡ false
   right-not-init a k b h n = not-init (f .formed) b (right-written (f .formed) a k b h n)
 
@@ -164,7 +143,7 @@ module _ (R : Record) (f : Fit R) where
   forward-leads a (suc (suc k)) b y h l e =
       let r : suc (suc k) ≡ 2 = let z = f .rules a (suc (suc k)) b h in omega arith in
       let h′ : has a 2 b (R .constraints) ≡ true = rw r at h in
-      let u = rw (at-index R a (left-known a 2 b h′), at-index R b (right-known a 2 b h′)) at e in
+      let u = rw (at-index R a (left-known (f .formed) a 2 b h′), at-index R b (right-known (f .formed) a 2 b h′)) at e in
       by (notafter R b a)
       (λ q. absurd (let z = rw q at u in omega arith))
       (λ q. (rw q at u, leads-in R a b (leads-rival (f .formed) a b (paired-either a b h′ .0) q) (right-not-init a 2 b h′ (λ z. omega arith))))
@@ -176,68 +155,74 @@ module _ (R : Record) (f : Fit R) where
   backward-leads a (suc (suc k)) b y h l e =
       let r : suc (suc k) ≡ 2 = let z = f .rules a (suc (suc k)) b h in omega arith in
       let h′ : has a 2 b (R .constraints) ≡ true = rw r at h in
-      let u = rw (at-index R a (left-known a 2 b h′), at-index R b (right-known a 2 b h′)) at e in
+      let u = rw (at-index R a (left-known (f .formed) a 2 b h′), at-index R b (right-known (f .formed) a 2 b h′)) at e in
       by (notafter R a b)
       (λ q. absurd (let z = rw q at u in omega arith))
       (λ q. (rw q at u, leads-in R b a (leads-rival (f .formed) b a (paired-either a b h′ .1) q) (not-init (f .formed) a (f .formed .left a 2 b h′))))
 
-  module _ (heads links lefts : List ℕ) (j : ℕ) (e : j ≡ length (R .constraints)) (w : Rowing R heads links lefts j) where
-    record Row (i y : ℕ) : Type 0 where
-      pub left : getD lefts i 0 < length (names R)
-      pub holds : leadsIn R (nameAt R (getD lefts i 0)) (nameAt R y) ≡ true
+  module _ (rows : List ℕ) (j : ℕ) (e : j ≡ length (R .constraints)) (w : Rowing R rows j) where
+    forward-left : (i : ℕ) → i < length (R .constraints) → leftAt rows (2 * i) ≡ indexIn R (getD (R .constraints) i fillerConstraint .left)
+    forward-left i h = w .left (2 * i) (omega arith) ∙ both-first (λ c. indexIn R (c .left)) (λ c. indexIn R (c .right)) (R .constraints) i fillerConstraint h
 
-    row-from : (i y a b : ℕ) → a among names R → b among names R → getD lefts i 0 ≡ indexIn R a → indexIn R b ≡ y → leadsIn R a b ≡ true → Row i y
+    backward-left : (i : ℕ) → i < length (R .constraints) → leftAt rows (2 * i + 1) ≡ indexIn R (getD (R .constraints) i fillerConstraint .right)
+    backward-left i h = w .left (2 * i + 1) (omega arith) ∙ both-second (λ c. indexIn R (c .left)) (λ c. indexIn R (c .right)) (R .constraints) i fillerConstraint h
+
+    record Row (i y : ℕ) : Type 0 where
+      pub left : leftAt rows i < length (names R)
+      pub holds : leadsIn R (nameAt R (leftAt rows i)) (nameAt R y) ≡ true
+
+    row-from : (i y a b : ℕ) → a among names R → b among names R → leftAt rows i ≡ indexIn R a → indexIn R b ≡ y → leadsIn R a b ≡ true → Row i y
     row-from i y a b ka kb el er h = record {
       left = rw el (index-low R a ka);
       holds = rw (el, at-index R a ka, ← er, at-index R b kb) h;
     }
 
-    row-at : (i y : ℕ) → i < length (keysFrom R (R .constraints)) → y < length (names R) → getD (keysFrom R (R .constraints)) i 0 ≡ y → Row i y
+    row-at : (i y : ℕ) → i < length (keysOf R) → y < length (names R) → getD (keysOf R) i 0 ≡ y → Row i y
     row-at i y h l q =
-        let n = keys-length R (R .constraints) in
+        let n = both-length (forwardOf R) (backwardOf R) (R .constraints) in
         let m = names-few R f in
         halves-by i
         (λ k z.
         let u : k < length (R .constraints) = omega arith in
         let c = getD (R .constraints) k fillerConstraint in
         let s = has-at (R .constraints) k fillerConstraint u in
-        let r = forward-leads (c .left) (c .rule) (c .right) y s (omega arith) (sym (keys-forward R (R .constraints) k fillerConstraint u) ∙ rw z at q) in
-        row-from i y (c .left) (c .right) (left-known _ _ _ s) (right-known _ _ _ s) (rw z (w .forward-left k (omega arith))) (r .0) (r .1))
+        let r = forward-leads (c .left) (c .rule) (c .right) y s (omega arith) (sym (both-first (forwardOf R) (backwardOf R) (R .constraints) k fillerConstraint u) ∙ rw z at q) in
+        row-from i y (c .left) (c .right) (left-known (f .formed) _ _ _ s) (right-known (f .formed) _ _ _ s) (rw z (forward-left k u)) (r .0) (r .1))
         (λ k z.
         let u : k < length (R .constraints) = omega arith in
         let c = getD (R .constraints) k fillerConstraint in
         let s = has-at (R .constraints) k fillerConstraint u in
-        let r = backward-leads (c .left) (c .rule) (c .right) y s (omega arith) (sym (keys-backward R (R .constraints) k fillerConstraint u) ∙ rw z at q) in
-        row-from i y (c .right) (c .left) (right-known _ _ _ s) (left-known _ _ _ s) (rw z (w .backward-left k (omega arith))) (r .0) (r .1))
+        let r = backward-leads (c .left) (c .rule) (c .right) y s (omega arith) (sym (both-second (forwardOf R) (backwardOf R) (R .constraints) k fillerConstraint u) ∙ rw z at q) in
+        row-from i y (c .right) (c .left) (right-known (f .formed) _ _ _ s) (left-known (f .formed) _ _ _ s) (rw z (backward-left k u)) (r .0) (r .1))
 
     abbrev Wanted : ℕ → ℕ → Type 0
-    Wanted a b = RowOf R 0 (keysFrom R (R .constraints)) lefts a b
+    Wanted a b = RowOf R 0 (keysOf R) rows a b
 
     -- the row of what leads: a constraint's forward one, or its backward one
     forward-row : (a k b : ℕ) → has a k b (R .constraints) ≡ true → forwardKey R (indexIn R a) k (indexIn R b) ≡ indexIn R b → Wanted a b
     forward-row a k b h q =
-        let ka = left-known a k b h in
-        let kb = right-known a k b h in
+        let ka = left-known (f .formed) a k b h in
+        let kb = right-known (f .formed) a k b h in
         at-has (R .constraints) fillerConstraint a k b h (λ i u x y z. record {
           row = 2 * i;
-          low = omega (arith, keys-length R (R .constraints));
+          low = omega (arith, both-length (forwardOf R) (backwardOf R) (R .constraints));
           left-known = ka;
           right-known = kb;
-          left = w .forward-left i (omega arith) ∙ (ap (indexIn R) x ∙ place-known a (names R) ka);
-          key = keys-forward R (R .constraints) i fillerConstraint u ∙ (rw (x, y, z) q ∙ (place-known b (names R) kb ∙ omega arith));
+          left = forward-left i u ∙ (ap (indexIn R) x ∙ place-known a (names R) ka);
+          key = both-first (forwardOf R) (backwardOf R) (R .constraints) i fillerConstraint u ∙ (rw (x, y, z) q ∙ (place-known b (names R) kb ∙ omega arith));
         })
 
     backward-row : (a k b : ℕ) → has b k a (R .constraints) ≡ true → backwardKey R (indexIn R b) k (indexIn R a) ≡ indexIn R b → Wanted a b
     backward-row a k b h q =
-        let ka = right-known b k a h in
-        let kb = left-known b k a h in
+        let ka = right-known (f .formed) b k a h in
+        let kb = left-known (f .formed) b k a h in
         at-has (R .constraints) fillerConstraint b k a h (λ i u x y z. record {
           row = 2 * i + 1;
-          low = omega (arith, keys-length R (R .constraints));
+          low = omega (arith, both-length (forwardOf R) (backwardOf R) (R .constraints));
           left-known = ka;
           right-known = kb;
-          left = w .backward-left i (omega arith) ∙ (ap (indexIn R) z ∙ place-known a (names R) ka);
-          key = keys-backward R (R .constraints) i fillerConstraint u ∙ (rw (x, y, z) q ∙ (place-known b (names R) kb ∙ omega arith));
+          left = backward-left i u ∙ (ap (indexIn R) z ∙ place-known a (names R) ka);
+          key = both-second (forwardOf R) (backwardOf R) (R .constraints) i fillerConstraint u ∙ (rw (x, y, z) q ∙ (place-known b (names R) kb ∙ omega arith));
         })
 
     enabled-index : (b : ℕ) → b among names R → eqb b 0 ≡ false → enabledKey (indexIn R b) ≡ indexIn R b
@@ -254,17 +239,17 @@ module _ (R : Record) (f : Fit R) where
         let n : eqb b 0 ≡ false = not-true (eqb b 0) (and-r (leads R a b) (not (eqb b 0)) h) in
         leads-by (f .formed) a b (and-l (leads R a b) (not (eqb b 0)) h)
         (λ z q. forward-row a 0 b q refl)
-        (λ z q. forward-row a 1 b q (enabled-index b (right-known a 1 b q) n))
+        (λ z q. forward-row a 1 b q (enabled-index b (right-known (f .formed) a 1 b q) n))
         (λ z q r. pair-by a b
-        (λ u v. let s : has a 2 b (R .constraints) ≡ true = rw (u, v) at q in forward-row a 2 b s (rival-index a b (left-known a 2 b s) (right-known a 2 b s) r))
-        (λ u v. let s : has b 2 a (R .constraints) ≡ true = rw (u, v) at q in backward-row a 2 b s (rival-index a b (right-known b 2 a s) (left-known b 2 a s) r)))
+        (λ u v. let s : has a 2 b (R .constraints) ≡ true = rw (u, v) at q in forward-row a 2 b s (rival-index a b (left-known (f .formed) a 2 b s) (right-known (f .formed) a 2 b s) r))
+        (λ u v. let s : has b 2 a (R .constraints) ≡ true = rw (u, v) at q in backward-row a 2 b s (rival-index a b (right-known (f .formed) b 2 a s) (left-known (f .formed) b 2 a s) r)))
 
-    pub rowing-end : Leads (leadsIn R) R 0 heads links lefts
+    pub rowing-end : Leads (leadsIn R) R 0 rows
     rowing-end = record {
       apart = ascending-distinct (names R) (f .ascends);
       few = names-few R f;
-      keys = keysFrom R (R .constraints);
-      linked = linking-end (keysFrom R (R .constraints)) heads links (2 * j) (omega (arith, keys-length R (R .constraints))) (w .linking);
+      keys = keysOf R;
+      linked = linking-end (keysOf R) (leftsOf R) rows (2 * j) (omega (arith, both-length (forwardOf R) (backwardOf R) (R .constraints))) w;
       known = λ i y h l q. row-at i y h l (q ∙ omega arith) .left;
       holds = λ i y h l q. row-at i y h l (q ∙ omega arith) .holds;
       row-of = row-of;
@@ -293,7 +278,7 @@ module _ (R : Record) (w : WellFormed R) (e : ℕ) (i : e among written R) where
       (closure-holds (leads R) (written R) (e ∷ [])))
 
 -- one turn of the loop that links the rows: the indexes and keys as the code finds them
-module _ (r : declared.Record) (table heads links lefts : List ℕ) (j : ℕ) (d : Constraint) (a b f g : ℕ) (R : Record) (q : r ≡ stored R) (fit : Fit R)
+module _ (r : declared.Record) (table rows : List ℕ) (j : ℕ) (d : Constraint) (a b f g : ℕ) (R : Record) (q : r ≡ stored R) (fit : Fit R)
     (t : (x : ℕ) → getD table x 0 ≡ indexIn R x) (h : j < 512) (u : j < length (R .constraints))
     (ea : a ≡ getD table (getD (r .constraints) j d .left) 0) (eb : b ≡ getD table (getD (r .constraints) j d .right) 0)
     (ef : a < length (names R) → b < length (names R) → f ≡ forwardKey R a (getD (r .constraints) j d .rule) b)
@@ -301,17 +286,16 @@ module _ (r : declared.Record) (table heads links lefts : List ℕ) (j : ℕ) (d
   same : getD (r .constraints) j d ≡ getD (R .constraints) j fillerConstraint
   same = constraint-at r R q j d u ∙ getD-any (R .constraints) j d fillerConstraint u
 
-  pub rowing-turn : length heads ≡ 384 → length links ≡ 1024 → length lefts ≡ 1024 → Rowing R heads links lefts j
-      → Rowing R (headsMore heads j f g) (linksMore heads links j f g) (leftsMore lefts j a b) (j + 1)
-  rowing-turn sh sl sf =
+  pub rowing-turn : length rows ≡ 2432 → Rowing R rows j → Rowing R (withBoth rows j a b f g) (j + 1)
+  rowing-turn size =
       let s = has-at (R .constraints) j fillerConstraint u in
       let pa : a ≡ indexIn R (getD (R .constraints) j fillerConstraint .left) = ea ∙ (t _ ∙ ap (λ c. indexIn R (c .left)) same) in
       let pb : b ≡ indexIn R (getD (R .constraints) j fillerConstraint .right) = eb ∙ (t _ ∙ ap (λ c. indexIn R (c .right)) same) in
-      let la : a < length (names R) = rw pa (index-low R _ (left-known R fit _ _ _ s)) in
-      let lb : b < length (names R) = rw pb (index-low R _ (right-known R fit _ _ _ s)) in
+      let la : a < length (names R) = rw pa (index-low R _ (left-known (fit .formed) _ _ _ s)) in
+      let lb : b < length (names R) = rw pb (index-low R _ (right-known (fit .formed) _ _ _ s)) in
       let pf : f ≡ forwardOf R (getD (R .constraints) j fillerConstraint) = ef la lb ∙ (λ i. forwardKey R (pa i) (same i .rule) (pb i)) in
       let pg : g ≡ backwardOf R (getD (R .constraints) j fillerConstraint) = eg la lb ∙ (λ i. backwardKey R (pa i) (same i .rule) (pb i)) in
-      rowing-step R heads links lefts j a b f g sh sl sf h u pa pb pf pg kf kg
+      rowing-step R rows j a b f g size h u pa pb pf pg kf kg
 
 -- the marks of the closure from an edit's index are those of the members
 module _ (R : Record) (f : Fit R) (e : ℕ) (i : e among written R) (x : ℕ) (q : x ≡ indexIn R e) where

@@ -2,7 +2,6 @@
 use mathlib.Core.Path.{_≡_, refl, ap, sym, _∙_}
 use mathlib.Core.Bool.{Bool, true, false, cond, not, _&&_, _||_}
 use mathlib.Core.List.{List}
-use mathlib.Core.Logic.{⊎-elim}
 use Prim.Native.Nat.{ℕ, _+_, _≤_, _<_}
 use native.Mathlib.Omega.{arith}
 use borrow.Author.Tests.{eq-eqb, ne-eqb}
@@ -15,8 +14,8 @@ use Rattle.lists.specs.Lists.{_among_, sift, at}
 use Rattle.record.specs.Record.{Record, names, notafter, WellFormed}
 use Rattle.record.specs.Stored.{stored}
 use Rattle.lists.proofs.Lists.{mem-at}
-use Rattle.record.proofs.Records.{written-names, init-known}
 use Rattle.lists.proofs.Logic.{Has, has-getD}
+use Rattle.indexes.proofs.Resolving as resolving
 use Rattle.links.specs.Marks.{nameAt, placeIn}
 use Rattle.links.proofs.Names.{getD-place, place-known}
 use Rattle.table.proofs.Tables.{held}
@@ -54,12 +53,10 @@ module _ (R : Record) (c : Constraint) where
 -- a constraint of a record has known ends
 module _ (R : Record) (w : WellFormed R) (c : Constraint) (m : Has c (R .constraints)) where
   pub left-known : c .left among names R
-  left-known = written-names R (c .left) (w .left (c .left) (c .rule) (c .right) (in-has c (R .constraints) m))
+  left-known = resolving.left-known w _ _ _ (in-has c (R .constraints) m)
 
   pub right-known : c .right among names R
-  right-known =
-      ⊎-elim (λ (i : _). written-names R (c .right) i) (λ (z : (c .rule ≡ 1) × (c .right ≡ 0)). rw (z .1) (init-known R))
-      (w .right (c .left) (c .rule) (c .right) (in-has c (R .constraints) m))
+  right-known = resolving.right-known w _ _ _ (in-has c (R .constraints) m)
 
 -- the loop over the constraints in the first n rows of an array
 module _ (constraints : List Constraint) (n : ℕ) (w : n ≤ length constraints) (R : Record) (e : take n constraints ≡ R .constraints) where

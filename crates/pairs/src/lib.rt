@@ -1,5 +1,6 @@
 // The noncommuting pairs of a record with no order between them (document 01, "Proposals and votes", last paragraph). Functions are pub for the
 // crates of this workspace that make proposals.
+use links::ROWS;
 use record::Constraint;
 use record::Record;
 ghost use mathlib.Core.Path.{_≡_};
@@ -24,15 +25,9 @@ pub struct Pairs {
 }
 
 // Whether a constraint is a noncommuting pair with no order; an order is a direct row.
-fn is_unordered(
-    c: Constraint,
-    index: &[u8; 2304],
-    head: &[u16; 384],
-    link: &[u16; 1024],
-    left: &[u8; 1024],
-) -> bool
-    requires { ⌜ Safe (now head) (now link) (now left) × (length (now index) ≡ 2304) × ((x : ℕ) → getD (now index) x 0 < 128) ⌝ }
-    ensures { λ r. ⌜ ((R : theory.Record) → Resolved R (now (head .entry)) (now (link .entry)) (now (left .entry))
+fn is_unordered(c: Constraint, index: &[u8; 2304], rows: &[u16; ROWS]) -> bool
+    requires { ⌜ Safe (now rows) × (length (now index) ≡ 2304) × ((x : ℕ) → getD (now index) x 0 < 128) ⌝ }
+    ensures { λ r. ⌜ ((R : theory.Record) → Resolved R (now (rows .entry))
         → ((x : ℕ) → getD (now (index .entry)) x 0 ≡ placeIn (names R) x) → c .left among names R → c .right among names R
         → r ≡ (eqb (c .rule) 2 && not (notafter R (c .left) (c .right) || notafter R (c .right) (c .left)))) ⌝ }
 {
@@ -41,10 +36,10 @@ fn is_unordered(
     }
     let a = indexes::index_of(index, links::wide16(c.left));
     let b = indexes::index_of(index, links::wide16(c.right));
-    if links::leads_to(0, head, link, left, a, b) {
+    if links::leads_to(0, rows, a, b) {
         return false;
     }
-    !links::leads_to(0, head, link, left, b, a)
+    !links::leads_to(0, rows, b, a)
 }
 
 // The pairs with no order, in the table's order.
@@ -61,15 +56,12 @@ pub fn unordered_pairs(multilog: Record) -> Pairs
     }
     let index = indexes::index_table(multilog);
     let resolved = indexes::resolved(multilog);
-    let head = resolved.head;
-    let link = resolved.link;
-    let left = resolved.left;
     let mut rows = constraints;
     let mut count: usize = 0;
     let mut i: usize = 0;
     while i < n {
         let c = constraints[i];
-        let keep = is_unordered(c, &index, &head, &link, &left);
+        let keep = is_unordered(c, &index, &resolved);
         rows[count] = c;
         count += links::wide8(marks::bit(keep));
         i += 1;

@@ -1,4 +1,5 @@
 // The bench schedule of a record by index, over its linked rows. Functions are pub for the crates that judge records.
+use links::ROWS;
 ghost use mathlib.Core.Path.{_≡_};
 ghost use mathlib.Core.Bool.{Bool, true, false, _&&_};
 ghost use mathlib.Core.List.{List, _∷_};
@@ -11,7 +12,7 @@ ghost use Rattle.record.specs.Schedule.{needs, musts, order, ring, admit, sched
 ghost use Rattle.record.specs.Judgement.{must};
 ghost use Rattle.links.specs.Marks.{nameAt, valuesOf, marksOf, placeIn};
 ghost use Rattle.links.specs.Links.{Safe};
-ghost use Rattle.links.specs.Turns.{Turns};
+ghost use Rattle.links.specs.Reversed.{Reversed};
 ghost use Rattle.marks.specs.Resolved.{Resolved};
 ghost use Rattle.schedules.specs.Rows.{free, Held, foundAt, Hides, bars, Clear, Missed, RowIs};
 
@@ -22,47 +23,27 @@ pub struct Row {
 }
 
 // Whether the edit at x waits and none that waits comes before it.
-fn is_free(
-    head: &[u16; 384],
-    link: &[u16; 1024],
-    left: &[u8; 1024],
-    waits: &[u8; 128],
-    x: usize,
-) -> bool
-    requires { ⌜ Safe (now head) (now link) (now left) × (x < 128) ⌝ }
-    ensures { λ r. ⌜ ((R : Record) (test : ℕ → Bool) → Resolved R (now (head .entry)) (now (link .entry)) (now (left .entry)) → x < length (names R)
+fn is_free(rows: &[u16; ROWS], waits: &[u8; 128], x: usize) -> bool
+    requires { ⌜ Safe (now rows) × (x < 128) ⌝ }
+    ensures { λ r. ⌜ ((R : Record) (test : ℕ → Bool) → Resolved R (now (rows .entry)) → x < length (names R)
         → now (waits .entry) ≡ marksOf R test → r ≡ free R test (nameAt R x)) ⌝ }
 {
     if waits[x] != 1 {
         return false;
     }
-    let mut j = links::wide16(head[x]);
-    while j != 0 {
-        if waits[links::wide8(left[j - 1])] == 1 {
-            return false;
-        }
-        j = links::wide16(link[j - 1]);
-    }
-    true
+    !links::any_row(rows, x, waits, 1)
 }
 
 // The lowest that is free, from a place below which none is; n where there is none.
-fn lowest(
-    n: usize,
-    from: usize,
-    head: &[u16; 384],
-    link: &[u16; 1024],
-    left: &[u8; 1024],
-    waits: &[u8; 128],
-) -> usize
-    requires { ⌜ Safe (now head) (now link) (now left) × (n ≤ 128) × (from ≤ n) ⌝ }
-    ensures { λ r. ⌜ ((R : Record) (test : ℕ → Bool) → Resolved R (now (head .entry)) (now (link .entry)) (now (left .entry)) → n ≡ length (names R)
+fn lowest(n: usize, from: usize, rows: &[u16; ROWS], waits: &[u8; 128]) -> usize
+    requires { ⌜ Safe (now rows) × (n ≤ 128) × (from ≤ n) ⌝ }
+    ensures { λ r. ⌜ ((R : Record) (test : ℕ → Bool) → Resolved R (now (rows .entry)) → n ≡ length (names R)
         → now (waits .entry) ≡ marksOf R test → ((y : ℕ) → y < from → free R test (nameAt R y) ≡ false)
         → (first (free R test) (names R) ≡ foundAt R (ltb r n) r) × ((y : ℕ) → y < r → free R test (nameAt R y) ≡ false)) ⌝ }
 {
     let mut x = from;
     while x < n {
-        if is_free(head, link, left, waits, x) {
+        if is_free(rows, waits, x) {
             return x;
         }
         x += 1;
@@ -71,64 +52,39 @@ fn lowest(
 }
 
 // The lower of best and the edit at y, where that is free.
-fn lower_free(
-    head: &[u16; 384],
-    link: &[u16; 1024],
-    left: &[u8; 1024],
-    waits: &[u8; 128],
-    y: usize,
-    best: usize,
-) -> usize
-    requires { ⌜ Safe (now head) (now link) (now left) × (y < 128) ⌝ }
-    ensures { λ r. ⌜ (r ≤ best) × (y < r → Held (now (head .entry)) (now (link .entry)) (now (left .entry)) (now (waits .entry)) y) ⌝ }
+fn lower_free(rows: &[u16; ROWS], waits: &[u8; 128], y: usize, best: usize) -> usize
+    requires { ⌜ Safe (now rows) × (y < 128) ⌝ }
+    ensures { λ r. ⌜ (r ≤ best) × (y < r → Held (now (rows .entry)) (now (waits .entry)) y) ⌝ }
 {
     if y >= best {
         return best;
     }
-    if is_free(head, link, left, waits, y) {
+    if is_free(rows, waits, y) {
         return y;
     }
     best
 }
 
 // The lowest that is free of those that come after the edit at x, where it lies below x; otherwise x.
-fn lowest_freed(
-    head: &[u16; 384],
-    link: &[u16; 1024],
-    left: &[u8; 1024],
-    turnhead: &[u16; 384],
-    turnlink: &[u16; 1024],
-    right: &[u8; 1024],
-    waits: &[u8; 128],
-    x: usize,
-) -> usize
-    requires { ⌜ Safe (now head) (now link) (now left) × Safe (now turnhead) (now turnlink) (now right) × (x < 128) ⌝ }
-    ensures { λ r. ⌜ (r ≤ x) × ((R : Record) (y : ℕ) → Turns R (now (turnhead .entry)) (now (turnlink .entry)) (now (right .entry)) → distinct (names R) ≡ true → x < length (names R) → y < length (names R)
-        → notafter R (nameAt R x) (nameAt R y) ≡ true → y < r → Held (now (head .entry)) (now (link .entry)) (now (left .entry)) (now (waits .entry)) y) ⌝ }
+fn lowest_freed(rows: &[u16; ROWS], reversed: &[u16; ROWS], waits: &[u8; 128], x: usize) -> usize
+    requires { ⌜ Safe (now rows) × Safe (now reversed) × (x < 128) ⌝ }
+    ensures { λ r. ⌜ (r ≤ x) × ((R : Record) (y : ℕ) → Reversed R (now (reversed .entry)) → distinct (names R) ≡ true → x < length (names R) → y < length (names R)
+        → notafter R (nameAt R x) (nameAt R y) ≡ true → y < r → Held (now (rows .entry)) (now (waits .entry)) y) ⌝ }
 {
     let mut best = x;
-    let mut j = links::wide16(turnhead[x]);
+    let mut j = links::first_row(reversed, x);
     while j != 0 {
-        best = lower_free(head, link, left, waits, links::wide8(right[j - 1]), best);
-        j = links::wide16(turnlink[j - 1]);
+        best = lower_free(rows, waits, links::row_left(reversed, j), best);
+        j = links::next_row(reversed, j);
     }
     best
 }
 
 // The marked set in order. None below the last placed was free before it was, so that the next is one that it held back, or lies above it.
-fn ordered_row(
-    n: usize,
-    head: &[u16; 384],
-    link: &[u16; 1024],
-    left: &[u8; 1024],
-    turnhead: &[u16; 384],
-    turnlink: &[u16; 1024],
-    right: &[u8; 1024],
-    marks: [u8; 128],
-) -> Row
-    requires { ⌜ Safe (now head) (now link) (now left) × Safe (now turnhead) (now turnlink) (now right) × (n ≤ 128) × (length marks ≡ 128) ⌝ }
+fn ordered_row(n: usize, rows: &[u16; ROWS], reversed: &[u16; ROWS], marks: [u8; 128]) -> Row
+    requires { ⌜ Safe (now rows) × Safe (now reversed) × (n ≤ 128) × (length marks ≡ 128) ⌝ }
     ensures { λ r. ⌜ (length (r .indexes) ≡ 128) × (r .count ≤ 128) × ((q : ℕ) → getD (r .indexes) q 0 < 128)
-        × ((R : Record) (t : List ℕ) → Resolved R (now (head .entry)) (now (link .entry)) (now (left .entry)) → Turns R (now (turnhead .entry)) (now (turnlink .entry)) (now (right .entry))
+        × ((R : Record) (t : List ℕ) → Resolved R (now (rows .entry)) → Reversed R (now (reversed .entry))
         → n ≡ length (names R) → t within names R
         → marks ≡ marksOf R (λ y. mem y t) → RowIs R r (order R t)) ⌝ }
 {
@@ -137,7 +93,7 @@ fn ordered_row(
     let mut count: usize = 0;
     let mut from: usize = 0;
     while count < n {
-        let x = lowest(n, from, head, link, left, &waits);
+        let x = lowest(n, from, rows, &waits);
         if x >= n {
             return Row {
                 indexes: indexes,
@@ -147,7 +103,7 @@ fn ordered_row(
         waits[x] = 0;
         indexes[count] = x as u8;
         count += 1;
-        from = lowest_freed(head, link, left, turnhead, turnlink, right, &waits, x);
+        from = lowest_freed(rows, reversed, &waits, x);
     }
     Row {
         indexes: indexes,
@@ -189,9 +145,7 @@ fn any_barred(n: usize, marks: &[u8; 128], hidden: &[u8; 128], mustmarks: &[u8; 
 // Whether one that is barred enters with the edit at x, where the old set holds none and it is known whether any edit at all is barred.
 fn is_shut(
     n: usize,
-    head: &[u16; 384],
-    link: &[u16; 1024],
-    left: &[u8; 1024],
+    rows: &[u16; ROWS],
     old: &[u8; 128],
     marks: &[u8; 128],
     hidden: &[u8; 128],
@@ -199,8 +153,8 @@ fn is_shut(
     x: usize,
     barring: bool,
 ) -> bool
-    requires { ⌜ Safe (now head) (now link) (now left) × (n ≤ 128) × (x < 128) ⌝ }
-    ensures { λ r. ⌜ ((R : Record) (hiddens t : List ℕ) → Resolved R (now (head .entry)) (now (link .entry)) (now (left .entry)) → n ≡ length (names R) → x < n
+    requires { ⌜ Safe (now rows) × (n ≤ 128) × (x < 128) ⌝ }
+    ensures { λ r. ⌜ ((R : Record) (hiddens t : List ℕ) → Resolved R (now (rows .entry)) → n ≡ length (names R) → x < n
         → Clear R hiddens t → now (old .entry) ≡ marksOf R (λ y. mem y t) → now (marks .entry) ≡ marksOf R (λ y. mem y (needs R (nameAt R x ∷ t)))
         → now (mustmarks .entry) ≡ marksOf R (must R) → Hides R (now (hidden .entry)) hiddens → barring ≡ any (bars R hiddens) (names R)
         → r ≡ any (bars R hiddens) (needs R (nameAt R x ∷ t))) ⌝ }
@@ -208,7 +162,7 @@ fn is_shut(
     if !barring {
         return false;
     }
-    if links::any_row(head, link, left, 128 + x, old, 0) {
+    if links::any_row(rows, 128 + x, old, 0) {
         return any_barred(n, marks, hidden, mustmarks);
     }
     is_barred(marks, hidden, mustmarks, x)
@@ -217,35 +171,20 @@ fn is_shut(
 // Whether the edit at x closes a ring when it enters the old set, which holds none; and it is known whether all edits together hold one.
 fn is_ringed(
     n: usize,
-    head: &[u16; 384],
-    link: &[u16; 1024],
-    left: &[u8; 1024],
-    turnhead: &[u16; 384],
-    turnlink: &[u16; 1024],
-    right: &[u8; 1024],
+    rows: &[u16; ROWS],
+    reversed: &[u16; ROWS],
     old: &[u8; 128],
     marks: [u8; 128],
     x: usize,
     ringed: bool,
 ) -> bool
-    requires { ⌜ Safe (now head) (now link) (now left) × Safe (now turnhead) (now turnlink) (now right) × (n ≤ 128) × (x < 128) × (length marks ≡ 128) ⌝ }
-    ensures { λ r. ⌜ ((R : Record) (hiddens t : List ℕ) → Resolved R (now (head .entry)) (now (link .entry)) (now (left .entry))
-        → Turns R (now (turnhead .entry)) (now (turnlink .entry)) (now (right .entry)) → n ≡ length (names R) → x < n → Clear R hiddens t → now (old .entry) ≡ marksOf R (λ y. mem y t)
+    requires { ⌜ Safe (now rows) × Safe (now reversed) × (n ≤ 128) × (x < 128) × (length marks ≡ 128) ⌝ }
+    ensures { λ r. ⌜ ((R : Record) (hiddens t : List ℕ) → Resolved R (now (rows .entry))
+        → Reversed R (now (reversed .entry)) → n ≡ length (names R) → x < n → Clear R hiddens t → now (old .entry) ≡ marksOf R (λ y. mem y t)
         → ring R t ≡ false → marks ≡ marksOf R (λ y. mem y (needs R (nameAt R x ∷ t))) → ringed ≡ ring R (names R) → r ≡ ring R (needs R (nameAt R x ∷ t))) ⌝ }
 {
     if ringed {
-        return marks::closes_ring(
-            n,
-            head,
-            link,
-            left,
-            turnhead,
-            turnlink,
-            right,
-            old,
-            marks,
-            x,
-        );
+        return marks::closes_ring(n, rows, reversed, old, marks, x);
     }
     false
 }
@@ -254,12 +193,8 @@ fn is_ringed(
 // need that comes before it was left out, so is the edit.
 fn admitted(
     n: usize,
-    head: &[u16; 384],
-    link: &[u16; 1024],
-    left: &[u8; 1024],
-    turnhead: &[u16; 384],
-    turnlink: &[u16; 1024],
-    right: &[u8; 1024],
+    rows: &[u16; ROWS],
+    reversed: &[u16; ROWS],
     mustmarks: [u8; 128],
     hidden: &[u8; 128],
     barring: bool,
@@ -267,8 +202,8 @@ fn admitted(
     marks: [u8; 128],
     x: usize,
 ) -> [u8; 128]
-    requires { ⌜ Safe (now head) (now link) (now left) × Safe (now turnhead) (now turnlink) (now right) × (n ≤ 128) × (x < 128) × (length mustmarks ≡ 128) × (length marks ≡ 128) ⌝ }
-    ensures { λ r. ⌜ (length r ≡ 128) × ((R : Record) (hiddens t : List ℕ) → Resolved R (now (head .entry)) (now (link .entry)) (now (left .entry)) → Turns R (now (turnhead .entry)) (now (turnlink .entry)) (now (right .entry))
+    requires { ⌜ Safe (now rows) × Safe (now reversed) × (n ≤ 128) × (x < 128) × (length mustmarks ≡ 128) × (length marks ≡ 128) ⌝ }
+    ensures { λ r. ⌜ (length r ≡ 128) × ((R : Record) (hiddens t : List ℕ) → Resolved R (now (rows .entry)) → Reversed R (now (reversed .entry))
         → n ≡ length (names R)
         → x < n → mustmarks ≡ marksOf R (must R) → Hides R (now (hidden .entry)) hiddens → barring ≡ any (bars R hiddens) (names R) → ringed ≡ ring R (names R)
         → Clear R hiddens t → ring R t ≡ false → Missed R hiddens t x → marks ≡ marksOf R (λ y. mem y t) → r ≡ marksOf R (λ y. mem y (admit R hiddens t (nameAt R x)))) ⌝ }
@@ -276,38 +211,15 @@ fn admitted(
     if marks[x] == 1 {
         return marks;
     }
-    let need = marks::need_below(head, link, left, x);
+    let need = marks::need_below(rows, x);
     if marks[need] != 1 {
         return marks;
     }
-    let more = links::closed(128, head, link, left, marks, x);
-    if is_shut(
-        n,
-        head,
-        link,
-        left,
-        &marks,
-        &more,
-        hidden,
-        &mustmarks,
-        x,
-        barring,
-    ) {
+    let more = links::closed(128, rows, marks, x);
+    if is_shut(n, rows, &marks, &more, hidden, &mustmarks, x, barring) {
         return marks;
     }
-    if is_ringed(
-        n,
-        head,
-        link,
-        left,
-        turnhead,
-        turnlink,
-        right,
-        &marks,
-        more,
-        x,
-        ringed,
-    ) {
+    if is_ringed(n, rows, reversed, &marks, more, x, ringed) {
         return marks;
     }
     more
@@ -316,19 +228,15 @@ fn admitted(
 // What must stand, which holds no ring, then the others by ascending name.
 fn admitted_marks(
     n: usize,
-    head: &[u16; 384],
-    link: &[u16; 1024],
-    left: &[u8; 1024],
-    turnhead: &[u16; 384],
-    turnlink: &[u16; 1024],
-    right: &[u8; 1024],
+    rows: &[u16; ROWS],
+    reversed: &[u16; ROWS],
     mustmarks: [u8; 128],
     hidden: &[u8; 128],
     barring: bool,
     ringed: bool,
 ) -> [u8; 128]
-    requires { ⌜ Safe (now head) (now link) (now left) × Safe (now turnhead) (now turnlink) (now right) × (n ≤ 128) × (length mustmarks ≡ 128) ⌝ }
-    ensures { λ r. ⌜ (length r ≡ 128) × ((R : Record) (hiddens : List ℕ) → Resolved R (now (head .entry)) (now (link .entry)) (now (left .entry)) → Turns R (now (turnhead .entry)) (now (turnlink .entry)) (now (right .entry))
+    requires { ⌜ Safe (now rows) × Safe (now reversed) × (n ≤ 128) × (length mustmarks ≡ 128) ⌝ }
+    ensures { λ r. ⌜ (length r ≡ 128) × ((R : Record) (hiddens : List ℕ) → Resolved R (now (rows .entry)) → Reversed R (now (reversed .entry))
         → n ≡ length (names R)
         → mustmarks ≡ marksOf R (must R) → Hides R (now (hidden .entry)) hiddens → barring ≡ any (bars R hiddens) (names R) → ringed ≡ ring R (names R) → ring R (musts R) ≡ false
         → r ≡ marksOf R (λ y. mem y (scheduled R hiddens))) ⌝ }
@@ -338,12 +246,8 @@ fn admitted_marks(
     while x < n {
         let more = admitted(
             n,
-            head,
-            link,
-            left,
-            turnhead,
-            turnlink,
-            right,
+            rows,
+            reversed,
             mustmarks,
             hidden,
             barring,
@@ -360,89 +264,41 @@ fn admitted_marks(
 // The set of the schedule: all edits, where none is barred and all together hold no ring; what must stand, where that holds a ring.
 fn scheduled_marks(
     n: usize,
-    head: &[u16; 384],
-    link: &[u16; 1024],
-    left: &[u8; 1024],
-    turnhead: &[u16; 384],
-    turnlink: &[u16; 1024],
-    right: &[u8; 1024],
+    rows: &[u16; ROWS],
+    reversed: &[u16; ROWS],
     mustmarks: [u8; 128],
     hidden: &[u8; 128],
 ) -> [u8; 128]
-    requires { ⌜ Safe (now head) (now link) (now left) × Safe (now turnhead) (now turnlink) (now right) × (n ≤ 128) × (length mustmarks ≡ 128) ⌝ }
-    ensures { λ r. ⌜ (length r ≡ 128) × ((R : Record) (hiddens : List ℕ) → Resolved R (now (head .entry)) (now (link .entry)) (now (left .entry)) → Turns R (now (turnhead .entry)) (now (turnlink .entry)) (now (right .entry))
+    requires { ⌜ Safe (now rows) × Safe (now reversed) × (n ≤ 128) × (length mustmarks ≡ 128) ⌝ }
+    ensures { λ r. ⌜ (length r ≡ 128) × ((R : Record) (hiddens : List ℕ) → Resolved R (now (rows .entry)) → Reversed R (now (reversed .entry))
         → n ≡ length (names R)
         → mustmarks ≡ marksOf R (must R) → Hides R (now (hidden .entry)) hiddens → r ≡ marksOf R (λ y. mem y (scheduled R hiddens))) ⌝ }
 {
     let all = links::all_marks(n);
     let barring = any_barred(n, &all, hidden, &mustmarks);
-    let ringed = links::has_ring(n, head, link, left, all);
+    let ringed = links::has_ring(n, rows, all);
     if ringed {
-        if links::has_ring(n, head, link, left, mustmarks) {
+        if links::has_ring(n, rows, mustmarks) {
             return mustmarks;
         }
-        return admitted_marks(
-            n,
-            head,
-            link,
-            left,
-            turnhead,
-            turnlink,
-            right,
-            mustmarks,
-            hidden,
-            barring,
-            ringed,
-        );
+        return admitted_marks(n, rows, reversed, mustmarks, hidden, barring, ringed);
     }
     if barring {
-        return admitted_marks(
-            n,
-            head,
-            link,
-            left,
-            turnhead,
-            turnlink,
-            right,
-            mustmarks,
-            hidden,
-            barring,
-            ringed,
-        );
+        return admitted_marks(n, rows, reversed, mustmarks, hidden, barring, ringed);
     }
     all
 }
 
-// The bench schedule. Pub for `judge` and `decisions`, whose arrays are safe.
-pub fn schedule_row(
-    n: usize,
-    head: &[u16; 384],
-    link: &[u16; 1024],
-    left: &[u8; 1024],
-    mustmarks: [u8; 128],
-    hidden: &[u8; 128],
-) -> Row
-    requires { ⌜ Safe (now head) (now link) (now left) × (n ≤ 128) × (length mustmarks ≡ 128) ⌝ }
+// The bench schedule. Pub for `judge` and `decisions`, whose rows are safe.
+pub fn schedule_row(n: usize, rows: &[u16; ROWS], mustmarks: [u8; 128], hidden: &[u8; 128]) -> Row
+    requires { ⌜ Safe (now rows) × (n ≤ 128) × (length mustmarks ≡ 128) ⌝ }
     ensures { λ r. ⌜ (length (r .indexes) ≡ 128) × (r .count ≤ 128) × ((q : ℕ) → getD (r .indexes) q 0 < 128)
-        × ((R : Record) (hiddens : List ℕ) → Resolved R (now (head .entry)) (now (link .entry)) (now (left .entry)) → n ≡ length (names R)
+        × ((R : Record) (hiddens : List ℕ) → Resolved R (now (rows .entry)) → n ≡ length (names R)
         → mustmarks ≡ marksOf R (must R) → Hides R (now (hidden .entry)) hiddens → RowIs R r (schedule R hiddens)) ⌝ }
 {
-    let rows = links::turned(n, head, link, left);
-    let turnhead = rows.head;
-    let turnlink = rows.link;
-    let right = rows.right;
-    let marks = scheduled_marks(
-        n,
-        head,
-        link,
-        left,
-        &turnhead,
-        &turnlink,
-        &right,
-        mustmarks,
-        hidden,
-    );
-    ordered_row(n, head, link, left, &turnhead, &turnlink, &right, marks)
+    let reversed = links::reversed(n, rows);
+    let marks = scheduled_marks(n, rows, &reversed, mustmarks, hidden);
+    ordered_row(n, rows, &reversed, marks)
 }
 
 // The page of each edit. From the end, so that where a row had a repeat its first place would count. Pub for `judge` and `decisions`, which have it

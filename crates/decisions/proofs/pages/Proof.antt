@@ -24,10 +24,9 @@ returns : tie.Need-returns
 returns c = (
   c .page-values .ensures .0,
   λ R e f.
-      let r = c .before .before .before .before .before .before .before .before .before .before .before .before .before in
-      let g = r .resolved .ensures .1 R e f in
-      let n = r .before .name-count .ensures .1 R e f in
-      let m = c .before .before .before .before .before .before .must-marks .ensures .1 R g in
+      let g = c .before .before .before .before .before .before .resolved .ensures .1 R e f in
+      let n = c .before .before .before .before .before .before .before .name-count .ensures .1 R e f in
+      let m = c .before .before .before .before .must-marks .ensures .1 R g in
       c .page-values .ensures .1 R _ (g .notafters .apart) (g .notafters .few) (c .before .schedule-row .ensures .3 R [] g n m (none-hides R)),
 )
 

@@ -11,7 +11,7 @@ must-marks-requires c κs = search needs
 
 returns : tie.Need-returns
 returns c =
-    λ R e f. c .must-marks .ensures .1 R (c .before .before .before .before .before .before .before .resolved .ensures .1 R e f)
+    λ R e f. c .must-marks .ensures .1 R (c .before .before .resolved .ensures .1 R e f)
 
 pub musts-spec : {M : Type 1} → statement M
 musts-spec = tie.close (tie.spec resolved-requires must-marks-requires returns)

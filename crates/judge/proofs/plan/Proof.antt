@@ -28,12 +28,12 @@ edits-of-requires c κs = (c .schedule-row .ensures .0, c .schedule-row .ensures
 returns : tie.Need-returns
 returns c =
     λ R e f.
-    let m = c .before .before .before .before .before .before .before .before .before .before in
-    let g = m .before .before .before .before .before .before .before .resolved .ensures .1 R e f in
-    let n = m .before .before .before .before .before .before .before .before .name-count .ensures .1 R e f in (
-      sound-ring R _ (c .before .before .before .before .before .before .has-ring .ensures R _ (g .notafters) n (musts-known R (f .formed)) (m .must-marks .ensures .1 R g ∙ must-musts R)),
-      m .must-marks .ensures .1 R g,
-      c .edits-of .ensures R _ e f (c .before .schedule-row .ensures .3 R _ g n (m .must-marks .ensures .1 R g) (marked-hides R f _)),
+    let m = c .before .before .before .before .before .before .must-marks in
+    let g = c .before .before .before .before .before .before .before .before .resolved .ensures .1 R e f in
+    let n = c .before .before .before .before .before .before .before .before .before .name-count .ensures .1 R e f in (
+      sound-ring R _ (c .before .before .before .before .has-ring .ensures R _ (g .notafters) n (musts-known R (f .formed)) (m .ensures .1 R g ∙ must-musts R)),
+      m .ensures .1 R g,
+      c .edits-of .ensures R _ e f (c .before .schedule-row .ensures .3 R _ g n (m .ensures .1 R g) (marked-hides R f _)),
     )
 
 pub plan-spec : {M : Type 1} → statement M

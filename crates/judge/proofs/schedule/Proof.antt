@@ -21,8 +21,8 @@ edits-of-requires c κs = (c .schedule-row .ensures .0, c .schedule-row .ensures
 
 returns : tie.Need-returns
 returns c =
-    λ R e f. let g = c .before .before .before .before .before .before .before .before .before .before .before .before .before .resolved .ensures .1 R e f in
-    c .edits-of .ensures R _ e f (c .before .schedule-row .ensures .3 R _ g (c .before .before .before .before .before .before .before .before .before .before .before .before .before .before .name-count .ensures .1 R e f) (c .before .before .before .before .before .before .must-marks .ensures .1 R g) (marked-hides R f _))
+    λ R e f. let g = c .before .before .before .before .before .before .resolved .ensures .1 R e f in
+    c .edits-of .ensures R _ e f (c .before .schedule-row .ensures .3 R _ g (c .before .before .before .before .before .before .before .name-count .ensures .1 R e f) (c .before .before .before .before .must-marks .ensures .1 R g) (marked-hides R f _))
 
 pub schedule-spec : {M : Type 1} → statement M
 schedule-spec =

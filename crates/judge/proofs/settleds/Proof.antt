@@ -20,10 +20,10 @@ settled-marks-requires c κs = search needs
 
 returns : tie.Need-returns
 returns c =
-    λ R e f. let g = c .before .before .before .before .before .before .before .before .before .before .before .before .before .before .before .resolved .ensures .1 R e f in
-    let n = c .before .before .before .before .before .before .before .before .before .before .before .before .before .before .before .before .name-count .ensures .1 R e f in
-    let m = c .before .before .before .before .before .before .before .before .must-marks .ensures .1 R g in
-    c .settled-marks .ensures .1 R g n m (c .before .before .before .before .never-marks .ensures .1 R g n m)
+    λ R e f. let g = c .before .before .before .before .before .before .resolved .ensures .1 R e f in
+    let n = c .before .before .before .before .before .before .before .name-count .ensures .1 R e f in
+    let m = c .before .before .before .before .must-marks .ensures .1 R g in
+    c .settled-marks .ensures .1 R g n m (c .before .before .never-marks .ensures .1 R g n m)
 
 pub settleds-spec : {M : Type 1} → statement M
 settleds-spec =

@@ -21,8 +21,8 @@ has-ring-requires c κs = search needs
 
 returns : tie.Need-returns
 returns c =
-    λ R e f. let g = c .before .before .before .before .before .before .before .before .before .before .before .resolved .ensures .1 R e f in
-    sound-ring R _ (c .has-ring .ensures R _ (g .notafters) (c .before .before .before .before .before .before .before .before .before .before .before .before .name-count .ensures .1 R e f) (musts-known R (f .formed)) (c .before .before .before .before .must-marks .ensures .1 R g ∙ must-musts R))
+    λ R e f. let g = c .before .before .before .before .resolved .ensures .1 R e f in
+    sound-ring R _ (c .has-ring .ensures R _ (g .notafters) (c .before .before .before .before .before .name-count .ensures .1 R e f) (musts-known R (f .formed)) (c .before .before .must-marks .ensures .1 R g ∙ must-musts R))
 
 pub sound-spec : {M : Type 1} → statement M
 sound-spec =

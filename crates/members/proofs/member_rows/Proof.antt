@@ -10,7 +10,7 @@ leading-rows-requires : tie.Need-leading-rows-requires
 leading-rows-requires c κs = search needs
 
 returns : tie.Need-returns
-returns c = (c .leading-rows .ensures .0, λ R e f t. c .leading-rows .ensures .1 R e f t (c .before .before .before .before .before .before .before .resolved .ensures .1 R e f))
+returns c = (c .leading-rows .ensures .0, λ R e f t. c .leading-rows .ensures .1 R e f t (c .before .before .resolved .ensures .1 R e f))
 
 pub member-rows-spec : {M : Type 1} → statement M
 member-rows-spec = tie.close (tie.spec resolved-requires leading-rows-requires returns)

@@ -15,11 +15,11 @@ use Rattle.pairs.proofs.unordered_pairs.Statement.{statement}
 use Rattle.pairs.proofs.unordered_pairs.Tie as tie
 
 abbrev Inv-loop : tie.InvT-loop
-Inv-loop constraints n index head link left rows₀ count₀ i₀ rows count i = (i ≤ n) × (n ≤ 512) × (length constraints ≡ 512) × (count ≤ i) × (length rows ≡ 512)
-    × ((R : Record) → Resolved R head link left → ((x : ℕ) → getD index x 0 ≡ placeIn (names R) x) → take n constraints ≡ R .constraints → take count rows ≡ sift (isUnordered R) (take i (R .constraints)))
+Inv-loop constraints n index resolved rows₀ count₀ i₀ rows count i = (i ≤ n) × (n ≤ 512) × (length constraints ≡ 512) × (count ≤ i) × (length rows ≡ 512)
+    × ((R : Record) → Resolved R resolved → ((x : ℕ) → getD index x 0 ≡ placeIn (names R) x) → take n constraints ≡ R .constraints → take count rows ≡ sift (isUnordered R) (take i (R .constraints)))
 
 abbrev μ-loop : tie.MeasureT-loop
-μ-loop constraints n index head link left rows₀ count₀ i₀ rows count i = n - i
+μ-loop constraints n index resolved rows₀ count₀ i₀ rows count i = n - i
 
 returns : tie.Need-returns Inv-loop μ-loop
 returns c =
@@ -34,7 +34,7 @@ resolved-requires c κs = search needs
 
 loop-holds : tie.Need-loop-holds Inv-loop μ-loop
 loop-holds c =
-    (search needs, search needs, search (needs, length-mapped), search needs, search (needs, length-mapped), λ R g f e. pairs-start R (c .before .before .before .before .before .before .before .args .multilog .constraints))
+    (search needs, search needs, search (needs, length-mapped), search needs, search (needs, length-mapped), λ R g f e. pairs-start R (c .before .before .before .before .args .multilog .constraints))
 
 mul-c : tie.Need-mul-c Inv-loop μ-loop
 mul-c c = search needs
@@ -44,8 +44,8 @@ array-copy-out-c c = search needs
 
 is-unordered-requires : tie.Need-is-unordered-requires Inv-loop μ-loop
 is-unordered-requires c κs =
-    let r = c .before .before .before .before .before .before .before .before .before .before .resolved in
-    let t = c .before .before .before .before .before .before .before .before .before .before .before .index-table in
+    let r = c .before .before .before .before .before .resolved in
+    let t = c .before .before .before .before .before .before .index-table in
     (r .ensures .0, t .ensures .0, t .ensures .1)
 
 mul-rows : tie.Need-mul-rows Inv-loop μ-loop
@@ -62,7 +62,7 @@ wide8-requires c κs = search needs
 
 add-count : tie.Need-add-count Inv-loop μ-loop
 add-count c =
-    let l = c .before .before .before .before .before .before .before .before .before in
+    let l = c .before .before .before .before .before .before .before .loop in
     let b = bit-low (c .before .before .is-unordered .result) (c .wide8 .ensures) (c .before .bit .ensures) .1 in
     omega arith
 
@@ -74,35 +74,35 @@ loop-less c = search needs
 
 loop-again : tie.Need-loop-again Inv-loop μ-loop
 loop-again c =
-    let l = c .before .before .before .before .before .before .before .before .before in
+    let l = c .before .before .before .before .before .before .before .loop in
     let u = c .before .before .is-unordered in
     let b = bit-low (u .result) (c .wide8 .ensures) (c .before .bit .ensures) in
-    let h = c .before .before .before .before .before .before .before .before .loop-test .taken in
-    let k = l .loop .inv in
+    let h = c .before .before .before .before .before .before .loop-test .taken in
+    let k = l .inv in
     let z = b .1 in
-    let s = l .before .before .before .before .before .before .before .before in
+    let s = c .before .before .before .before .before .before .before .before .before .before .before .before in
     let w : s .args .multilog .constraintcount ≤ length (s .args .multilog .constraints) = omega arith in (
       omega arith,
       k .1,
       k .2,
       omega arith,
       search needs,
-      λ R g f e. let m = here _ _ w R e (l .loop .i) fillerConstraint h in
-          pairs-next _ _ w R e (l .loop .rows) (l .loop .i) (l .loop .count) _ fillerConstraint (u .result) h (omega arith) (k .5 R g f e)
+      λ R g f e. let m = here _ _ w R e (l .i) fillerConstraint h in
+          pairs-next _ _ w R e (l .rows) (l .i) (l .count) _ fillerConstraint (u .result) h (omega arith) (k .5 R g f e)
           (u .ensures R g f (left-known R (g .formed) _ m) (right-known R (g .formed) _ m)) (b .0),
     )
 
 returns-2 : tie.Need-returns-2 Inv-loop μ-loop
 returns-2 c =
-    let l = c .before in
-    let k = l .loop .inv in
-    let r = l .before .before .before .before .resolved in
-    let t = l .before .before .before .before .before .index-table in
-    let s = l .before .before .before .before .before .before .before .before in (
+    let l = c .before .loop in
+    let k = l .inv in
+    let r = c .before .before .resolved in
+    let t = c .before .before .before .index-table in
+    let s = c .before .before .before .before .before .before in (
       k .4,
       omega arith,
       λ R e f. let q = held-constraints (s .args .multilog) R e in
-          pairs-end _ _ (omega arith) R q (l .loop .rows) (l .loop .i) (l .loop .count) (c .loop-test .left) (k .5 R (r .ensures .1 R e f) (t .ensures .2 R e f) q),
+          pairs-end _ _ (omega arith) R q (l .rows) (l .i) (l .count) (c .loop-test .left) (k .5 R (r .ensures .1 R e f) (t .ensures .2 R e f) q),
     )
 
 pub unordered-pairs-spec : {M : Type 1} → statement M
