@@ -5,7 +5,7 @@ use mathlib.Core.Logic.{inl, inr}
 use mathlib.Core.List.{List, [], _∷_, map}
 use Prim.Native.Nat.{ℕ, zero, suc, _+_, _*_, _<_}
 use native.Mathlib.Omega.{arith}
-use lib.ListN.{length, getD}
+use lib.ListN.{length, getD, length-map}
 use Rattle.record.specs.declared.Constraint.{Constraint}
 use Rattle.record.specs.declared.Record as declared
 use Rattle.lists.specs.Lists.{any, at, _among_}
@@ -16,7 +16,6 @@ use Rattle.record.proofs.Records as records
 use Rattle.links.specs.Marks.{nameAt, placeIn}
 use Rattle.links.specs.Links.{leftAt, withRow, Leads}
 use Rattle.links.proofs.Names.{getD-place, ascending-distinct, place-known}
-use Rattle.links.proofs.Marks.{length-mapped}
 use Rattle.links.proofs.Links.{Linking, linking-step, linking-end}
 use Rattle.marks.specs.Resolved.{Resolved}
 use Rattle.indexes.specs.Fit.{Fit}
@@ -38,7 +37,7 @@ leftsOf R = map (leftOf R) (R .constraints)
 
 pub keys-length : (R : Record) → length (keysOf R) ≡ length (R .constraints)
 unfolding keysOf
-keys-length R = length-mapped (keyOf R) (R .constraints)
+keys-length R = length-map (R .constraints) (keyOf R)
 
 pub keys-at : (R : Record) (i : ℕ) (d : Constraint) → i < length (R .constraints) → getD (keysOf R) i 0 ≡ keyOf R (getD (R .constraints) i d)
 unfolding keysOf

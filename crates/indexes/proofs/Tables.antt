@@ -5,7 +5,7 @@ use Prim.Native.Nat.{ℕ, suc, min, _+_, _-_, _≤_, _<_}
 use native.Mathlib.Omega.{arith}
 use native.Mathlib.Nat.{min-le-right, min-eq-left}
 use native.Mathlib.Numerals.{add-one}
-use lib.ListN.{length, getD, take, set, replicate, length-set, List·getD-append}
+use lib.ListN.{length, getD, take, set, replicate, length-set, List·getD-append, length-map}
 use lib.Seq.{getD-set-same, getD-set-other, take-suc, take-all, length-take-le}
 use borrow.Author.Tests.{eq-eqb, ne-eqb}
 use Rattle.record.specs.declared.Edit.{Edit}
@@ -17,12 +17,12 @@ use Rattle.record.specs.Stored.{padded, fillerEdit, fillerConstraint, stored}
 use Rattle.lists.proofs.Lists.{is-by, getD-mapped}
 use Rattle.links.specs.Marks.{nameAt, placeIn}
 use Rattle.links.proofs.Names.{getD-among, place-snoc, later-not, ascending-distinct}
-use Rattle.links.proofs.Marks.{zeros-get, length-mapped}
+use Rattle.links.proofs.Marks.{zeros-get}
 use Rattle.indexes.specs.Fit.{Fit}
 
 pub length-names : (R : Record) → length (names R) ≡ suc (length (R .edits))
 unfolding names written
-length-names R = ap suc (length-mapped nameOf (R .edits))
+length-names R = ap suc (length-map (R .edits) nameOf)
 
 pub names-few : (R : Record) → Fit R → length (names R) ≤ 128
 names-few R f = omega (arith, length-names R, f .edits)

@@ -4,7 +4,7 @@ use mathlib.Core.Bool.{true, not}
 use mathlib.Core.List.{List, [], _∷_, _++_, map, map-append, append-assoc}
 use Prim.Native.Nat.{ℕ, zero, suc, _+_, _-_, _≤_, _<_}
 use native.Mathlib.Omega.{arith}
-use lib.ListN.{length, getD, take, drop, set, replicate, length-append, length-drop}
+use lib.ListN.{length, getD, take, drop, set, replicate, length-append, length-drop, length-map}
 use lib.Seq.{take-suc, take-all, getD-drop, set-append-seam, length-take-le}
 use borrow.Author.Tests.{eq-eqb, ne-eqb, not-true}
 use Rattle.record.specs.declared.Edit.{Edit}
@@ -20,7 +20,6 @@ use Rattle.record.proofs.Judged.{init-must}
 use Rattle.record.proofs.Scheduled.{musts-scheduled}
 use Rattle.links.specs.Marks.{nameAt}
 use Rattle.links.proofs.Names.{getD-among, place-same, ascending-distinct}
-use Rattle.links.proofs.Marks.{length-mapped}
 use Rattle.schedules.specs.declared.Row.{Row}
 use Rattle.schedules.specs.Rows.{RowIs}
 use Rattle.schedules.proofs.Paging.{list-length, list-at}
@@ -41,7 +40,7 @@ edit-named [] i d a h = absurd (omega arith)
 edit-named (e ∷ l) zero d a h = rw (eq-eqb (e .name) (e .name) refl)
 edit-named (e ∷ l) (suc i) d a h =
     let k : getD l i d .name among map nameOf l =
-    rw (getD-mapped nameOf l i d 0 (omega arith)) at (getD-among (map nameOf l) i (omega (arith, length-mapped nameOf l))) in
+    rw (getD-mapped nameOf l i d 0 (omega arith)) at (getD-among (map nameOf l) i (omega (arith, length-map l nameOf))) in
     rw (ne-eqb (getD l i d .name) (e .name) (λ q. clash (rw q at k) (not-true _ (and-l _ _ a))))
     (edit-named l i d (and-r (not (mem (e .name) (map nameOf l))) _ a) (omega arith))
 
@@ -99,7 +98,7 @@ module _ (R : Record) (f : Fit R) (r : declared.Record) (e : r ≡ stored R) (ro
 
   taken-length : (q : ℕ) → 1 ≤ q → q ≤ row .count → length (map (editNamed (R .edits)) (take (q - 1) (drop 1 (schedule R hidden)))) ≡ q - 1
   taken-length q a b =
-      length-mapped (editNamed (R .edits)) (take (q - 1) (drop 1 (schedule R hidden)))
+      length-map (take (q - 1) (drop 1 (schedule R hidden))) (editNamed (R .edits))
       ∙ length-take-le (q - 1) (drop 1 (schedule R hidden)) (omega (arith, length-drop 1 (schedule R hidden), count-is))
 
   pub listing-step : (edits : List Edit) (q : ℕ) (d : Edit) → 1 ≤ q → q < row .count → 0 < getD (row .indexes) q 0 → Listing R (schedule R hidden) edits q
@@ -126,5 +125,5 @@ module _ (R : Record) (f : Fit R) (r : declared.Record) (e : r ≡ stored R) (ro
       let p : edits ≡ padded 127 fillerEdit (map (editNamed (R .edits)) (drop 1 (schedule R hidden))) =
       k ∙ ap (λ m. padded 127 fillerEdit (map (editNamed (R .edits)) m)) (take-all (q - 1) (drop 1 (schedule R hidden)) l) in
       let n : q - 1 ≡ length (map (editNamed (R .edits)) (drop 1 (schedule R hidden))) =
-      omega (arith, length-mapped (editNamed (R .edits)) (drop 1 (schedule R hidden)), length-drop 1 (schedule R hidden), count-is) in
+      omega (arith, length-map (drop 1 (schedule R hidden)) (editNamed (R .edits)), length-drop 1 (schedule R hidden), count-is) in
       λ i. record { edits = p i; count = n i }
