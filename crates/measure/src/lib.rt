@@ -1,4 +1,5 @@
 // What the benchmark calls (benchmark/): a judgement, a schedule, a merge and an election on lent tables, as numbers.
+use record::Schedule;
 use roll::Roll;
 use vote::RollRow;
 ghost use mathlib.Core.Path.{_≡_};
@@ -63,7 +64,7 @@ pub extern "C" fn measure_schedule(edits: &[[u32; 5]], constraints: &[[u32; 3]])
     ensures { λ r. ⌜ r ≡ scheduledOf (scheduleAnswerOf (now (edits .entry)) (now (constraints .entry))) ⌝ }
 {
     let answer = lent::schedule_lent(edits, constraints);
-    let schedule = answer.schedule;
+    let schedule: Schedule = answer.schedule;
     Scheduled {
         number: answer.number,
         count: schedule.count,
