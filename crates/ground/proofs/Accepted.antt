@@ -10,9 +10,9 @@ use borrow.Author.Tests.{not-false, leb-false, lt-leb}
 use lib.Dec.{leb}
 use lib.ListN.{length, take, length-append}
 use Rattle.lists.proofs.Lists.{by}
-use Rattle.lists.specs.Lists.{any}
+use Rattle.lists.specs.Lists.{any, Has}
 use Rattle.lists.specs.Keyed.{Below, Ascending, inserted, united}
-use Rattle.lists.proofs.Logic.{Has, any-no, any-by}
+use Rattle.lists.proofs.Logic.{any-no, any-by}
 use Rattle.lists.proofs.Union.{late, ascending-last, ascending-snoc, ascending-united, united-snoc, united-old, united-alone, inserted-known, length-inserted}
 use Rattle.row.specs.Row.{Row, same}
 use Rattle.row.proofs.Compared.{same-eq}

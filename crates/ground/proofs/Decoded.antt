@@ -7,7 +7,8 @@ use Prim.Native.Nat.{ℕ, _≤_}
 use native.Mathlib.Omega.{arith}
 use lib.ListN.{length, take, length-map}
 use Rattle.lists.specs.Keyed.{Ascending, united}
-use Rattle.lists.proofs.Logic.{Has, has-map, has-mapped}
+use Rattle.lists.specs.Lists.{Has}
+use Rattle.lists.proofs.Logic.{has-map, has-mapped}
 use Rattle.lists.proofs.Union.{ascending-map, map-united, Agree, united-comm, length-grown}
 use Rattle.row.specs.Row.{Row, same}
 use Rattle.row.proofs.Compared.{neither-same}

@@ -1,5 +1,5 @@
 -- The first faulty row, looked for row by row, and the grounds 3, 4 and 13 of a row by its place in an ascending table. Assumes nothing.
-use mathlib.Core.Path.{_≡_, refl, ap, _∙_}
+use mathlib.Core.Path.{_≡_, refl, ap, _∙_, sym}
 use mathlib.Core.Bool.{Bool, true, false, cond, not, _&&_, _||_}
 use mathlib.Core.Logic.{⊎-elim}
 use mathlib.Core.List.{List, [], _∷_, _++_}
@@ -11,9 +11,9 @@ use lib.Dec.{eqb}
 use lib.ListN.{length, take, drop, getD, drop-of-length-le}
 use lib.Seq.{take-suc, drop-cons, take-all, split-at}
 use Rattle.lists.proofs.Lists.{by, clash}
-use Rattle.lists.specs.Lists.{any}
+use Rattle.lists.specs.Lists.{any, Has}
 use Rattle.lists.specs.Keyed.{precedes, Below, Ascending}
-use Rattle.lists.proofs.Logic.{Has, any-append, any-none}
+use Rattle.lists.proofs.Logic.{any-append, any-none}
 use Rattle.lists.proofs.Order.{less-trans}
 use Rattle.lists.proofs.Union.{late, late-has, below-has}
 use Rattle.row.specs.Row.{Row, same}
@@ -34,6 +34,12 @@ orelse-first a b h = rw (ne-eqb a 0 h)
 
 pub orelse-second : (a b : ℕ) → a ≡ 0 → a orelse b ≡ b
 orelse-second a b h = rw (eq-eqb a 0 h)
+
+pub orelse-zero : (n : ℕ) → n orelse 0 ≡ n
+orelse-zero n = by (eqb n 0) (λ e. rw e (sym (eqb-true n 0 e))) (λ e. rw e)
+
+pub orelse-assoc : (a b c : ℕ) → a orelse b orelse c ≡ ((a orelse b) orelse c)
+orelse-assoc a b c = by (eqb a 0) (λ e. rw e) (λ e. rw (e, e))
 
 pub given-none : (n : ℕ) (b : Bool) → suc n given b ≡ 0 → b ≡ false
 given-none n true h = absurd (omega arith)

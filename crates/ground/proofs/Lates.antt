@@ -11,10 +11,10 @@ use borrow.Author.Tests.{ltb-true, ltb-false}
 use lib.Dec.{leb, ltb}
 use lib.ListN.{length, take, drop, getD, drop-of-length-le, length-map}
 use lib.Seq.{take-suc, drop-cons, length-take-le, getD-take}
-use Rattle.lists.proofs.Lists.{by}
-use Rattle.lists.specs.Lists.{any}
+use Rattle.lists.proofs.Lists.{by, getD-mapped}
+use Rattle.lists.specs.Lists.{any, Has}
 use Rattle.lists.specs.Keyed.{precedes, Ascending}
-use Rattle.lists.proofs.Logic.{Has, has-getD}
+use Rattle.lists.proofs.Logic.{has-getD}
 use Rattle.lists.proofs.Union.{late, late-snoc, late-is}
 use Rattle.row.specs.Row.{same}
 use Rattle.row.proofs.Compared.{neither-same}
@@ -56,18 +56,12 @@ module _ (f : List ℕ → Bool) (t : Rows) (i j : ℕ) (n : i ≤ length t) whe
   unfolding any
   some-end h = let l : length (take i t) ≤ j = omega (arith, length-take-le i t n) in rw (drop-of-length-le (take i t) {i = j} l)
 
--- the rows of the first n elements of an array
-pub getD-map : {A : Type 0} (f : A → List ℕ) (l : List A) (p : ℕ) (d : A) → p < length l → getD (map f l) p [] ≡ f (getD l p d)
-getD-map f [] p d h = absurd (omega arith)
-getD-map f (x ∷ l) zero d h = refl
-getD-map f (x ∷ l) (suc p) d h = getD-map f l p d (omega arith)
-
 module _ {A : Type 0} (f : A → List ℕ) (a : List A) (n : ℕ) (l : n ≤ length a) where
   pub table-length : length (map f (take n a)) ≡ n
   table-length = length-map (take n a) f ∙ length-take-le n a l
 
   pub table-at : (p : ℕ) (d : A) → p < n → getD (map f (take n a)) p [] ≡ f (getD a p d)
-  table-at p d h = getD-map f (take n a) p d (omega (arith, length-take-le n a l)) ∙ ap f (getD-take n a p d h)
+  table-at p d h = getD-mapped f (take n a) p d [] (omega (arith, length-take-le n a l)) ∙ ap f (getD-take n a p d h)
 
   -- the place of a row, looked for from the start
   module _ (k : ℕ) (row : List ℕ) where

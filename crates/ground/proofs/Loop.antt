@@ -9,20 +9,30 @@ use lib.Dec.{ltb, leb, eqb}
 use lib.ListN.{length, take, drop, getD}
 use lib.Seq.{take-all, length-take-le}
 use Rattle.lists.proofs.Lists.{by, clash}
-use Rattle.lists.specs.Lists.{any}
+use Rattle.lists.specs.Lists.{any, Has}
 use Rattle.lists.specs.Keyed.{precedes, Ascending, united}
-use Rattle.lists.proofs.Logic.{Has, has-mapped}
+use Rattle.lists.proofs.Logic.{has-mapped}
 use Rattle.row.specs.Row.{Row, same}
 use Rattle.ground.specs.declared.Step.{Step}
 use Rattle.ground.specs.Ground.{Rows, Kind, alike, known, noPlace, otherBody, misplaced, rowFault, firstFault, tableFault, _given_, _orelse_}
 use Rattle.ground.specs.Walk.{stepped, stepAt, lateNumber, laterNumber, PlaceOf, lateFault, lateFurther}
-use Rattle.ground.proofs.Grounds.{given-orelse, scan-here, scan-end}
-use Rattle.ground.proofs.Walks.{Walk, Told, told, walk-start}
+use Rattle.ground.proofs.Grounds.{given-orelse, scan-here, scan-end, orelse-zero}
+use Rattle.ground.proofs.Walks.{Walk, Told, told, walk-start, bounds}
 use Rattle.ground.proofs.Lates.{table-length, table-at, late-number, walk-goes, walk-stops}
 
 -- a comparison, of the rows that the compared values are
 pub compared : {x y : List ℕ} {b v : Bool} (k : ℕ) (row : List ℕ) → x ≡ y → b ≡ precedes (take k x) (take k row) → b ≡ v → precedes (take k y) (take k row) ≡ v
 compared k row e p q = sym (ap (λ z. precedes (take k z) (take k row)) e) ∙ sym p ∙ q
+
+-- the step at a row x, from the comparisons of whole rows
+pub step-of : (key at n count limit : ℕ) (x row : Row) {l u q : Bool} {m : Step} → length x ≡ length row → at ≤ n → count ≤ limit
+    → l ≡ precedes (take key x) (take key row) → u ≡ precedes (take key row) (take key x) → q ≡ same (take (length row) row) (take (length row) x) → m ≡ stepped (ltb at n) l u q (leb limit count)
+    → (m ≡ stepAt key (ltb at n) x row (leb limit count)) × (at + m .passed ≤ n) × (count + m .added ≤ limit) × (m .judged ≤ 1) × (1 ≤ m .number + m .passed + m .judged)
+step-of key at n count limit x row {l} {u} {q} {m} e p c f g h s =
+    let y : take (length row) x ≡ x = take-all (length row) x (omega arith) in
+    let z : take (length row) row ≡ row = take-all (length row) row (omega arith) in
+    let b = bounds at n count limit l u q m s p c in
+    (rw (f, g, h, y, z) at s, b .0, b .1, b .2, b .3)
 
 -- where there is no further number
 pub later-zero : (m : Step) → laterNumber m 0 ≡ m .number
@@ -112,15 +122,6 @@ module _ (K : Elements) where
   keys-wide : (l : List (K .A)) (r : Row) → Has r (map (K .rowOf) l) → length (take key r) ≡ key
   keys-wide l r h = has-mapped (K .rowOf) r l h (λ x m e. rw e (key-wide (K .rowOf x) (K .wide x)))
 
-  -- the step at an element, from the comparisons of whole rows
-  pub step-of : (a : K .A) {x : Row} (row : Row) (there full : Bool) {l u q : Bool} {m : Step} → x ≡ K .rowOf a → length row ≡ K .width
-      → l ≡ precedes (take key x) (take key row) → u ≡ precedes (take key row) (take key x) → q ≡ same (take (K .width) row) (take (K .width) x) → m ≡ stepped there l u q full
-      → m ≡ stepAt key there (K .rowOf a) row full
-  step-of a {x} row there full e g h i j =
-      let y : take (K .width) (K .rowOf a) ≡ K .rowOf a = let z : length (K .rowOf a) ≡ K .width = K .wide a in take-all (K .width) (K .rowOf a) (omega arith) in
-      let z : take (K .width) row ≡ row = take-all (K .width) row (omega arith) in
-      λ s. rw (h, i, j, e, y, z) at s
-
   module _ (es : List (K .A)) (n : ℕ) (t : Rows) where
     abbrev J : Rows
     J = map (K .rowOf) (take n es)
@@ -138,12 +139,12 @@ module _ (K : Elements) where
 
       -- a row out of order
       pub late-is : (count i : ℕ) → length (getD t i []) ≡ K .width → Ascending (take key) J
-          → (p : ℕ) → PlaceOf key J (getD t i []) p → (j : ℕ) (d : K .A) → (p < n → j ≡ p)
-          → (m : Step) → m ≡ stepAt key (ltb p n) (K .rowOf (getD es j d)) (getD t i []) (leb limit count)
+          → (p : ℕ) → PlaceOf key J (getD t i []) p → (j : ℕ) (d : K .A) → (p < n → j ≡ p) → {x : Row} → x ≡ K .rowOf (getD es j d)
+          → (m : Step) → m ≡ stepAt key (ltb p n) x (getD t i []) (leb limit count)
           → (g : Bool) → g ≡ known key (getD t i []) (take i t) → {r : ℕ} → r ≡ lateNumber g (m .number) → r ≡ lateFault key limit J count (take i t) (getD t i [])
-      late-is count i long a p v j d place m e g again h =
+      late-is count i long a p v j d place {x} f m e g again h =
           let y : length J ≡ n = table-length (K .rowOf) es n l in
-          h ∙ late-number key limit J (take i t) count (getD t i []) key (keys-wide (take n es)) a (key-wide (getD t i []) long) p v (K .rowOf (getD es j d)) (here p j d place) m (rw y e) g again
+          h ∙ late-number key limit J (take i t) count (getD t i []) key (keys-wide (take n es)) a (key-wide (getD t i []) long) p v x (λ k. f ∙ here p j d place k) m (rw y e) g again
 
       pub state-start : State 0 n 0
       state-start a = let e : length J ≡ n = table-length (K .rowOf) es n l in (rw e at (walk-start key J t), refl)
@@ -167,8 +168,8 @@ module _ (K : Elements) where
                 let q = out-of-order (K .kind) J (take i t) (getD t i []) count (sym fitting ∙ good) p (v .counted) in
                 r ∙ rw (e a, y) (sym (s a .1 ∙ scan-here (rowFault (K .kind) J) t i h (lateFurther late further) q (late-further-not late further (late-not key limit J count (take i t) (getD t i [])))))
 
-            module _ (long : length (getD t i []) ≡ K .width) (g : c ≡ true) (j : ℕ) (d : K .A) (place : at < n → j ≡ at) (m : Step)
-                (e : m ≡ stepAt key (ltb at n) (K .rowOf (getD es j d)) (getD t i []) (leb limit count)) (o : ℕ) (others : o ≡ K .kind .further (getD t i [])) where
+            module _ (long : length (getD t i []) ≡ K .width) (g : c ≡ true) (j : ℕ) (d : K .A) (place : at < n → j ≡ at) {x : Row} (f : x ≡ K .rowOf (getD es j d)) (m : Step)
+                (e : m ≡ stepAt key (ltb at n) x (getD t i []) (leb limit count)) (o : ℕ) (others : o ≡ K .kind .further (getD t i [])) where
               ordered : Ascending (take key) J → misplaced key (take i t) (getD t i []) ≡ false
               ordered a = sym (follows (s a .0 .order)) ∙ rw g
 
@@ -176,7 +177,7 @@ module _ (K : Elements) where
               unfolding misplaced
               state-told a =
                   let y : length J ≡ n = table-length (K .rowOf) es n l in
-                  told key limit key J t (keys-wide (take n es)) a at count i (s a .0) h (key-wide (getD t i []) long) (ordered a) (K .rowOf (getD es j d)) (here at j d place) m (rw y e)
+                  told key limit key J t (keys-wide (take n es)) a at count i (s a .0) h (key-wide (getD t i []) long) (ordered a) x (λ k. f ∙ here at j d place k) m (rw y e)
 
               value : Ascending (take key) J → rowFault (K .kind) J (take i t) (getD t i []) ≡ cond (noPlace key limit J (take i t) (getD t i [])) 3 (cond (otherBody key J (take i t) (getD t i [])) 4 o)
               value a = rw others (in-order (K .kind) J (take i t) (getD t i []) (sym fitting ∙ good) (ordered a))

@@ -3,7 +3,7 @@ use mathlib.Core.Path.{_≡_, refl, ap, sym, _∙_}
 use mathlib.Core.Bool.{Bool, true, false}
 use mathlib.Core.Logic.{_⊎_, inl, inr, ⊎-elim}
 use mathlib.Core.List.{List, [], _∷_, _++_}
-use Prim.Native.Nat.{ℕ, _+_, _-_, _≤_, _<_}
+use Prim.Native.Nat.{ℕ, _+_, _≤_, _<_}
 use native.Mathlib.Numerals.{add-one}
 use native.Mathlib.Omega.{arith}
 use borrow.Author.Tests.{leb-false, ltb-true, ltb-false}
@@ -11,9 +11,9 @@ use lib.Dec.{leb, ltb}
 use lib.ListN.{length, take, getD}
 use lib.Seq.{take-suc}
 use Rattle.lists.proofs.Lists.{by, clash}
-use Rattle.lists.specs.Lists.{any}
+use Rattle.lists.specs.Lists.{any, Has}
 use Rattle.lists.specs.Keyed.{precedes, Ascending, inserted, united}
-use Rattle.lists.proofs.Logic.{Has, has-getD, any-no}
+use Rattle.lists.proofs.Logic.{has-getD, any-no}
 use Rattle.lists.proofs.Union.{late, late-snoc, late-last, late-more, late-has, ascending-snoc, ascending-united, united-snoc, united-has, united-old, inserted-known, length-new}
 use Rattle.row.specs.Row.{same}
 use Rattle.row.proofs.Compared.{same-eq, neither-same}
@@ -144,38 +144,18 @@ module _ (k limit w : ℕ) (joined t : Rows) (wide : (r : List ℕ) → Has r jo
       let n : at ≡ length joined = let c : at ≤ length joined = v .near in omega (arith, ltb-false at (length joined) f) in
       as-new (place-end k joined row at a (v .behind o) n) m (rw f at g))
 
--- a step goes on by one, in the table where there is a row, or in the lent rows
-pub stepped-on : (t l u q f : Bool) (m : Step) → m ≡ stepped t l u q f → m .number ≡ 0 → (m .passed + m .judged ≡ 1) × ((m .passed ≡ 0) ⊎ (t ≡ true)) × ((m .added ≡ 0) ⊎ (f ≡ false))
+-- a step without fault goes on, in the table where there is a row or in the lent rows, and any step stays within the bounds
+pub bounds : (at n count limit : ℕ) (l u q : Bool) (m : Step) → m ≡ stepped (ltb at n) l u q (leb limit count) → at ≤ n → count ≤ limit
+    → (at + m .passed ≤ n) × (count + m .added ≤ limit) × (m .judged ≤ 1) × (1 ≤ m .number + m .passed + m .judged)
 unfolding stepped
-stepped-on true true u q f m e z = rw e (refl, inr refl, inl refl)
-stepped-on true false true q true m e z = absurd (let y : _≡_ {A = ℕ} 3 0 = sym (ap (λ (n : Step). n .number) e) ∙ z in omega arith)
-stepped-on true false true q false m e z = rw e (refl, inl refl, inr refl)
-stepped-on true false false true f m e z = rw e (refl, inl refl, inl refl)
-stepped-on true false false false f m e z = absurd (let y : _≡_ {A = ℕ} 4 0 = sym (ap (λ (n : Step). n .number) e) ∙ z in omega arith)
-stepped-on false l u q true m e z = absurd (let y : _≡_ {A = ℕ} 3 0 = sym (ap (λ (n : Step). n .number) e) ∙ z in omega arith)
-stepped-on false l u q false m e z = rw e (refl, inl refl, inr refl)
-
--- and stays within the bounds
-pub record Bounds (n limit len at count i : ℕ) (m : Step) : Type 0 where
-  pub at-fits : at + m .passed ≤ n
-  pub count-fits : count + m .added ≤ limit
-  pub row-fits : i + m .judged ≤ len
-  pub less : (n - (at + m .passed)) + (len - (i + m .judged)) < (n - at) + (len - i)
-
-pub bounds : (n limit len at count i : ℕ) (l u q : Bool) (m : Step) → m ≡ stepped (ltb at n) l u q (leb limit count) → m .number ≡ 0 → at ≤ n → count ≤ limit → i < len → Bounds n limit len at count i m
-unfolding stepped
-bounds n limit len at count i l u q m e z p c h =
-    let f = stepped-on (ltb at n) l u q (leb limit count) m e z in
-    let one : m .passed + m .judged ≡ 1 = f .0 in
-    let a : at + m .passed ≤ n = ⊎-elim (λ (y : m .passed ≡ 0). omega arith) (λ (y : ltb at n ≡ true). omega (arith, ltb-true at n y)) (f .1) in
-    let b : count + m .added ≤ limit = ⊎-elim (λ (y : m .added ≡ 0). omega arith) (λ (y : leb limit count ≡ false). omega (arith, leb-false limit count y, stepped-added (ltb at n) l u q (leb limit count) m e)) (f .2) in
-    record { at-fits = a; count-fits = b; row-fits = omega arith; less = omega arith }
+bounds at n count limit l u q m e p c = go (ltb at n) l u q (leb limit count) refl refl e
   where
-    stepped-added : (t l u q f : Bool) (m : Step) → m ≡ stepped t l u q f → m .added ≤ 1
-    stepped-added true true u q f m e = rw e (omega arith)
-    stepped-added true false true q true m e = rw e (omega arith)
-    stepped-added true false true q false m e = rw e (omega arith)
-    stepped-added true false false true f m e = rw e (omega arith)
-    stepped-added true false false false f m e = rw e (omega arith)
-    stepped-added false l u q true m e = rw e (omega arith)
-    stepped-added false l u q false m e = rw e (omega arith)
+    go : (t l u q f : Bool) → ltb at n ≡ t → leb limit count ≡ f → m ≡ stepped t l u q f
+        → (at + m .passed ≤ n) × (count + m .added ≤ limit) × (m .judged ≤ 1) × (1 ≤ m .number + m .passed + m .judged)
+    go true true u q f x y e = let z : at < n = ltb-true at n x in rw e (omega arith, omega arith, omega arith, omega arith)
+    go true false true q true x y e = rw e (omega arith, omega arith, omega arith, omega arith)
+    go true false true q false x y e = let z : count < limit = leb-false limit count y in rw e (omega arith, omega arith, omega arith, omega arith)
+    go true false false true f x y e = rw e (omega arith, omega arith, omega arith, omega arith)
+    go true false false false f x y e = rw e (omega arith, omega arith, omega arith, omega arith)
+    go false l u q true x y e = rw e (omega arith, omega arith, omega arith, omega arith)
+    go false l u q false x y e = let z : count < limit = leb-false limit count y in rw e (omega arith, omega arith, omega arith, omega arith)

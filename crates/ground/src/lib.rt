@@ -2,6 +2,7 @@
 // that finds the first faulty row. The functions are pub for the crates of this workspace that walk tables.
 ghost use mathlib.Core.Path.{_≡_};
 ghost use Prim.Native.Nat.{_≤_, _<_};
+ghost use Rattle.ground.specs.Walk as walk;
 ghost use Rattle.ground.specs.Walk.{asNew, stepped, lateNumber, laterNumber, lateFurther};
 
 // A step of the walk through a table in order and the lent rows that join it: a fault, or how far it goes on in the table, in the places taken and in the rows.
@@ -12,24 +13,36 @@ pub struct Step {
     pub judged: usize,
 }
 
+fn goes_on(passed: usize, added: usize, judged: usize) -> Step
+    ensures { λ r. ⌜ r ≡ record { number = 0; passed = passed; added = added; judged = judged } ⌝ }
+{
+    Step {
+        number: 0,
+        passed: passed,
+        added: added,
+        judged: judged,
+    }
+}
+
+fn refused(number: u32) -> Step
+    ensures { λ r. ⌜ r ≡ walk.refused number ⌝ }
+{
+    Step {
+        number: number,
+        passed: 0,
+        added: 0,
+        judged: 0,
+    }
+}
+
 // A lent row whose key is not in the table.
 fn as_new(full: bool) -> Step
     ensures { λ r. ⌜ r ≡ asNew full ⌝ }
 {
     if full {
-        return Step {
-            number: 3,
-            passed: 0,
-            added: 0,
-            judged: 0,
-        };
+        return refused(3);
     }
-    Step {
-        number: 0,
-        passed: 0,
-        added: 1,
-        judged: 1,
-    }
+    goes_on(0, 1, 1)
 }
 
 // there: the table has a row at this place; lower, upper, equal: it is below, above, equal to the lent row; full: no place is left.
@@ -40,30 +53,15 @@ pub fn advance(there: bool, lower: bool, upper: bool, equal: bool, full: bool) -
         return as_new(full);
     }
     if lower {
-        return Step {
-            number: 0,
-            passed: 1,
-            added: 0,
-            judged: 0,
-        };
+        return goes_on(1, 0, 0);
     }
     if upper {
         return as_new(full);
     }
     if equal {
-        return Step {
-            number: 0,
-            passed: 0,
-            added: 0,
-            judged: 1,
-        };
+        return goes_on(0, 0, 1);
     }
-    Step {
-        number: 4,
-        passed: 0,
-        added: 0,
-        judged: 0,
-    }
+    refused(4)
 }
 
 // The place where it is below n, and some place below the limit otherwise, so that the array may be read. Pub for the walks of `refusal`, `table` and
@@ -80,7 +78,7 @@ pub fn slot(place: usize, n: usize, limit: usize) -> usize
 
 // The number of a row in order: that of its step, or, where the step has judged it, a further one.
 pub fn later_number(s: Step, further: u32) -> u32
-    ensures { λ r. ⌜ r ≡ laterNumber s further ⌝ }
+    ensures { λ r. ⌜ (r ≡ laterNumber s further) × (s .number ≤ r) ⌝ }
 {
     if s.number != 0 {
         return s.number;

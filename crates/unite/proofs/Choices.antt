@@ -1,60 +1,38 @@
 -- The choice of the next element of a union, by its tests, and the comparison of two constraints. Assumes nothing.
-use mathlib.Core.Path.{_≡_, refl, sym}
+use mathlib.Core.Path.{_≡_, sym}
 use mathlib.Core.Bool.{Bool, true, false}
 use mathlib.Core.List.{List, [], _∷_}
-use Prim.Native.Nat.{ℕ, _+_, _≤_, _<_}
-use native.Mathlib.Omega.{arith}
-use borrow.Author.Tests.{ltb-true, ltb-false, lt-ltb, le-ltb}
+use Prim.Native.Nat.{ℕ, _≤_, _<_}
+use borrow.Author.Tests.{lt-ltb, le-ltb}
 use lib.Dec.{ltb}
 use Rattle.record.specs.declared.Edit.{Edit}
 use Rattle.lists.specs.Keyed.{precedes}
 use Rattle.lists.proofs.Order.{less-one}
 use Rattle.table.specs.Table.{editKey}
-use Rattle.unite.specs.declared.Choice.{Choice}
 use Rattle.unite.specs.Union.{chosen, ownFirst, joiningFirst, bothAtOnce}
 
-module _ (there lent lower upper : Bool) where
-  pub chosen-own : lent ≡ false → ownFirst ≡ chosen there lent lower upper
+module _ (p n j m : ℕ) (lower upper : Bool) where
+  pub chosen-own : m ≤ j → ownFirst ≡ chosen (ltb p n) (ltb j m) lower upper
   unfolding chosen
-  chosen-own e = rw e
+  chosen-own e = rw (le-ltb j m e)
 
-  module _ (e : lent ≡ true) where
-    pub chosen-joining : there ≡ false → joiningFirst ≡ chosen there lent lower upper
+  module _ (e : j < m) where
+    pub chosen-joining : n ≤ p → joiningFirst ≡ chosen (ltb p n) (ltb j m) lower upper
     unfolding chosen
-    chosen-joining f = rw (e, f)
+    chosen-joining f = rw (lt-ltb j m e, le-ltb p n f)
 
-    module _ (f : there ≡ true) where
-      pub chosen-lower : lower ≡ true → ownFirst ≡ chosen there lent lower upper
+    module _ (f : p < n) where
+      pub chosen-lower : lower ≡ true → ownFirst ≡ chosen (ltb p n) (ltb j m) lower upper
       unfolding chosen
-      chosen-lower g = rw (e, f, g)
+      chosen-lower g = rw (lt-ltb j m e, lt-ltb p n f, g)
 
-      pub chosen-upper : lower ≡ false → upper ≡ true → joiningFirst ≡ chosen there lent lower upper
+      pub chosen-upper : lower ≡ false → upper ≡ true → joiningFirst ≡ chosen (ltb p n) (ltb j m) lower upper
       unfolding chosen
-      chosen-upper g h = rw (e, f, g, h)
+      chosen-upper g h = rw (lt-ltb j m e, lt-ltb p n f, g, h)
 
-      pub chosen-both : lower ≡ false → upper ≡ false → bothAtOnce ≡ chosen there lent lower upper
+      pub chosen-both : lower ≡ false → upper ≡ false → bothAtOnce ≡ chosen (ltb p n) (ltb j m) lower upper
       unfolding chosen
-      chosen-both g h = rw (e, f, g, h)
-
-pub chosen-by : (there lent : Bool) {l l′ u u′ : Bool} {choice : Choice} → choice ≡ chosen there lent l u → l ≡ l′ → u ≡ u′ → choice ≡ chosen there lent l′ u′
-chosen-by there lent e f g = rw (f, g) at e
-
--- a choice goes on where there is one more
-pub record Onwards (n m p j : ℕ) (choice : Choice) : Type 0 where
-  pub own-fits : p + choice .own ≤ n
-  pub joining-fits : j + choice .joining ≤ m
-  pub more : 1 ≤ choice .own + choice .joining
-
-pub onwards : (n m p j : ℕ) (lower upper : Bool) (choice : Choice) → choice ≡ chosen (ltb p n) (ltb j m) lower upper → p ≤ n → j ≤ m → p + j < n + m → Onwards n m p j choice
-unfolding chosen
-onwards n m p j lower upper choice e a b h = go (ltb p n) (ltb j m) lower upper refl refl e
-  where
-    go : (x y l u : Bool) → ltb p n ≡ x → ltb j m ≡ y → choice ≡ chosen x y l u → Onwards n m p j choice
-    go x false l u f g e = rw e (record { own-fits = omega (arith, ltb-false j m g); joining-fits = omega arith; more = omega arith })
-    go false true l u f g e = rw e (record { own-fits = omega arith; joining-fits = omega (arith, ltb-true j m g); more = omega arith })
-    go true true true u f g e = rw e (record { own-fits = omega (arith, ltb-true p n f); joining-fits = omega arith; more = omega arith })
-    go true true false true f g e = rw e (record { own-fits = omega arith; joining-fits = omega (arith, ltb-true j m g); more = omega arith })
-    go true true false false f g e = rw e (record { own-fits = omega (arith, ltb-true p n f); joining-fits = omega (arith, ltb-true j m g); more = omega arith })
+      chosen-both g h = rw (lt-ltb j m e, lt-ltb p n f, g, h)
 
 pub edit-less : (x y : Edit) → ltb (x .name) (y .name) ≡ precedes (editKey x) (editKey y)
 edit-less x y = sym (less-one (x .name) (y .name))

@@ -1,15 +1,14 @@
 -- The loops that decode a table into an array and that unite two tables in an array, for elements of any type. Assumes nothing.
 use mathlib.Core.Path.{_≡_, refl, ap, sym, _∙_}
 use mathlib.Core.Bool.{Bool, true, false, cond}
-use mathlib.Core.List.{List, [], _∷_, _++_, map, map-append, append-assoc}
-use Prim.Native.Nat.{ℕ, zero, suc, _+_, _-_, _≤_, _<_}
-use native.Mathlib.Nat.{sub-zero}
+use mathlib.Core.List.{List, [], _∷_, _++_, map, map-append}
+use Prim.Native.Nat.{ℕ, zero, suc, _+_, _≤_, _<_}
 use native.Mathlib.Numerals.{add-one}
 use native.Mathlib.Omega.{arith}
 use borrow.Author.Tests.{ltb-true, ltb-false}
 use lib.Dec.{ltb, eqb}
-use lib.ListN.{length, take, drop, getD, set, replicate, drop-of-length-le, length-map, length-drop, length-append, length-replicate}
-use lib.Seq.{take-suc, drop-cons, drop-drop, length-take-le, set-at, take-all, getD-take}
+use lib.ListN.{length, take, drop, getD, set, replicate, drop-of-length-le, length-map, length-drop, length-set, length-replicate}
+use lib.Seq.{take-suc, drop-cons, drop-drop, length-take-le, take-all, getD-take}
 use Rattle.lists.proofs.Lists.{by, clash}
 use Rattle.record.specs.declared.Edit.{Edit}
 use Rattle.record.specs.declared.Constraint.{Constraint}
@@ -18,27 +17,9 @@ use Rattle.record.specs.Stored.{padded, fillerEdit, fillerConstraint}
 use Rattle.lists.specs.Keyed.{precedes, Below, Ascending, united}
 use Rattle.lists.proofs.Order.{less-total}
 use Rattle.lists.proofs.Union.{below-trans, united-first, united-joins, united-both}
+use Rattle.record.proofs.Padded.{padded-begin, padded-next}
 use Rattle.unite.specs.declared.Choice.{Choice}
 use Rattle.unite.specs.Union.{chosen, Unites, withEdits, withConstraints}
-
--- an array that holds a list and fillers
-module _ {A : Type 0} (n : ℕ) (z : A) where
-  pub padded-begin : {o : A} → o ≡ z → replicate n o ≡ padded n z []
-  unfolding padded
-  padded-begin e = rw (e, sub-zero)
-
-  -- one element more
-  pub padded-next : (l : List A) (i : ℕ) (x : A) → length l ≡ i → i < n → set (padded n z l) i x ≡ padded n z (l ++ (x ∷ []))
-  unfolding padded
-  padded-next l i x e h =
-      let s : n - length l ≡ suc (n - suc (length l)) = omega arith in
-      let t : length (l ++ (x ∷ [])) ≡ suc (length l) = length-append l (x ∷ []) ∙ omega arith in
-      rw (s, t, append-assoc, set-at l z (replicate (n - suc (length l)) z) x i e)
-
-  -- what fits
-  pub padded-fits : (l : List A) → length (padded n z l) ≡ n → length l ≤ n
-  unfolding padded
-  padded-fits l h = omega (arith, length-append l (replicate (n - length l) z), length-replicate (n - length l) z)
 
 -- decoding, row by row
 module _ {A B : Type 0} (n : ℕ) (z : B) (f : A → B) (t : List A) where
@@ -114,17 +95,6 @@ module _ {A : Type 0} (key : A → List ℕ) (even : (x y : A) → length (key x
     pub rest : drop q (united key E S) ≡ united key (drop p E) (drop j S)
     pub short : q ≤ length (united key E S)
 
-  pub joining-start : (limit : ℕ) (z : A) (E S : List A) {o : A} → o ≡ z → Joining limit z E S (replicate limit o) 0 0 0
-  joining-start limit z E S e = record { written = padded-begin limit z e; rest = refl; short = omega arith }
-
-  pub joining-end : (limit : ℕ) (z : A) (E S out : List A) (p j q : ℕ) → Joining limit z E S out p j q → length E ≤ p → length S ≤ j → (out ≡ padded limit z (united key E S)) × (q ≡ length (united key E S))
-  unfolding united
-  joining-end limit z E S out p j q s a b =
-      let e : drop q (united key E S) ≡ [] = s .rest ∙ rw (drop-of-length-le E {i = p} a, drop-of-length-le S {i = j} b) in
-      let l : length (united key E S) ≤ q = omega (arith, length-drop q (united key E S), ap length e) in
-      let k : q ≤ length (united key E S) = s .short in
-      (s .written ∙ rw (take-all q (united key E S) l), omega arith)
-
   -- one element more of a list
   put : (limit : ℕ) (z : A) (U : List A) (q : ℕ) (v : A) (rest out : List A) → length U ≤ limit → out ≡ padded limit z (take q U) → drop q U ≡ v ∷ rest
       → (q < length U) × (set out q v ≡ padded limit z (take (q + 1) U)) × (drop (q + 1) U ≡ rest)
@@ -136,32 +106,76 @@ module _ {A : Type 0} (key : A → List ℕ) (even : (x y : A) → length (key x
       let t : take (q + 1) U ≡ take q U ++ (v ∷ []) = rw (add-one q, take-suc U q v h, g) in
       (h, rw (w, t) (padded-next limit z (take q U) q v (length-take-le q U (omega arith)) (omega arith)), rw (add-one q) r)
 
-  module _ (limit : ℕ) (z : A) (a : List A) (n : ℕ) (b : List A) (m : ℕ) (wa : n ≤ length a) (wb : m ≤ length b) where
-    abbrev E : List A
-    E = take n a
+  module _ (limit : ℕ) (z : A) (a : List A) (n : ℕ) (b : List A) (m : ℕ) where
+    -- what the loop keeps
+    pub record Walk (out : List A) (p j q : ℕ) : Type 0 where
+      pub own : p ≤ n
+      pub joining : j ≤ m
+      pub own-places : n ≤ limit
+      pub joining-places : m ≤ limit
+      pub count : q ≤ p + j
+      pub out-size : length out ≡ limit
+      pub own-size : length a ≡ limit
+      pub joining-size : length b ≡ limit
+      pub joins : Unites key limit (take n a) (take m b) → Joining limit z (take n a) (take m b) out p j q
 
-    abbrev S : List A
-    S = take m b
+    pub walk-start : {o : A} → o ≡ z → n ≤ limit → m ≤ limit → length a ≡ limit → length b ≡ limit → Walk (replicate limit o) 0 0 0
+    walk-start {o} e h k v w = record {
+      own = omega arith;
+      joining = omega arith;
+      own-places = h;
+      joining-places = k;
+      count = omega arith;
+      out-size = length-replicate limit o;
+      own-size = v;
+      joining-size = w;
+      joins = λ u. record { written = padded-begin limit z e; rest = refl; short = omega arith };
+    }
 
-    module _ (out : List A) (p j q : ℕ) (u : Unites key limit E S) (s : Joining limit z E S out p j q) (hp : p ≤ n) (hj : j ≤ m) (more : p + j < n + m)
-        (i k : ℕ) (d d′ : A) (own : p < n → i ≡ p) (joins : j < m → k ≡ j)
-        (choice : Choice) (e : choice ≡ chosen (ltb p n) (ltb j m) (precedes (key (getD a i d)) (key (getD b k d′))) (precedes (key (getD b k d′)) (key (getD a i d))))
-        (v : A) (f : v ≡ cond (eqb (choice .own) 1) (getD a i d) (getD b k d′)) where
-      lent : ltb p n ≡ false → ltb j m ≡ true
-      lent x = by (ltb j m) (λ y. y) (λ y. absurd (omega (arith, ltb-false p n x, ltb-false j m y)))
+    module _ (out : List A) (p j q : ℕ) (w : Walk out p j q) where
+      -- i, k and o: the places of the two next elements and of the one that is written
+      module _ (more : p + j < n + m) (i k o : ℕ) (d d′ : A) (own : p < n → i ≡ p) (joins : j < m → k ≡ j) (free : q < limit → o ≡ q) (choice : Choice) {lower upper : Bool}
+          (e : choice ≡ chosen (ltb p n) (ltb j m) lower upper) (l : lower ≡ precedes (key (getD a i d)) (key (getD b k d′))) (g : upper ≡ precedes (key (getD b k d′)) (key (getD a i d)))
+          (v : A) (f : v ≡ cond (eqb (choice .own) 1) (getD a i d) (getD b k d′)) where
+        following : Unites key limit (take n a) (take m b) → drop q (united key (take n a) (take m b)) ≡ v ∷ united key (drop (p + choice .own) (take n a)) (drop (j + choice .joining) (take m b))
+        following u =
+            let c : choice ≡ chosen (ltb p n) (ltb j m) (precedes (key (getD a i d)) (key (getD b k d′))) (precedes (key (getD b k d′)) (key (getD a i d))) = rw (l, g) at e in
+            w .joins u .rest
+            ∙ next (getD a i d) (getD b k d′) (drop p (take n a)) (drop j (take m b)) (ltb p n) (ltb j m) choice (head-at a n p i d (omega (arith, w .own-size)) (w .own) own) (head-at b m j k d′ (omega (arith, w .joining-size)) (w .joining) joins)
+            (ascending-drop p (take n a) (u .ownorder)) (ascending-drop j (take m b) (u .joiningorder)) lent c
+            ∙ rw (f, drop-drop (choice .own) p (take n a), drop-drop (choice .joining) j (take m b))
+          where
+            lent : ltb p n ≡ false → ltb j m ≡ true
+            lent x = by (ltb j m) (λ y. y) (λ y. absurd (omega (arith, ltb-false p n x, ltb-false j m y)))
 
-      following : drop q (united key E S) ≡ v ∷ united key (drop (p + choice .own) E) (drop (j + choice .joining) S)
-      following =
-          s .rest
-          ∙ next (getD a i d) (getD b k d′) (drop p E) (drop j S) (ltb p n) (ltb j m) choice (head-at a n p i d wa hp own) (head-at b m j k d′ wb hj joins) (ascending-drop p E (u .ownorder)) (ascending-drop j S (u .joiningorder)) lent e
-          ∙ rw (f, drop-drop (choice .own) p E, drop-drop (choice .joining) j S)
+        pub walk-next : p + choice .own ≤ n → j + choice .joining ≤ m → 1 ≤ choice .own + choice .joining → Walk (set out o v) (p + choice .own) (j + choice .joining) (q + 1)
+        walk-next x y more = record {
+          own = x;
+          joining = y;
+          own-places = w .own-places;
+          joining-places = w .joining-places;
+          count = omega (arith, w .count);
+          out-size = length-set out o v ∙ w .out-size;
+          own-size = w .own-size;
+          joining-size = w .joining-size;
+          joins = λ u.
+              let U = united key (take n a) (take m b) in
+              let t = put limit z U q v _ out (u .places) (w .joins u .written) (following u) in
+              let h : q < length U = t .0 in
+              let r : o ≡ q = free (omega (arith, u .places)) in
+              record { written = rw r (t .1); rest = t .2; short = omega arith };
+        }
 
-      pub joining-next : Joining limit z E S (set out q v) (p + choice .own) (j + choice .joining) (q + 1) × (q < limit)
-      joining-next =
-          let w = put limit z (united key E S) q v (united key (drop (p + choice .own) E) (drop (j + choice .joining) S)) out (u .places) (s .written) following in
-          let h : q < length (united key E S) = w .0 in
-          let l : length (united key E S) ≤ limit = u .places in
-          (record { written = w .1; rest = w .2; short = omega arith }, omega arith)
+      pub walk-end : n + m ≤ p + j → Unites key limit (take n a) (take m b) → (out ≡ padded limit z (united key (take n a) (take m b))) × (q ≡ length (united key (take n a) (take m b)))
+      unfolding united
+      walk-end h u =
+          let s = w .joins u in
+          let U = united key (take n a) (take m b) in
+          let v : length (take n a) ≤ p = omega (arith, length-take-le n a (omega (arith, w .own-size)), w .own, w .joining) in
+          let x : length (take m b) ≤ j = omega (arith, length-take-le m b (omega (arith, w .joining-size)), w .own, w .joining) in
+          let e : drop q U ≡ [] = s .rest ∙ rw (drop-of-length-le (take n a) {i = p} v, drop-of-length-le (take m b) {i = j} x) in
+          let l : length U ≤ q = omega (arith, length-drop q U, ap length e) in
+          (s .written ∙ rw (take-all q U l), omega (arith, s .short))
 
 -- a record whose table is united
 pub united-edits-is : (r : declared.Record) (l : List Edit) {out : List Edit} {q : ℕ} → out ≡ padded 127 fillerEdit l → q ≡ length l

@@ -11,12 +11,12 @@ use Rattle.record.specs.Record.{Record}
 use Rattle.record.specs.Stored.{padded, recordOf, stored, emptyRecord, fillerEdit, fillerConstraint}
 use Rattle.lists.specs.Keyed.{united}
 use Rattle.lists.proofs.Union.{length-grown}
+use Rattle.record.proofs.Padded.{padded-begin, padded-next, padded-fits}
 use Rattle.row.specs.Row.{Row, editOf, constraintOf}
 use Rattle.ground.specs.Ground.{Rows}
 use Rattle.table.specs.Table.{decoded, editKey, constraintKey, unite}
 use Rattle.table.proofs.Tables.{stored-back}
 use Rattle.unite.specs.Union.{Unites, withEdits, withConstraints}
-use Rattle.unite.proofs.Joining.{padded-begin, padded-next, padded-fits}
 
 pub decoded-is : (es cs : Rows) {a : List Edit} {b : List Constraint} → a ≡ padded 127 fillerEdit (map editOf es) → b ≡ padded 512 fillerConstraint (map constraintOf cs)
     → record { edits = a; editcount = length es; constraints = b; constraintcount = length cs } ≡ stored (decoded es cs)

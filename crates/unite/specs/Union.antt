@@ -6,7 +6,7 @@ use lib.ListN.{length}
 use Rattle.record.specs.declared.Edit.{Edit}
 use Rattle.record.specs.declared.Constraint.{Constraint}
 use Rattle.record.specs.declared.Record as declared
-use Rattle.record.specs.Stored.{padded, fillerEdit, fillerConstraint}
+use Rattle.record.specs.Stored.{padded, fillerEdit, fillerConstraint, editLimit, constraintLimit}
 use Rattle.lists.specs.Keyed.{Ascending, united}
 use Rattle.unite.specs.declared.Choice.{Choice}
 
@@ -19,11 +19,11 @@ pub record Unites {A : Type 0} (key : A → List ℕ) (limit : ℕ) (own joining
 -- the record with other edits, or with other constraints
 abbrev pub withEdits : declared.Record → List Edit → declared.Record
 withEdits r l =
-    record { edits = padded 127 fillerEdit l; editcount = length l; constraints = r .constraints; constraintcount = r .constraintcount }
+    record { edits = padded editLimit fillerEdit l; editcount = length l; constraints = r .constraints; constraintcount = r .constraintcount }
 
 abbrev pub withConstraints : declared.Record → List Constraint → declared.Record
 withConstraints r l =
-    record { edits = r .edits; editcount = r .editcount; constraints = padded 512 fillerConstraint l; constraintcount = length l }
+    record { edits = r .edits; editcount = r .editcount; constraints = padded constraintLimit fillerConstraint l; constraintcount = length l }
 
 -- which element comes next; there, lent: the record, the joining table has one more; lower, upper: the record's precedes, is preceded by the other
 abbrev pub ownFirst : Choice

@@ -1,17 +1,21 @@
 // Two tables of rows without fault as a record, and the union of two records: one walk through each pair of tables.
 // The functions are pub for the crates of this workspace that join records.
 use record::Body;
+use record::CONSTRAINTS;
 use record::Constraint;
+use record::EDITS;
 use record::Edit;
 use record::Record;
+use row::CONSTRAINT_CELLS;
+use row::EDIT_CELLS;
 ghost use mathlib.Core.Path.{_≡_};
 ghost use mathlib.Core.Bool.{cond};
 ghost use mathlib.Core.List.{[], _∷_, map};
-ghost use Prim.Native.Nat.{_<_, _≤_};
-ghost use lib.Dec.{eqb};
+ghost use Prim.Native.Nat.{_+_, _<_, _≤_};
+ghost use lib.Dec.{eqb, ltb};
 ghost use lib.ListN.{length};
 ghost use Rattle.record.specs.Record as theory;
-ghost use Rattle.record.specs.Stored.{padded, recordOf, stored, fillerEdit, fillerConstraint};
+ghost use Rattle.record.specs.Stored.{padded, recordOf, stored, fillerEdit, fillerConstraint, editLimit, constraintLimit};
 ghost use Rattle.lists.specs.Keyed.{precedes, united};
 ghost use Rattle.row.specs.Row.{editOf, constraintOf};
 ghost use Rattle.table.specs.Table.{decoded, editKey, constraintKey, unite};
@@ -36,12 +40,12 @@ fn constraint_filler() -> Constraint
     }
 }
 
-fn decode_edits(t: &[[u32; 5]]) -> [Edit; 127]
-    requires { ⌜ length (now t) ≤ 127 ⌝ }
-    ensures { λ r. ⌜ r ≡ padded 127 fillerEdit (map editOf (now (t .entry))) ⌝ }
+fn decode_edits(t: &[[u32; EDIT_CELLS]]) -> [Edit; EDITS]
+    requires { ⌜ length (now t) ≤ editLimit ⌝ }
+    ensures { λ r. ⌜ r ≡ padded editLimit fillerEdit (map editOf (now (t .entry))) ⌝ }
 {
     let filler = edit_filler();
-    let mut out = [filler; 127];
+    let mut out = [filler; EDITS];
     let mut i = 0;
     while i < t.len() {
         let row = t[i];
@@ -51,12 +55,12 @@ fn decode_edits(t: &[[u32; 5]]) -> [Edit; 127]
     out
 }
 
-fn decode_constraints(t: &[[u32; 3]]) -> [Constraint; 512]
-    requires { ⌜ length (now t) ≤ 512 ⌝ }
-    ensures { λ r. ⌜ r ≡ padded 512 fillerConstraint (map constraintOf (now (t .entry))) ⌝ }
+fn decode_constraints(t: &[[u32; CONSTRAINT_CELLS]]) -> [Constraint; CONSTRAINTS]
+    requires { ⌜ length (now t) ≤ constraintLimit ⌝ }
+    ensures { λ r. ⌜ r ≡ padded constraintLimit fillerConstraint (map constraintOf (now (t .entry))) ⌝ }
 {
     let filler = constraint_filler();
-    let mut out = [filler; 512];
+    let mut out = [filler; CONSTRAINTS];
     let mut i = 0;
     while i < t.len() {
         let row = t[i];
@@ -67,13 +71,13 @@ fn decode_constraints(t: &[[u32; 3]]) -> [Constraint; 512]
 }
 
 // Two tables within the limits as a record.
-pub fn decode(edits: &[[u32; 5]], constraints: &[[u32; 3]]) -> Record
-    ensures { λ r. ⌜ (length (now (edits .entry)) ≤ 127 → length (now (constraints .entry)) ≤ 512 → r ≡ stored (decoded (now (edits .entry)) (now (constraints .entry)))) ⌝ }
+pub fn decode(edits: &[[u32; EDIT_CELLS]], constraints: &[[u32; CONSTRAINT_CELLS]]) -> Record
+    ensures { λ r. ⌜ (length (now (edits .entry)) ≤ editLimit → length (now (constraints .entry)) ≤ constraintLimit → r ≡ stored (decoded (now (edits .entry)) (now (constraints .entry)))) ⌝ }
 {
-    if 127 < edits.len() {
+    if EDITS < edits.len() {
         return record::empty();
     }
-    if 512 < constraints.len() {
+    if CONSTRAINTS < constraints.len() {
         return record::empty();
     }
     let es = decode_edits(edits);
@@ -87,11 +91,11 @@ pub fn decode(edits: &[[u32; 5]], constraints: &[[u32; 3]]) -> Record
 }
 
 // One edit, or one constraint, as a record.
-pub fn edit_alone(row: [u32; 5]) -> Record
+pub fn edit_alone(row: [u32; EDIT_CELLS]) -> Record
     ensures { λ r. ⌜ r ≡ stored (decoded (row ∷ []) []) ⌝ }
 {
     let filler = edit_filler();
-    let mut edits = [filler; 127];
+    let mut edits = [filler; EDITS];
     edits[0] = row::edit_of(row);
     let mut r = record::empty();
     r.edits = edits;
@@ -105,14 +109,16 @@ pub struct Choice {
     pub joining: usize,
 }
 
-// there, lent: the record's table, the joining one has one more; lower, upper: the record's element is below, above the other.
-fn choose(there: bool, lent: bool, lower: bool, upper: bool) -> Choice
-    ensures { λ r. ⌜ r ≡ chosen there lent lower upper ⌝ }
+// Which comes next where p of n elements of the record's table and j of m of the joining one are passed; lower, upper: the record's next element is below,
+// above the other. What is taken is there.
+fn choose(p: usize, n: usize, j: usize, m: usize, lower: bool, upper: bool) -> Choice
+    requires { ⌜ (p ≤ n) × (j ≤ m) × (p + j < n + m) ⌝ }
+    ensures { λ r. ⌜ (r ≡ chosen (ltb p n) (ltb j m) lower upper) × (p + r .own ≤ n) × (j + r .joining ≤ m) × (1 ≤ r .own + r .joining) ⌝ }
 {
-    if !lent {
+    if m <= j {
         return Choice { own: 1, joining: 0 };
     }
-    if !there {
+    if n <= p {
         return Choice { own: 0, joining: 1 };
     }
     if lower {
@@ -142,32 +148,28 @@ fn edit_either(own: usize, x: Edit, y: Edit) -> Edit
 
 // The record with the edits of both.
 fn unite_edits(joined: Record, joining: Record) -> Record
-    ensures { λ q. ⌜ (joined .editcount ≤ 127 → joining .editcount ≤ 127 → Unites editKey 127 (recordOf joined .edits) (recordOf joining .edits) → q ≡ withEdits joined (united editKey (recordOf joined .edits) (recordOf joining .edits))) ⌝ }
+    ensures { λ q. ⌜ (joined .editcount ≤ editLimit → joining .editcount ≤ editLimit → Unites editKey editLimit (recordOf joined .edits) (recordOf joining .edits) → q ≡ withEdits joined (united editKey (recordOf joined .edits) (recordOf joining .edits))) ⌝ }
 {
     let a = joined.edits;
     let n = joined.editcount;
     let b = joining.edits;
     let m = joining.editcount;
-    if 127 < n {
+    if EDITS < n {
         return joined;
     }
-    if 127 < m {
+    if EDITS < m {
         return joined;
     }
     let filler = edit_filler();
-    let mut out = [filler; 127];
+    let mut out = [filler; EDITS];
     let mut p = 0;
     let mut j = 0;
     let mut q = 0;
     while p + j < n + m {
-        let x = a[ground::slot(p, n, 127)];
-        let y = b[ground::slot(j, m, 127)];
-        let choice = choose(p < n, j < m, edit_below(x, y), edit_below(y, x));
-        let e = edit_either(choice.own, x, y);
-        if 127 <= q {
-            return joined;
-        }
-        out[q] = e;
+        let x = a[ground::slot(p, n, EDITS)];
+        let y = b[ground::slot(j, m, EDITS)];
+        let choice = choose(p, n, j, m, edit_below(x, y), edit_below(y, x));
+        out[ground::slot(q, EDITS, EDITS)] = edit_either(choice.own, x, y);
         p += choice.own;
         j += choice.joining;
         q += 1;
@@ -207,32 +209,28 @@ fn constraint_either(own: usize, x: Constraint, y: Constraint) -> Constraint
 
 // The record with the constraints of both.
 fn unite_constraints(joined: Record, joining: Record) -> Record
-    ensures { λ q. ⌜ (joined .constraintcount ≤ 512 → joining .constraintcount ≤ 512 → Unites constraintKey 512 (recordOf joined .constraints) (recordOf joining .constraints) → q ≡ withConstraints joined (united constraintKey (recordOf joined .constraints) (recordOf joining .constraints))) ⌝ }
+    ensures { λ q. ⌜ (joined .constraintcount ≤ constraintLimit → joining .constraintcount ≤ constraintLimit → Unites constraintKey constraintLimit (recordOf joined .constraints) (recordOf joining .constraints) → q ≡ withConstraints joined (united constraintKey (recordOf joined .constraints) (recordOf joining .constraints))) ⌝ }
 {
     let a = joined.constraints;
     let n = joined.constraintcount;
     let b = joining.constraints;
     let m = joining.constraintcount;
-    if 512 < n {
+    if CONSTRAINTS < n {
         return joined;
     }
-    if 512 < m {
+    if CONSTRAINTS < m {
         return joined;
     }
     let filler = constraint_filler();
-    let mut out = [filler; 512];
+    let mut out = [filler; CONSTRAINTS];
     let mut p = 0;
     let mut j = 0;
     let mut q = 0;
     while p + j < n + m {
-        let x = a[ground::slot(p, n, 512)];
-        let y = b[ground::slot(j, m, 512)];
-        let choice = choose(p < n, j < m, constraint_below(x, y), constraint_below(y, x));
-        let c = constraint_either(choice.own, x, y);
-        if 512 <= q {
-            return joined;
-        }
-        out[q] = c;
+        let x = a[ground::slot(p, n, CONSTRAINTS)];
+        let y = b[ground::slot(j, m, CONSTRAINTS)];
+        let choice = choose(p, n, j, m, constraint_below(x, y), constraint_below(y, x));
+        out[ground::slot(q, CONSTRAINTS, CONSTRAINTS)] = constraint_either(choice.own, x, y);
         p += choice.own;
         j += choice.joining;
         q += 1;
@@ -245,7 +243,7 @@ fn unite_constraints(joined: Record, joining: Record) -> Record
 
 // The union of two records, where it has places.
 pub fn union(joined: Record, joining: Record) -> Record
-    ensures { λ q. ⌜ ((R S : theory.Record) → joined ≡ stored R → joining ≡ stored S → Unites editKey 127 (R .edits) (S .edits) → Unites constraintKey 512 (R .constraints) (S .constraints) → q ≡ stored (unite R S)) ⌝ }
+    ensures { λ q. ⌜ ((R S : theory.Record) → joined ≡ stored R → joining ≡ stored S → Unites editKey editLimit (R .edits) (S .edits) → Unites constraintKey constraintLimit (R .constraints) (S .constraints) → q ≡ stored (unite R S)) ⌝ }
 {
     let r = unite_edits(joined, joining);
     unite_constraints(r, joining)

@@ -6,8 +6,7 @@ use lib.ListN.{length, take}
 use native.Mathlib.Omega.{arith}
 use borrow.Author.Tests.{not-true, not-false}
 use Rattle.lists.proofs.Lists.{length-mapped}
-use Rattle.ground.proofs.Walks.{bounds}
-use Rattle.ground.proofs.Loop.{State, state-start, state-end, state-outside, state-late, state-goes, state-stops, later-none}
+use Rattle.ground.proofs.Loop.{State, state-start, state-end, state-outside, state-late, state-goes, state-stops}
 use Rattle.table.specs.Checked.{Marked}
 use Rattle.table.proofs.Elements.{constraintElements, constraint-rows-ascend}
 use borrow.Author.Needs.{needs}
@@ -15,7 +14,7 @@ use Rattle.refusal.proofs.constraint_fault.Statement.{statement}
 use Rattle.refusal.proofs.constraint_fault.Tie as tie
 
 abbrev Inv-loop : tie.InvT-loop
-Inv-loop t marks adding a n at₀ count₀ i₀ at count i = (at ≤ n) × (n ≤ 512) × (count ≤ 512) × (i ≤ length t) × ((names : List ℕ) → Marked marks names → State (constraintElements names adding) a n t at count i)
+Inv-loop t marks adding a n at₀ count₀ i₀ at count i = (at ≤ n) × (n ≤ 512) × (count ≤ 512) × (i ≤ length t) × (length a ≡ 512) × ((names : List ℕ) → Marked marks names → State (constraintElements names adding) a n t at count i)
 
 abbrev μ-loop : tie.MeasureT-loop
 μ-loop t marks adding a n at₀ count₀ i₀ at count i = (n - at) + (length t - i)
@@ -25,9 +24,9 @@ returns c = λ names k o. absurd (omega (arith, o .constraintplaces))
 
 loop-holds : tie.Need-loop-holds Inv-loop μ-loop
 loop-holds c =
-    let s = c .before .before .before in
-    let z : length (s .args .r .constraints) ≡ 512 = search (needs, length-mapped) in
-    (search needs, search needs, search needs, search needs, λ names k. state-start (constraintElements names (s .args .adding)) (s .args .r .constraints) (s .args .r .constraintcount) (s .args .t .now) (omega arith))
+    let s = c .before .before .before .args in
+    let z : length (s .r .constraints) ≡ 512 = search (needs, length-mapped) in
+    (search needs, search needs, search needs, search needs, z, λ names k. state-start (constraintElements names (s .adding)) (s .r .constraints) (s .r .constraintcount) (s .t .now) (omega arith))
 
 mul-row : tie.Need-mul-row Inv-loop μ-loop
 mul-row c = search needs
@@ -40,13 +39,11 @@ constraint-in-range-requires c κs = search needs
 
 returns-2 : tie.Need-returns-2 Inv-loop μ-loop
 returns-2 c = λ names k o.
-    let l = c .before .before .before .before in
-    let s = c .before .before .before .before .before .before .before .before in
-    let es = s .args .r .constraints in
-    let n = s .args .r .constraintcount in
-    let t = s .args .t .now in
-    let z : length es ≡ 512 = search (needs, length-mapped) in
-    state-outside (constraintElements names (s .args .adding)) es n t (omega arith) (l .loop .at) (l .loop .count) (l .loop .i) (l .loop .inv .4 names k) (c .before .before .before .loop-test .taken) (c .before .constraint-in-range .ensures .0) (not-true _ (c .if2 .taken)) (constraint-rows-ascend (take n es) (o .constraintorder))
+    let r = c .before in
+    let t = r .before .before in
+    let l = t .before in
+    let s = l .before .before .before .before .args in
+    state-outside (constraintElements names (s .adding)) (s .r .constraints) (s .r .constraintcount) (s .t .now) (omega arith) (l .loop .at) (l .loop .count) (l .loop .i) (l .loop .inv .5 names k) (t .loop-test .taken) (r .constraint-in-range .ensures .0) (not-true _ (c .if2 .taken)) (constraint-rows-ascend (take (s .r .constraintcount) (s .r .constraints)) (o .constraintorder))
 
 constraint-further-requires : tie.Need-constraint-further-requires Inv-loop μ-loop
 constraint-further-requires c κs = search needs
@@ -62,133 +59,93 @@ late-further-requires c κs = search needs
 
 returns-3 : tie.Need-returns-3 Inv-loop μ-loop
 returns-3 c = λ names k o.
-    let l = c .before .before .before .before .before .before .before .before .before in
-    let s = c .before .before .before .before .before .before .before .before .before .before .before .before .before in
-    let es = s .args .r .constraints in
-    let n = s .args .r .constraintcount in
-    let t = s .args .t .now in
-    let z : length es ≡ 512 = search (needs, length-mapped) in
-    let w = c .before .before .before .constraint-follows in
-    state-late (constraintElements names (s .args .adding)) es n t (omega arith) (l .loop .at) (l .loop .count) (l .loop .i) (l .loop .inv .4 names k) (c .before .before .before .before .before .before .before .before .loop-test .taken) (c .before .before .before .before .before .before .constraint-in-range .ensures .0) (not-false _ (c .before .before .before .before .before .if2 .left)) (w .result) (w .ensures) (not-true _ (c .before .before .if3 .taken))
-    (c .before .constraint-late .ensures) (c .before .before .before .before .constraint-further .ensures names k) (c .late-further .ensures) (constraint-rows-ascend (take n es) (o .constraintorder))
+    let f = c .before .before .before in
+    let r = f .before .before .before in
+    let t = r .before .before in
+    let l = t .before in
+    let s = l .before .before .before .before .args in
+    state-late (constraintElements names (s .adding)) (s .r .constraints) (s .r .constraintcount) (s .t .now) (omega arith) (l .loop .at) (l .loop .count) (l .loop .i) (l .loop .inv .5 names k) (t .loop-test .taken) (r .constraint-in-range .ensures .0) (not-false _ (f .before .before .if2 .left)) (f .constraint-follows .result) (f .constraint-follows .ensures) (not-true _ (c .before .before .if3 .taken))
+    (c .before .constraint-late .ensures) (f .before .constraint-further .ensures names k) (c .late-further .ensures) (constraint-rows-ascend (take (s .r .constraintcount) (s .r .constraints)) (o .constraintorder))
 
 slot-requires : tie.Need-slot-requires Inv-loop μ-loop
 slot-requires c κs = search needs
 
-mul-e : tie.Need-mul-e Inv-loop μ-loop
-mul-e c = search needs
+mul-constraint-row : tie.Need-mul-constraint-row Inv-loop μ-loop
+mul-constraint-row c = search needs
 
-array-copy-out-e : tie.Need-array-copy-out-e Inv-loop μ-loop
-array-copy-out-e c = search needs
+array-copy-out-constraint-row : tie.Need-array-copy-out-constraint-row Inv-loop μ-loop
+array-copy-out-constraint-row c = search needs
 
-constraint-step-requires : tie.Need-constraint-step-requires Inv-loop μ-loop
-constraint-step-requires c κs = search needs
+constraint-row-requires : tie.Need-constraint-row-requires Inv-loop μ-loop
+constraint-row-requires c κs = search needs
+
+slice-aggregate-step : tie.Need-slice-aggregate-step Inv-loop μ-loop
+slice-aggregate-step c = search needs
+
+slice-aggregate-step-2 : tie.Need-slice-aggregate-step-2 Inv-loop μ-loop
+slice-aggregate-step-2 c = search needs
+
+step-requires : tie.Need-step-requires Inv-loop μ-loop
+step-requires c κs = search needs
 
 later-number-requires : tie.Need-later-number-requires Inv-loop μ-loop
 later-number-requires c κs = search needs
 
 returns-4 : tie.Need-returns-4 Inv-loop μ-loop
 returns-4 c = λ names k o.
-    let l = c .before .before .before .before .before .before .before .before .before .before .before .before in
-    let s = c .before .before .before .before .before .before .before .before .before .before .before .before .before .before .before .before in
-    let es = s .args .r .constraints in
-    let n = s .args .r .constraintcount in
-    let t = s .args .t .now in
-    let z : length es ≡ 512 = search (needs, length-mapped) in
-    let w = c .before .before .before .before .before .before .constraint-follows in
-    let p = c .before .before .before .before .slot in
-    let m = c .before .before .constraint-step in
-    let o′ = c .before .before .before .before .before .before .before .constraint-further in
-    state-stops (constraintElements names (s .args .adding)) es n t (omega arith) (l .loop .at) (l .loop .count) (l .loop .i) (l .loop .inv .4 names k) (c .before .before .before .before .before .before .before .before .before .before .before .loop-test .taken) (c .before .before .before .before .before .before .before .before .before .constraint-in-range .ensures .0) (not-false _ (c .before .before .before .before .before .before .before .before .if2 .left)) (w .result) (w .ensures) (m .ensures .1) (not-false _ (c .before .before .before .before .before .if3 .left))
-    (p .result) _ (p .ensures .1) (m .result) (m .ensures .0) (o′ .result) (o′ .ensures names k) (λ y. c .if4 .taken (c .before .later-number .ensures ∙ y)) (c .before .later-number .ensures) (constraint-rows-ascend (take n es) (o .constraintorder))
+    let m = c .before .before in
+    let x = m .before .before .before in
+    let j = x .before .before in
+    let f = j .before .before in
+    let r = f .before .before .before in
+    let t = r .before .before in
+    let l = t .before in
+    let s = l .before .before .before .before .args in
+    state-stops (constraintElements names (s .adding)) (s .r .constraints) (s .r .constraintcount) (s .t .now) (omega arith) (l .loop .at) (l .loop .count) (l .loop .i) (l .loop .inv .5 names k) (t .loop-test .taken) (r .constraint-in-range .ensures .0) (not-false _ (f .before .before .if2 .left)) (f .constraint-follows .result) (f .constraint-follows .ensures) (r .constraint-in-range .ensures .1) (not-false _ (j .before .if3 .left))
+    (j .slot .result) _ (j .slot .ensures .1) (x .constraint-row .ensures) (m .step .result) (m .step .ensures .0) _ (f .before .constraint-further .ensures names k)
+    (λ y. c .if4 .taken (c .before .later-number .ensures .0 ∙ y)) (c .before .later-number .ensures .0) (constraint-rows-ascend (take (s .r .constraintcount) (s .r .constraints)) (o .constraintorder))
 
 add-at : tie.Need-add-at Inv-loop μ-loop
-add-at c =
-    let l = c .before .before .before .before .before .before .before .before .before .before .before .before .before in
-    let s = c .before .before .before .before .before .before .before .before .before .before .before .before .before .before .before .before .before in
-    let es = s .args .r .constraints in
-    let n = s .args .r .constraintcount in
-    let t = s .args .t .now in
-    let z : length es ≡ 512 = search (needs, length-mapped) in
-    let m = c .before .before .before .constraint-step in
-    let o′ = c .before .before .before .before .before .before .before .before .constraint-further in
-    let none = sym (c .before .before .later-number .ensures) ∙ c .before .if4 .left in
-    let y = bounds n 512 (length t) (l .loop .at) (l .loop .count) (l .loop .i) _ _ _ (m .result) (m .ensures .0) (later-none (m .result) (o′ .result) none) (l .loop .inv .0) (l .loop .inv .2) (c .before .before .before .before .before .before .before .before .before .before .before .before .loop-test .taken) in
-    omega arith
+add-at c = omega arith
 
 add-count : tie.Need-add-count Inv-loop μ-loop
-add-count c =
-    let l = c .before .before .before .before .before .before .before .before .before .before .before .before .before .before in
-    let s = c .before .before .before .before .before .before .before .before .before .before .before .before .before .before .before .before .before .before in
-    let es = s .args .r .constraints in
-    let n = s .args .r .constraintcount in
-    let t = s .args .t .now in
-    let z : length es ≡ 512 = search (needs, length-mapped) in
-    let m = c .before .before .before .before .constraint-step in
-    let o′ = c .before .before .before .before .before .before .before .before .before .constraint-further in
-    let none = sym (c .before .before .before .later-number .ensures) ∙ c .before .before .if4 .left in
-    let y = bounds n 512 (length t) (l .loop .at) (l .loop .count) (l .loop .i) _ _ _ (m .result) (m .ensures .0) (later-none (m .result) (o′ .result) none) (l .loop .inv .0) (l .loop .inv .2) (c .before .before .before .before .before .before .before .before .before .before .before .before .before .loop-test .taken) in
-    omega arith
+add-count c = omega arith
 
 add-i : tie.Need-add-i Inv-loop μ-loop
 add-i c =
-    let l = c .before .before .before .before .before .before .before .before .before .before .before .before .before .before .before in
-    let s = c .before .before .before .before .before .before .before .before .before .before .before .before .before .before .before .before .before .before .before in
-    let es = s .args .r .constraints in
-    let n = s .args .r .constraintcount in
-    let t = s .args .t .now in
-    let z : length es ≡ 512 = search (needs, length-mapped) in
-    let m = c .before .before .before .before .before .constraint-step in
-    let o′ = c .before .before .before .before .before .before .before .before .before .before .constraint-further in
-    let none = sym (c .before .before .before .before .later-number .ensures) ∙ c .before .before .before .if4 .left in
-    let y = bounds n 512 (length t) (l .loop .at) (l .loop .count) (l .loop .i) _ _ _ (m .result) (m .ensures .0) (later-none (m .result) (o′ .result) none) (l .loop .inv .0) (l .loop .inv .2) (c .before .before .before .before .before .before .before .before .before .before .before .before .before .before .loop-test .taken) in
+    let m = c .before .before .before .before .before in
+    let judged = m .step .ensures .3 in
+    let t = m .before .before .before .before .before .before .before .before .before .before .before .before in
+    let s = t .before .before .before .before .before in
     omega arith
 
 loop-less : tie.Need-loop-less Inv-loop μ-loop
-loop-less c =
-    let l = c .before .before .before .before .before .before .before .before .before .before .before .before .before .before .before in
-    let s = c .before .before .before .before .before .before .before .before .before .before .before .before .before .before .before .before .before .before .before in
-    let es = s .args .r .constraints in
-    let n = s .args .r .constraintcount in
-    let t = s .args .t .now in
-    let z : length es ≡ 512 = search (needs, length-mapped) in
-    let m = c .before .before .before .before .before .constraint-step in
-    let o′ = c .before .before .before .before .before .before .before .before .before .before .constraint-further in
-    let none = sym (c .before .before .before .before .later-number .ensures) ∙ c .before .before .before .if4 .left in
-    let y = bounds n 512 (length t) (l .loop .at) (l .loop .count) (l .loop .i) _ _ _ (m .result) (m .ensures .0) (later-none (m .result) (o′ .result) none) (l .loop .inv .0) (l .loop .inv .2) (c .before .before .before .before .before .before .before .before .before .before .before .before .before .before .loop-test .taken) in
-    y .less
+loop-less c = omega arith
 
 loop-again : tie.Need-loop-again Inv-loop μ-loop
 loop-again c =
-    let l = c .before .before .before .before .before .before .before .before .before .before .before .before .before .before .before in
-    let s = c .before .before .before .before .before .before .before .before .before .before .before .before .before .before .before .before .before .before .before in
-    let es = s .args .r .constraints in
-    let n = s .args .r .constraintcount in
-    let t = s .args .t .now in
-    let z : length es ≡ 512 = search (needs, length-mapped) in
-    let m = c .before .before .before .before .before .constraint-step in
-    let o′ = c .before .before .before .before .before .before .before .before .before .before .constraint-further in
-    let none = sym (c .before .before .before .before .later-number .ensures) ∙ c .before .before .before .if4 .left in
-    let y = bounds n 512 (length t) (l .loop .at) (l .loop .count) (l .loop .i) _ _ _ (m .result) (m .ensures .0) (later-none (m .result) (o′ .result) none) (l .loop .inv .0) (l .loop .inv .2) (c .before .before .before .before .before .before .before .before .before .before .before .before .before .before .loop-test .taken) in
-    let w = c .before .before .before .before .before .before .before .before .before .constraint-follows in
-    let p = c .before .before .before .before .before .before .before .slot in (
-      y .at-fits,
+    let m = c .before .before .before .before .before in
+    let x = m .before .before .before in
+    let j = x .before .before in
+    let f = j .before .before in
+    let r = f .before .before .before in
+    let t = r .before .before in
+    let l = t .before in
+    let s = l .before .before .before .before .args in (
       search needs,
-      y .count-fits,
-      y .row-fits,
-      λ names k. state-goes (constraintElements names (s .args .adding)) es n t (omega arith) (l .loop .at) (l .loop .count) (l .loop .i) (l .loop .inv .4 names k) (c .before .before .before .before .before .before .before .before .before .before .before .before .before .before .loop-test .taken) (c .before .before .before .before .before .before .before .before .before .before .before .before .constraint-in-range .ensures .0) (not-false _ (c .before .before .before .before .before .before .before .before .before .before .before .if2 .left)) (w .result) (w .ensures) (m .ensures .1) (not-false _ (c .before .before .before .before .before .before .before .before .if3 .left))
-          (p .result) _ (p .ensures .1) (m .result) (m .ensures .0) (o′ .result) (o′ .ensures names k) none,
+      search needs,
+      search needs,
+      search needs,
+      search needs,
+      λ names k. state-goes (constraintElements names (s .adding)) (s .r .constraints) (s .r .constraintcount) (s .t .now) (omega arith) (l .loop .at) (l .loop .count) (l .loop .i) (l .loop .inv .5 names k) (t .loop-test .taken) (r .constraint-in-range .ensures .0) (not-false _ (f .before .before .if2 .left)) (f .constraint-follows .result) (f .constraint-follows .ensures) (r .constraint-in-range .ensures .1) (not-false _ (j .before .if3 .left))
+          (j .slot .result) _ (j .slot .ensures .1) (x .constraint-row .ensures) (m .step .result) (m .step .ensures .0) _ (f .before .constraint-further .ensures names k) (sym (c .before .before .before .before .later-number .ensures .0) ∙ c .before .before .before .if4 .left),
     )
 
 returns-5 : tie.Need-returns-5 Inv-loop μ-loop
 returns-5 c = λ names k o.
     let l = c .before in
-    let s = c .before .before .before .before .before in
-    let es = s .args .r .constraints in
-    let n = s .args .r .constraintcount in
-    let t = s .args .t .now in
-    let z : length es ≡ 512 = search (needs, length-mapped) in
-    state-end (constraintElements names (s .args .adding)) es n t (omega arith) (l .loop .at) (l .loop .count) (l .loop .i) (l .loop .inv .4 names k) (l .loop .inv .3) (c .loop-test .left) (constraint-rows-ascend (take n es) (o .constraintorder))
+    let s = l .before .before .before .before .args in
+    state-end (constraintElements names (s .adding)) (s .r .constraints) (s .r .constraintcount) (s .t .now) (omega arith) (l .loop .at) (l .loop .count) (l .loop .i) (l .loop .inv .5 names k) (l .loop .inv .3) (c .loop-test .left) (constraint-rows-ascend (take (s .r .constraintcount) (s .r .constraints)) (o .constraintorder))
 
 pub constraint-fault-spec : {M : Type 1} → statement M
 constraint-fault-spec =
@@ -208,9 +165,12 @@ constraint-fault-spec =
     late-further-requires
     returns-3
     slot-requires
-    mul-e
-    array-copy-out-e
-    constraint-step-requires
+    mul-constraint-row
+    array-copy-out-constraint-row
+    constraint-row-requires
+    slice-aggregate-step
+    slice-aggregate-step-2
+    step-requires
     later-number-requires
     returns-4
     add-at

@@ -1,6 +1,6 @@
 -- `refusal::constraint_late` meets its contract. Assumes nothing.
-use mathlib.Core.List.{[]}
 use mathlib.Core.Bool.{false}
+use mathlib.Core.List.{[]}
 use Rattle.ground.proofs.Loop.{late-is}
 use Rattle.table.proofs.Elements.{constraintElements}
 use borrow.Author.Needs.{needs}
@@ -22,26 +22,37 @@ constraint-place-requires c κs = search needs
 slot-requires : tie.Need-slot-requires
 slot-requires c κs = search needs
 
-mul-e : tie.Need-mul-e
-mul-e c = search needs
+mul-constraint-row : tie.Need-mul-constraint-row
+mul-constraint-row c = search needs
 
-array-copy-out-e : tie.Need-array-copy-out-e
-array-copy-out-e c = search needs
+array-copy-out-constraint-row : tie.Need-array-copy-out-constraint-row
+array-copy-out-constraint-row c = search needs
 
-constraint-step-requires : tie.Need-constraint-step-requires
-constraint-step-requires c κs = search needs
+constraint-row-requires : tie.Need-constraint-row-requires
+constraint-row-requires c κs = search needs
+
+slice-aggregate-step : tie.Need-slice-aggregate-step
+slice-aggregate-step c = search needs
+
+slice-aggregate-step-2 : tie.Need-slice-aggregate-step-2
+slice-aggregate-step-2 c = search needs
+
+step-requires : tie.Need-step-requires
+step-requires c κs = search needs
 
 late-number-requires : tie.Need-late-number-requires
 late-number-requires c κs = search needs
 
 returns : tie.Need-returns
 returns c = λ a.
-    let s = c .before .before .before .before .before .before .before in
-    let p = c .before .before .before .before .constraint-place in
-    let m = c .before .constraint-step in
-    let g = c .before .before .before .before .before .constraint-repeated in
-    late-is (constraintElements [] false) (s .args .t1) (s .args .n) (s .args .t .now) (search needs) (s .args .count) (s .args .i) (m .ensures .1) a (p .result) (p .ensures) (c .before .before .before .slot .result) _ (c .before .before .before .slot .ensures .1)
-    (m .result) (m .ensures .0) (g .result) (g .ensures) (c .late-number .ensures)
+    let m = c .before .step in
+    let x = c .before .before .before .before in
+    let j = x .before .before in
+    let p = j .before in
+    let g = p .before in
+    let s = g .before .before in
+    late-is (constraintElements [] false) (s .args .t1) (s .args .n) (s .args .t .now) (search needs) (s .args .count) (s .args .i) (p .constraint-place .ensures .1) a (p .constraint-place .result) (p .constraint-place .ensures .2) (j .slot .result) _ (j .slot .ensures .1) (x .constraint-row .ensures)
+    (m .result) (m .ensures .0) (g .constraint-repeated .result) (g .constraint-repeated .ensures) (c .late-number .ensures)
 
 pub constraint-late-spec : {M : Type 1} → statement M
 constraint-late-spec =
@@ -52,8 +63,11 @@ constraint-late-spec =
     constraint-repeated-requires
     constraint-place-requires
     slot-requires
-    mul-e
-    array-copy-out-e
-    constraint-step-requires
+    mul-constraint-row
+    array-copy-out-constraint-row
+    constraint-row-requires
+    slice-aggregate-step
+    slice-aggregate-step-2
+    step-requires
     late-number-requires
     returns)

@@ -20,26 +20,37 @@ edit-place-requires c κs = search needs
 slot-requires : tie.Need-slot-requires
 slot-requires c κs = search needs
 
-mul-e : tie.Need-mul-e
-mul-e c = search needs
+mul-edit-row : tie.Need-mul-edit-row
+mul-edit-row c = search needs
 
-array-copy-out-e : tie.Need-array-copy-out-e
-array-copy-out-e c = search needs
+array-copy-out-edit-row : tie.Need-array-copy-out-edit-row
+array-copy-out-edit-row c = search needs
 
-edit-step-requires : tie.Need-edit-step-requires
-edit-step-requires c κs = search needs
+edit-row-requires : tie.Need-edit-row-requires
+edit-row-requires c κs = search needs
+
+slice-aggregate-step : tie.Need-slice-aggregate-step
+slice-aggregate-step c = search needs
+
+slice-aggregate-step-2 : tie.Need-slice-aggregate-step-2
+slice-aggregate-step-2 c = search needs
+
+step-requires : tie.Need-step-requires
+step-requires c κs = search needs
 
 late-number-requires : tie.Need-late-number-requires
 late-number-requires c κs = search needs
 
 returns : tie.Need-returns
 returns c = λ a.
-    let s = c .before .before .before .before .before .before .before in
-    let p = c .before .before .before .before .edit-place in
-    let m = c .before .edit-step in
-    let g = c .before .before .before .before .before .edit-repeated in
-    late-is editElements (s .args .t1) (s .args .n) (s .args .t .now) (search needs) (s .args .count) (s .args .i) (m .ensures .1) a (p .result) (p .ensures) (c .before .before .before .slot .result) _ (c .before .before .before .slot .ensures .1)
-    (m .result) (m .ensures .0) (g .result) (g .ensures) (c .late-number .ensures)
+    let m = c .before .step in
+    let x = c .before .before .before .before in
+    let j = x .before .before in
+    let p = j .before in
+    let g = p .before in
+    let s = g .before .before in
+    late-is editElements (s .args .t1) (s .args .n) (s .args .t .now) (search needs) (s .args .count) (s .args .i) (p .edit-place .ensures .1) a (p .edit-place .result) (p .edit-place .ensures .2) (j .slot .result) _ (j .slot .ensures .1) (x .edit-row .ensures)
+    (m .result) (m .ensures .0) (g .edit-repeated .result) (g .edit-repeated .ensures) (c .late-number .ensures)
 
 pub edit-late-spec : {M : Type 1} → statement M
 edit-late-spec =
@@ -50,8 +61,11 @@ edit-late-spec =
     edit-repeated-requires
     edit-place-requires
     slot-requires
-    mul-e
-    array-copy-out-e
-    edit-step-requires
+    mul-edit-row
+    array-copy-out-edit-row
+    edit-row-requires
+    slice-aggregate-step
+    slice-aggregate-step-2
+    step-requires
     late-number-requires
     returns)

@@ -5,8 +5,9 @@ use mathlib.Core.List.{[], map}
 use lib.ListN.{length, take}
 use Rattle.record.specs.Stored.{padded, fillerEdit}
 use Rattle.row.specs.Row.{editOf}
-use Rattle.unite.proofs.Joining.{padded-begin, decode-next, decode-end}
+use Rattle.unite.proofs.Joining.{decode-next, decode-end}
 use borrow.Author.Needs.{needs}
+use Rattle.record.proofs.Padded.{padded-begin}
 use Rattle.unite.proofs.decode_edits.Statement.{statement}
 use Rattle.unite.proofs.decode_edits.Tie as tie
 

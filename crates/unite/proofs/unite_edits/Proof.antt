@@ -1,25 +1,19 @@
 -- `unite::unite_edits` meets its contract. Assumes nothing.
-use Prim.Native.Nat.{_+_, _-_, _≤_}
-use mathlib.Core.Path.{_≡_, refl}
-use lib.ListN.{length, take}
+use Prim.Native.Nat.{_+_, _-_}
+use mathlib.Core.Path.{refl}
+use lib.ListN.{take}
 use native.Mathlib.Omega.{arith}
-use lib.Seq.{length-take-le}
+use Rattle.lists.specs.Keyed.{united}
 use Rattle.lists.proofs.Lists.{length-mapped}
 use Rattle.record.specs.Stored.{fillerEdit}
 use Rattle.table.specs.Table.{editKey}
-use Rattle.unite.specs.Union.{Unites}
-use Rattle.unite.proofs.Choices.{chosen-by, onwards}
-use Rattle.unite.proofs.Joining.{Joining, joining-start, joining-next, joining-end, united-edits-is}
-use lib.Dec.{ltb}
-use Rattle.lists.specs.Keyed.{united}
+use Rattle.unite.proofs.Joining.{Walk, walk-start, walk-next, walk-end, united-edits-is}
 use borrow.Author.Needs.{needs}
 use Rattle.unite.proofs.unite_edits.Statement.{statement}
 use Rattle.unite.proofs.unite_edits.Tie as tie
 
 abbrev Inv-loop : tie.InvT-loop
-Inv-loop joined a n b m out₀ p₀ j₀ q₀ out p j q =
-    (p ≤ n) × (n ≤ 127) × (j ≤ m) × (m ≤ 127) × (q ≤ 127) × (length out ≡ 127)
-    × (length a ≡ 127) × (length b ≡ 127) × (Unites editKey 127 (take n a) (take m b) → Joining editKey (λ x y. refl) 127 fillerEdit (take n a) (take m b) out p j q)
+Inv-loop joined a n b m out₀ p₀ j₀ q₀ out p j q = Walk editKey (λ x y. refl) 127 fillerEdit a n b m out p j q
 
 abbrev μ-loop : tie.MeasureT-loop
 μ-loop joined a n b m out₀ p₀ j₀ q₀ out p j q = (n + m) - (p + j)
@@ -34,13 +28,13 @@ edit-filler-requires : tie.Need-edit-filler-requires Inv-loop μ-loop
 edit-filler-requires c κs = search needs
 
 loop-holds : tie.Need-loop-holds Inv-loop μ-loop
-loop-holds c = (search needs, search needs, search needs, search needs, search needs, search needs, search (needs, length-mapped), search (needs, length-mapped), λ u. joining-start editKey (λ x y. refl) 127 fillerEdit _ _ (c .edit-filler .ensures))
+loop-holds c = walk-start editKey (λ x y. refl) 127 fillerEdit _ _ _ _ (c .edit-filler .ensures) (search needs) (search needs) (search (needs, length-mapped)) (search (needs, length-mapped))
 
 add-loop : tie.Need-add-loop Inv-loop μ-loop
-add-loop c = search needs
+add-loop c = omega arith
 
 add-loop-2 : tie.Need-add-loop-2 Inv-loop μ-loop
-add-loop-2 c = search needs
+add-loop-2 c = omega arith
 
 slot-requires : tie.Need-slot-requires Inv-loop μ-loop
 slot-requires c κs = search needs
@@ -72,19 +66,8 @@ choose-requires c κs = search needs
 edit-either-requires : tie.Need-edit-either-requires Inv-loop μ-loop
 edit-either-requires c κs = search needs
 
-returns-3 : tie.Need-returns-3 Inv-loop μ-loop
-returns-3 c = λ x y u.
-    let l = c .before .before .before .before .before .before .before .before .before .before in
-    let s = c .before .before .before .before .before .before .before .before .before .before .before .before .before .before .before .before in
-    let a = s .args .joined .edits in
-    let n = s .args .joined .editcount in
-    let b = s .args .joining .edits in
-    let m = s .args .joining .editcount in
-    let wa : length a ≡ 127 = l .loop .inv .6 in
-    let wb : length b ≡ 127 = l .loop .inv .7 in
-    absurd (let w = joining-next editKey (λ x y. refl) 127 fillerEdit a n b m (omega arith) (omega arith) (l .loop .out) (l .loop .p) (l .loop .j) (l .loop .q) u (l .loop .inv .8 u) (l .loop .inv .0) (l .loop .inv .2)
-    (c .before .before .before .before .before .before .before .before .before .loop-test .taken) (c .before .before .before .before .before .before .before .before .slot .result) (c .before .before .before .before .before .before .slot2 .result) _ _ (c .before .before .before .before .before .before .before .before .slot .ensures .1) (c .before .before .before .before .before .before .slot2 .ensures .1) (c .before .before .choose .result)
-    (chosen-by (ltb (l .loop .p) n) (ltb (l .loop .j) m) (c .before .before .choose .ensures) (c .before .before .before .before .edit-below .ensures) (c .before .before .before .edit-below2 .ensures)) (c .before .edit-either .result) (c .before .edit-either .ensures) in omega (arith, w .1))
+slot-requires-3 : tie.Need-slot-requires-3 Inv-loop μ-loop
+slot-requires-3 c κs = search needs
 
 mul-out : tie.Need-mul-out Inv-loop μ-loop
 mul-out c = search needs
@@ -93,84 +76,35 @@ array-set-from-out : tie.Need-array-set-from-out Inv-loop μ-loop
 array-set-from-out c = search needs
 
 add-p : tie.Need-add-p Inv-loop μ-loop
-add-p c =
-    let l = c .before .before .before .before .before .before .before .before .before .before .before in
-    let s = c .before .before .before .before .before .before .before .before .before .before .before .before .before .before .before .before .before in
-    let a = s .args .joined .edits in
-    let n = s .args .joined .editcount in
-    let b = s .args .joining .edits in
-    let m = s .args .joining .editcount in
-    let wa : length a ≡ 127 = l .loop .inv .6 in
-    let wb : length b ≡ 127 = l .loop .inv .7 in
-    let o = onwards n m (l .loop .p) (l .loop .j) _ _ (c .before .before .before .choose .result) (c .before .before .before .choose .ensures) (l .loop .inv .0) (l .loop .inv .2) (c .before .before .before .before .before .before .before .before .before .before .loop-test .taken) in
-    omega arith
+add-p c = omega arith
 
 add-j : tie.Need-add-j Inv-loop μ-loop
-add-j c =
-    let l = c .before .before .before .before .before .before .before .before .before .before .before .before in
-    let s = c .before .before .before .before .before .before .before .before .before .before .before .before .before .before .before .before .before .before in
-    let a = s .args .joined .edits in
-    let n = s .args .joined .editcount in
-    let b = s .args .joining .edits in
-    let m = s .args .joining .editcount in
-    let wa : length a ≡ 127 = l .loop .inv .6 in
-    let wb : length b ≡ 127 = l .loop .inv .7 in
-    let o = onwards n m (l .loop .p) (l .loop .j) _ _ (c .before .before .before .before .choose .result) (c .before .before .before .before .choose .ensures) (l .loop .inv .0) (l .loop .inv .2) (c .before .before .before .before .before .before .before .before .before .before .before .loop-test .taken) in
-    omega arith
+add-j c = omega arith
 
 add-q : tie.Need-add-q Inv-loop μ-loop
-add-q c = search needs
+add-q c = omega arith
 
 loop-less : tie.Need-loop-less Inv-loop μ-loop
-loop-less c =
-    let l = c .before .before .before .before .before .before .before .before .before .before .before .before in
-    let s = c .before .before .before .before .before .before .before .before .before .before .before .before .before .before .before .before .before .before in
-    let a = s .args .joined .edits in
-    let n = s .args .joined .editcount in
-    let b = s .args .joining .edits in
-    let m = s .args .joining .editcount in
-    let wa : length a ≡ 127 = l .loop .inv .6 in
-    let wb : length b ≡ 127 = l .loop .inv .7 in
-    let o = onwards n m (l .loop .p) (l .loop .j) _ _ (c .before .before .before .before .choose .result) (c .before .before .before .before .choose .ensures) (l .loop .inv .0) (l .loop .inv .2) (c .before .before .before .before .before .before .before .before .before .before .before .loop-test .taken) in
-    omega arith
+loop-less c = omega arith
 
 loop-again : tie.Need-loop-again Inv-loop μ-loop
 loop-again c =
-    let l = c .before .before .before .before .before .before .before .before .before .before .before .before in
-    let s = c .before .before .before .before .before .before .before .before .before .before .before .before .before .before .before .before .before .before in
-    let a = s .args .joined .edits in
-    let n = s .args .joined .editcount in
-    let b = s .args .joining .edits in
-    let m = s .args .joining .editcount in
-    let wa : length a ≡ 127 = l .loop .inv .6 in
-    let wb : length b ≡ 127 = l .loop .inv .7 in
-    let o = onwards n m (l .loop .p) (l .loop .j) _ _ (c .before .before .before .before .choose .result) (c .before .before .before .before .choose .ensures) (l .loop .inv .0) (l .loop .inv .2) (c .before .before .before .before .before .before .before .before .before .before .before .loop-test .taken) in (
-      o .own-fits,
-      search needs,
-      o .joining-fits,
-      search needs,
-      search needs,
-      search needs,
-      wa,
-      wb,
-      λ u. joining-next editKey (λ x y. refl) 127 fillerEdit a n b m (omega arith) (omega arith) (l .loop .out) (l .loop .p) (l .loop .j) (l .loop .q) u (l .loop .inv .8 u) (l .loop .inv .0) (l .loop .inv .2)
-          (c .before .before .before .before .before .before .before .before .before .before .before .loop-test .taken) (c .before .before .before .before .before .before .before .before .before .before .slot .result) (c .before .before .before .before .before .before .before .before .slot2 .result) _ _ (c .before .before .before .before .before .before .before .before .before .before .slot .ensures .1) (c .before .before .before .before .before .before .before .before .slot2 .ensures .1) (c .before .before .before .before .choose .result)
-          (chosen-by (ltb (l .loop .p) n) (ltb (l .loop .j) m) (c .before .before .before .before .choose .ensures) (c .before .before .before .before .before .before .edit-below .ensures) (c .before .before .before .before .before .edit-below2 .ensures)) (c .before .before .before .edit-either .result) (c .before .before .before .edit-either .ensures) .0,
-    )
+    let written = c .before .before in
+    let chosen = written .before .before in
+    let slots = chosen .before .before .before .before in
+    let l = slots .before .before .before .before in
+    let w = l .loop .inv in
+    let e = chosen .choose .ensures in
+    walk-next editKey (λ x y. refl) 127 fillerEdit _ _ _ _ (l .loop .out) (l .loop .p) (l .loop .j) (l .loop .q) w (slots .before .before .before .loop-test .taken) (slots .before .before .slot .result) (slots .slot2 .result) (written .slot3 .result) _ _
+    (slots .before .before .slot .ensures .1) (slots .slot2 .ensures .1) (written .slot3 .ensures .1) (chosen .choose .result) (e .0) (chosen .before .before .edit-below .ensures) (chosen .before .edit-below2 .ensures)
+    (written .before .edit-either .result) (written .before .edit-either .ensures) (e .1) (e .2) (e .3)
 
-returns-4 : tie.Need-returns-4 Inv-loop μ-loop
-returns-4 c = λ x y u.
+returns-3 : tie.Need-returns-3 Inv-loop μ-loop
+returns-3 c = λ x y u.
     let l = c .before in
-    let s = c .before .before .before .before .before .before .before in
-    let a = s .args .joined .edits in
-    let n = s .args .joined .editcount in
-    let b = s .args .joining .edits in
-    let m = s .args .joining .editcount in
-    let wa : length a ≡ 127 = l .loop .inv .6 in
-    let wb : length b ≡ 127 = l .loop .inv .7 in
-    let e = joining-end editKey (λ x y. refl) 127 fillerEdit (take n a) (take m b) (l .loop .out) (l .loop .p) (l .loop .j) (l .loop .q) (l .loop .inv .8 u)
-    (omega (arith, length-take-le n a (omega arith))) (omega (arith, length-take-le m b (omega arith))) in
-    united-edits-is (s .args .joined) (united editKey (take n a) (take m b)) (e .0) (e .1)
+    let s = l .before .before .before .before .before .before .args in
+    let e = walk-end editKey (λ x y. refl) 127 fillerEdit _ _ _ _ (l .loop .out) (l .loop .p) (l .loop .j) (l .loop .q) (l .loop .inv) (c .loop-test .left) u in
+    united-edits-is (s .joined) (united editKey (take (s .joined .editcount) (s .joined .edits)) (take (s .joining .editcount) (s .joining .edits))) (e .0) (e .1)
 
 pub unite-edits-spec : {M : Type 1} → statement M
 unite-edits-spec =
@@ -194,7 +128,7 @@ unite-edits-spec =
     edit-below-requires-2
     choose-requires
     edit-either-requires
-    returns-3
+    slot-requires-3
     mul-out
     array-set-from-out
     add-p
@@ -202,4 +136,4 @@ unite-edits-spec =
     add-q
     loop-less
     loop-again
-    returns-4)
+    returns-3)
