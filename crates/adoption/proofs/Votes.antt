@@ -26,10 +26,10 @@ use Rattle.ledger.specs.Ledger.{Call, adopt, start, judge, answered, adopted, a
 use Rattle.ledger.specs.Bench.{benchOf, outcome}
 use Rattle.ledger.proofs.Valid.{start-valid, fed-valid}
 use Rattle.bench.specs.Changes.{refusedWith}
-use Rattle.bench.proofs.Moves.{refused-is, accepted-is}
+use Rattle.bench.proofs.Moves.{refused-is, accepted-is, bench-record}
 use Rattle.merge.specs.Joins.{Joins}
 use Rattle.merge.proofs.United.{union-keeps}
-use Rattle.merge.proofs.Rows.{step-joined, bench-record}
+use Rattle.merge.proofs.Rows.{step-joined}
 
 -- the won bundle, or none
 winner-by {ℓ} : {T : Type ℓ} (o : Option Record) → (o ≡ none → T) → ((B : Record) → o ≡ some B → T) → T

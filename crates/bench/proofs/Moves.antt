@@ -14,6 +14,7 @@ use Rattle.record.specs.declared.Edit.{Edit}
 use Rattle.record.specs.declared.Record as declared
 use Rattle.record.specs.declared.Schedule.{Schedule}
 use Rattle.lists.specs.Lists.{mem}
+use Rattle.lists.proofs.Arrays.{take-map}
 use Rattle.record.specs.Record.{Record, nameOf, written}
 use Rattle.record.specs.Stored.{stored, editNamed, fillerEdit}
 use Rattle.record.specs.Schedule.{schedule}
@@ -30,7 +31,7 @@ use Rattle.turner.proofs.Landed.{turned-lands}
 use Rattle.turning.specs.declared.Turning.{Turning}
 use Rattle.turning.specs.Turning.{turnAnswerOf, turningOf}
 use Rattle.pages.specs.Steps.{commonBeginning, Agree}
-use Rattle.pages.proofs.Padded.{take-padded}
+use Rattle.record.proofs.Padded.{take-padded}
 use Rattle.catalogue.specs.declared.View.{View}
 use Rattle.catalogue.specs.declared.Changed.{Changed}
 use Rattle.catalogue.specs.Chips.{rows, viewOf, scheduleOf}
@@ -43,7 +44,7 @@ use Rattle.ledger.specs.Bench.{pageEdits, openEdits, benchOf, outcome, Answers}
 use Rattle.ledger.proofs.Valid.{Valid, start-valid, fed-valid}
 use Rattle.ledger.proofs.Undone.{from-valid, step-refused, step-accepted, at-page}
 use Rattle.bench.specs.Changes.{plainAnswer, refusedWith, openAt, turnReply, Opens, Keeps, pagesOf, Reschedules}
-use Rattle.bench.proofs.Pages.{names-named, named-agree, take-map, pages-written, pages-room, open-written, last-room}
+use Rattle.bench.proofs.Pages.{names-named, named-agree, pages-written, pages-room, open-written, last-room}
 
 -- a call that the ledger refuses with this number
 pub refused-is : (L : Ledger) (bench : Bench) (call : Call) (n : ℕ) → bench ≡ benchOf L → judge L call ≡ n → (n ≡ 0 → ⊥) → refusedWith bench n ≡ outcome (step L call)
@@ -58,6 +59,16 @@ accepted-is L call r j e = e ∙ ap outcome (sym (step-accepted L call j))
 length-pages : (L : Ledger) → length (pageEdits L) ≡ last L
 unfolding pageEdits last
 length-pages L = length-map (pages L) (editNamed (L .multilog .edits))
+
+-- a bench's record and hidden edits
+module _ (L : Ledger) (bench : Bench) (e : bench ≡ benchOf L) where
+  pub bench-record : bench .multilog ≡ stored (L .multilog)
+  unfolding benchOf
+  bench-record = ap (λ (b : Bench). b .multilog) e
+
+  pub bench-hidden : bench .hidden ≡ marksOf (L .multilog) (λ x. mem x (L .hidden))
+  unfolding benchOf
+  bench-hidden = ap (λ (b : Bench). b .hidden) e
 
 -- a page opened
 module _ (L : Ledger) (bench : Bench) (e : bench ≡ benchOf L) (page : ℕ) (h : page ≤ last L) where

@@ -48,11 +48,6 @@ named-agree l m (x ∷ s) (y ∷ t) f v w zero d a b e =
 named-agree l m (x ∷ s) (y ∷ t) f v w (suc q) d a b e =
     named-agree l m s t f (λ z i. v z (mem-tail z x s i)) (λ z i. w z (mem-tail z y t i)) q d (omega arith) (omega arith) e
 
-pub take-map : {A B : Type 0} (f : A → B) (n : ℕ) (l : List A) → take n (map f l) ≡ map f (take n l)
-take-map f zero l = refl
-take-map f (suc n) [] = refl
-take-map f (suc n) (x ∷ l) = ap (λ (t : List _). f x ∷ t) (take-map f n l)
-
 take-within : (n : ℕ) (l : List ℕ) → take n l within l
 unfolding mem
 take-within zero l x h = clash h refl

@@ -11,14 +11,14 @@ use lib.IntN.{ℤ, pos, _+ℤ_, +ℤ-assoc, +ℤ-idr}
 use lib.ListN.{length, drop}
 use borrow.Author.Tests.{eqb-true, eq-eqb, ne-eqb, le-leb}
 use Rattle.record.specs.declared.Edit.{Edit}
-use Rattle.lists.specs.Lists.{sift, mem, at, _among_, _within_}
+use Rattle.lists.specs.Lists.{sift, mem, at, _among_, _within_, Has}
 use Rattle.record.specs.Record.{Record, written, notafter, enables}
 use Rattle.record.specs.Schedule.{schedule}
 use Rattle.record.specs.Judgement.{must}
 use Rattle.lists.proofs.Lists.{by, clash, is-by, mem-head, mem-tail, or-no-r}
 use Rattle.record.proofs.Scheduled.{schedule-sound}
-use Rattle.lists.proofs.Logic.{Has}
 use Rattle.lists.proofs.Union.{united-old}
+use Rattle.ground.proofs.Grounds.{orelse-none, given-none}
 use Rattle.row.specs.Row.{Row, isName, editOf}
 use Rattle.ground.specs.Ground.{_given_, _orelse_}
 use Rattle.table.specs.Table.{editKey, unite}
@@ -37,7 +37,7 @@ use Rattle.ledger.specs.declared.Bench.{Bench}
 use Rattle.ledger.specs.declared.Outcome.{Outcome}
 use Rattle.ledger.specs.Ledger.{Ledger, Call, addEdit, addConstraint, merge, hide, show, turn, adopt, Reply, start, pages, last, judge, change, shown, adopted, act, refusal, step, fed}
 use Rattle.ledger.specs.Bench.{openEdits, benchOf, outcome, Answers, Linked, none, more, answersOf, told, Undo}
-use Rattle.ledger.proofs.Valid.{Valid, well-formed, start-valid, fed-valid, given-none, orelse-left, orelse-right}
+use Rattle.ledger.proofs.Valid.{Valid, well-formed, start-valid, fed-valid}
 
 -- what is shown of every valid ledger is promised of every list of calls
 pub from-valid : (bench : Bench) (call : Call) (r : Outcome) → ((L : Ledger) → Valid L → bench ≡ benchOf L → r ≡ outcome (step L call)) → Answers bench call r
@@ -181,8 +181,8 @@ shown-hidden x hidden n =
 fresh : (L : Ledger) (x : ℕ) → judge L (hide x) ≡ 0 → mem x (L .hidden) ≡ false
 unfolding judge
 fresh L x h =
-    let k = orelse-right (5 given not (mem x (written (L .multilog)))) _ (orelse-right (2 given not (isName x)) _ h) in
-    or-no-r (must (L .multilog) x) _ (given-none 9 _ k (omega arith))
+    let k = orelse-none (5 given not (mem x (written (L .multilog)))) _ (orelse-none (2 given not (isName x)) _ h .1) .1 in
+    or-no-r (must (L .multilog) x) _ (given-none 8 _ k)
 
 again : (L : Ledger) (x : ℕ) → Valid L → mem x (L .hidden) ≡ false → act (act L (hide x) .after) (show x) .after ≡ at-page L (last L)
 unfolding act change at-page last pages
@@ -252,7 +252,7 @@ edits-stay L (call ∷ calls) e h = edits-stay (step L call .after) calls e (ste
 
 added-in : (L : Ledger) (row : Row) → Valid L → judge L (addEdit row) ≡ 0 → Has (editOf row) (act L (addEdit row) .after .multilog .edits)
 unfolding act change unite judge
-added-in L row v j = joining-kept (L .multilog) (written (L .multilog)) true (row ∷ []) [] (v .checked) (orelse-left _ _ j) (editOf row) (inl refl)
+added-in L row v j = joining-kept (L .multilog) (written (L .multilog)) true (row ∷ []) [] (v .checked) (orelse-none _ _ j .0) (editOf row) (inl refl)
 
 -- and an edit that is added and accepted is of the record from then on
 pub added-stays : (before after : List Call) (row : Row) → judge (fed start before) (addEdit row) ≡ 0

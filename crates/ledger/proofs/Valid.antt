@@ -14,6 +14,7 @@ use Rattle.record.specs.Record.{Record, names, written, has, WellFormed}
 use Rattle.record.specs.Schedule.{needs, musts, ready, order, admits, scheduled, schedule}
 use Rattle.record.specs.Judgement.{sound, must}
 use Rattle.lists.proofs.Lists.{by, clash, and-l, and-r, or-by, or-no-l, cons-by, nil-no, cons-within, sift-mem}
+use Rattle.ground.proofs.Grounds.{orelse-none, given-none}
 use Rattle.record.proofs.Scheduled.{schedule-length, schedule-pages}
 use Rattle.row.specs.Row.{Row, isName}
 use Rattle.ground.specs.Ground.{Rows, _given_, _orelse_}
@@ -38,17 +39,6 @@ pub record Valid (L : Ledger) : Type 0 where
   pub hidden-written : L .hidden within written (L .multilog)
   pub made : L .schedule ≡ schedule (L .multilog) (L .hidden)
   pub opened-within : L .opened ≤ last L
-
--- a number that is not given
-pub given-none : (n : ℕ) (b : Bool) → (n given b) ≡ 0 → 0 < n → b ≡ false
-given-none n true h l = absurd (omega arith)
-given-none n false h l = refl
-
-pub orelse-left : (a b : ℕ) → (a orelse b) ≡ 0 → a ≡ 0
-orelse-left a b h = by (eqb a 0) (eqb-true a 0) (λ e. absurd (eqb-false a 0 e (rw e at h)))
-
-pub orelse-right : (a b : ℕ) → (a orelse b) ≡ 0 → b ≡ 0
-orelse-right a b h = let z = orelse-left a b h in rw (z) at h
 
 -- the schedule of the empty record is INIT alone
 empty-schedule : schedule emptyTables [] ≡ 0 ∷ []
@@ -78,31 +68,31 @@ union-valid L S E v k h =
 adopted-valid : (L : Ledger) (E : Election) (o : Option Record) → Valid L → bundleFault (L .multilog) o ≡ 0 → Valid (adopted L E o .after)
 adopted-valid L E none v h = v
 adopted-valid L E (some B) v h =
-    union-valid L B E v (record-checked (L .multilog) B (v .checked) (orelse-left _ _ h)) (not-false _ (given-none 8 _ (orelse-right (recordFault (L .multilog) B) _ h) (omega arith)))
+    union-valid L B E v (record-checked (L .multilog) B (v .checked) (orelse-none _ _ h .0)) (not-false _ (given-none 7 _ (orelse-none (recordFault (L .multilog) B) _ h .1)))
 
 landing-within : (opened last : ℕ) (n : ℤ) (t : Turned) → turned opened last n ≡ t → opened ≤ last → answerOf opened t .opened ≤ last
 landing-within opened last n (To page) e h = turned-lands last page opened n e .within
 landing-within opened last n Refused e h = h
 
-shown-within : (x : ℕ) (hidden : List ℕ) → shown x hidden within hidden
+pub shown-within : (x : ℕ) (hidden : List ℕ) → shown x hidden within hidden
 unfolding shown
 shown-within x hidden y i = sift-mem (λ y. not (eqb y x)) hidden y i .0
 
 act-valid : (L : Ledger) (call : Call) → Valid L → judge L call ≡ 0 → Valid (act L call .after)
 unfolding act judge last pages
 act-valid L (addEdit row) v h =
-    union-valid L _ noElection v (added-edit-checked (L .multilog) row (v .checked) (orelse-left _ _ h))
-    (not-false _ (given-none 8 _ (orelse-right (addEditFault (L .multilog) row) _ h) (omega arith)))
+    union-valid L _ noElection v (added-edit-checked (L .multilog) row (v .checked) (orelse-none _ _ h .0))
+    (not-false _ (given-none 7 _ (orelse-none (addEditFault (L .multilog) row) _ h .1)))
 act-valid L (addConstraint row) v h =
-    union-valid L _ noElection v (added-constraint-checked (L .multilog) row (v .checked) (orelse-left _ _ h))
-    (not-false _ (given-none 8 _ (orelse-right (addConstraintFault (L .multilog) row) _ h) (omega arith)))
+    union-valid L _ noElection v (added-constraint-checked (L .multilog) row (v .checked) (orelse-none _ _ h .0))
+    (not-false _ (given-none 7 _ (orelse-none (addConstraintFault (L .multilog) row) _ h .1)))
 act-valid L (merge edits constraints) v h =
-    union-valid L _ noElection v (joined-checked (L .multilog) edits constraints (v .checked) (orelse-left _ _ h))
-    (and-r (sound (decoded edits constraints)) _ (not-false _ (given-none 8 _ (orelse-right (lentFault (L .multilog) edits constraints) _ h) (omega arith))))
+    union-valid L _ noElection v (joined-checked (L .multilog) edits constraints (v .checked) (orelse-none _ _ h .0))
+    (and-r (sound (decoded edits constraints)) _ (not-false _ (given-none 7 _ (orelse-none (lentFault (L .multilog) edits constraints) _ h .1))))
 act-valid L (hide x) v h =
-    let k = orelse-right (2 given not (isName x)) _ h in
+    let k = orelse-none (2 given not (isName x)) _ h .1 in
     change-valid L (L .multilog) (x ∷ L .hidden) noElection (v .checked) (v .sound-now)
-    (cons-within x (L .hidden) (written (L .multilog)) (not-false _ (given-none 5 _ (orelse-left _ _ k) (omega arith))) (v .hidden-written))
+    (cons-within x (L .hidden) (written (L .multilog)) (not-false _ (given-none 4 _ (orelse-none _ _ k .0))) (v .hidden-written))
 act-valid L (show x) v h =
     change-valid L (L .multilog) (shown x (L .hidden)) noElection (v .checked) (v .sound-now) (λ y i. v .hidden-written y (shown-within x (L .hidden) y i))
 act-valid L (turn n) v h = record {
@@ -113,7 +103,7 @@ act-valid L (turn n) v h = record {
   opened-within = landing-within (L .opened) (last L) n (turned (L .opened) (last L) n) refl (v .opened-within);
 }
 act-valid L (adopt e P roll) v h =
-    adopted-valid L (counted (cast e P roll)) (winner (cast e P roll)) v (orelse-right (electionFault e P roll) _ h)
+    adopted-valid L (counted (cast e P roll)) (winner (cast e P roll)) v (orelse-none (electionFault e P roll) _ h .1)
 
 pub step-valid : (L : Ledger) (call : Call) → Valid L → Valid (step L call .after)
 unfolding step refusal

@@ -11,6 +11,7 @@ use Rattle.record.specs.Record.{Record, nameOf, written}
 use Rattle.record.specs.Stored.{stored}
 use Rattle.record.specs.Judgement.{sound}
 use Rattle.lists.proofs.Lists.{by, clash}
+use Rattle.bench.proofs.Moves.{bench-record}
 use Rattle.row.specs.Row.{Row}
 use Rattle.ground.specs.Ground.{Rows, _given_, _orelse_}
 use Rattle.links.specs.Marks.{marksOf}
@@ -45,16 +46,6 @@ step-joined L call n U E j a =
 refusal-is : (L : Ledger) (bench : Bench) (n : ℕ) → bench ≡ benchOf L → refusedWith bench n ≡ outcome (refusal L n)
 unfolding outcome refusal
 refusal-is L bench n e = ap (λ (b : Bench). refusedWith b n) e
-
--- a bench's record and hidden edits
-module _ (L : Ledger) (bench : Bench) (e : bench ≡ benchOf L) where
-  pub bench-record : bench .multilog ≡ stored (L .multilog)
-  unfolding benchOf
-  bench-record = ap (λ (b : Bench). b .multilog) e
-
-  pub bench-hidden : bench .hidden ≡ marksOf (L .multilog) (λ x. mem x (L .hidden))
-  unfolding benchOf
-  bench-hidden = ap (λ (b : Bench). b .hidden) e
 
 -- hidden edits are of the union
 pub keeps-within : (L : Ledger) → Valid L → (U : Record) → Keeps (L .multilog) U → L .hidden within written U
@@ -91,46 +82,38 @@ module _ (calls : List Call) (bench : Bench) (joined : Joined) (E : Election) (n
 
 -- the three calls
 module _ (bench : Bench) (joined : Joined) (E : Election) (o : E ≡ noElection) (r : Outcome) (f : Joins bench joined E r) where
+  -- a call whose rows have this number and are, without fault, those of S
+  joins-call : (call : Call) (number : Record → ℕ) (S : Record) → ((R : Record) → Checked R → number R ≡ 0 → Checked (unite R S))
+      → ((L : Ledger) → Checked (L .multilog) → judge L call ≡ (number (L .multilog) orelse 8 given not (sound (unite (L .multilog) S))))
+      → ((L : Ledger) → act L call ≡ change L (unite (L .multilog) S) (L .hidden) noElection)
+      → ((R : Record) → bench .multilog ≡ stored R → Checked R → joined ≡ join.outcome (number R) R (unite R S)) → Answers bench call r
+  unfolding Answers Joins
+  joins-call call number S checked judges acts g calls e =
+      let L = fed start calls in
+      let k = fed-valid start calls start-valid .checked in
+      let R = L .multilog in
+      let U = unite R S in
+      f calls (number R) U e (g R (bench-record L bench e) k) (checked R k) (λ z. union-keeps R S k (checked R k z))
+      ∙ (ap (λ (E : Election). outcome (joinReply L (number R) U E)) o ∙ ap outcome (sym (step-joined L call (number R) U noElection (judges L k) (acts L))))
+
   pub added-edit : (row : Row)
       → ((R : Record) → bench .multilog ≡ stored R → Checked R → joined ≡ join.outcome (addEditFault R row) R (unite R (decoded (row ∷ []) [])))
       → Answers bench (addEdit row) r
-  unfolding Answers Joins judge act
-  added-edit row g calls e =
-      let L = fed start calls in
-      let v = fed-valid start calls start-valid in
-      let R = L .multilog in
-      let U = unite R (decoded (row ∷ []) []) in
-      let n = addEditFault R row in
-      let k : n ≡ 0 → Checked U = added-edit-checked R row (v .checked) in
-      f calls n U e (g R (bench-record L bench e) (v .checked)) k (λ z. union-keeps R (decoded (row ∷ []) []) (v .checked) (k z))
-      ∙ (ap (λ (E : Election). outcome (joinReply L n U E)) o ∙ ap outcome (sym (step-joined L (addEdit row) n U noElection refl refl)))
+  unfolding judge act
+  added-edit row = joins-call (addEdit row) (λ R. addEditFault R row) (decoded (row ∷ []) []) (λ R. added-edit-checked R row) (λ L k. refl) (λ L. refl)
 
   pub added-constraint : (row : Row)
       → ((R : Record) → bench .multilog ≡ stored R → Checked R → joined ≡ join.outcome (addConstraintFault R row) R (unite R (decoded [] (row ∷ []))))
       → Answers bench (addConstraint row) r
-  unfolding Answers Joins judge act
-  added-constraint row g calls e =
-      let L = fed start calls in
-      let v = fed-valid start calls start-valid in
-      let R = L .multilog in
-      let U = unite R (decoded [] (row ∷ [])) in
-      let n = addConstraintFault R row in
-      let k : n ≡ 0 → Checked U = added-constraint-checked R row (v .checked) in
-      f calls n U e (g R (bench-record L bench e) (v .checked)) k (λ z. union-keeps R (decoded [] (row ∷ [])) (v .checked) (k z))
-      ∙ (ap (λ (E : Election). outcome (joinReply L n U E)) o ∙ ap outcome (sym (step-joined L (addConstraint row) n U noElection refl refl)))
+  unfolding judge act
+  added-constraint row = joins-call (addConstraint row) (λ R. addConstraintFault R row) (decoded [] (row ∷ [])) (λ R. added-constraint-checked R row) (λ L k. refl) (λ L. refl)
 
   pub merged : (es cs : Rows)
       → ((R : Record) → bench .multilog ≡ stored R → Checked R → joined ≡ join.outcome (lentFault R es cs) R (unite R (decoded es cs)))
       → Answers bench (merge es cs) r
-  unfolding Answers Joins judge act
-  merged es cs g calls e =
-      let L = fed start calls in
-      let v = fed-valid start calls start-valid in
-      let R = L .multilog in
-      let U = unite R (decoded es cs) in
-      let n = lentFault R es cs in
-      let k : n ≡ 0 → Checked U = joined-checked R es cs (v .checked) in
-      let one : judge L (merge es cs) ≡ (n orelse 8 given not (sound U)) =
-      by (eqb n 0) (λ (z : eqb n 0 ≡ true). rw (z, union-judged R es cs (v .checked) (eqb-true n 0 z))) (λ (z : eqb n 0 ≡ false). rw z) in
-      f calls n U e (g R (bench-record L bench e) (v .checked)) k (λ z. union-keeps R (decoded es cs) (v .checked) (k z))
-      ∙ (ap (λ (E : Election). outcome (joinReply L n U E)) o ∙ ap outcome (sym (step-joined L (merge es cs) n U noElection one refl)))
+  unfolding judge act
+  merged es cs =
+      joins-call (merge es cs) (λ R. lentFault R es cs) (decoded es cs) (λ R. joined-checked R es cs)
+      (λ L k. let n = lentFault (L .multilog) es cs in
+      by (eqb n 0) (λ (z : eqb n 0 ≡ true). rw (z, union-judged (L .multilog) es cs k (eqb-true n 0 z))) (λ (z : eqb n 0 ≡ false). rw z))
+      (λ L. refl)

@@ -8,13 +8,12 @@ use native.Mathlib.Omega.{arith}
 use lib.Dec.{eqb}
 use borrow.Author.Tests.{eq-eqb, ne-eqb, ltb-true}
 use Rattle.record.specs.declared.Edit.{Edit}
-use Rattle.lists.specs.Lists.{mem, _among_}
+use Rattle.lists.specs.Lists.{mem, _among_, Has}
 use Rattle.record.specs.Record.{Record, nameOf, written}
 use Rattle.record.specs.Judgement.{sound}
 use Rattle.lists.proofs.Lists.{by}
 use Rattle.record.proofs.Extended.{sound-extended}
 use Rattle.lists.specs.Keyed.{Ascending, united}
-use Rattle.lists.proofs.Logic.{Has}
 use Rattle.lists.proofs.Order.{less-one}
 use Rattle.lists.proofs.Union.{below-has, united-old}
 use Rattle.ground.specs.Ground.{Rows}

@@ -1,20 +1,55 @@
 // Hide and show (document 01, "Entries and pages" and "What is turned away").
 use ledger::Bench;
 use ledger::Outcome;
+use record::Record;
+ghost use mathlib.Core.Path.{_≡_};
+ghost use Prim.Native.Nat.{_<_};
+ghost use Rattle.record.specs.Record as theory;
+ghost use Rattle.record.specs.Record.{written};
+ghost use Rattle.record.specs.Stored.{stored};
+ghost use Rattle.table.specs.Checked.{Checked};
+ghost use Rattle.hidden.specs.Marks.{indexOf};
 ghost use Rattle.ledger.specs.Ledger.{Call};
 ghost use Rattle.ledger.specs.Bench.{Answers};
+ghost use Rattle.visibility.specs.Named.{nameFault};
+
+// The edit that a call names: its index, and the number of the ground on which it is turned away, 0 for none.
+pub struct Named {
+    pub number: u32,
+    pub index: usize,
+}
+
+fn find(multilog: Record, edit: u32) -> Named
+    ensures { λ r. ⌜ (r .index < 128) × ((R : theory.Record) → multilog ≡ stored R → Checked R → (r .number ≡ nameFault R edit) × (r .index ≡ indexOf edit (written R))) ⌝ }
+{
+    let index = hidden::edit_index(multilog, edit);
+    if !row::is_name(edit) {
+        return Named {
+            number: 2,
+            index: index,
+        };
+    }
+    if index == 0 {
+        return Named {
+            number: 5,
+            index: index,
+        };
+    }
+    Named {
+        number: 0,
+        index: index,
+    }
+}
 
 pub fn hide(bench: Bench, edit: u32) -> Outcome
     ensures { λ r. ⌜ Answers bench (Call.hide edit) r ⌝ }
 {
-    if !row::is_name(edit) {
-        return bench::refused(bench, 2);
-    }
     let multilog = bench.multilog;
-    let index = hidden::edit_index(multilog, edit);
-    if index == 0 {
-        return bench::refused(bench, 5);
+    let found = find(multilog, edit);
+    if found.number != 0 {
+        return bench::refused(bench, found.number);
     }
+    let index = found.index;
     let mut marks = bench.hidden;
     if marks[index] == 1 {
         return bench::refused(bench, 9);
@@ -32,14 +67,12 @@ pub fn hide(bench: Bench, edit: u32) -> Outcome
 pub fn show(bench: Bench, edit: u32) -> Outcome
     ensures { λ r. ⌜ Answers bench (Call.show edit) r ⌝ }
 {
-    if !row::is_name(edit) {
-        return bench::refused(bench, 2);
-    }
     let multilog = bench.multilog;
-    let index = hidden::edit_index(multilog, edit);
-    if index == 0 {
-        return bench::refused(bench, 5);
+    let found = find(multilog, edit);
+    if found.number != 0 {
+        return bench::refused(bench, found.number);
     }
+    let index = found.index;
     let mut marks = bench.hidden;
     if marks[index] != 1 {
         return bench::refused(bench, 9);

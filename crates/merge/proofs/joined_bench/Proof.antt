@@ -2,13 +2,14 @@ use mathlib.Core.Path.{_≡_, sym, _∙_}
 use mathlib.Core.Bool.{true, false}
 use borrow.Author.Tests.{not-true, not-false}
 use borrow.Author.Needs.{needs}
+use Rattle.bench.proofs.Moves.{bench-record, bench-hidden}
 use Rattle.record.specs.Judgement.{sound}
 use Rattle.fit.proofs.Fit.{checked-fit}
 use Rattle.ledger.specs.Ledger.{start, fed}
 use Rattle.ledger.proofs.Valid.{start-valid, fed-valid}
 use Rattle.change.proofs.Scheduled.{change-made}
 use Rattle.merge.specs.Joins.{Joins}
-use Rattle.merge.proofs.Rows.{bench-record, bench-hidden, keeps-within, none, rows-refused, union-is, unsound-refused, joined-changes}
+use Rattle.merge.proofs.Rows.{keeps-within, none, rows-refused, union-is, unsound-refused, joined-changes}
 use Rattle.merge.proofs.joined_bench.Statement.{statement}
 use Rattle.merge.proofs.joined_bench.Tie as tie
 

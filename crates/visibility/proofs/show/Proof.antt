@@ -1,56 +1,41 @@
-use mathlib.Core.Path.{_≡_, sym, _∙_}
-use mathlib.Core.Bool.{true, false}
-use borrow.Author.Tests.{not-true, not-false}
+-- `visibility::show` meets its contract. Assumes nothing.
+use mathlib.Core.Path.{_∙_}
 use borrow.Author.Needs.{needs}
-use Rattle.row.specs.Row.{isName}
 use Rattle.ledger.specs.Ledger.{start, fed}
 use Rattle.ledger.specs.Bench.{Answers}
 use Rattle.ledger.proofs.Valid.{start-valid, fed-valid}
 use Rattle.ledger.proofs.Undone.{from-valid}
-use Rattle.visibility.proofs.Visible.{record-is, show-unnamed, show-unknown, show-again, show-changes}
+use Rattle.bench.proofs.Moves.{bench-record}
+use Rattle.visibility.proofs.Visible.{show-unnamed, show-again, show-changes}
 use Rattle.visibility.proofs.show.Statement.{statement}
 use Rattle.visibility.proofs.show.Tie as tie
 
-is-name-requires : tie.Need-is-name-requires
-is-name-requires c κs = search needs
+find-requires : tie.Need-find-requires
+find-requires c κs = search needs
 
 refused-requires : tie.Need-refused-requires
 refused-requires c κs = search needs
 
 returns : tie.Need-returns
 returns c =
-    let s = c .before .before .before in
-    let n : isName (s .args .edit) ≡ false = sym (c .before .before .is-name .ensures) ∙ not-true _ (c .before .if1 .taken) in
-    from-valid _ _ _ (λ L v e. c .refused .ensures ∙ show-unnamed L v (s .args .bench) e (s .args .edit) n)
+    let p = c .before .before .before in
+    let s = p .before .before .args in
+    from-valid _ _ _ (λ L v e. let f = p .find .ensures .1 (L .multilog) (bench-record L (s .bench) e) (v .checked) in
+    c .refused .ensures ∙ show-unnamed L v (s .bench) e (s .edit) _ _ f (c .before .if1 .taken))
 
-edit-index-requires : tie.Need-edit-index-requires
-edit-index-requires c κs = search needs
+array-read-if2 : tie.Need-array-read-if2
+array-read-if2 c = search needs
 
 refused-requires-2 : tie.Need-refused-requires-2
 refused-requires-2 c κs = search needs
 
 returns-2 : tie.Need-returns-2
 returns-2 c =
-    let p = c .before .before in
-    let s = p .before .before .before .before in
-    let n : isName (s .args .edit) ≡ true = sym (p .before .before .before .is-name .ensures) ∙ not-false _ (p .before .before .if1 .left) in
-    from-valid _ _ _ (λ L v e. c .refused2 .ensures
-    ∙ show-unknown L v (s .args .bench) e (s .args .edit) n (p .edit-index .result) (p .edit-index .ensures .1 (L .multilog) (record-is L v (s .args .bench) e (s .args .edit)) (v .checked)) (c .before .if2 .taken))
-
-array-read-if3 : tie.Need-array-read-if3
-array-read-if3 c = search needs
-
-refused-requires-3 : tie.Need-refused-requires-3
-refused-requires-3 c κs = search needs
-
-returns-3 : tie.Need-returns-3
-returns-3 c =
-    let p = c .before .before .before .before in
-    let s = p .before .before .before .before in
-    let n : isName (s .args .edit) ≡ true = sym (p .before .before .before .is-name .ensures) ∙ not-false _ (p .before .before .if1 .left) in
-    from-valid _ _ _ (λ L v e. c .refused3 .ensures
-    ∙ show-again L v (s .args .bench) e (s .args .edit) n (p .edit-index .result) (p .edit-index .ensures .1 (L .multilog) (record-is L v (s .args .bench) e (s .args .edit)) (v .checked))
-    (c .before .before .before .if2 .left) (c .before .if3 .taken))
+    let m = c .before .before in
+    let p = m .before .before .before in
+    let s = p .before .before .args in
+    from-valid _ _ _ (λ L v e. let f = p .find .ensures .1 (L .multilog) (bench-record L (s .bench) e) (v .checked) in
+    c .refused2 .ensures ∙ show-again L v (s .bench) e (s .edit) _ _ f (m .before .if1 .left) (c .before .if2 .taken))
 
 array-write-marks : tie.Need-array-write-marks
 array-write-marks c = search needs
@@ -61,32 +46,18 @@ no-election-requires c κs = search needs
 change-requires : tie.Need-change-requires
 change-requires c κs = search needs
 
-returns-4 : tie.Need-returns-4
+returns-3 : tie.Need-returns-3
 unfolding Answers
-returns-4 c =
-    let p = c .before .before .before .before .before in
-    let s = p .before .before .before .before in
-    let n : isName (s .args .edit) ≡ true = sym (p .before .before .before .is-name .ensures) ∙ not-false _ (p .before .before .if1 .left) in
+returns-3 c =
+    let m = c .before .before .before in
+    let p = m .before .before .before in
+    let s = p .before .before .args in
     λ calls e.
     let L = fed start calls in
-    let v = fed-valid start calls start-valid in
-    show-changes calls (s .args .bench) e (s .args .edit) n (p .edit-index .result) (p .edit-index .ensures .1 (L .multilog) (record-is L v (s .args .bench) e (s .args .edit)) (v .checked))
-    (c .before .before .before .before .if2 .left) _ (c .before .before .if3 .left) _ (c .before .no-election .ensures) (c .change .ensures)
+    let f = p .find .ensures .1 (L .multilog) (bench-record L (s .bench) e) (fed-valid start calls start-valid .checked) in
+    show-changes calls (s .bench) e (s .edit) _ _ f (m .before .if1 .left) _ (c .before .before .if2 .left) _ (c .before .no-election .ensures) (c .change .ensures)
 
 pub show-spec : {M : Type 1} → statement M
 show-spec =
     tie.close
-    (tie.spec
-    is-name-requires
-    refused-requires
-    returns
-    edit-index-requires
-    refused-requires-2
-    returns-2
-    array-read-if3
-    refused-requires-3
-    returns-3
-    array-write-marks
-    no-election-requires
-    change-requires
-    returns-4)
+    (tie.spec find-requires refused-requires returns array-read-if2 refused-requires-2 returns-2 array-write-marks no-election-requires change-requires returns-3)
