@@ -12,11 +12,11 @@ use Rattle.record.specs.declared.Record as declared
 use Rattle.record.specs.Record.{Record}
 use Rattle.record.specs.Stored.{padded, stored, fillerEdit, fillerConstraint}
 use Rattle.lists.proofs.Lists.{by, clash, and-l, and-r, and-i}
-use Rattle.pages.proofs.Padded.{take-padded}
+use Rattle.record.proofs.Padded.{take-padded}
 use Rattle.row.specs.Row.{same, editRow, constraintRow}
 use Rattle.row.proofs.Cells.{edit-wide, constraint-wide}
 use Rattle.vote.specs.Tally.{sameEdit, sameConstraint, sameList, sameBundle}
-use Rattle.vote.proofs.Front.{take-more}
+use Rattle.lists.proofs.Front.{take-more}
 
 pub edits-compared : (a b : Edit) {x y : List ℕ} → x ≡ editRow a → y ≡ editRow b → same (take 5 x) (take 5 y) ≡ sameEdit a b
 unfolding sameEdit
@@ -97,13 +97,3 @@ module _ (a b : declared.Record) (P Q : Record) (p : a ≡ stored P) (q : b ≡ 
         let f : sameList sameEdit (P .edits) (Q .edits) ≡ true = sym edits-are ∙ e in
         let g : y ≡ sameList sameConstraint (P .constraints) (Q .constraints) = rw (first-constraints, m, other-constraints) at ey in
         rw f g
-
-stored-within : {A : Type 0} (n : ℕ) (filler : A) (l : List A) → length (padded n filler l) ≡ n → length l ≤ n
-unfolding padded
-stored-within n filler l h = omega (arith, length-append l (replicate (n - length l) filler))
-
-pub edits-within : (a : declared.Record) (P : Record) → a ≡ stored P → length (a .edits) ≡ 127 → a .editcount ≤ 127
-edits-within a P p h = rw p (stored-within 127 fillerEdit (P .edits) (rw p at h))
-
-pub constraints-within : (a : declared.Record) (P : Record) → a ≡ stored P → length (a .constraints) ≡ 512 → a .constraintcount ≤ 512
-constraints-within a P p h = rw p (stored-within 512 fillerConstraint (P .constraints) (rw p at h))

@@ -1,13 +1,15 @@
 // Equal votes (document 01, "Proposals and votes"): bundles compared row by row. The functions are pub for the crates of this workspace that count
 // votes or compare proposals.
+use record::CONSTRAINTS;
 use record::Constraint;
+use record::EDITS;
 use record::Edit;
 use record::Record;
 ghost use mathlib.Core.Path.{_≡_};
 ghost use Prim.Native.Nat.{_≤_};
 ghost use lib.ListN.{take};
 ghost use Rattle.record.specs.Record as theory;
-ghost use Rattle.record.specs.Stored.{stored};
+ghost use Rattle.record.specs.Stored.{stored, editLimit, constraintLimit};
 ghost use Rattle.vote.specs.Tally.{sameEdit, sameConstraint, sameList, sameBundle};
 
 fn same_edit(a: Edit, b: Edit) -> bool
@@ -27,8 +29,8 @@ fn same_constraint(a: Constraint, b: Constraint) -> bool
 }
 
 // Whether the first n edits are equal, bodies too.
-fn same_edits(a: [Edit; 127], b: [Edit; 127], n: usize) -> bool
-    requires { ⌜ n ≤ 127 ⌝ }
+fn same_edits(a: [Edit; EDITS], b: [Edit; EDITS], n: usize) -> bool
+    requires { ⌜ n ≤ editLimit ⌝ }
     ensures { λ r. ⌜ r ≡ sameList sameEdit (take n a) (take n b) ⌝ }
 {
     let mut i = 0;
@@ -42,8 +44,8 @@ fn same_edits(a: [Edit; 127], b: [Edit; 127], n: usize) -> bool
 }
 
 // Whether the first n constraints are equal.
-fn same_constraints(a: [Constraint; 512], b: [Constraint; 512], n: usize) -> bool
-    requires { ⌜ n ≤ 512 ⌝ }
+fn same_constraints(a: [Constraint; CONSTRAINTS], b: [Constraint; CONSTRAINTS], n: usize) -> bool
+    requires { ⌜ n ≤ constraintLimit ⌝ }
     ensures { λ r. ⌜ r ≡ sameList sameConstraint (take n a) (take n b) ⌝ }
 {
     let mut i = 0;
@@ -68,10 +70,10 @@ pub fn same_bundle(a: Record, b: Record) -> bool
     if m != b.constraintcount {
         return false;
     }
-    if 127 < n {
+    if EDITS < n {
         return false;
     }
-    if 512 < m {
+    if CONSTRAINTS < m {
         return false;
     }
     let x = a.edits;

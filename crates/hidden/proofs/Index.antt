@@ -15,7 +15,7 @@ use Rattle.lists.proofs.Lists.{by, mem-at, at-mem}
 use Rattle.lists.proofs.Logic.{all-has, has-getD}
 use Rattle.row.specs.Row.{editInRange, editRow}
 use Rattle.links.proofs.Names.{getD-place}
-use Rattle.pages.proofs.Padded.{getD-padded}
+use Rattle.record.proofs.Padded.{getD-padded}
 use Rattle.table.specs.Checked.{Checked}
 use Rattle.table.proofs.Marks.{edit-small}
 use Rattle.hidden.specs.Marks.{indexOf}

@@ -15,9 +15,10 @@ use Rattle.lists.specs.Lists.{mem, at, _among_, _within_}
 use Rattle.record.specs.Record.{Record, nameOf, names, written}
 use Rattle.record.specs.Stored.{fillerEdit}
 use Rattle.lists.proofs.Lists.{by, clash, is-by, mem-append, mem-at}
+use Rattle.lists.proofs.Arrays.{getD-zeros}
 use Rattle.links.specs.Marks.{nameAt, marksOf}
 use Rattle.links.proofs.Names.{getD-among, getD-place, place-same, ascending-distinct}
-use Rattle.links.proofs.Marks.{zeros-get, values-are, marks-size, marks-at, marks-past}
+use Rattle.links.proofs.Marks.{values-are, marks-size, marks-at, marks-past}
 use Rattle.table.specs.Checked.{Checked}
 use Rattle.table.proofs.Records.{checked-unwritten, checked-ascending}
 use Rattle.hidden.specs.Marks.{ByName}
@@ -29,7 +30,7 @@ mem-last x y l = rw (mem-append x l (y ∷ []), mem, or-false (eqb x y))
 
 pub named-none : (test : ℕ → Bool) (n : ℕ) → ByName [] test (replicate n 0)
 unfolding mem
-named-none test n x = zeros-get n x
+named-none test n x = getD-zeros n x
 
 -- one more name is marked
 named-more : (l : List ℕ) (test : ℕ → Bool) (marks : List ℕ) (y v : ℕ) → y < length marks → v ≡ cond (test y) 1 0 → ByName l test marks → ByName (l ++ (y ∷ [])) test (set marks y v)
@@ -73,7 +74,7 @@ module _ (R : Record) (edits : List Edit) (count : ℕ) (test : ℕ → Bool) (h
   unfolding names
   indexed-none z = record {
     passed = λ y l. let q : y ≡ 0 = omega arith in rw (q, z);
-    left = λ y l. zeros-get 128 y;
+    left = λ y l. getD-zeros 128 y;
   }
 
   pub indexed-next : (named marks : List ℕ) (i place : ℕ) → i < count → length marks ≡ 128

@@ -1,12 +1,15 @@
 // Marks of the hidden edits by index: the index of an edit, and the marks of a record carried over to one that has more edits.
 // The functions are pub for the crates of the bench's calls.
+use record::EDITS;
 use record::Record;
+use row::NAMES;
 ghost use mathlib.Core.Path.{_≡_};
 ghost use mathlib.Core.Bool.{Bool, false, cond};
 ghost use mathlib.Core.List.{List};
 ghost use Prim.Native.Nat.{ℕ, _≤_, _<_};
 ghost use lib.ListN.{length, getD};
 ghost use Rattle.lists.specs.Lists.{mem, _among_, _within_};
+ghost use Rattle.row.specs.Row.{nameLimit};
 ghost use Rattle.record.specs.Record as theory;
 ghost use Rattle.record.specs.Record.{written};
 ghost use Rattle.record.specs.Stored.{stored};
@@ -25,35 +28,26 @@ pub fn edit_index(multilog: Record, name: u32) -> usize
     if multilog.editcount <= place {
         return 0;
     }
-    if 127 <= place {
+    if EDITS <= place {
         return 0;
     }
     place + 1
 }
 
-// The place of a name among marks by name; names of a checked record are below 2304.
-fn place_of(name: u16) -> usize
-    ensures { λ r. ⌜ (r < 2304) × (name < 2304 → r ≡ name) ⌝ }
-{
-    if name < 2304 {
-        return name as usize;
-    }
-    0
-}
-
 // The marks of a record's edits by name.
-fn by_name(multilog: Record, hidden: [u8; 128]) -> [u8; 2304]
-    ensures { λ r. ⌜ (length r ≡ 2304) × ((R : theory.Record) (test : ℕ → Bool) → multilog ≡ stored R → Checked R → hidden ≡ marksOf R test → ByName (written R) test r) ⌝ }
+fn by_name(multilog: Record, hidden: [u8; 128]) -> [u8; NAMES]
+    ensures { λ r. ⌜ (length r ≡ nameLimit) × ((R : theory.Record) (test : ℕ → Bool) → multilog ≡ stored R → Checked R → hidden ≡ marksOf R test → ByName (written R) test r) ⌝ }
 {
     let edits = multilog.edits;
     let count = multilog.editcount;
-    let mut marks = [0u8; 2304];
-    if 127 < count {
+    let mut marks = [0u8; NAMES];
+    if EDITS < count {
         return marks;
     }
     let mut i: usize = 0;
     while i < count {
-        let place = place_of(edits[i].name);
+        let edit = edits[i];
+        let place = ground::slot(edit.name as usize, NAMES, NAMES);
         i += 1;
         marks[place] = hidden[i];
     }
@@ -61,19 +55,20 @@ fn by_name(multilog: Record, hidden: [u8; 128]) -> [u8; 2304]
 }
 
 // The marks of a record's edits by index, from marks by name.
-fn by_index(multilog: Record, names: [u8; 2304]) -> [u8; 128]
+fn by_index(multilog: Record, names: [u8; NAMES]) -> [u8; 128]
     ensures { λ r. ⌜ ((R : theory.Record) (test : ℕ → Bool) → multilog ≡ stored R → Checked R → test 0 ≡ false
         → ((x : ℕ) → x among written R → getD names x 0 ≡ cond (test x) 1 0) → r ≡ marksOf R test) ⌝ }
 {
     let edits = multilog.edits;
     let count = multilog.editcount;
     let mut marks = [0u8; 128];
-    if 127 < count {
+    if EDITS < count {
         return marks;
     }
     let mut i: usize = 0;
     while i < count {
-        let place = place_of(edits[i].name);
+        let edit = edits[i];
+        let place = ground::slot(edit.name as usize, NAMES, NAMES);
         i += 1;
         marks[i] = names[place];
     }

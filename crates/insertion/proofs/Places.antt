@@ -10,16 +10,11 @@ use lib.ListN.{length, take, drop, getD, drop-of-length-le}
 use lib.Seq.{take-suc, drop-cons, length-take-le, getD-take}
 use Rattle.lists.proofs.Lists.{by, clash}
 use Rattle.lists.specs.Keyed.{precedes, Ascending, inserted}
-use Rattle.lists.proofs.Logic.{Has, has-getD}
+use Rattle.lists.specs.Lists.{Has}
+use Rattle.lists.proofs.Logic.{has-getD, has-append-by}
 use Rattle.lists.proofs.Order.{less-irrefl, less-trans}
 use Rattle.lists.proofs.Union.{below-has}
 use Rattle.insertion.specs.Insertion.{Place}
-
-has-snoc : {A : Type 0} (r x : A) (l : List A) → Has r (l ++ (x ∷ [])) → Has r l ⊎ (r ≡ x)
-has-snoc r x [] (inl e) = inr e
-has-snoc r x [] (inr h) = absurd h
-has-snoc r x (y ∷ l) (inl e) = inl (inl e)
-has-snoc r x (y ∷ l) (inr h) = ⊎-elim (λ (i : Has r l). inl (inr i)) (λ (e : r ≡ x). inr e) (has-snoc r x l h)
 
 less-asym : (a b : List ℕ) → precedes a b ≡ true → precedes b a ≡ false
 less-asym a b e = by (precedes b a) (λ f. clash (less-trans a b a e f) (less-irrefl a)) (λ f. f)
@@ -52,8 +47,9 @@ module _ {A : Type 0} (key : A → List ℕ) where
     between-low : precedes (key (getD l middle d)) (key x) ≡ true → Between x l (middle + 1) high
     between-low h =
         let f : (r : A) → Has r (take (suc middle) l) → precedes (key r) (key x) ≡ true =
-        λ r i. ⊎-elim (λ (j : Has r (take middle l)). less-trans (key r) (key (getD l middle d)) (key x) (before-it l middle d a near r j) h)
-        (λ (e : r ≡ getD l middle d). rw e h) (has-snoc r (getD l middle d) (take middle l) (rw (take-suc l middle d near) at i)) in
+        λ r i. has-append-by r (take middle l) (getD l middle d ∷ []) (rw (take-suc l middle d near) at i)
+        (λ j. less-trans (key r) (key (getD l middle d)) (key x) (before-it l middle d a near r j) h)
+        (λ j. ⊎-elim (λ (e : r ≡ getD l middle d). rw e h) (λ (z : ⊥). absurd z) j) in
         record { below = rw (add-one middle) f; above = b .above }
 
     between-high : precedes (key (getD l middle d)) (key x) ≡ false → Between x l low middle

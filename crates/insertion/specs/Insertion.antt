@@ -6,17 +6,17 @@ use Prim.Native.Nat.{ℕ, _+_, _-_, _≤_}
 use lib.Dec.{ltb}
 use lib.ListN.{length, take, drop, replicate}
 use Rattle.record.specs.declared.Constraint.{Constraint}
-use Rattle.record.specs.Stored.{padded, fillerConstraint}
+use Rattle.record.specs.Stored.{padded, fillerConstraint, constraintLimit}
 use Rattle.lists.specs.Keyed.{precedes}
-use Rattle.lists.proofs.Logic.{Has}
+use Rattle.lists.specs.Lists.{Has}
 use Rattle.insertion.specs.declared.Constraints.{Constraints}
 
 abbrev pub fullTable : Constraints
-fullTable = record { rows = replicate 512 fillerConstraint; count = 0; full = true }
+fullTable = record { rows = replicate constraintLimit fillerConstraint; count = 0; full = true }
 
 -- how a table is held; once it would have more than 512 rows, only that
 unfoldable pub tableOf : List Constraint → Constraints
-tableOf l = cond (ltb 512 (length l)) fullTable (record { rows = padded 512 fillerConstraint l; count = length l; full = false })
+tableOf l = cond (ltb constraintLimit (length l)) fullTable (record { rows = padded constraintLimit fillerConstraint l; count = length l; full = false })
 
 -- p elements of the table, and no more, precede x
 pub record Place {A : Type 0} (key : A → List ℕ) (x : A) (l : List A) (p : ℕ) : Type 0 where

@@ -1,5 +1,6 @@
 // A table of constraints in order that single rows join (document 01, "The record"): an added constraint, and the rows that making a proposal
 // adds, which come in no order of their own. Functions are pub for the crates of this workspace that add and that make proposals.
+use record::CONSTRAINTS;
 use record::Constraint;
 use record::Record;
 ghost use mathlib.Core.Path.{_≡_};
@@ -10,14 +11,14 @@ ghost use lib.Dec.{ltb};
 ghost use lib.ListN.{getD, take, length};
 ghost use Rattle.record.specs.declared.Constraint.{Constraint};
 ghost use Rattle.record.specs.Record as theory;
-ghost use Rattle.record.specs.Stored.{stored, fillerConstraint};
+ghost use Rattle.record.specs.Stored.{stored, fillerConstraint, constraintLimit};
 ghost use Rattle.lists.specs.Keyed.{precedes, Ascending, inserted};
 ghost use Rattle.table.specs.Table.{constraintKey};
 ghost use Rattle.insertion.specs.Insertion.{fullTable, tableOf, Place, putAt};
 
 // Rows past the count hold a filler. A row that had no place left has made it full, and then nothing else is kept.
 pub struct Constraints {
-    pub rows: [Constraint; 512],
+    pub rows: [Constraint; CONSTRAINTS],
     pub count: usize,
     pub full: bool,
 }
@@ -30,7 +31,7 @@ fn full_table() -> Constraints
         rule: 0,
         right: 0,
     };
-    let rows = [filler; 512];
+    let rows = [filler; CONSTRAINTS];
     Constraints {
         rows: rows,
         count: 0,
@@ -40,7 +41,7 @@ fn full_table() -> Constraints
 
 // The table of a record.
 pub fn table_of(multilog: Record) -> Constraints
-    ensures { λ r. ⌜ ((R : theory.Record) → multilog ≡ stored R → length (R .constraints) ≤ 512 → r ≡ tableOf (R .constraints)) ⌝ }
+    ensures { λ r. ⌜ ((R : theory.Record) → multilog ≡ stored R → length (R .constraints) ≤ constraintLimit → r ≡ tableOf (R .constraints)) ⌝ }
 {
     let rows = multilog.constraints;
     Constraints {
@@ -51,8 +52,8 @@ pub fn table_of(multilog: Record) -> Constraints
 }
 
 // How many of the first n rows precede c, by halving.
-fn place(rows: [Constraint; 512], n: usize, c: Constraint) -> usize
-    requires { ⌜ n ≤ 512 ⌝ }
+fn place(rows: [Constraint; CONSTRAINTS], n: usize, c: Constraint) -> usize
+    requires { ⌜ n ≤ constraintLimit ⌝ }
     ensures { λ r. ⌜ (Ascending constraintKey (take n rows) → Place constraintKey c (take n rows) r) × (r ≤ n) ⌝ }
 {
     let mut low = 0;
@@ -70,8 +71,8 @@ fn place(rows: [Constraint; 512], n: usize, c: Constraint) -> usize
 }
 
 // Whether c stands at its place p.
-fn stands(rows: [Constraint; 512], n: usize, p: usize, c: Constraint) -> bool
-    requires { ⌜ n ≤ 512 ⌝ }
+fn stands(rows: [Constraint; CONSTRAINTS], n: usize, p: usize, c: Constraint) -> bool
+    requires { ⌜ n ≤ constraintLimit ⌝ }
     ensures { λ r. ⌜ r ≡ (ltb p n && not (precedes (constraintKey c) (constraintKey (getD rows p fillerConstraint)))) ⌝ }
 {
     if n <= p {
@@ -81,8 +82,13 @@ fn stands(rows: [Constraint; 512], n: usize, p: usize, c: Constraint) -> bool
     !unite::constraint_below(c, y)
 }
 
-fn put_at(rows: [Constraint; 512], n: usize, p: usize, c: Constraint) -> [Constraint; 512]
-    requires { ⌜ (p ≤ n) × (n < 512) ⌝ }
+fn put_at(
+    rows: [Constraint; CONSTRAINTS],
+    n: usize,
+    p: usize,
+    c: Constraint,
+) -> [Constraint; CONSTRAINTS]
+    requires { ⌜ (p ≤ n) × (n < constraintLimit) ⌝ }
     ensures { λ r. ⌜ r ≡ putAt n p c rows ⌝ }
 {
     let mut out = rows;
@@ -104,7 +110,7 @@ pub fn insert(table: Constraints, c: Constraint) -> Constraints
         return table;
     }
     let n = table.count;
-    if 512 < n {
+    if CONSTRAINTS < n {
         return table;
     }
     let rows = table.rows;
@@ -112,7 +118,7 @@ pub fn insert(table: Constraints, c: Constraint) -> Constraints
     if stands(rows, n, p, c) {
         return table;
     }
-    if 512 <= n {
+    if CONSTRAINTS <= n {
         return full_table();
     }
     let more = put_at(rows, n, p, c);

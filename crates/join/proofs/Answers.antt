@@ -23,7 +23,6 @@ use Rattle.table.specs.Checked.{Checked}
 use Rattle.table.proofs.Records.{empty-checked, joining-edits, joining-constraints, joined-editplaces, joined-constraintplaces, joining-editplaces, joining-constraintplaces, record-decoded}
 use Rattle.table.proofs.Tables.{stored-back}
 use Rattle.unite.specs.Union.{Unites}
-use Rattle.unite.proofs.Joining.{padded-fits}
 use Rattle.insertion.specs.declared.Constraints.{Constraints}
 use Rattle.insertion.specs.Insertion.{tableOf}
 use Rattle.insertion.proofs.Tables.{full-is}
@@ -106,16 +105,3 @@ module _ (R S : Record) (k : Checked R) where
       let a : es ≡ editRows S = g ∙ ap editRows held in
       let b : cs ≡ constraintRows S = h ∙ ap constraintRows held in
       (rw (a, b) at e) ∙ record-outcome
-
--- a stored record is within the limits
-pub within-edits : (S : Record) (joining : declared.Record) → joining ≡ stored S → length (joining .edits) ≡ 127 → joining .editcount ≤ 127
-within-edits S joining f w =
-    let e : joining .edits ≡ padded 127 fillerEdit (S .edits) = ap (λ (x : declared.Record). x .edits) f in
-    let n : joining .editcount ≡ length (S .edits) = ap (λ (x : declared.Record). x .editcount) f in
-    omega (arith, padded-fits 127 fillerEdit (S .edits) (ap length (sym e) ∙ w))
-
-pub within-constraints : (S : Record) (joining : declared.Record) → joining ≡ stored S → length (joining .constraints) ≡ 512 → joining .constraintcount ≤ 512
-within-constraints S joining f w =
-    let e : joining .constraints ≡ padded 512 fillerConstraint (S .constraints) = ap (λ (x : declared.Record). x .constraints) f in
-    let n : joining .constraintcount ≡ length (S .constraints) = ap (λ (x : declared.Record). x .constraintcount) f in
-    omega (arith, padded-fits 512 fillerConstraint (S .constraints) (ap length (sym e) ∙ w))

@@ -1,14 +1,18 @@
 // Rows that join a record (document 01, "The record" and "What is turned away"): a lent record, an add, a merge, a record that joins another.
 // Each call refuses with a number, or gives the union. A record handed in is one that these calls, or `record::empty`, left.
+use record::CONSTRAINTS;
 use record::Constraint;
+use record::EDITS;
 use record::Edit;
 use record::Record;
+use row::CONSTRAINT_CELLS;
+use row::EDIT_CELLS;
 ghost use mathlib.Core.Path.{_≡_};
 ghost use mathlib.Core.List.{[], _∷_, map};
 ghost use Prim.Native.Nat.{_<_, _≤_};
 ghost use lib.ListN.{take};
 ghost use Rattle.record.specs.Record as theory;
-ghost use Rattle.record.specs.Stored.{stored};
+ghost use Rattle.record.specs.Stored.{stored, editLimit, constraintLimit};
 ghost use Rattle.row.specs.Row.{editRow, constraintRow};
 ghost use Rattle.table.specs.Table.{decoded, emptyTables, lentFault, addEditFault, addConstraintFault, recordFault, unite};
 ghost use Rattle.table.specs.Checked.{Checked};
@@ -21,7 +25,7 @@ pub struct Joined {
 }
 
 // A lent record by itself.
-pub fn lent(edits: &[[u32; 5]], constraints: &[[u32; 3]]) -> Joined
+pub fn lent(edits: &[[u32; EDIT_CELLS]], constraints: &[[u32; CONSTRAINT_CELLS]]) -> Joined
     ensures { λ r. ⌜ r ≡ outcome (lentFault emptyTables (now (edits .entry)) (now (constraints .entry))) emptyTables (decoded (now (edits .entry)) (now (constraints .entry))) ⌝ }
 {
     let number = refusal::lent_fault(edits, constraints);
@@ -38,7 +42,11 @@ pub fn lent(edits: &[[u32; 5]], constraints: &[[u32; 3]]) -> Joined
 }
 
 // A lent record joins a record.
-pub fn merge(joined: Record, edits: &[[u32; 5]], constraints: &[[u32; 3]]) -> Joined
+pub fn merge(
+    joined: Record,
+    edits: &[[u32; EDIT_CELLS]],
+    constraints: &[[u32; CONSTRAINT_CELLS]],
+) -> Joined
     ensures { λ r. ⌜ ((R : theory.Record) → joined ≡ stored R → Checked R → r ≡ outcome (lentFault R (now (edits .entry)) (now (constraints .entry))) R (unite R (decoded (now (edits .entry)) (now (constraints .entry))))) ⌝ }
 {
     let number = refusal::fault(joined, edits, constraints);
@@ -56,7 +64,7 @@ pub fn merge(joined: Record, edits: &[[u32; 5]], constraints: &[[u32; 3]]) -> Jo
 }
 
 // One edit is added.
-pub fn add_edit(joined: Record, row: [u32; 5]) -> Joined
+pub fn add_edit(joined: Record, row: [u32; EDIT_CELLS]) -> Joined
     ensures { λ r. ⌜ ((R : theory.Record) → joined ≡ stored R → Checked R → r ≡ outcome (addEditFault R row) R (unite R (decoded (row ∷ []) []))) ⌝ }
 {
     let number = refusal::edit_add_fault(joined, row);
@@ -74,7 +82,7 @@ pub fn add_edit(joined: Record, row: [u32; 5]) -> Joined
 }
 
 // One constraint is added: its place is found by halving, where a union walks through the whole table.
-pub fn add_constraint(joined: Record, row: [u32; 3]) -> Joined
+pub fn add_constraint(joined: Record, row: [u32; CONSTRAINT_CELLS]) -> Joined
     ensures { λ r. ⌜ ((R : theory.Record) → joined ≡ stored R → Checked R → r ≡ outcome (addConstraintFault R row) R (unite R (decoded [] (row ∷ [])))) ⌝ }
 {
     let number = refusal::constraint_add_fault(joined, row);
@@ -93,11 +101,11 @@ pub fn add_constraint(joined: Record, row: [u32; 3]) -> Joined
 }
 
 // The rows of the first n edits.
-fn edit_rows(a: [Edit; 127], n: usize) -> [[u32; 5]; 127]
-    requires { ⌜ n ≤ 127 ⌝ }
+fn edit_rows(a: [Edit; EDITS], n: usize) -> [[u32; EDIT_CELLS]; EDITS]
+    requires { ⌜ n ≤ editLimit ⌝ }
     ensures { λ r. ⌜ take n r ≡ map editRow (take n a) ⌝ }
 {
-    let mut out = [[0u32; 5]; 127];
+    let mut out = [[0u32; EDIT_CELLS]; EDITS];
     let mut i = 0;
     while i < n {
         let e = a[i];
@@ -108,11 +116,11 @@ fn edit_rows(a: [Edit; 127], n: usize) -> [[u32; 5]; 127]
 }
 
 // The rows of the first n constraints.
-fn constraint_rows(a: [Constraint; 512], n: usize) -> [[u32; 3]; 512]
-    requires { ⌜ n ≤ 512 ⌝ }
+fn constraint_rows(a: [Constraint; CONSTRAINTS], n: usize) -> [[u32; CONSTRAINT_CELLS]; CONSTRAINTS]
+    requires { ⌜ n ≤ constraintLimit ⌝ }
     ensures { λ r. ⌜ take n r ≡ map constraintRow (take n a) ⌝ }
 {
-    let mut out = [[0u32; 3]; 512];
+    let mut out = [[0u32; CONSTRAINT_CELLS]; CONSTRAINTS];
     let mut i = 0;
     while i < n {
         let c = a[i];
@@ -128,13 +136,13 @@ pub fn merge_record(joined: Record, joining: Record) -> Joined
 {
     let n = joining.editcount;
     let m = joining.constraintcount;
-    if 127 < n {
+    if EDITS < n {
         return Joined {
             number: 0,
             after: joined,
         };
     }
-    if 512 < m {
+    if CONSTRAINTS < m {
         return Joined {
             number: 0,
             after: joined,

@@ -10,34 +10,22 @@ use borrow.Author.Tests.{eq-eqb, ne-eqb, ltb-true, ltb-false, lt-ltb, le-ltb}
 use lib.Dec.{eqb, ltb}
 use lib.ListN.{length, take, getD, set, length-map}
 use lib.Seq.{take-suc, take-suc-set}
-use Rattle.lists.proofs.Lists.{by, and-l, and-r}
+use Rattle.lists.proofs.Lists.{by, and-l, and-r, ascending-head, ascending-tail, has-among}
 use Rattle.record.specs.declared.Edit.{Edit}
 use Rattle.record.specs.declared.Record as declared
 use Rattle.lists.specs.Lists.{at, mem, ascending}
+use Rattle.lists.proofs.Logic.{has-getD}
 use Rattle.record.specs.Record.{Record, nameOf, written, names}
 use Rattle.record.specs.Stored.{recordOf, stored}
 use Rattle.table.specs.Checked.{Checked}
 use Rattle.table.proofs.Records.{checked-ascending}
 use Rattle.table.proofs.Tables.{held}
 
-tail-ascends : (x : ℕ) (l : List ℕ) → ascending (x ∷ l) ≡ true → ascending l ≡ true
-unfolding ascending
-tail-ascends x [] h = refl
-tail-ascends x (y ∷ l) h = and-r (ltb x y) (ascending (y ∷ l)) h
-
-head-below : (x : ℕ) (l : List ℕ) (k : ℕ) → ascending (x ∷ l) ≡ true → k < length l → x < getD l k 0
-unfolding ascending
-head-below x [] k h b = absurd (omega arith)
-head-below x (y ∷ l) zero h b = ltb-true x y (and-l (ltb x y) (ascending (y ∷ l)) h)
-head-below x (y ∷ l) (suc k) h b =
-    let p : x < y = ltb-true x y (and-l (ltb x y) (ascending (y ∷ l)) h) in
-    omega (arith, head-below y l k (and-r (ltb x y) (ascending (y ∷ l)) h) (omega arith))
-
 pub ascends : (l : List ℕ) (j k : ℕ) → ascending l ≡ true → j < k → k < length l → getD l j 0 < getD l k 0
 ascends [] j k h p q = absurd (omega arith)
 ascends (x ∷ l) j zero h p q = absurd (omega arith)
-ascends (x ∷ l) zero (suc k) h p q = head-below x l k h (omega arith)
-ascends (x ∷ l) (suc j) (suc k) h p q = ascends l j k (tail-ascends x l h) (omega arith) (omega arith)
+ascends (x ∷ l) zero (suc k) h p q = ascending-head x l h (getD l k 0) (has-among (getD l k 0) l (has-getD l k 0 (omega arith)))
+ascends (x ∷ l) (suc j) (suc k) h p q = ascends l j k (ascending-tail x l h) (omega arith) (omega arith)
 
 -- the place, from what stands before it
 at-here : (x : ℕ) (l : List ℕ) (i : ℕ) → i < length l → getD l i 0 ≡ x → ((k : ℕ) → k < i → getD l k 0 < x) → i ≡ at x l
@@ -125,7 +113,7 @@ module _ (r : declared.Record) (R : Record) (e : r ≡ stored R) (k : Checked R)
 
   written-ascends : ascending (written R) ≡ true
   unfolding names
-  written-ascends = tail-ascends 0 (written R) (checked-ascending R k)
+  written-ascends = ascending-tail 0 (written R) (checked-ascending R k)
 
   pub place-is : (x : ℕ) (l : List ℕ) → take (r .editcount) l ≡ map nameOf (recordOf r .edits) → {p : ℕ} → (ascending (take (r .editcount - 0) l) ≡ true → p ≡ at x (take (r .editcount - 0) l)) → p ≡ at x (written R)
   place-is x l h f =

@@ -1,4 +1,5 @@
 // An edit looked up by its name. The names of a record are taken out once, so that many look-ups copy no record.
+use record::EDITS;
 use record::Edit;
 use record::Record;
 ghost use mathlib.Core.Path.{_≡_};
@@ -9,15 +10,15 @@ ghost use lib.ListN.{take};
 ghost use Rattle.lists.specs.Lists.{at, mem, ascending};
 ghost use Rattle.record.specs.Record as theory;
 ghost use Rattle.record.specs.Record.{nameOf, written};
-ghost use Rattle.record.specs.Stored.{stored};
+ghost use Rattle.record.specs.Stored.{stored, editLimit};
 ghost use Rattle.table.specs.Checked.{Checked};
 
 // The names of the first n edits.
-fn names_of(edits: [Edit; 127], n: usize) -> [u16; 127]
-    requires { ⌜ n ≤ 127 ⌝ }
+fn names_of(edits: [Edit; EDITS], n: usize) -> [u16; EDITS]
+    requires { ⌜ n ≤ editLimit ⌝ }
     ensures { λ r. ⌜ take n r ≡ map nameOf (take n edits) ⌝ }
 {
-    let mut names = [0u16; 127];
+    let mut names = [0u16; EDITS];
     let mut i = 0;
     while i < n {
         let e = edits[i];
@@ -56,7 +57,7 @@ pub fn place_of(joined: Record, name: u16) -> usize
     ensures { λ r. ⌜ ((R : theory.Record) → joined ≡ stored R → Checked R → r ≡ at name (written R)) ⌝ }
 {
     let n = joined.editcount;
-    if 127 < n {
+    if EDITS < n {
         return 0;
     }
     let edits = joined.edits;

@@ -264,7 +264,7 @@ unfolding constraintRow
 constraint-back row h = ap constraintRow (sym (constraint-decoded row (sym h) refl)) ∙ sym (as-three row (constraint-in-range row h .wide))
 
 -- and what is decoded from the row of an edit or constraint, in range, is that
-field-again : (f : Field) → fieldOf (fieldNumber f) ≡ f
+pub field-again : (f : Field) → fieldOf (fieldNumber f) ≡ f
 field-again Id = refl
 field-again Size = refl
 field-again Erase = refl

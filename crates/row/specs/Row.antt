@@ -12,12 +12,43 @@ use Rattle.record.specs.declared.Edit.{Edit}
 use Rattle.record.specs.declared.Constraint.{Constraint}
 use Rattle.record.specs.Stored.{fillerEdit, fillerConstraint}
 
--- the cells of a row: of an edit name, kind, place, field, value; of a constraint left, rule, right
 abbrev pub Row : Type 0
 Row = List ℕ
 
 abbrev pub cell : Row → ℕ → ℕ
 cell row i = getD row i 0
+
+-- the cells of an edit's row
+abbrev pub editCells : ℕ
+editCells = 5
+
+abbrev pub nameCell : Row → ℕ
+nameCell row = cell row 0
+
+abbrev pub kindCell : Row → ℕ
+kindCell row = cell row 1
+
+abbrev pub placeCell : Row → ℕ
+placeCell row = cell row 2
+
+abbrev pub fieldCell : Row → ℕ
+fieldCell row = cell row 3
+
+abbrev pub valueCell : Row → ℕ
+valueCell row = cell row 4
+
+-- the cells of a constraint's row
+abbrev pub constraintCells : ℕ
+constraintCells = 3
+
+abbrev pub leftCell : Row → ℕ
+leftCell row = cell row 0
+
+abbrev pub ruleCell : Row → ℕ
+ruleCell row = cell row 1
+
+abbrev pub rightCell : Row → ℕ
+rightCell row = cell row 2
 
 -- two rows are equal
 unfoldable pub same : Row → Row → Bool
@@ -30,6 +61,10 @@ same (x ∷ a) (y ∷ b) = eqb x y && same a b
 unfoldable pub isName : ℕ → Bool
 isName n = leb 1 (n / 256) && (leb (n / 256) 8 && leb 1 (n % 256))
 
+-- names are below it
+abbrev pub nameLimit : ℕ
+nameLimit = 2304
+
 -- kind 0 insert, 1 set, 2 remove; the cells that a kind does not use are 0
 unfoldable pub bodyInRange : ℕ → ℕ → ℕ → Bool
 bodyInRange zero field value = eqb field 0 && eqb value 0
@@ -38,14 +73,14 @@ bodyInRange (suc (suc zero)) field value = eqb field 0 && eqb value 0
 bodyInRange (suc (suc (suc n))) field value = false
 
 unfoldable pub editInRange : Row → Bool
-editInRange row = eqb (length row) 5 && (isName (cell row 0) && (ltb (cell row 2) 64 && bodyInRange (cell row 1) (cell row 3) (cell row 4)))
+editInRange row = eqb (length row) editCells && (isName (nameCell row) && (ltb (placeCell row) 64 && bodyInRange (kindCell row) (fieldCell row) (valueCell row)))
 
 -- a side of a constraint: a name or 0
 unfoldable pub isSide : ℕ → Bool
 isSide n = eqb n 0 || isName n
 
 unfoldable pub constraintInRange : Row → Bool
-constraintInRange row = eqb (length row) 3 && (isSide (cell row 0) && (ltb (cell row 1) 3 && isSide (cell row 2)))
+constraintInRange row = eqb (length row) constraintCells && (isSide (leftCell row) && (ltb (ruleCell row) 3 && isSide (rightCell row)))
 
 -- the edit that a row in range is
 abbrev pub fieldOf : ℕ → Field
@@ -61,10 +96,10 @@ bodyOf (suc (suc n)) place field value = Remove place
 
 unfoldable pub editOf : Row → Edit
 editOf row =
-    cond (editInRange row) (record { name = cell row 0; body = bodyOf (cell row 1) (cell row 2) (cell row 3) (cell row 4) }) fillerEdit
+    cond (editInRange row) (record { name = nameCell row; body = bodyOf (kindCell row) (placeCell row) (fieldCell row) (valueCell row) }) fillerEdit
 
 unfoldable pub constraintOf : Row → Constraint
-constraintOf row = cond (constraintInRange row) (record { left = cell row 0; rule = cell row 1; right = cell row 2 }) fillerConstraint
+constraintOf row = cond (constraintInRange row) (record { left = leftCell row; rule = ruleCell row; right = rightCell row }) fillerConstraint
 
 -- the row of an edit, and of a constraint
 abbrev pub fieldNumber : Field → ℕ

@@ -8,7 +8,14 @@ ghost use mathlib.Core.Path.{_≡_};
 ghost use Prim.Native.Nat.{_<_, _≤_};
 ghost use lib.ListN.{length, take};
 ghost use Rattle.lists.specs.Keyed.{precedes};
-ghost use Rattle.row.specs.Row.{same, isName, bodyInRange, editInRange, isSide, constraintInRange, fieldOf, bodyOf, editOf, constraintOf, fieldNumber, editRow, constraintRow};
+ghost use Rattle.row.specs.Row.{same, isName, bodyInRange, editInRange, isSide, constraintInRange, fieldOf, bodyOf, editOf, constraintOf, fieldNumber, editRow, constraintRow, editCells, constraintCells};
+
+// The cells of a row, and a bound of names; specs/Row.antt has the same numbers.
+pub const EDIT_CELLS: usize = 5;
+
+pub const CONSTRAINT_CELLS: usize = 3;
+
+pub const NAMES: usize = 2304;
 
 // Bench 1 to 8, sequence 1 to 255.
 pub fn is_name(n: u32) -> bool
@@ -45,8 +52,8 @@ fn body_in_range(kind: u32, field: u32, value: u32) -> bool
 }
 
 // The length of the row is ensured for callers that copy it out of a slice.
-pub fn edit_in_range(row: [u32; 5]) -> bool
-    ensures { λ r. ⌜ (r ≡ editInRange row) × (length row ≡ 5) ⌝ }
+pub fn edit_in_range(row: [u32; EDIT_CELLS]) -> bool
+    ensures { λ r. ⌜ (r ≡ editInRange row) × (length row ≡ editCells) ⌝ }
 {
     let name = row[0];
     let kind = row[1];
@@ -84,7 +91,7 @@ fn body_of(kind: u32, place: u8, field: u32, value: u32) -> Body
 }
 
 // A row in range as an edit; of any other the filler.
-pub fn edit_of(row: [u32; 5]) -> Edit
+pub fn edit_of(row: [u32; EDIT_CELLS]) -> Edit
     ensures { λ r. ⌜ r ≡ editOf row ⌝ }
 {
     if !edit_in_range(row) {
@@ -113,7 +120,7 @@ fn field_number(f: Field) -> u32
     }
 }
 
-pub fn edit_row(e: Edit) -> [u32; 5]
+pub fn edit_row(e: Edit) -> [u32; EDIT_CELLS]
     ensures { λ r. ⌜ r ≡ editRow e ⌝ }
 {
     let name = e.name as u32;
@@ -134,8 +141,8 @@ fn is_side(n: u32) -> bool
     is_name(n)
 }
 
-pub fn constraint_in_range(row: [u32; 3]) -> bool
-    ensures { λ r. ⌜ (r ≡ constraintInRange row) × (length row ≡ 3) ⌝ }
+pub fn constraint_in_range(row: [u32; CONSTRAINT_CELLS]) -> bool
+    ensures { λ r. ⌜ (r ≡ constraintInRange row) × (length row ≡ constraintCells) ⌝ }
 {
     let left = row[0];
     let rule = row[1];
@@ -150,7 +157,7 @@ pub fn constraint_in_range(row: [u32; 3]) -> bool
 }
 
 // A row in range as a constraint; of any other the filler.
-pub fn constraint_of(row: [u32; 3]) -> Constraint
+pub fn constraint_of(row: [u32; CONSTRAINT_CELLS]) -> Constraint
     ensures { λ r. ⌜ r ≡ constraintOf row ⌝ }
 {
     if !constraint_in_range(row) {
@@ -167,7 +174,7 @@ pub fn constraint_of(row: [u32; 3]) -> Constraint
     }
 }
 
-pub fn constraint_row(c: Constraint) -> [u32; 3]
+pub fn constraint_row(c: Constraint) -> [u32; CONSTRAINT_CELLS]
     ensures { λ r. ⌜ r ≡ constraintRow c ⌝ }
 {
     let left = c.left as u32;

@@ -4,7 +4,7 @@ use mathlib.Core.Bool.{Bool, true, false, cond, not, _&&_}
 use mathlib.Core.List.{List, [], _∷_}
 use lib.Dec.{ltb, eqb}
 use lib.ListN.{length, getD, replicate}
-use Rattle.row.specs.Row.{Row, cell, editInRange}
+use Rattle.row.specs.Row.{Row, nameCell, kindCell, placeCell, fieldCell, editInRange}
 use Rattle.suggest.specs.declared.Advice.{Advice}
 use Rattle.suggest.specs.declared.Advice.the-variants.{Nothing, Notafter, NotafterEnables, Noncommuting}
 use Rattle.suggest.specs.declared.Suggested.{Suggested}
@@ -41,12 +41,12 @@ rowsOf Noncommuting a b = (min a b ∷ 2 ∷ max a b ∷ []) ∷ []
 
 -- case 0: B after A; 1: concurrent
 unfoldable pub adviceOf : ℕ → Row → Row → Advice
-adviceOf zero a b = afterTable (cell a 1) (cell b 1) (eqb (cell a 3) (cell b 3))
-adviceOf (suc n) a b = cond (concurrentTable (cell a 1) (cell b 1) (eqb (cell a 3) (cell b 3))) Noncommuting Nothing
+adviceOf zero a b = afterTable (kindCell a) (kindCell b) (eqb (fieldCell a) (fieldCell b))
+adviceOf (suc n) a b = cond (concurrentTable (kindCell a) (kindCell b) (eqb (fieldCell a) (fieldCell b))) Noncommuting Nothing
 
 -- two edits of one place and different names
 unfoldable pub advised : ℕ → Row → Row → Advice
-advised kind a b = cond (not (eqb (cell a 0) (cell b 0)) && eqb (cell a 2) (cell b 2)) (adviceOf kind a b) Nothing
+advised kind a b = cond (not (eqb (nameCell a) (nameCell b)) && eqb (placeCell a) (placeCell b)) (adviceOf kind a b) Nothing
 
 abbrev pub noRow : Row
 noRow = replicate 3 0
@@ -60,4 +60,4 @@ refused = record { number = 2; count = 0; first = noRow; second = noRow }
 
 unfoldable pub suggested : Row → Row → ℕ → Suggested
 suggested a b kind =
-    cond (editInRange a && (editInRange b && ltb kind 2)) (given (rowsOf (advised kind a b) (cell a 0) (cell b 0))) refused
+    cond (editInRange a && (editInRange b && ltb kind 2)) (given (rowsOf (advised kind a b) (nameCell a) (nameCell b))) refused

@@ -14,14 +14,10 @@ use Rattle.lists.proofs.Lists.{by}
 use Rattle.record.specs.declared.Edit.{Edit}
 use Rattle.lists.specs.Lists.{mem, all}
 use Rattle.lists.proofs.Logic.{all-has, has-getD}
+use Rattle.lists.proofs.Arrays.{getD-zeros}
 use Rattle.row.specs.Row.{Row, cell, editInRange, editRow}
 use Rattle.row.proofs.Cells.{edit-in-range, name-small}
 use Rattle.table.specs.Checked.{Marked}
-
-none-set : (m n : ℕ) → _≡_ {A = ℕ} (getD (replicate m 0) n 0) 0
-none-set zero n = refl
-none-set (suc m) zero = refl
-none-set (suc m) (suc n) = none-set m n
 
 pub marks-start : (m : ℕ) → 0 < m → Marked (set (replicate m 0) 0 1) []
 unfolding mem
@@ -32,7 +28,7 @@ marks-start m h n =
     rw (e, z, getD-set-same {A = ℕ} (replicate m 0) 0 1 0 (omega (arith, length-replicate {A = ℕ} m 0))))
     (λ (e : eqb n 0 ≡ false).
     let z : n ≢ 0 = eqb-false n 0 e in
-    rw (e, getD-set-other {A = ℕ} (replicate m 0) 0 n 1 0 z, none-set m n))
+    rw (e, getD-set-other {A = ℕ} (replicate m 0) 0 n 1 0 z, getD-zeros m n))
 
 mem-snoc : (n x : ℕ) (l : List ℕ) → mem n (l ++ (x ∷ [])) ≡ (mem n l || eqb n x)
 unfolding mem

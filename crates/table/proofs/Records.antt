@@ -11,12 +11,12 @@ use lib.ListN.{length, length-map}
 use Rattle.lists.proofs.Lists.{by, and-l, and-r, or-no-l, or-no-r}
 use Rattle.record.specs.declared.Edit.{Edit}
 use Rattle.record.specs.declared.Constraint.{Constraint}
-use Rattle.lists.specs.Lists.{any, all, mem, ascending, first, grown, closure}
+use Rattle.lists.specs.Lists.{any, all, mem, ascending, first, grown, closure, Has}
 use Rattle.record.specs.Record.{Record, written, names, nameOf, is, has, WellFormed}
 use Rattle.record.specs.Schedule.{needs, musts, ready, order, ring}
 use Rattle.record.specs.Judgement.{sound}
 use Rattle.lists.specs.Keyed.{Below, Ascending, united}
-use Rattle.lists.proofs.Logic.{Has, has-map, any-by, all-has, all-by}
+use Rattle.lists.proofs.Logic.{has-map, any-by, all-has, all-by}
 use Rattle.lists.proofs.Order.{less-one}
 use Rattle.lists.proofs.Union.{ascending-united, united-has, united-new, agree-self}
 use Rattle.row.specs.Row.{Row, cell, isName, editInRange, constraintInRange, editOf, constraintOf, editRow, constraintRow}

@@ -15,7 +15,7 @@ use Rattle.record.specs.Stored.{padded, recordOf, stored, emptyRecord, fillerEd
 use Rattle.lists.proofs.Logic.{all-by}
 use Rattle.row.specs.Row.{Row, editInRange, editRow}
 use Rattle.ground.specs.Ground.{Rows, tableFault, firstFault, _orelse_}
-use Rattle.ground.proofs.Grounds.{orelse-first, orelse-second}
+use Rattle.ground.proofs.Grounds.{orelse-first, orelse-second, orelse-zero}
 use Rattle.ground.proofs.Accepted.{accepted-range}
 use Rattle.table.specs.Table.{editKind, constraintKind, editRows, constraintRows, namesOf, emptyTables, joinFault, lentFault, addEditFault, addConstraintFault}
 use Rattle.table.specs.Checked.{Checked, Ordered, Marked}
@@ -76,10 +76,7 @@ module _ (r : declared.Record) (R : Record) (e : r ≡ stored R) where
   -- one row that is added
   pub add-edit : Checked R → (row : Row) {n : ℕ} → (Ordered r → n ≡ tableFault editKind (editRows (recordOf r)) (row ∷ [])) → n ≡ addEditFault R row
   unfolding joinFault firstFault
-  add-edit k row f = first-table k (row ∷ []) f ∙ alone (tableFault editKind (editRows R) (row ∷ []))
-    where
-      alone : (n : ℕ) → n ≡ (n orelse 0)
-      alone n = by (eqb n 0) (λ e. rw e (eqb-true n 0 e)) (λ e. rw e)
+  add-edit k row f = first-table k (row ∷ []) f ∙ sym (orelse-zero (tableFault editKind (editRows R) (row ∷ [])))
 
   pub add-constraint : (k : Checked R) (row : Row) (marks : List ℕ) → (all (λ e. editInRange (editRow e)) (recordOf r .edits) ≡ true → Marked marks (map nameOf (recordOf r .edits))) → {m : ℕ}
       → ((names : List ℕ) → Marked marks names → Ordered r → m ≡ tableFault (constraintKind names true) (constraintRows (recordOf r)) (row ∷ [])) → m ≡ addConstraintFault R row

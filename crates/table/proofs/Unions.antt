@@ -9,10 +9,10 @@ use lib.Dec.{eqb}
 use Rattle.lists.proofs.Lists.{by, clash}
 use Rattle.record.specs.declared.Edit.{Edit}
 use Rattle.record.specs.declared.Constraint.{Constraint}
-use Rattle.lists.specs.Lists.{mem}
+use Rattle.lists.specs.Lists.{mem, Has}
 use Rattle.record.specs.Record.{Record, written, nameOf, is, has, Extends}
 use Rattle.lists.specs.Keyed.{Ascending, united}
-use Rattle.lists.proofs.Logic.{Has, any-by, any-has}
+use Rattle.lists.proofs.Logic.{any-by, any-has}
 use Rattle.lists.proofs.Union.{united-old, united-key, united-part, united-alone}
 use Rattle.table.specs.Table.{unite, editKey, constraintKey, emptyTables}
 

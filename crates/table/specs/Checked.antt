@@ -8,15 +8,15 @@ use lib.ListN.{length, getD}
 use Rattle.record.specs.declared.Record as declared
 use Rattle.lists.specs.Lists.{mem, all}
 use Rattle.record.specs.Record.{Record, names}
-use Rattle.record.specs.Stored.{recordOf}
+use Rattle.record.specs.Stored.{recordOf, editLimit, constraintLimit}
 use Rattle.lists.specs.Keyed.{Ascending}
 use Rattle.row.specs.Row.{editInRange, constraintInRange, editRow, constraintRow}
 use Rattle.table.specs.Table.{editKey, constraintKey, pairNotAllowed}
 
 pub record Checked (R : Record) : Type 0 where
   -- at most 128 edits, INIT included, and 512 constraints
-  pub editplaces : length (R .edits) ≤ 127
-  pub constraintplaces : length (R .constraints) ≤ 512
+  pub editplaces : length (R .edits) ≤ editLimit
+  pub constraintplaces : length (R .constraints) ≤ constraintLimit
   -- ascending without repeats: edits by name, constraints by left, rule, right
   pub editorder : Ascending editKey (R .edits)
   pub constraintorder : Ascending constraintKey (R .constraints)
@@ -29,8 +29,8 @@ pub record Checked (R : Record) : Type 0 where
 
 -- the part of it that the walks need, of a record as it is stored
 pub record Ordered (r : declared.Record) : Type 0 where
-  pub editplaces : r .editcount ≤ 127
-  pub constraintplaces : r .constraintcount ≤ 512
+  pub editplaces : r .editcount ≤ editLimit
+  pub constraintplaces : r .constraintcount ≤ constraintLimit
   pub editorder : Ascending editKey (recordOf r .edits)
   pub constraintorder : Ascending constraintKey (recordOf r .constraints)
 

@@ -8,7 +8,8 @@ use Rattle.record.specs.declared.Constraint.{Constraint}
 use Rattle.lists.specs.Lists.{mem}
 use Rattle.record.specs.Record.{Record, written}
 use Rattle.lists.specs.Keyed.{united}
-use Rattle.row.specs.Row.{Row, cell, editInRange, constraintInRange, editOf, constraintOf, editRow, constraintRow}
+use Rattle.record.specs.Stored.{editLimit, constraintLimit}
+use Rattle.row.specs.Row.{Row, nameCell, leftCell, ruleCell, rightCell, editInRange, constraintInRange, editOf, constraintOf, editRow, constraintRow}
 use Rattle.ground.specs.Ground.{Rows, Kind, tableFault, _given_, _orelse_}
 
 -- the rows of a record's tables, and the record that two tables are
@@ -40,15 +41,15 @@ decision left rule right = (eqb rule 1 && eqb right 0) || (eqb rule 0 && eqb lef
 -- 5, 6 and 7 of a constraint row; names: the edits that it knows; adding: it is given to add
 unfoldable pub constraintFurther : List ℕ → Bool → Row → ℕ
 constraintFurther names adding row =
-    5 given unknown names (cell row 0) (cell row 2) orelse 6 given pairNotAllowed (cell row 0) (cell row 1) (cell row 2)
-    orelse 7 given (adding && decision (cell row 0) (cell row 1) (cell row 2))
+    5 given unknown names (leftCell row) (rightCell row) orelse 6 given pairNotAllowed (leftCell row) (ruleCell row) (rightCell row)
+    orelse 7 given (adding && decision (leftCell row) (ruleCell row) (rightCell row))
 
 -- the two kinds of table: an edit's key is its name, a constraint is all key, so that 4 never holds of it
 abbrev pub editKind : Kind
-editKind = record { key = 1; limit = 127; inRange = editInRange; further = λ row. 0 }
+editKind = record { key = 1; limit = editLimit; inRange = editInRange; further = λ row. 0 }
 
 abbrev pub constraintKind : List ℕ → Bool → Kind
-constraintKind names adding = record { key = 3; limit = 512; inRange = constraintInRange; further = constraintFurther names adding }
+constraintKind names adding = record { key = 3; limit = constraintLimit; inRange = constraintInRange; further = constraintFurther names adding }
 
 -- two tables join a record: edits first, then constraints
 unfoldable pub joinFault : Record → List ℕ → Bool → Rows → Rows → ℕ
@@ -57,7 +58,7 @@ joinFault R names adding edits constraints =
 
 -- the names of a table of edits
 abbrev pub namesOf : Rows → List ℕ
-namesOf edits = map (λ row. cell row 0) edits
+namesOf edits = map nameCell edits
 
 -- a lent record joins a record, or by itself the empty one; its constraints know only its own edits
 abbrev pub lentFault : Record → Rows → Rows → ℕ

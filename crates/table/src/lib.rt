@@ -1,7 +1,11 @@
 // Tables of edits and of constraints that join a record (document 01, "What is turned away"): their definitions and theorems, and the tests of one row
 // below the rows above it. The functions are pub for the crates of this workspace that walk tables or read rows one after the other; these hand a row
 // of the table, so the functions require it.
+use record::EDITS;
 use record::Edit;
+use row::CONSTRAINT_CELLS;
+use row::EDIT_CELLS;
+use row::NAMES;
 ghost use mathlib.Core.Path.{_≡_};
 ghost use mathlib.Core.Bool.{true, false, not};
 ghost use mathlib.Core.List.{List, [], map};
@@ -11,13 +15,14 @@ ghost use lib.ListN.{length, getD, take};
 ghost use Rattle.record.specs.Record.{nameOf};
 ghost use Rattle.lists.specs.Lists.{all};
 ghost use Rattle.lists.specs.Keyed.{Ascending};
+ghost use Rattle.record.specs.Stored.{editLimit};
 ghost use Rattle.row.specs.Row.{editInRange, editRow};
 ghost use Rattle.ground.specs.Ground.{known, misplaced};
 ghost use Rattle.table.specs.Table.{namesOf, pairNotAllowed, decision, constraintFurther};
 ghost use Rattle.table.specs.Checked.{Marked};
 
 // Whether row i is above the row before it. Pub for `refusal` and `reader`, which walk the rows.
-pub fn edit_follows(t: &[[u32; 5]], i: usize) -> bool
+pub fn edit_follows(t: &[[u32; EDIT_CELLS]], i: usize) -> bool
     requires { ⌜ i < length (now t) ⌝ }
     ensures { λ r. ⌜ (Ascending (take 1) (take i (now (t .entry))) → not r ≡ misplaced 1 (take i (now (t .entry))) (getD (now (t .entry)) i [])) ⌝ }
 {
@@ -28,7 +33,7 @@ pub fn edit_follows(t: &[[u32; 5]], i: usize) -> bool
 }
 
 // Whether the name of row i stands above it. Pub for `refusal` and `reader`, which walk the rows.
-pub fn edit_repeated(t: &[[u32; 5]], i: usize) -> bool
+pub fn edit_repeated(t: &[[u32; EDIT_CELLS]], i: usize) -> bool
     requires { ⌜ i < length (now t) ⌝ }
     ensures { λ r. ⌜ r ≡ known 1 (getD (now (t .entry)) i []) (take i (now (t .entry))) ⌝ }
 {
@@ -83,7 +88,7 @@ fn is_decision(left: u32, rule: u32, right: u32) -> bool
 }
 
 // The lowest of 5, 6 and 7 that holds of a row.
-pub fn constraint_further(row: [u32; 3], marks: &[u8], adding: bool) -> u32
+pub fn constraint_further(row: [u32; CONSTRAINT_CELLS], marks: &[u8], adding: bool) -> u32
     ensures { λ r. ⌜ ((names : List ℕ) → Marked (now (marks .entry)) names → r ≡ constraintFurther names adding row) ⌝ }
 {
     let left = row[0];
@@ -108,7 +113,7 @@ pub fn constraint_further(row: [u32; 3], marks: &[u8], adding: bool) -> u32
 }
 
 // Whether row i is above the row before it. Pub for `refusal` and `reader`, which walk the rows.
-pub fn constraint_follows(t: &[[u32; 3]], i: usize) -> bool
+pub fn constraint_follows(t: &[[u32; CONSTRAINT_CELLS]], i: usize) -> bool
     requires { ⌜ i < length (now t) ⌝ }
     ensures { λ r. ⌜ (Ascending (take 3) (take i (now (t .entry))) → not r ≡ misplaced 3 (take i (now (t .entry))) (getD (now (t .entry)) i [])) ⌝ }
 {
@@ -119,7 +124,7 @@ pub fn constraint_follows(t: &[[u32; 3]], i: usize) -> bool
 }
 
 // Whether row i stands above it already. Pub for `refusal` and `reader`, which walk the rows.
-pub fn constraint_repeated(t: &[[u32; 3]], i: usize) -> bool
+pub fn constraint_repeated(t: &[[u32; CONSTRAINT_CELLS]], i: usize) -> bool
     requires { ⌜ i < length (now t) ⌝ }
     ensures { λ r. ⌜ r ≡ known 3 (getD (now (t .entry)) i []) (take i (now (t .entry))) ⌝ }
 {
@@ -140,15 +145,15 @@ fn wide(n: u32) -> usize
 }
 
 // The marks of the names of a table of edits in range.
-pub fn mark_rows(t: &[[u32; 5]]) -> [u8; 2304]
+pub fn mark_rows(t: &[[u32; EDIT_CELLS]]) -> [u8; NAMES]
     ensures { λ r. ⌜ (all editInRange (now (t .entry)) ≡ true → Marked r (namesOf (now (t .entry)))) ⌝ }
 {
-    let mut marks = [0u8; 2304];
+    let mut marks = [0u8; NAMES];
     marks[0] = 1;
     let mut i = 0;
     while i < t.len() {
         let n = wide(t[i][0]);
-        let k = ground::slot(n, 2304, 2304);
+        let k = ground::slot(n, NAMES, NAMES);
         marks[k] = 1;
         i += 1;
     }
@@ -156,17 +161,17 @@ pub fn mark_rows(t: &[[u32; 5]]) -> [u8; 2304]
 }
 
 // The marks of the first n edits, in range. Pub for `refusal`, whose count is of the table's rows.
-pub fn mark_edits(a: [Edit; 127], n: usize) -> [u8; 2304]
-    requires { ⌜ n ≤ 127 ⌝ }
+pub fn mark_edits(a: [Edit; EDITS], n: usize) -> [u8; NAMES]
+    requires { ⌜ n ≤ editLimit ⌝ }
     ensures { λ r. ⌜ (all (λ e. editInRange (editRow e)) (take n a) ≡ true → Marked r (map nameOf (take n a))) ⌝ }
 {
-    let mut marks = [0u8; 2304];
+    let mut marks = [0u8; NAMES];
     marks[0] = 1;
     let mut i = 0;
     while i < n {
         let e = a[i];
         let name = e.name as usize;
-        let k = ground::slot(name, 2304, 2304);
+        let k = ground::slot(name, NAMES, NAMES);
         marks[k] = 1;
         i += 1;
     }

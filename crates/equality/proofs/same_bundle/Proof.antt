@@ -5,7 +5,8 @@ use lib.ListN.{length}
 use borrow.Author.Tests.{not-true, not-false}
 use borrow.Author.Needs.{needs}
 use Rattle.lists.proofs.Lists.{length-mapped}
-use Rattle.equality.proofs.Equal.{more-edits, more-constraints, edits-differ, constraints-decide, edits-within, constraints-within}
+use Rattle.record.proofs.Padded.{edits-within, constraints-within}
+use Rattle.equality.proofs.Equal.{more-edits, more-constraints, edits-differ, constraints-decide}
 use Rattle.equality.proofs.same_bundle.Statement.{statement}
 use Rattle.equality.proofs.same_bundle.Tie as tie
 

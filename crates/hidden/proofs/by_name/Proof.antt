@@ -28,14 +28,17 @@ returns c =
 loop-holds : tie.Need-loop-holds Inv-loop μ-loop
 loop-holds c = (search needs, search needs, search needs, λ R test h e. named-none test 2304)
 
-mul-place-of : tie.Need-mul-place-of Inv-loop μ-loop
-mul-place-of c = search needs
+mul-edit : tie.Need-mul-edit Inv-loop μ-loop
+mul-edit c = search needs
 
-element-copy-out-place-of : tie.Need-element-copy-out-place-of Inv-loop μ-loop
-element-copy-out-place-of c = search needs
+array-copy-out-edit : tie.Need-array-copy-out-edit Inv-loop μ-loop
+array-copy-out-edit c = search needs
 
-place-of-requires : tie.Need-place-of-requires Inv-loop μ-loop
-place-of-requires c κs = search needs
+cast-slot : tie.Need-cast-slot Inv-loop μ-loop
+cast-slot c = search needs
+
+slot-requires : tie.Need-slot-requires Inv-loop μ-loop
+slot-requires c κs = search needs
 
 add-i : tie.Need-add-i Inv-loop μ-loop
 add-i c = search needs
@@ -51,11 +54,11 @@ loop-less c = search needs
 
 loop-again : tie.Need-loop-again Inv-loop μ-loop
 loop-again c =
-    let l = c .before .before in (
+    let l = c .before .before .before .before in (
       search needs,
       search needs,
       search needs,
-      λ R test h e. named-next R _ _ test h _ (l .loop .marks) (l .loop .i) (c .place-of .result) e (c .before .loop-test .taken) (l .loop .inv .2) (c .place-of .ensures .1) (l .loop .inv .3 R test h e),
+      λ R test h e. named-next R _ _ test h _ (l .loop .marks) (l .loop .i) (c .slot .result) e (c .before .before .before .loop-test .taken) (l .loop .inv .2) (c .slot .ensures .1) (l .loop .inv .3 R test h e),
     )
 
 returns-2 : tie.Need-returns-2 Inv-loop μ-loop
@@ -74,9 +77,10 @@ by-name-spec =
     μ-loop
     returns
     loop-holds
-    mul-place-of
-    element-copy-out-place-of
-    place-of-requires
+    mul-edit
+    array-copy-out-edit
+    cast-slot
+    slot-requires
     add-i
     array-read-marks
     array-write-marks

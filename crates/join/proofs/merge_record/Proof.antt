@@ -3,7 +3,8 @@ use mathlib.Core.Path.{_≡_}
 use lib.ListN.{length}
 use native.Mathlib.Omega.{arith}
 use Rattle.lists.proofs.Lists.{length-mapped}
-use Rattle.join.proofs.Answers.{front, record-is, within-edits, within-constraints}
+use Rattle.record.proofs.Padded.{edits-within, constraints-within}
+use Rattle.join.proofs.Answers.{front, record-is}
 use borrow.Author.Needs.{needs}
 use Rattle.join.proofs.merge_record.Statement.{statement}
 use Rattle.join.proofs.merge_record.Tie as tie
@@ -12,13 +13,13 @@ returns : tie.Need-returns
 returns c = λ R S e k f.
     let s = c .before in
     let w : length (s .args .joining .edits) ≡ 127 = search (needs, length-mapped) in
-    absurd (omega (arith, within-edits S (s .args .joining) f w))
+    absurd (omega (arith, edits-within (s .args .joining) S f w))
 
 returns-2 : tie.Need-returns-2
 returns-2 c = λ R S e k f.
     let s = c .before .before in
     let w : length (s .args .joining .constraints) ≡ 512 = search (needs, length-mapped) in
-    absurd (omega (arith, within-constraints S (s .args .joining) f w))
+    absurd (omega (arith, constraints-within (s .args .joining) S f w))
 
 edit-rows-requires : tie.Need-edit-rows-requires
 edit-rows-requires c κs = search needs
