@@ -8,7 +8,7 @@ use lib.ListN.{length, getD, take, drop, length-append, length-drop}
 use lib.Seq.{getD-drop}
 use Rattle.lists.specs.Lists.{sift}
 use Rattle.lists.proofs.Lists.{by}
-use Rattle.vote.proofs.Front.{sift-passed, sift-left}
+use Rattle.lists.proofs.Front.{sift-passed, sift-left}
 use Rattle.asks.specs.Asks.{hides}
 
 module _ {A : Type 0} (f : A → Bool) (a : List A) (n : ℕ) where

@@ -9,12 +9,12 @@ use borrow.Author.Tests.{eq-eqb, ne-eqb}
 use lib.ListN.{length, getD, take, drop, length-take}
 use lib.Seq.{take-length}
 use Rattle.lists.specs.Lists.{sift}
+use Rattle.lists.proofs.Arrays.{getD-any}
 use Rattle.record.specs.declared.Edit.{Edit}
 use Rattle.pages.proofs.Turns.{take-least}
 use Rattle.catalogue.specs.declared.Entry.{Entry}
 use Rattle.catalogue.specs.Entries.{placeOf, absentEntry}
 use Rattle.catalogue.specs.Chips as chips
-use Rattle.catalogue.proofs.Entries.{getD-any}
 use Rattle.forms.specs.Printed.{Printed, textsFrom}
 use Rattle.forms.proofs.Printing.{printed-nothing, printed-both}
 use Rattle.answers.specs.Answers.{answerLine}

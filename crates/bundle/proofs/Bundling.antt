@@ -15,7 +15,7 @@ use Rattle.lists.specs.Lists.{mem, at, sift, _among_}
 use Rattle.record.specs.Record.{Record, names, written}
 use Rattle.record.specs.Stored.{stored, fillerEdit, fillerConstraint}
 use Rattle.lists.proofs.Lists.{mem-at}
-use Rattle.pages.proofs.Padded.{take-padded}
+use Rattle.record.proofs.Padded.{take-padded}
 use Rattle.links.specs.Marks.{marksOf, placeIn}
 use Rattle.links.proofs.Names.{getD-place, place-known}
 use Rattle.links.proofs.Marks.{marks-at}

@@ -23,16 +23,11 @@ use Rattle.links.specs.Marks.{nameAt, marksOf}
 use Rattle.links.proofs.Marks.{marks-on, on-marks}
 use Rattle.vote.specs.Bundle.{members, between, bundle, eligible}
 use Rattle.vote.proofs.Bundles.{bundle-extended, bundle-well-formed, sift-names}
-use Rattle.vote.proofs.Front.{all-more, all-broken}
+use Rattle.lists.proofs.Front.{all-more, all-broken, sift-length}
 use Rattle.bundle.specs.Bundles.{lentBundleFault, refusedBundle, bundleAnswer}
 use Rattle.indexes.specs.Fit.{Fit}
 use Rattle.join.specs.declared.Joined.{Joined}
 use Rattle.join.specs.Join.{outcome}
-
-sift-length : {A : Type 0} (p : A → Bool) (l : List A) → length (sift p l) ≤ length l
-unfolding sift
-sift-length p [] = omega arith
-sift-length p (x ∷ l) = by (p x) (λ e. rw e (omega (arith, sift-length p l))) (λ e. rw e (omega (arith, sift-length p l)))
 
 -- what is sifted out of ascending names ascends
 above : (x : ℕ) (l : List ℕ) → ((y : ℕ) → y among l → x < y) → ascending l ≡ true → ascending (x ∷ l) ≡ true

@@ -7,9 +7,9 @@ use native.Mathlib.Omega.{arith}
 use lib.ListN.{length, take, getD, set, replicate, length-append}
 use Rattle.lists.specs.Lists.{sift}
 use Rattle.record.specs.Stored.{padded}
-use Rattle.pages.proofs.Padded.{padded-more}
-use Rattle.vote.proofs.Front.{sift-passed, sift-left}
-use Rattle.indexes.proofs.Resolving.{getD-any}
+use Rattle.record.proofs.Padded.{padded-more}
+use Rattle.lists.proofs.Front.{sift-passed, sift-left}
+use Rattle.lists.proofs.Arrays.{getD-any}
 
 -- the first i elements are sifted
 pub record Sifting {A : Type 0} (size : ℕ) (filler : A) (p : A → Bool) (a : List A) (i : ℕ) (rows : List A) (count : ℕ) : Type 0 where

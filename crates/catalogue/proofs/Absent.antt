@@ -12,8 +12,8 @@ use Rattle.record.specs.declared.Body.{Body}
 use Rattle.record.specs.declared.Body.the-variants.{Insert, Set, Remove}
 use Rattle.record.specs.declared.Edit.{Edit}
 use Rattle.lists.proofs.Lists.{by}
+use Rattle.lists.proofs.Arrays.{getD-filled}
 use Rattle.pages.specs.Pages.{touched, runEdit, run, emptyCatalogue}
-use Rattle.pages.proofs.Padded.{getD-filled}
 use Rattle.catalogue.specs.declared.Entry.{Entry}
 use Rattle.catalogue.specs.Entries.{placeOf, absentEntry, runBody}
 use Rattle.catalogue.specs.Chips.{shelf}
@@ -58,4 +58,4 @@ module _ (n : ℕ) where
       → getD (run (shelf n) (emptyCatalogue (shelf n) places) edits) place (absentEntry n) .present ≡ false
       → getD (run (shelf n) (emptyCatalogue (shelf n) places) edits) place (absentEntry n) ≡ absentEntry n
   unfolding emptyCatalogue
-  absent-blank places place edits = blanks-run (emptyCatalogue (shelf n) places) edits (λ p e. getD-filled 0 (absentEntry n) places p) place
+  absent-blank places place edits = blanks-run (emptyCatalogue (shelf n) places) edits (λ p e. getD-filled (absentEntry n) places p) place

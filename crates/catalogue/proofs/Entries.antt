@@ -6,6 +6,7 @@ use Prim.Native.Nat.{ℕ, zero, suc, _<_, _≤_, suc-le-suc}
 use native.Mathlib.Omega.{arith}
 use lib.ListN.{length, getD, set, replicate, length-map, List·getD-eq-default}
 use lib.Seq.{set-out}
+use Rattle.lists.proofs.Arrays.{getD-any}
 use Rattle.record.specs.declared.Field.{Field}
 use Rattle.record.specs.declared.Field.the-variants.{Id, Size, Erase, Page}
 use Rattle.record.specs.declared.Body.{Body}
@@ -23,11 +24,6 @@ cell-within Id = omega arith
 cell-within Size = omega arith
 cell-within Erase = omega arith
 cell-within Page = omega arith
-
--- below the length the default is not read
-pub getD-any : {A : Type 0} (l : List A) (i : ℕ) (d e : A) → i < length l → getD l i d ≡ getD l i e
-getD-any (a ∷ l) zero d e h = refl
-getD-any (a ∷ l) (suc i) d e (suc-le-suc h) = getD-any l i d e h
 
 module _ (n : ℕ) (body : Body) (entry : Entry) where
   pub ran-insert : (place : ℕ) (made : Entry) → body ≡ Insert place → entry .present ≡ false → made ≡ absentEntry n

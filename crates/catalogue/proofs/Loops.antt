@@ -5,6 +5,7 @@ use Prim.Native.Nat.{ℕ, _+_, _-_, _<_, _≤_, min}
 use native.Mathlib.Omega.{arith}
 use lib.ListN.{length, getD, set, drop, length-set}
 use lib.Seq.{slice, set-out}
+use Rattle.lists.proofs.Arrays.{getD-any}
 use Rattle.record.specs.declared.Edit.{Edit}
 use Rattle.pages.specs.Pages.{View}
 use Rattle.pages.specs.Steps.{stepForward, stepBack, forward, back}
@@ -12,7 +13,7 @@ use Rattle.pages.proofs.Turns.{take-least, forward-more, back-more, forward-end
 use Rattle.catalogue.specs.declared.Entry.{Entry}
 use Rattle.catalogue.specs.Entries.{placeOf, absentEntry, runBody}
 use Rattle.catalogue.specs.Chips.{shelf}
-use Rattle.catalogue.proofs.Entries.{getD-any, touched-within, touched-past, ran-within, ran-past}
+use Rattle.catalogue.proofs.Entries.{touched-within, touched-past, ran-within, ran-past}
 
 -- a shelf of entries of n cells, with as many places and rows as there are
 pub record Sized (n places rows : ℕ) (view : View (shelf n)) : Type 0 where

@@ -15,7 +15,7 @@ use Rattle.record.specs.Stored.{padded, fillerEdit}
 use Rattle.pages.specs.Pages as pages
 use Rattle.pages.specs.Steps as steps
 use Rattle.pages.specs.Steps.{Agree}
-use Rattle.pages.proofs.Padded.{take-padded, slice-padded}
+use Rattle.record.proofs.Padded.{take-padded, slice-padded}
 use Rattle.pages.proofs.Turns.{pages-turn, pages-change}
 use Rattle.pages.proofs.Common.{common-left, common-right, common-found, common-take}
 use Rattle.catalogue.specs.declared.View.{View}

@@ -5,7 +5,7 @@ use mathlib.Core.List.{List, [], _∷_, map}
 use mathlib.Core.Option.{none}
 use Prim.Native.Nat.{ℕ, zero, suc, _+_, _-_, _≤_, _<_}
 use native.Mathlib.Omega.{arith}
-use lib.ListN.{length, getD}
+use lib.ListN.{length, getD, List·getD-map}
 use borrow.Author.Tests.{ne-eqb}
 use Rattle.record.specs.declared.Record as declared
 use Rattle.lists.specs.Lists.{mem}
@@ -58,18 +58,13 @@ module _ (f : ℕ → ℕ) where
   given-none [] z = refl
   given-none (x ∷ l) z = rw (z 0 (omega arith)) (given-none l (λ j i. z (suc j) (omega arith)))
 
-getD-map : {A B : Type 0} (f : A → B) (l : List A) (i : ℕ) (d : A) → getD (map f l) i (f d) ≡ f (getD l i d)
-getD-map f [] i d = refl
-getD-map f (x ∷ l) zero d = refl
-getD-map f (x ∷ l) (suc i) d = getD-map f l i d
-
 -- the proposal of the bench at place k, past the eighth an empty one
 module _ {A B : Type 0} (rows : A → Rows) (cells : B → Rows) (es : List A) (cs : List B) (k : ℕ) (a : A) (b : B) (ea : rows a ≡ []) (eb : cells b ≡ []) where
   pub edits-at : getD (map rows es) (k + 1 - 1) [] ≡ rows (getD es k a)
-  edits-at = let z : k + 1 - 1 ≡ k = omega arith in rw (z, ← ea) (getD-map rows es k a)
+  edits-at = let z : k + 1 - 1 ≡ k = omega arith in rw (z, ← ea) (List·getD-map rows es k a)
 
   constraints-at : getD (map cells cs) (k + 1 - 1) [] ≡ cells (getD cs k b)
-  constraints-at = let z : k + 1 - 1 ≡ k = omega arith in rw (z, ← eb) (getD-map cells cs k b)
+  constraints-at = let z : k + 1 - 1 ≡ k = omega arith in rw (z, ← eb) (List·getD-map cells cs k b)
 
   pub held-at : held (lentProposals (map rows es) (map cells cs)) (k + 1) ≡ decoded (rows (getD es k a)) (cells (getD cs k b))
   unfolding held

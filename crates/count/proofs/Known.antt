@@ -15,7 +15,7 @@ use Rattle.lists.proofs.Lists.{by, clash, and-l, and-r}
 use Rattle.row.specs.Row.{Row, cell, isName, editInRange, editOf, editRow}
 use Rattle.ground.specs.Ground.{Rows}
 use Rattle.table.specs.Table.{namesOf}
-use Rattle.vote.proofs.Front.{some-more, some-found}
+use Rattle.lists.proofs.Front.{some-more, some-found}
 use Rattle.count.specs.Count.{lentProposals}
 use Rattle.count.proofs.Benches.{edits-at}
 use Rattle.count.proofs.Proposals.{held-checked}

@@ -19,7 +19,7 @@ use Rattle.table.specs.Table.{decoded}
 use Rattle.table.specs.Checked.{Checked}
 use Rattle.table.proofs.Records.{lent-checked}
 use Rattle.vote.specs.declared.RollRow.{RollRow}
-use Rattle.vote.proofs.Front.{some-more, some-found, all-more, all-broken}
+use Rattle.lists.proofs.Front.{some-more, some-found, all-more, all-broken}
 use Rattle.roll.specs.Roll.{isBench}
 use Rattle.count.specs.Count.{lentProposals, Faultless}
 use Rattle.count.proofs.Benches.{bench-at, held-at, fault-at}

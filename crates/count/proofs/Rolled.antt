@@ -12,10 +12,10 @@ use Rattle.lists.specs.Lists.{all, distinct}
 use Rattle.record.specs.Stored.{padded}
 use Rattle.lists.proofs.Lists.{by, or-no-l, or-no-r}
 use Rattle.lists.proofs.Logic.{all-has, has-getD}
-use Rattle.pages.proofs.Padded.{getD-padded}
+use Rattle.record.proofs.Padded.{getD-padded}
 use Rattle.vote.specs.declared.RollRow.{RollRow}
 use Rattle.vote.specs.Tally.{Ballot, ballots, total}
-use Rattle.vote.proofs.Front.{take-more}
+use Rattle.lists.proofs.Front.{take-more}
 use Rattle.roll.specs.declared.Roll.{Roll}
 use Rattle.roll.specs.Roll.{benchOf, isBench, rollFaulty, fillerRow, rollOf}
 use Rattle.tally.specs.declared.Tally.{Tally}

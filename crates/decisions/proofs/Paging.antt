@@ -12,7 +12,7 @@ use lib.Seq.{length-take-le}
 use Rattle.record.specs.declared.Edit.{Edit}
 use Rattle.record.specs.declared.Constraint.{Constraint}
 use Rattle.record.specs.declared.Record as declared
-use Rattle.lists.specs.Lists.{mem, at, _among_}
+use Rattle.lists.specs.Lists.{mem, at, _among_, Has}
 use Rattle.record.specs.Record.{Record, names, written, nameOf, WellFormed}
 use Rattle.record.specs.Stored.{stored}
 use Rattle.record.specs.Schedule.{schedule}
@@ -21,7 +21,7 @@ use Rattle.lists.proofs.Lists.{by, is-by, clash, getD-mapped}
 use Rattle.record.proofs.Records.{written-names, right-written, not-init}
 use Rattle.record.proofs.Scheduled.{schedule-sound}
 use Rattle.lists.specs.Keyed.{Ascending, inserted, united}
-use Rattle.lists.proofs.Logic.{Has, has-getD}
+use Rattle.lists.proofs.Logic.{has-getD}
 use Rattle.table.specs.Table.{constraintKey}
 use Rattle.table.proofs.Tables.{held}
 use Rattle.links.specs.Marks.{nameAt, placeIn}

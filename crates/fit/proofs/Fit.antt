@@ -5,30 +5,23 @@ use mathlib.Core.Logic.{inl, inr}
 use mathlib.Core.List.{List, [], _∷_, map}
 use Prim.Native.Nat.{ℕ, _+_, _*_, _/_, _%_, _≤_, _<_}
 use native.Mathlib.Omega.{arith}
-use native.Mathlib.Nat.{div-lt-iff-lt-mul}
 use lib.Dec.{eqb, ltb, leb}
 use lib.ListN.{length, getD}
 use borrow.Author.Tests.{eqb-true, eqb-false, ltb-true, ltb-false, leb-true, not-true}
 use Rattle.record.specs.declared.Edit.{Edit}
 use Rattle.record.specs.declared.Constraint.{Constraint}
-use Rattle.lists.specs.Lists.{all, mem, _among_}
+use Rattle.lists.specs.Lists.{all, mem, _among_, Has}
 use Rattle.record.specs.Record.{Record, nameOf, written, names, has}
 use Rattle.lists.proofs.Lists.{by, clash, and-l, and-r, or-no-l, or-no-r, cons-by, is-by}
 use Rattle.record.proofs.Records.{all-has}
-use Rattle.lists.proofs.Logic.{Has}
 use Rattle.lists.proofs.Logic as logic
+use Rattle.row.proofs.Cells.{name-small}
 use Rattle.row.specs.Row.{cell, bodyCells, isName, isSide, editInRange, constraintInRange, editRow, constraintRow}
 use Rattle.table.specs.Table.{pairNotAllowed}
 use Rattle.table.specs.Checked.{Checked}
 use Rattle.table.proofs.Unions.{mem-by}
 use Rattle.table.proofs.Records.{checked-wellformed, checked-ascending}
 use Rattle.indexes.specs.Fit.{Fit}
-
-name-low : (n : ℕ) → isName n ≡ true → n < 2304
-unfolding isName
-name-low n h =
-    let q : n / 256 ≤ 8 = leb-true _ _ (and-l _ _ (and-r (leb 1 (n / 256)) _ h)) in
-    div-lt-iff-lt-mul {k = 256} {x = n} {y = 9} (omega arith) .0 (omega arith)
 
 edit-name : (e : Edit) → editInRange (editRow e) ≡ true → isName (e .name) ≡ true
 unfolding editInRange editRow
@@ -60,7 +53,7 @@ checked-fit R k = record {
   formed = checked-wellformed R k;
   ascends = checked-ascending R k;
   low = λ x i. cons-by x 0 (written R) i (λ e. omega arith)
-      (λ j. mem-by x (R .edits) j (λ e m q. rw q (name-low (e .name) (edit-name e (logic.all-has (λ e. editInRange (editRow e)) (R .edits) (k .editrange) e m)))));
+      (λ j. mem-by x (R .edits) j (λ e m q. rw q (name-small (e .name) (edit-name e (logic.all-has (λ e. editInRange (editRow e)) (R .edits) (k .editrange) e m)))));
   rules = λ a r b h. rule-low a r b (all-has (λ a r b. constraintInRange (a ∷ r ∷ b ∷ [])) (R .constraints) (k .constraintrange) a r b h);
   paired = λ a b h. pair-lower a b (not-true _ (all-has (λ a r b. not (pairNotAllowed a r b)) (R .constraints) (k .pairs) a 2 b h));
 }

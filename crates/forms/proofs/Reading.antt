@@ -11,6 +11,7 @@ use lib.ListN.{length, getD, take, drop, set, replicate, length-set, drop-of-len
 use lib.Seq.{drop-cons, take-all, take-suc, take-suc-set}
 use Rattle.lists.specs.Lists.{all}
 use Rattle.lists.proofs.Lists.{by, clash, and-l, and-r}
+use Rattle.lists.proofs.Arrays.{take-map}
 use Rattle.decimal.specs.Decimal.{saturated}
 use Rattle.decimal.proofs.RoundTrip.{saturated-test, saturated-same}
 use Rattle.form.specs.Form.{told}
@@ -74,13 +75,8 @@ saturated-ordered kind ns =
     (λ (e : all fitsWord ns ≡ true). rw (saturated-fit ns e))
     (λ (e : all fitsWord ns ≡ false). rw (saturated-all ns, e))
 
-take-map : (n : ℕ) (ns : List ℕ) → take n (map saturated ns) ≡ map saturated (take n ns)
-take-map zero ns = refl
-take-map (suc n) [] = refl
-take-map (suc n) (x ∷ ns) = ap (λ (l : List ℕ). saturated x ∷ l) (take-map n ns)
-
 told-cells : (ns : List ℕ) → take 8 (map saturated ns ++ replicate 8 0) ≡ map saturated (cellsOf ns)
-told-cells ns = sym (ap (take 8) (map-append saturated ns (replicate 8 0))) ∙ take-map 8 (ns ++ replicate 8 0)
+told-cells ns = sym (ap (take 8) (map-append saturated ns (replicate 8 0))) ∙ take-map saturated 8 (ns ++ replicate 8 0)
 
 -- a form that takes the bytes, and one that does not
 module _ (kind : ℕ) {t : Filled} {r : Order} where

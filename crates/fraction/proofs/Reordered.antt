@@ -9,7 +9,7 @@ use native.Mathlib.Nat.{mul-assoc, mul-comm, mul-div-cancel', dvd-antisymm}
 use borrow.Author.Tests.{ne-eqb, ltb-false}
 use lib.Dec.{eqb}
 use lib.ListN.{length}
-use Rattle.lists.proofs.Logic.{Has}
+use Rattle.lists.specs.Lists.{Has}
 use Rattle.fraction.specs.declared.Fraction.{Fraction}
 use Rattle.fraction.specs.Fraction.{Positive, Divided, LeastCommonDenominator, commonDenominator, numeratorOver, sumOf, zeroFraction, mean, lowestTerms, isBelow, isAbove, First, firstBy, leastFraction, greatestFraction}
 use Rattle.fraction.specs.Divisor.{gcd}

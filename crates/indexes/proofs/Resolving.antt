@@ -12,6 +12,7 @@ use Rattle.lists.specs.Lists.{any, at, _among_}
 use Rattle.record.specs.Record.{Record, names, is, has, WellFormed}
 use Rattle.record.specs.Stored.{fillerConstraint, stored}
 use Rattle.lists.proofs.Lists.{clash, or-by, mem-at, getD-mapped}
+use Rattle.lists.proofs.Arrays.{getD-any}
 use Rattle.record.proofs.Records as records
 use Rattle.links.specs.Marks.{nameAt, placeIn}
 use Rattle.links.specs.Links.{leftAt, withRow, Leads}
@@ -117,11 +118,6 @@ module _ (R : Record) (f : Fit R) (rows : List ℕ) (j : ℕ) (q : j ≡ length 
 
   pub resolving-end : Resolved R rows
   resolving-end = record { formed = f .formed; paired = f .paired; notafters = leads-rule 0; enablers = leads-rule 1; pairs = leads-rule 2 }
-
-pub getD-any : {A : Type 0} (l : List A) (i : ℕ) (d e : A) → i < length l → getD l i d ≡ getD l i e
-getD-any [] i d e h = absurd (omega arith)
-getD-any (x ∷ l) zero d e h = refl
-getD-any (x ∷ l) (suc i) d e h = getD-any l i d e (omega arith)
 
 -- one turn of the loop that links the constraints: the row's key and its left index as the table gives them
 module _ (r : declared.Record) (table rows : List ℕ) (j : ℕ) (d : Constraint) (key right left : ℕ) (R : Record) (q : r ≡ stored R) (f : Fit R)

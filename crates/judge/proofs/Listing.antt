@@ -15,6 +15,7 @@ use Rattle.record.specs.Record.{Record, nameOf, names, written}
 use Rattle.record.specs.Stored.{padded, fillerEdit, stored, editNamed}
 use Rattle.record.specs.Schedule.{scheduled, schedule}
 use Rattle.lists.proofs.Lists.{clash, and-l, and-r, getD-mapped}
+use Rattle.record.proofs.Padded.{padded-more}
 use Rattle.record.proofs.Order.{order-placed, order-starts}
 use Rattle.record.proofs.Judged.{init-must}
 use Rattle.record.proofs.Scheduled.{musts-scheduled}
@@ -26,13 +27,6 @@ use Rattle.schedules.proofs.Paging.{list-length, list-at}
 use Rattle.indexes.specs.Fit.{Fit}
 use Rattle.indexes.proofs.Tables.{length-names, names-few, edit-at, name-at}
 use Rattle.judge.specs.Judged.{pageEdits, scheduleOf}
-
--- one more element takes the place of the first filler
-pub padded-snoc : {A : Type 0} (n : ℕ) (filler : A) (l : List A) (x : A) → length l < n → set (padded n filler l) (length l) x ≡ padded n filler (l ++ (x ∷ []))
-unfolding padded
-padded-snoc n filler l x h =
-    let e : n - length l ≡ suc (n - length (l ++ (x ∷ []))) = omega (arith, length-append l (x ∷ [])) in
-    rw (e, set-append-seam l filler (replicate (n - length (l ++ (x ∷ []))) filler) x) (sym (append-assoc l (x ∷ []) (replicate (n - length (l ++ (x ∷ []))) filler)))
 
 pub edit-named : (l : List Edit) (i : ℕ) (d : Edit) → distinct (map nameOf l) ≡ true → i < length l → editNamed l (getD l i d .name) ≡ getD l i d
 unfolding editNamed distinct
@@ -115,7 +109,7 @@ module _ (R : Record) (f : Fit R) (r : declared.Record) (e : r ≡ stored R) (ro
       let more : map (editNamed (R .edits)) (take (q + 1 - 1) (drop 1 (schedule R hidden))) ≡ map (editNamed (R .edits)) (take (q - 1) (drop 1 (schedule R hidden))) ++ (getD (r .edits) (getD (row .indexes) q 0 - 1) d ∷ []) =
       ap (λ c. map (editNamed (R .edits)) (take c list)) n ∙ ap (map (editNamed (R .edits))) (take-suc list (q - 1) 0 h)
       ∙ map-append (editNamed (R .edits)) (take (q - 1) list) (getD list (q - 1) 0 ∷ []) ∙ ap (λ y. done ++ (y ∷ [])) last in
-      rw (k, more) (ap (λ c. set (padded 127 fillerEdit done) c x) (sym (taken-length q a (omega arith))) ∙ padded-snoc 127 fillerEdit done x (omega (arith, taken-length q a (omega arith))))
+      rw (k, more) (ap (λ c. set (padded 127 fillerEdit done) c x) (sym (taken-length q a (omega arith))) ∙ padded-more 127 fillerEdit done x (omega (arith, taken-length q a (omega arith))))
 
   pub listing-end : (edits : List Edit) (q : ℕ) → q - 1 ≡ row .count - 1 → Listing R (schedule R hidden) edits q
       → _≡_ {A = Schedule} (record { edits = edits; count = q - 1 }) (scheduleOf R hidden)

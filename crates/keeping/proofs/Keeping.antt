@@ -19,7 +19,7 @@ use Rattle.indexes.proofs.Tables.{edit-count, name-at}
 use Rattle.vote.specs.Bundle.{bundle, eligible}
 use Rattle.vote.specs.Tally.{sameBundle}
 use Rattle.lists.proofs.Logic.{has-getD, all-has}
-use Rattle.vote.proofs.Front.{all-more}
+use Rattle.lists.proofs.Front.{all-more}
 use Rattle.vote.proofs.Elections.{same-is}
 use Rattle.proposal.specs.Proposal.{keeps}
 

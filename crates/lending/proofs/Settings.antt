@@ -12,6 +12,7 @@ use Rattle.record.specs.declared.Record as declared
 use Rattle.record.specs.Record.{Record}
 use Rattle.record.specs.Stored.{stored, padded}
 use Rattle.lists.proofs.Lists.{is-by}
+use Rattle.lists.proofs.Arrays.{getD-zeros}
 use Rattle.row.specs.Row.{Row, editRow, constraintRow}
 use Rattle.ground.specs.Ground.{Rows, _given_, _orelse_}
 use Rattle.table.specs.Table.{editRows, constraintRows}
@@ -35,13 +36,8 @@ none-kept s edits constraints e c = record {
   rowfew = omega arith;
 }
   where
-    no-zeros : (n k : ℕ) → _≡_ {A = ℕ} (getD (replicate n 0) k 0) 0
-    no-zeros zero k = refl
-    no-zeros (suc n) zero = refl
-    no-zeros (suc n) (suc k) = no-zeros n k
-
     no-count : (k : ℕ) → _≡_ {A = ℕ} (getD (replicate 9 0) k 0) 0
-    no-count k = no-zeros 9 k
+    no-count k = getD-zeros 9 k
 
     zeros : {places : ℕ} (k : ℕ) → getD (replicate 9 0) k 0 ≤ places
     zeros k = rw (no-count k) (omega arith)

@@ -14,6 +14,7 @@ use Rattle.record.specs.Record.{Record, names}
 use Rattle.record.specs.Stored.{stored}
 use Rattle.record.specs.Judgement.{sound, soundRow}
 use Rattle.lists.proofs.Lists.{by, clash}
+use Rattle.lists.proofs.Arrays.{getD-zeros}
 use Rattle.ground.specs.Ground.{Rows, _given_, _orelse_}
 use Rattle.table.specs.Table.{emptyTables, decoded, lentFault}
 use Rattle.table.specs.Checked.{Checked}
@@ -62,11 +63,6 @@ module _ (es cs : Rows) (j : Joined) (e : j ≡ outcome (lentFault emptyTables e
       lent-unsound t = let u : sound (decoded es cs) ≡ false = sym is-sound ∙ t in (rw (none, u), λ q. absurd (omega arith))
 
 -- no mark is set
-zero-at : (n i : ℕ) → _≡_ {A = ℕ} (getD (replicate n 0) i 0) 0
-zero-at zero i = refl
-zero-at (suc n) zero = refl
-zero-at (suc n) (suc i) = zero-at n i
-
 sift-none : (p : ℕ → Bool) (l : List ℕ) → ((x : ℕ) → p x ≡ false) → sift p l ≡ []
 unfolding sift
 sift-none p [] f = refl
@@ -74,7 +70,7 @@ sift-none p (x ∷ l) f = rw (f x) (sift-none p l f)
 
 none-marked : (R : Record) → markedEdits R (replicate 128 0) ≡ []
 unfolding markedEdits
-none-marked R = sift-none (λ x. eqb (getD (replicate 128 0) (at x (names R)) 0) 1) (names R) (λ x. rw (zero-at 128 (at x (names R))))
+none-marked R = sift-none (λ x. eqb (getD (replicate 128 0) (at x (names R)) 0) 1) (names R) (λ x. rw (getD-zeros 128 (at x (names R))))
 
 -- the answers
 module _ (es cs : Rows) (n : ℕ) (h : n ≡ recordFault es cs) where

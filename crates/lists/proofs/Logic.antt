@@ -1,18 +1,13 @@
 -- Membership in a list of any type, and tests of some or every element. Assumes nothing.
 use mathlib.Core.Path.{_≡_, refl}
 use mathlib.Core.Bool.{Bool, true, false, _&&_, _||_}
-use mathlib.Core.Logic.{_⊎_, inl, inr}
+use mathlib.Core.Logic.{_⊎_, inl, inr, ⊎-elim}
 use mathlib.Core.List.{List, [], _∷_, _++_, map}
 use Prim.Native.Nat.{ℕ, zero, suc, _<_}
 use native.Mathlib.Omega.{arith}
 use lib.ListN.{length, getD}
-use Rattle.lists.specs.Lists.{any, all}
-use Rattle.lists.proofs.Lists.{by, clash, or-no-l, or-no-r, and-l, and-r}
-
--- membership: the library's List·Memᴰ as a type that computes
-abbrev pub Has : {A : Type 0} → A → List A → Type 0
-Has a [] = ⊥
-Has a (x ∷ l) = (a ≡ x) ⊎ Has a l
+use Rattle.lists.specs.Lists.{any, all, sift, Has}
+use Rattle.lists.proofs.Tests.{by, clash, or-no-l, or-no-r, and-l, and-r}
 
 pub has-getD : {A : Type 0} (l : List A) (i : ℕ) (d : A) → i < length l → Has (getD l i d) l
 has-getD [] i d h = absurd (omega arith)
@@ -29,6 +24,11 @@ pub has-mapped {ℓ} : {A B : Type 0} {P : Type ℓ} (f : A → B) (b : B) (l : 
 has-mapped f b [] h g = absurd h
 has-mapped f b (x ∷ l) (inl e) g = g x (inl refl) e
 has-mapped f b (x ∷ l) (inr h) g = has-mapped f b l h (λ a m e. g a (inr m) e)
+
+pub has-append-by {ℓ} : {A : Type 0} {P : Type ℓ} (x : A) (s t : List A) → Has x (s ++ t) → (Has x s → P) → (Has x t → P) → P
+has-append-by x [] t h f g = g h
+has-append-by x (y ∷ s) t (inl e) f g = f (inl e)
+has-append-by x (y ∷ s) t (inr h) f g = has-append-by x s t h (λ m. f (inr m)) g
 
 module _ {A : Type 0} (f : A → Bool) where
   pub any-append : (s t : List A) → any f (s ++ t) ≡ (any f s || any f t)
@@ -68,3 +68,18 @@ module _ {A : Type 0} (f : A → Bool) where
   unfolding all
   all-by [] h = refl
   all-by (x ∷ s) h = rw (h x (inl refl)) (all-by s (λ r m. h r (inr m)))
+
+  -- what is sifted
+  pub sift-from : (l : List A) (x : A) → Has x (sift f l) → Has x l × (f x ≡ true)
+  unfolding sift
+  sift-from [] x h = absurd h
+  sift-from (y ∷ l) x h =
+      by (f y)
+      (λ e. ⊎-elim (λ (q : x ≡ y). (inl q, rw q e)) (λ (q : Has x (sift f l)). let r = sift-from l x q in (inr (r .0), r .1)) (rw e at h))
+      (λ e. let r = sift-from l x (rw e at h) in (inr (r .0), r .1))
+
+  pub sift-into : (l : List A) (x : A) → Has x l → f x ≡ true → Has x (sift f l)
+  unfolding sift
+  sift-into [] x h e = absurd h
+  sift-into (y ∷ l) x (inl q) e = let g : f y ≡ true = rw q at e in rw g (inl q)
+  sift-into (y ∷ l) x (inr h) e = let r = sift-into l x h e in by (f y) (λ g. rw g (inr r)) (λ g. rw g r)

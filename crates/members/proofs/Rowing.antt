@@ -13,6 +13,7 @@ use Rattle.record.specs.Record.{Record, names, written, has, notafter, noncommu
 use Rattle.record.specs.declared.Record as declared
 use Rattle.record.specs.Stored.{stored, fillerConstraint}
 use Rattle.lists.proofs.Lists.{by, clash, and-l, and-r, mem-at, cons-by, nil-no, closure-holds, closure-least, closure-closed, closure-unique}
+use Rattle.lists.proofs.Arrays.{getD-any}
 use Rattle.record.proofs.Records.{written-names, not-init, right-written, pair-by}
 use Rattle.links.specs.Marks.{nameAt, placeIn, marksOf}
 use Rattle.links.specs.Links.{leftAt, withRow, Leads, RowOf}
@@ -24,7 +25,7 @@ use Rattle.vote.proofs.Bundles.{leads-notafter, leads-enables, leads-rival, lea
 use Rattle.members.specs.Rows.{rivalKey, enabledKey, forwardKey, backwardKey, leadsIn}
 use Rattle.indexes.specs.Fit.{Fit}
 use Rattle.indexes.proofs.Tables.{names-few, constraint-at}
-use Rattle.indexes.proofs.Resolving.{has-at, at-has, left-known, right-known, getD-any}
+use Rattle.indexes.proofs.Resolving.{has-at, at-has, left-known, right-known}
 
 abbrev pub indexIn : Record → ℕ → ℕ
 indexIn R x = placeIn (names R) x

@@ -9,7 +9,7 @@ use lib.Dec.{eqb}
 use Rattle.record.specs.Record.{Record}
 use Rattle.record.specs.Stored.{recordOf}
 use Rattle.lists.proofs.Lists.{by, clash}
-use Rattle.lists.proofs.Logic.{Has}
+use Rattle.lists.specs.Lists.{Has}
 use Rattle.table.proofs.Tables.{stored-back}
 use Rattle.vote.specs.declared.RollRow.{RollRow}
 use Rattle.vote.specs.Tally.{won, winner}

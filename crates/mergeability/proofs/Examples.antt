@@ -9,7 +9,7 @@ use lib.Dec.{eqb}
 use Rattle.record.specs.declared.Body.{Body}
 use Rattle.record.specs.declared.Body.the-variants.{Insert}
 use Rattle.record.specs.declared.Edit.{Edit}
-use Rattle.lists.specs.Lists.{any, all, sift, mem, first, grown, closure}
+use Rattle.lists.specs.Lists.{any, all, sift, mem, first, grown, closure, Has}
 use Rattle.record.specs.Record.{Record, names, written, is, has}
 use Rattle.record.specs.Sound.{Must, Never}
 use Rattle.record.specs.Schedule.{needs, musts, ready, order, ring}
@@ -18,7 +18,7 @@ use Rattle.lists.proofs.Lists.{by, clash, and-l, and-r}
 use Rattle.record.proofs.Records.{well-formed}
 use Rattle.record.proofs.Judged.{sound-is, must-is, never-is}
 use Rattle.lists.specs.Keyed.{precedes, inserted, united}
-use Rattle.lists.proofs.Logic.{Has, all-has}
+use Rattle.lists.proofs.Logic.{all-has}
 use Rattle.row.specs.Row.{same, editRow, constraintRow}
 use Rattle.table.specs.Table.{emptyTables, unite}
 use Rattle.vote.specs.declared.RollRow.{RollRow}

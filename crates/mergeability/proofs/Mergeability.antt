@@ -5,12 +5,11 @@ use mathlib.Core.Logic.{inl, inr}
 use mathlib.Core.List.{List, [], _∷_}
 use mathlib.Core.Option.{Option, none, some}
 use Prim.Native.Nat.{ℕ}
-use Rattle.lists.specs.Lists.{mem, _among_, first}
+use Rattle.lists.specs.Lists.{mem, _among_, first, Has}
 use Rattle.record.specs.Record.{Record, written, has, WellFormed}
 use Rattle.record.specs.Judgement.{sound, settled}
 use Rattle.lists.proofs.Lists.{by, clash}
 use Rattle.record.proofs.Judged.{sound-is, must-is, never-is}
-use Rattle.lists.proofs.Logic.{Has}
 use Rattle.table.specs.Table.{emptyTables}
 use Rattle.table.proofs.Records.{empty-checked, empty-sound, checked-wellformed}
 use Rattle.table.proofs.Unions.{mem-by, mem-has}

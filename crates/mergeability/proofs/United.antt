@@ -5,7 +5,7 @@ use mathlib.Core.List.{List, [], _∷_}
 use Prim.Native.Nat.{ℕ}
 use Rattle.record.specs.Record.{Record}
 use Rattle.lists.specs.Keyed.{Ascending, united}
-use Rattle.lists.proofs.Logic.{Has}
+use Rattle.lists.specs.Lists.{Has}
 use Rattle.lists.proofs.Order.{less-total}
 use Rattle.lists.proofs.Union.{Agree, united-has, united-old, united-new, ascending-united}
 use Rattle.table.specs.Table.{editKey, constraintKey, emptyTables, unite}

@@ -9,11 +9,11 @@ use native.Mathlib.Omega.{arith}
 use lib.Dec.{ltb}
 use borrow.Author.Tests.{ltb-true, ltb-false}
 use Rattle.record.specs.declared.Edit.{Edit}
-use Rattle.lists.specs.Lists.{mem, _among_}
+use Rattle.lists.specs.Lists.{mem, _among_, Has}
 use Rattle.record.specs.Record.{Record, written, has, WellFormed}
 use Rattle.record.specs.Judgement.{settled}
 use Rattle.lists.proofs.Lists.{by, clash, and-l, and-r, nil-no, all-in}
-use Rattle.lists.proofs.Logic.{Has}
+use Rattle.lists.proofs.Logic.{sift-from}
 use Rattle.table.specs.Table.{emptyTables}
 use Rattle.vote.specs.declared.RollRow.{RollRow}
 use Rattle.vote.specs.Bundle.{members, bundle, eligible, vote}
@@ -21,7 +21,6 @@ use Rattle.vote.specs.Tally.{ballots, total, weigh, votesFor, wins}
 use Rattle.vote.proofs.Bundles.{member-self, bundle-written, written-bundle, bundle-extended, bundle-well-formed, bundle-notafter, bundle-enables}
 use Rattle.vote.proofs.Elections.{same-is, winner-wins}
 use Rattle.proposal.specs.Proposal.{Keeps}
-use Rattle.proposal.proofs.Finished.{sift-from}
 use Rattle.proposal.proofs.Proposed.{keeps-trans}
 use Rattle.mergeability.specs.Mergeability.{Voter, KeptRow, HeldElection, wonBundle}
 use Rattle.mergeability.proofs.Prefixes.{Prefix}

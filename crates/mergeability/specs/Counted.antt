@@ -4,7 +4,7 @@ use mathlib.Core.List.{List, [], _∷_}
 use Prim.Native.Nat.{ℕ}
 use Rattle.record.specs.Record.{Record}
 use Rattle.record.specs.Stored.{recordOf}
-use Rattle.lists.proofs.Logic.{Has}
+use Rattle.lists.specs.Lists.{Has}
 use Rattle.vote.specs.declared.RollRow.{RollRow}
 use Rattle.election.specs.Election.{Proposals, held}
 use Rattle.count.specs.Count.{countOf}

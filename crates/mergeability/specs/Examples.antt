@@ -13,7 +13,6 @@ use Rattle.table.specs.Table.{emptyTables}
 use Rattle.vote.specs.declared.RollRow.{RollRow}
 use Rattle.vote.specs.declared.Election.{Election}
 use Rattle.vote.specs.Tally.{Ballot, ballots, total, group, counted}
-use Rattle.proposal.proofs.Joined.{con}
 use Rattle.mergeability.specs.Mergeability.{EachSound, EachOneBody, Sending, HeldElection, EachChosen, wonBy, wonIn, uniteAll, Mergeable}
 
 abbrev insert : ℕ → ℕ → Edit
@@ -24,7 +23,7 @@ row bench weight = record { bench = bench; weight = weight }
 
 -- 257 is required
 abbrev pub old : Record
-old = record { edits = insert 257 5 ∷ []; constraints = con 257 1 0 ∷ [] }
+old = record { edits = insert 257 5 ∷ []; constraints = record { left = 257; rule = 1; right = 0 } ∷ [] }
 
 -- besides, 258 is aborted; 257 comes before it and enables it
 abbrev pub new : Record

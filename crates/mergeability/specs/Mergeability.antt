@@ -7,11 +7,10 @@ use mathlib.Core.Option.{Option, none, some}
 use Prim.Native.Nat.{ℕ, _<_}
 use Rattle.record.specs.declared.Edit.{Edit}
 use Rattle.record.specs.declared.Constraint.{Constraint}
-use Rattle.lists.specs.Lists.{_among_}
+use Rattle.lists.specs.Lists.{_among_, Has}
 use Rattle.record.specs.Record.{Record, written, WellFormed}
 use Rattle.record.specs.Sound.{SoundRecord, Must, Never}
 use Rattle.lists.specs.Keyed.{Ascending}
-use Rattle.lists.proofs.Logic.{Has}
 use Rattle.table.specs.Table.{editKey, constraintKey, emptyTables, unite}
 use Rattle.vote.specs.declared.RollRow.{RollRow}
 use Rattle.vote.specs.Tally.{ballots, winner}

@@ -1,4 +1,3 @@
-pub mod Padded
 pub mod Pages
 pub mod Turns
 pub mod Common

@@ -8,7 +8,7 @@ use lib.Seq.{getD-set-same, set-set, set-getD}
 use Rattle.record.specs.Stored.{padded}
 use Rattle.pages.specs.Pages.{Kind, View, touched, runEdit, run, kept, emptyCatalogue, viewOf}
 use Rattle.pages.specs.Steps.{stepForward, stepBack}
-use Rattle.pages.proofs.Padded.{length-padded, padded-more, getD-padded, padded-past}
+use Rattle.record.proofs.Padded.{length-padded, padded-more, getD-padded, padded-past}
 
 module _ (K : Kind) where
   pub run-append : (c : List (K .Entry)) (xs ys : List (K .Edit)) → run K c (xs ++ ys) ≡ run K (run K c xs) ys

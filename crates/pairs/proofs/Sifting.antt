@@ -9,7 +9,7 @@ use native.Mathlib.Omega.{arith}
 use lib.ListN.{length, take, getD, set}
 use lib.Seq.{take-suc-set, take-set-le, take-all, length-take-le, getD-take}
 use Rattle.lists.specs.Lists.{sift}
-use Rattle.vote.proofs.Front.{sift-passed, sift-left}
+use Rattle.lists.proofs.Front.{sift-passed, sift-left}
 
 module _ {A : Type 0} (p : A → Bool) where
   -- one element more

@@ -10,11 +10,11 @@ use lib.ListN.{length, take, getD, set}
 use lib.Seq.{length-take-le}
 use Rattle.record.specs.declared.Constraint.{Constraint}
 use Rattle.record.specs.declared.Record as declared
-use Rattle.lists.specs.Lists.{_among_, sift, at}
+use Rattle.lists.specs.Lists.{_among_, sift, at, Has}
 use Rattle.record.specs.Record.{Record, names, notafter, WellFormed}
 use Rattle.record.specs.Stored.{stored}
 use Rattle.lists.proofs.Lists.{mem-at}
-use Rattle.lists.proofs.Logic.{Has, has-getD}
+use Rattle.lists.proofs.Logic.{has-getD}
 use Rattle.indexes.proofs.Resolving as resolving
 use Rattle.links.specs.Marks.{nameAt, placeIn}
 use Rattle.links.proofs.Names.{getD-place, place-known}

@@ -8,7 +8,7 @@ use native.Mathlib.Omega.{arith}
 use lib.Dec.{eqb, ltb}
 use borrow.Author.Tests.{eqb-true, eqb-false, eq-eqb, not-true, not-false, ltb-true, ltb-false}
 use Rattle.record.specs.declared.Constraint.{Constraint}
-use Rattle.lists.specs.Lists.{any, all, sift, mem, at, _among_, _within_}
+use Rattle.lists.specs.Lists.{any, all, sift, mem, at, _among_, _within_, Has}
 use Rattle.record.specs.Record.{Record, names, written, is, has, notafter, enables, noncommuting, WellFormed, Extends}
 use Rattle.record.specs.Sound.{Sound, Must, Never, Ordered, earlier, later, right-never, Serialised, Settled}
 use Rattle.record.specs.Schedule.{schedule}
@@ -20,8 +20,8 @@ use Rattle.record.proofs.Order.{sound-init}
 use Rattle.record.proofs.Judged.{sound-is, must-is, never-is, settled-is}
 use Rattle.record.proofs.Scheduled.{schedule-sound, musts-scheduled, schedule-members}
 use Rattle.lists.specs.Keyed.{Ascending}
-use Rattle.lists.proofs.Logic.{Has}
 use Rattle.lists.proofs.Union.{ascending-united}
+use Rattle.lists.proofs.Logic.{sift-from, sift-into}
 use Rattle.table.specs.Table.{constraintKey}
 use Rattle.proposal.specs.Proposal.{withConstraints, before, unordered, decisions, orders, finished, Paired}
 use Rattle.proposal.proofs.Joined.{con, has-in, in-has, has-append, has-with, written-with, extends-with, with-well-formed, with-part}
@@ -69,22 +69,6 @@ aborted row (y ∷ l) x i m =
     cons-by x y l i
     (λ e. let n : mem y row ≡ false = rw e at m in rw (n, e, eq-eqb y y refl))
     (λ j. or-r (is x 0 x (cond (mem y row) (con y 1 0) (before y y))) _ (aborted row l x j m))
-
--- sifted lists of any kind
-module _ {A : Type 0} (p : A → Bool) where
-  pub sift-from : (l : List A) (x : A) → Has x (sift p l) → Has x l × (p x ≡ true)
-  unfolding sift
-  sift-from [] x h = absurd h
-  sift-from (y ∷ l) x h =
-      by (p y)
-      (λ e. ⊎-elim (λ (q : x ≡ y). (inl q, rw q e)) (λ (q : Has x (sift p l)). let r = sift-from l x q in (inr (r .0), r .1)) (rw e at h))
-      (λ e. let r = sift-from l x (rw e at h) in (inr (r .0), r .1))
-
-  sift-into : (l : List A) (x : A) → Has x l → p x ≡ true → Has x (sift p l)
-  unfolding sift
-  sift-into [] x h e = absurd h
-  sift-into (y ∷ l) x (inl q) e = let f : p y ≡ true = rw q at e in rw f (inl q)
-  sift-into (y ∷ l) x (inr h) e = let r = sift-into l x h e in by (p y) (λ f. rw f (inr r)) (λ f. rw f r)
 
 -- the unordered pairs of a record
 abbrev Unordered : Record → Constraint → Type 0

@@ -9,12 +9,11 @@ use lib.Dec.{eqb}
 use borrow.Author.Tests.{eqb-true, eq-eqb}
 use Rattle.record.specs.declared.Edit.{Edit}
 use Rattle.record.specs.declared.Constraint.{Constraint}
-use Rattle.lists.specs.Lists.{any, all, mem, _among_}
+use Rattle.lists.specs.Lists.{any, all, mem, _among_, Has}
 use Rattle.record.specs.Record.{Record, nameOf, written, is, has, WellFormed, Extends}
 use Rattle.lists.proofs.Lists.{by, clash, or-by, or-l, or-r, same-by, mem-head, mem-tail, cons-by, nil-no}
 use Rattle.record.proofs.Records.{is-by, is-self, has-head, has-tail}
 use Rattle.lists.specs.Keyed.{precedes, Ascending, united}
-use Rattle.lists.proofs.Logic.{Has}
 use Rattle.lists.proofs.Order.{less-total}
 use Rattle.lists.proofs.Union.{Agree, agree-self, agree-sym, united-has, united-old, united-new, united-comm, united-part, ascending-united}
 use Rattle.table.specs.Table.{editKey, constraintKey, unite}

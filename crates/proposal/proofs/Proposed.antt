@@ -8,14 +8,14 @@ use Prim.Native.Nat.{ℕ, _<_}
 use native.Mathlib.Omega.{arith}
 use Rattle.record.specs.declared.Edit.{Edit}
 use Rattle.record.specs.declared.Constraint.{Constraint}
-use Rattle.lists.specs.Lists.{all, mem, _among_, _within_}
+use Rattle.lists.specs.Lists.{all, mem, _among_, _within_, Has}
 use Rattle.record.specs.Record.{Record, written, has, notafter, WellFormed, Extends}
 use Rattle.record.specs.Judgement.{sound, settled}
 use Rattle.lists.proofs.Lists.{by, clash, and-l, and-r, and-i, or-by, or-l, or-r, all-in, in-all}
 use Rattle.record.proofs.Records.{right-written}
 use Rattle.lists.specs.Keyed.{Ascending, united}
-use Rattle.lists.proofs.Logic.{Has}
 use Rattle.lists.proofs.Union.{ascending-united, agree-self}
+use Rattle.lists.proofs.Logic.{has-append-by}
 use Rattle.vote.specs.Bundle.{bundle, eligible}
 use Rattle.vote.specs.Tally.{sameBundle}
 use Rattle.vote.proofs.Bundles.{bundle-written, written-bundle, member-self}
@@ -37,11 +37,6 @@ first-by true false l r c (inr h) = absurd h
 first-by false true l r c (inl e) = inr e
 first-by false true l r c (inr h) = absurd h
 first-by false false l r c h = absurd h
-
-pub has-append-by {ℓ} : {A : Type 0} {P : Type ℓ} (x : A) (s t : List A) → Has x (s ++ t) → (Has x s → P) → (Has x t → P) → P
-has-append-by x [] t h f g = g h
-has-append-by x (y ∷ s) t (inl e) f g = f (inl e)
-has-append-by x (y ∷ s) t (inr h) f g = has-append-by x s t h (λ m. f (inr m)) g
 
 pub firsts-by {ℓ} : {P : Type ℓ} (Q : Record) (l : List Constraint) (c : Constraint) → Has c (firsts Q l)
     → ((d : Constraint) → Has d l → (c ≡ before (d .left) (d .right)) ⊎ (c ≡ before (d .right) (d .left)) → P) → P

@@ -9,13 +9,13 @@ use borrow.Author.Tests.{lt-ltb}
 use lib.Dec.{eqb}
 use lib.ListN.{length}
 use Rattle.record.specs.declared.Constraint.{Constraint}
-use Rattle.lists.specs.Lists.{mem, _among_}
+use Rattle.lists.specs.Lists.{mem, _among_, Has}
 use Rattle.record.specs.Record.{Record, names, written}
 use Rattle.record.specs.Schedule.{schedule}
 use Rattle.lists.proofs.Lists.{by}
 use Rattle.record.proofs.Records.{written-names, init-known, right-written, not-init}
 use Rattle.lists.specs.Keyed.{united}
-use Rattle.lists.proofs.Logic.{Has, all-has, all-by}
+use Rattle.lists.proofs.Logic.{all-has, all-by, has-append-by}
 use Rattle.lists.proofs.Union.{ascending-united, united-has}
 use Rattle.row.specs.Row.{isName, isSide, editInRange, constraintInRange, editRow, constraintRow}
 use Rattle.row.proofs.Cells.{edit-in-range}
@@ -27,7 +27,7 @@ use Rattle.fit.proofs.Fit.{checked-fit}
 use Rattle.proposal.specs.Proposal.{withConstraints, before, unordered, firsts, started, decisions, orders, finished}
 use Rattle.proposal.proofs.Joined.{in-has}
 use Rattle.proposal.proofs.Finished.{Decides, decisions-by, orders-by, unordered-from}
-use Rattle.proposal.proofs.Proposed.{has-append-by, firsts-by}
+use Rattle.proposal.proofs.Proposed.{firsts-by}
 
 -- a row that is added: an order of two edits, or a decision
 abbrev pub Added : Record → Constraint → Type 0

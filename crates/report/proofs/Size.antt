@@ -7,13 +7,13 @@ use Prim.Native.Nat.{ℕ, _+_, _*_, _≤_, _<_}
 use native.Mathlib.Omega.{arith}
 use lib.ListN.{length, length-append, length-map}
 use Rattle.record.specs.declared.Edit.{Edit}
-use Rattle.lists.specs.Lists.{mem}
+use Rattle.lists.specs.Lists.{mem, Has}
 use Rattle.record.specs.Record.{Record, nameOf, written}
 use Rattle.record.specs.Schedule.{schedule}
 use Rattle.record.specs.Judgement.{sound, must, never, settled}
 use Rattle.lists.proofs.Lists.{mem-at, by}
 use Rattle.record.proofs.Scheduled.{schedule-length}
-use Rattle.lists.proofs.Logic.{Has, has-mapped, all-has}
+use Rattle.lists.proofs.Logic.{has-mapped, all-has}
 use Rattle.row.specs.Row.{editInRange, editRow}
 use Rattle.table.specs.Checked.{Checked}
 use Rattle.table.proofs.Marks.{edit-small}

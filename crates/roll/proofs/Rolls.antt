@@ -11,9 +11,9 @@ use borrow.Author.Tests.{eqb-true, eqb-false, eq-eqb, ne-eqb, ltb-true, leb-true
 use Rattle.lists.specs.Lists.{any, all, mem, distinct}
 use Rattle.record.specs.Stored.{padded}
 use Rattle.lists.proofs.Lists.{by, clash, or-no-r}
-use Rattle.pages.proofs.Padded.{take-padded, padded-more}
+use Rattle.record.proofs.Padded.{take-padded, padded-more}
 use Rattle.vote.specs.declared.RollRow.{RollRow}
-use Rattle.vote.proofs.Front.{all-append}
+use Rattle.lists.proofs.Front.{all-append}
 use Rattle.roll.specs.declared.Roll.{Roll}
 use Rattle.roll.specs.Roll.{benchOf, isBench, rollFaulty, rowFaulty, fillerRow, faultyRoll, rollOf}
 

@@ -11,7 +11,7 @@ use lib.Seq.{getD-set-same, getD-set-other, take-suc, take-all, length-take-le}
 use borrow.Author.Tests.{eq-eqb, ne-eqb}
 use Rattle.lists.specs.Lists.{all, mem, at, distinct, _among_}
 use Rattle.record.specs.Record.{Record, names}
-use Rattle.lists.proofs.Lists.{by, clash, is-by, mem-append, at-append, mem-at, snoc-by, all-in, in-all, distinct-snoc}
+use Rattle.lists.proofs.Lists.{by, clash, is-by, mem-append, at-append, mem-at, snoc-by, all-in, in-all, distinct-snoc, at-snoc}
 use Rattle.record.proofs.Records.{init-known}
 use Rattle.links.specs.Marks.{nameAt, placeIn}
 use Rattle.links.proofs.Names.{getD-among, getD-place, place-getD, later-not, ascending-distinct, place-known, place-unknown}
@@ -45,13 +45,8 @@ module _ (R : Record) (table : List ℕ) (t : Indexed R table) (name : ℕ) wher
 
 -- seats
 pub seat-snoc : (l : List ℕ) (x y : ℕ) → mem x l ≡ false → seatIn (l ++ (x ∷ [])) y ≡ cond (eqb y x) (suc (length l)) (seatIn l y)
-unfolding seatIn mem at
-seat-snoc l x y n =
-    is-by y x
-    (λ e. rw (e, mem-append x l (x ∷ []), at-append x l (x ∷ []), n, eq-eqb x x refl) (omega arith))
-    (λ e. by (mem y l)
-    (λ m. rw (mem-append y l (x ∷ []), at-append y l (x ∷ []), m, ne-eqb y x e))
-    (λ m. rw (mem-append y l (x ∷ []), m, ne-eqb y x e)))
+unfolding seatIn
+seat-snoc l x y n = at-snoc suc l x y n
 
 pub seat-none : (l : List ℕ) (x : ℕ) → seatIn l x ≡ 0 → mem x l ≡ false
 unfolding seatIn

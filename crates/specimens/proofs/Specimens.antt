@@ -6,39 +6,32 @@ use mathlib.Core.List.{List, [], _∷_}
 use Prim.Native.Nat.{ℕ}
 use lib.Dec.{eqb}
 use borrow.Author.Tests.{eqb-true, not-true}
-use Rattle.lists.specs.Lists.{any, all, sift, mem, at, _among_, distinct, first, grown, closure}
+use Rattle.lists.specs.Lists.{any, all, sift, mem, at, _among_, distinct, first, grown, closure, Has}
 use Rattle.record.specs.Record.{Record, names, written, is, has, WellFormed}
 use Rattle.record.specs.Sound.{Sound, SoundRecord, Must, Never, Settled}
 use Rattle.record.specs.Schedule.{needs, musts, ready, order, ring, barred, admit, admits, scheduled, schedule}
 use Rattle.record.specs.Judgement.{fits, soundRow, sound, must, never, ordered, serialised, settled, wellFormed}
-use Rattle.row.specs.Row.{same as sameRow, editRow, constraintRow}
+use Rattle.row.specs.Row.{same, editRow, constraintRow}
 use Rattle.vote.specs.Bundle.{leads, members, between, bundle, eligible, vote}
 use Rattle.vote.specs.Tally.{sameEdit, sameConstraint, sameList, sameBundle, ballots, total, weigh, greatestOf, greatest, silent, won}
 use Rattle.turner.specs.Turn.{landed, turned, answerOf}
 use Rattle.lists.proofs.Lists.{by, clash, and-l, and-r, mem-sift, sift-mem}
+use Rattle.lists.proofs.Logic.{all-has}
+use Rattle.row.proofs.Compared.{same-eq}
 use Rattle.record.proofs.Records.{well-formed}
 use Rattle.record.proofs.Judged.{sound-is, must-is, never-is, settled-is, row-is}
 use Rattle.record.proofs.Scheduled.{schedule-sound}
-use Rattle.specimens.specs.Specimens.{Judged, Voted, Turned, Specimen, judged, voted, turn, recordOf, same, agrees, judgedHolds, ballotsOf, votedHolds, turnHolds, holds, Listed, JudgedFacts, Expected, VotedFacts, Facts, Each, table}
-
-same-equal : (s t : List ℕ) → same s t ≡ true → s ≡ t
-same-equal [] [] h = refl
-same-equal [] (y ∷ t) h = clash h refl
-same-equal (x ∷ s) [] h = clash h refl
-same-equal (x ∷ s) (y ∷ t) h = rw (eqb-true x y (and-l _ _ h), same-equal s t (and-r (eqb x y) _ h))
+use Rattle.specimens.specs.Specimens.{Judged, Voted, Turned, Specimen, judged, voted, turn, recordOf, agrees, judgedHolds, ballotsOf, votedHolds, turnHolds, holds, JudgedFacts, Expected, VotedFacts, Facts, Each, table}
 
 -- a test that is a meaning, sifted out of a list
 sifted : {P : Type 0} (p : ℕ → Bool) (l t : List ℕ) → same (sift p l) t ≡ true → (e : ℕ) → e among l → (p e ≡ true ↔ P) → P ↔ e among t
 sifted p l t h e i m = (
-  λ k. rw (← same-equal (sift p l) t h) (mem-sift p l e i (m .1 k)),
-  λ k. m .0 (sift-mem p l e (rw (same-equal (sift p l) t h) k) .1),
+  λ k. rw (← same-eq (sift p l) t h) (mem-sift p l e i (m .1 k)),
+  λ k. m .0 (sift-mem p l e (rw (same-eq (sift p l) t h) k) .1),
 )
 
-row-fails : (R : Record) (l : List (List ℕ)) → all (λ row. not (soundRow R row)) l ≡ true → (row : List ℕ) → Listed row l → Sound R row → ⊥
-unfolding all
-row-fails R [] h row i s = i
-row-fails R (x ∷ l) h row (inl e) s = clash (row-is R x .1 (rw e at s)) (not-true _ (and-l _ _ h))
-row-fails R (x ∷ l) h row (inr i) s = row-fails R l (and-r (not (soundRow R x)) _ h) row i s
+row-fails : (R : Record) (l : List (List ℕ)) → all (λ row. not (soundRow R row)) l ≡ true → (row : List ℕ) → Has row l → Sound R row → ⊥
+row-fails R l h row i s = clash (row-is R row .1 s) (not-true _ (all-has (λ r. not (soundRow R r)) l h row i))
 
 module _ (s : Judged) where
   facts : WellFormed (recordOf s)
@@ -53,7 +46,7 @@ module _ (s : Judged) where
       let h₂ = and-r (same (sift (never R) (written R)) (s .nevers)) _ h₁ in
       let h₃ = and-r (same (sift (must R) (written R)) (s .musts)) _ h₂ in
       let h₄ = and-r (same (sift (settled R) (written R)) (s .settleds)) _ h₃ in
-      let row-same = same-equal _ _ (and-l _ _ h₄) in
+      let row-same = same-eq _ _ (and-l _ _ h₄) in
       record {
         nevers = λ e i. sifted (never R) (written R) _ (and-l _ _ h₁) e i (never-is R w e);
         musts = λ e i. sifted (must R) (written R) _ (and-l _ _ h₂) e i (must-is R w so e);
@@ -107,7 +100,7 @@ all-facts [] h = tt
 all-facts (s ∷ l) h = (fact s (and-l _ _ h), all-facts l (and-r (holds s) _ h))
 
 computed : all holds table ≡ true
-unfolding judgedHolds votedHolds turnHolds table schedule scheduled admits admit barred sound must never settled serialised ordered soundRow fits wellFormed ring order ready musts needs names written is has closure grown first any all sift mem at distinct ballots vote eligible bundle between members leads sameBundle sameList sameEdit sameConstraint editRow constraintRow sameRow won greatest greatestOf silent weigh total turned landed
+unfolding judgedHolds votedHolds turnHolds table schedule scheduled admits admit barred sound must never settled serialised ordered soundRow fits wellFormed ring order ready musts needs names written is has closure grown first any all sift mem at distinct ballots vote eligible bundle between members leads sameBundle sameList sameEdit sameConstraint editRow constraintRow same won greatest greatestOf silent weigh total turned landed
 computed = refl
 
 pub specimens : Each table

@@ -1,7 +1,7 @@
 -- Document 01, "Specimens": P1 to P10 and the three-edit text, as one table; proofs/Specimens.antt turns its test into facts. Assumes nothing.
 use mathlib.Core.Path.{_≡_}
 use mathlib.Core.Bool.{Bool, true, false, not, _&&_, cond}
-use mathlib.Core.Logic.{_↔_, _⊎_}
+use mathlib.Core.Logic.{_↔_}
 use mathlib.Core.List.{List, [], _∷_, map}
 use Prim.Native.Nat.{ℕ}
 use lib.Dec.{eqb}
@@ -9,7 +9,8 @@ use lib.IntN.{ℤ, pos, negsuc}
 use Rattle.record.specs.declared.Body.the-variants.{Insert}
 use Rattle.record.specs.declared.Edit.{Edit}
 use Rattle.record.specs.declared.Constraint.{Constraint}
-use Rattle.lists.specs.Lists.{all, sift, mem, _among_}
+use Rattle.lists.specs.Lists.{all, sift, mem, _among_, Has}
+use Rattle.row.specs.Row.{same}
 use Rattle.record.specs.Record.{Record, written}
 use Rattle.record.specs.Sound.{Sound, SoundRecord, Must, Never, Settled}
 use Rattle.record.specs.Schedule.{schedule}
@@ -58,12 +59,6 @@ pub data Specimen : Type 0 where
 abbrev pub recordOf : Judged → Record
 recordOf s = record { edits = map (λ n. record { name = n; body = Insert 5 }) (s .names); constraints = s .constraints }
 
-abbrev pub same : List ℕ → List ℕ → Bool
-same [] [] = true
-same [] (y ∷ t) = false
-same (x ∷ s) [] = false
-same (x ∷ s) (y ∷ t) = eqb x y && same s t
-
 abbrev pub agrees : Bool → Bool → Bool
 agrees true b = b
 agrees false b = not b
@@ -102,10 +97,6 @@ holds (judged s) = judgedHolds s
 holds (voted s) = votedHolds s
 holds (turn s) = turnHolds s
 
-abbrev pub Listed : List ℕ → List (List ℕ) → Type 0
-Listed x [] = ⊥
-Listed x (y ∷ l) = (x ≡ y) ⊎ Listed x l
-
 -- the same as facts of the definitions, of the declarative ones where there are
 pub record JudgedFacts (s : Judged) : Type 0 where
   pub nevers : (e : ℕ) → e among written (recordOf s) → Never (recordOf s) e ↔ e among s .nevers
@@ -113,7 +104,7 @@ pub record JudgedFacts (s : Judged) : Type 0 where
   pub settleds : (e : ℕ) → e among written (recordOf s) → Settled (recordOf s) e ↔ e among s .settleds
   pub scheduled : schedule (recordOf s) (s .hidden) ≡ s .row
   pub stands : Sound (recordOf s) (s .row)
-  pub fails : (row : List ℕ) → Listed row (s .unsound) → Sound (recordOf s) row → ⊥
+  pub fails : (row : List ℕ) → Has row (s .unsound) → Sound (recordOf s) row → ⊥
 
 abbrev pub Expected : Judged → Bool → Type 0
 Expected s true = JudgedFacts s

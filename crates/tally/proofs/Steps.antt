@@ -15,7 +15,8 @@ use Rattle.lists.specs.Lists.{any}
 use Rattle.record.specs.Record.{Record}
 use Rattle.record.specs.Stored.{padded, stored, emptyRecord}
 use Rattle.lists.proofs.Lists.{by, clash, and-l, and-r, or-no-l, or-no-r, getD-mapped}
-use Rattle.pages.proofs.Padded.{length-padded, take-padded, padded-more, getD-padded, padded-past}
+use Rattle.lists.proofs.Arrays.{getD-any}
+use Rattle.record.proofs.Padded.{length-padded, take-padded, padded-more, getD-padded, padded-past}
 use Rattle.vote.specs.declared.Election.{Election}
 use Rattle.vote.specs.Tally.{Ballot, sameBundle, total, weigh, isSilent, votesFor, group, greatestOf, greatest, silent, won, counted}
 use Rattle.vote.proofs.Elections.{same-bundle, same-is}
@@ -98,13 +99,6 @@ module _ (l : List Ballot) (w : ℕ) (C : Record) where
       rw (b, lt-ltb (place C s) (length s) (place-known C s e)))
       (λ e. let b : bundles (more l w (some C)) ≡ s ++ (C ∷ []) = bundles-more l w (some C) ∙ rw e in
       rw (b, le-ltb (place C s) (length s) (omega (arith, place-unknown C s e)), length-append s (C ∷ [])))
-
--- the search for a bundle's group
--- below the length the default is not read
-pub getD-within : {A : Type 0} (s : List A) (i : ℕ) (d f : A) → i < length s → getD s i d ≡ getD s i f
-getD-within [] i d f h = absurd (omega arith)
-getD-within (x ∷ s) zero d f h = refl
-getD-within (x ∷ s) (suc i) d f h = getD-within s i d f (omega arith)
 
 abbrev pub none-yet : Record
 none-yet = record { edits = []; constraints = [] }
@@ -190,7 +184,7 @@ module _ (tally : Tally) (l : List Ballot) (w : ℕ) (e : tally ≡ tallyOf l) w
         rw (groups-are, getD-padded 8 fillerGroup m (place C s) d (omega arith), getD-mapped (groupIn l) s (place C s) none-yet d p, place-stands C s k))
         (λ k.
         let q : place C s < length (padded 8 fillerGroup m) = omega (arith, length-padded 8 fillerGroup m (omega (arith, bundles-length l)), bundles-length l, place-unknown C s k) in
-        rw (groups-are, getD-within (padded 8 fillerGroup m) (place C s) d fillerGroup q, padded-past 8 fillerGroup m (place C s) (omega (arith, place-unknown C s k)))
+        rw (groups-are, getD-any (padded 8 fillerGroup m) (place C s) d fillerGroup q, padded-past 8 fillerGroup m (place C s) (omega (arith, place-unknown C s k)))
         (sym (unknown-weightless l C k)))
 
     pub weight-within : (d : Group) (i m : ℕ) → i ≡ place C (bundles l) → total l ≤ m → getD (tally .groups) i d .weight ≤ m

@@ -13,13 +13,14 @@ use Rattle.lists.specs.Lists.{any}
 use Rattle.record.specs.Record.{Record}
 use Rattle.record.specs.Stored.{stored, emptyRecord}
 use Rattle.lists.proofs.Lists.{by, clash, le-by, getD-mapped}
+use Rattle.lists.proofs.Arrays.{getD-any}
 use Rattle.vote.specs.Tally.{Ballot, sameBundle, total, weigh, votesFor, group, greatestOf, greatest, wins, won, winner}
 use Rattle.vote.proofs.Elections.{same-is, one-winner, winner-wins, open-is}
 use Rattle.tally.specs.declared.Group.{Group}
 use Rattle.tally.specs.declared.Tally.{Tally}
 use Rattle.tally.specs.Groups.{bundles, groupIn, fillerGroup, tallyOf, place, WinningPlace, winnerStored}
 use Rattle.tally.proofs.Counts.{unknown-weightless}
-use Rattle.tally.proofs.Steps.{none-yet, getD-within, place-known, place-stands, total-is, count-is, groups-taken}
+use Rattle.tally.proofs.Steps.{none-yet, place-known, place-stands, total-is, count-is, groups-taken}
 
 -- a group with weight is no heavier than the greatest
 under-greatest {ℓ} : {P : Type ℓ} (B : Record) (k m : List Ballot) → (weigh (votesFor B) m ≡ 0 → P) → (weigh (votesFor B) k ≤ greatestOf k m → P) → P
@@ -92,7 +93,7 @@ module _ (groups : List Group) (n : ℕ) (whole : ℕ) (h : n ≤ length groups)
 
   pub winning-hit : (d : Group) (i : ℕ) (x : Bool) → i < n → x ≡ ltb whole (2 * getD groups i d .weight) → x ≡ true → WinningPlace (take n groups) whole i
   winning-hit d i x k q e = record {
-    wins = λ z. rw (getD-take n groups i fillerGroup k, getD-within groups i fillerGroup d (omega arith)) (sym q ∙ e);
+    wins = λ z. rw (getD-take n groups i fillerGroup k, getD-any groups i fillerGroup d (omega arith)) (sym q ∙ e);
     none = λ z. absurd (omega (arith, size));
   }
 
@@ -100,7 +101,7 @@ module _ (groups : List Group) (n : ℕ) (whole : ℕ) (h : n ≤ length groups)
       → x ≡ ltb whole (2 * getD groups i d .weight) → x ≡ false → (j : ℕ) → j < i + 1 → ltb whole (2 * getD groups j fillerGroup .weight) ≡ false
   winning-miss d i x k f q e j l =
       le-by i j
-      (λ z. let r : j ≡ i = omega arith in rw (r, getD-within groups i fillerGroup d (omega arith)) (sym q ∙ e))
+      (λ z. let r : j ≡ i = omega arith in rw (r, getD-any groups i fillerGroup d (omega arith)) (sym q ∙ e))
       (λ z. f j z)
 
   pub winning-end : (i : ℕ) → n ≤ i → ((j : ℕ) → j < i → ltb whole (2 * getD groups j fillerGroup .weight) ≡ false) → WinningPlace (take n groups) whole i

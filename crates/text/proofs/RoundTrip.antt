@@ -11,7 +11,8 @@ use lib.ListN.{length, length-append, length-map}
 use Rattle.lists.proofs.Lists.{by}
 use Rattle.record.specs.Record.{Record}
 use Rattle.record.specs.Judgement.{sound}
-use Rattle.lists.proofs.Logic.{Has, has-mapped, all-has, all-by}
+use Rattle.lists.specs.Lists.{Has}
+use Rattle.lists.proofs.Logic.{has-mapped, all-has, all-by}
 use Rattle.row.specs.Row.{Row, cell, editInRange, constraintInRange, editOf, constraintOf, editRow, constraintRow}
 use Rattle.row.proofs.Cells.{edit-back, constraint-back}
 use Rattle.ground.specs.Ground.{Rows, rowFault}

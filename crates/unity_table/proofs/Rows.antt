@@ -4,7 +4,7 @@ use mathlib.Core.List.{List, [], _∷_, _++_, map, map-append}
 use Prim.Native.Nat.{ℕ, _+_, _≤_, _<_}
 use lib.ListN.{length, take, getD}
 use lib.Seq.{take-all}
-use Rattle.vote.proofs.Front.{take-more}
+use Rattle.lists.proofs.Front.{take-more}
 use Rattle.unity_table.specs.declared.Weights.{Weights}
 use Rattle.unity_table.specs.declared.Summed.{Summed}
 use Rattle.unity_table.specs.Unity.{weightsOf}

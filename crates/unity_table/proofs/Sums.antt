@@ -11,7 +11,7 @@ use lib.Dec.{eqb, ltb, leb}
 use lib.ListN.{length, length-append, length-map}
 use Rattle.lists.specs.Lists.{sift}
 use Rattle.lists.proofs.Lists.{by, and-l, and-r, or-no-l, or-no-r}
-use Rattle.vote.proofs.Front.{sift-append}
+use Rattle.lists.proofs.Front.{sift-append, sift-length}
 use Rattle.fraction.specs.declared.Fraction.{Fraction}
 use Rattle.fraction.specs.Divisor.{gcd}
 use Rattle.fraction.specs.Fraction.{lowestTerms, Positive, commonDenominator, numeratorOver, sumOf, isBelow, leastFraction, greatestFraction}
@@ -32,11 +32,6 @@ count-more p l a =
     by (p a)
     (λ (e : p a ≡ true). rw (sift-append p l (a ∷ []), e, length-append (sift p l) (a ∷ [])))
     (λ (e : p a ≡ false). rw (sift-append p l (a ∷ []), e, append-nil (sift p l)) (omega arith))
-
-pub sift-length : (p : Weights → Bool) (l : List Weights) → length (sift p l) ≤ length l
-unfolding sift
-sift-length p [] = omega arith
-sift-length p (a ∷ l) = let h = sift-length p l in by (p a) (λ (e : p a ≡ true). rw e (omega arith)) (λ (e : p a ≡ false). rw e (omega arith))
 
 -- the shares of one answer more
 module _ (l : List Weights) (a : Weights) where

@@ -10,7 +10,7 @@ use lib.Dec.{eqb}
 use lib.ListN.{length, length-map}
 use Rattle.lists.specs.Lists.{all}
 use Rattle.lists.proofs.Lists.{by, and-l, and-r}
-use Rattle.vote.proofs.Front.{all-append}
+use Rattle.lists.proofs.Front.{all-append}
 use Rattle.line.specs.Lines.{lines}
 use Rattle.unity_table.specs.declared.Weights.{Weights}
 use Rattle.unity_table.specs.Unity.{electionLimit, weightsFault, Fault, isLast, decidingFault, refusedUnity, unityOf}

@@ -7,7 +7,7 @@ use Prim.Native.Nat.{ℕ, suc, _+_, _-_, _≤_, _<_}
 use native.Mathlib.Omega.{arith}
 use lib.ListN.{length, take, drop, length-map}
 use Rattle.lists.specs.Lists.{all}
-use Rattle.vote.proofs.Front.{all-append}
+use Rattle.lists.proofs.Front.{all-append}
 use Rattle.line.specs.Lines.{lines, firstLine}
 use Rattle.line.proofs.Ends.{NextLine, next-line, no-lines}
 use Rattle.unity_table.specs.declared.Summed.{Summed}

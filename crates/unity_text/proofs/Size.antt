@@ -10,6 +10,7 @@ use lib.Dec.{eqb, leb}
 use lib.ListN.{length, getD, length-append}
 use Rattle.lists.specs.Lists.{all}
 use Rattle.lists.proofs.Lists.{by}
+use Rattle.lists.proofs.Front.{sift-length}
 use Rattle.fraction.specs.declared.Fraction.{Fraction}
 use Rattle.fraction.specs.Divisor.{gcd}
 use Rattle.fraction.specs.Fraction.{lowestTerms, sumOf, mean}
@@ -25,7 +26,7 @@ use Rattle.unity_table.specs.declared.Weights.{Weights}
 use Rattle.unity_table.specs.Unity.{electionLimit, isEmpty, isWon, shares, outOfRange, tooWide, weightsFault, Fault, isLast, decidingFault, countBy, summary}
 use Rattle.unity_table.specs.Summed.{running}
 use Rattle.unity_table.proofs.Faults.{stays}
-use Rattle.unity_table.proofs.Sums.{sift-length, passed}
+use Rattle.unity_table.proofs.Sums.{passed}
 use Rattle.unity_table.proofs.Ends.{late, fault-stays, last-decides}
 use Rattle.unity_text.specs.Text.{unityForm, inForm, weightsIn, weightsLineFault, textUnity, unityNumbers, printedUnity}
 use Rattle.unity_text.proofs.Faults.{line-stays, line-good, formed-faults}

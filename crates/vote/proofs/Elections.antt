@@ -16,6 +16,7 @@ use Rattle.record.specs.declared.Edit.{Edit}
 use Rattle.record.specs.declared.Constraint.{Constraint}
 use Rattle.record.specs.Record.{Record}
 use Rattle.lists.proofs.Lists.{by, clash, and-l, and-r, and-i, le-by}
+use Rattle.row.proofs.Cells.{field-again}
 use Rattle.row.specs.Row.{fieldOf, fieldNumber, bodyCells, editRow, constraintRow}
 use Rattle.row.proofs.Compared.{same-eq, same-refl}
 use Rattle.vote.specs.declared.RollRow.{RollRow}
@@ -43,13 +44,7 @@ use Rattle.vote.specs.Tally.{
 
 -- Votes are equal just where the test says so.
 field-number : (f g : Field) → fieldNumber f ≡ fieldNumber g → f ≡ g
-field-number f g e = sym (field-of f) ∙ (ap fieldOf e ∙ field-of g)
-  where
-    field-of : (f : Field) → fieldOf (fieldNumber f) ≡ f
-    field-of Id = refl
-    field-of Size = refl
-    field-of Erase = refl
-    field-of Page = refl
+field-number f g e = sym (field-again f) ∙ (ap fieldOf e ∙ field-again g)
 
 body-cells : (a b : Body) → bodyCells a ≡ bodyCells b → a ≡ b
 body-cells (Insert p) (Insert q) e = let h : p ≡ q = cc in ap (λ x. Insert x) h

@@ -1,3 +1,2 @@
 pub mod Bundles
 pub mod Elections
-pub mod Front

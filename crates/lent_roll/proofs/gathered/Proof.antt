@@ -50,7 +50,7 @@ use denote.Exit.{yes}
 use Rattle.vote.specs.declared.RollRow.{RollRow}
 use Rattle.roll.specs.declared.Roll.{Roll}
 use Rattle.roll.specs.Roll.{fillerRow, rollOf}
-use Rattle.vote.proofs.Front.{take-more}
+use Rattle.lists.proofs.Front.{take-more}
 use Rattle.lent_roll.proofs.After.{after}
 use Rattle.vote.proofs.RollRow as T
 use Rattle.vote.proofs.RollRow.Laws as T′

@@ -8,7 +8,7 @@ use lib.ListN.{length, take}
 use borrow.Author.Tests.{eq-eqb, ne-eqb}
 use borrow.Author.Needs.{needs}
 use Rattle.lists.specs.Lists.{any}
-use Rattle.vote.proofs.Front.{some-more, some-found}
+use Rattle.lists.proofs.Front.{some-more, some-found}
 use Rattle.roll.proofs.Rolls.{bench-some}
 use Rattle.roll.proofs.has_bench.Statement.{statement}
 use Rattle.roll.proofs.has_bench.Tie as tie

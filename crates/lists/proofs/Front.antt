@@ -1,15 +1,15 @@
 -- The first elements of an array, one after the other: tests of some or every element, and what is sifted. Assumes nothing.
-use mathlib.Core.Path.{_≡_, refl, sym, ap, _∙_}
-use mathlib.Core.Bool.{Bool, true, false, _&&_, _||_, cond, or-false, or-true}
-use mathlib.Core.List.{List, [], _∷_, _++_, map, append-nil}
-use Prim.Native.Nat.{ℕ, zero, suc, _+_, _≤_, _<_}
+use mathlib.Core.Path.{_≡_, refl, ap}
+use mathlib.Core.Bool.{Bool, true, false, _&&_}
+use mathlib.Core.List.{List, [], _∷_, _++_, append-nil}
+use Prim.Native.Nat.{ℕ, _+_, _≤_, _<_}
 use native.Mathlib.Omega.{arith}
 use native.Mathlib.Numerals.{add-one}
-use lib.ListN.{length, take, getD, length-map}
+use lib.ListN.{length, take, getD}
 use lib.Seq.{take-suc, length-take-le, getD-take}
 use Rattle.lists.specs.Lists.{any, all, sift}
-use Rattle.lists.proofs.Lists.{by, clash}
+use Rattle.lists.proofs.Tests.{by, clash}
 use Rattle.lists.proofs.Logic.{any-append, any-has, all-has, has-getD}
 
 pub take-more : {A : Type 0} (a : List A) (i : ℕ) (d : A) → i < length a → take (i + 1) a ≡ take i a ++ (getD a i d ∷ [])
 take-more a i d h = rw (add-one i) (take-suc a i d h)
@@ -24,6 +24,11 @@ module _ {A : Type 0} (f : A → Bool) where
   unfolding sift
   sift-append [] t = refl
   sift-append (x ∷ s) t = by (f x) (λ e. rw e (ap (λ r. x ∷ r) (sift-append s t))) (λ e. rw e (sift-append s t))
+
+  pub sift-length : (l : List A) → length (sift f l) ≤ length l
+  unfolding sift
+  sift-length [] = omega arith
+  sift-length (x ∷ l) = let h = sift-length l in by (f x) (λ e. rw e (omega arith)) (λ e. rw e (omega arith))
 
   module _ (a : List A) (i : ℕ) (d : A) (h : i < length a) where
     pub some-more : any f (take i a) ≡ false → f (getD a i d) ≡ false → any f (take (i + 1) a) ≡ false
