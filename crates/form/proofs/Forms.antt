@@ -12,7 +12,7 @@ use lib.Dec.{eqb}
 use lib.ListN.{length, getD, drop, length-append}
 use lib.Seq.{drop-append-seam, getD-drop}
 use Rattle.lists.specs.Lists.{mem, all}
-use Rattle.lists.proofs.Lists.{by, clash, and-l, and-r, mem-append, or-no-l, or-no-r}
+use Rattle.lists.proofs.Lists.{by, clash, and-l, and-r, mem-append, none-some, or-no-l, or-no-r}
 use Rattle.form.specs.Spelling.{nameSpelling, numberSpelling}
 use Rattle.form.specs.Form.{isMark, spelling, fill, more, starts, taken}
 use Rattle.form.proofs.Lawful.{stopped, lawful}
@@ -157,9 +157,6 @@ taken-fill (c ∷ f) ns p k l =
 more-some : {P : Type 0} (n : ℕ) (o : Option (List ℕ)) (ns : List ℕ) → more n o ≡ some ns → ((ms : List ℕ) → o ≡ some ms → ns ≡ n ∷ ms → P) → P
 more-some n none ns e k = let z : _≡_ {A = ℕ} 0 1 = cc in absurd (omega arith)
 more-some n (some ms) ns e k = k ms refl (cc)
-
-pub none-some : {P : Type 0} {o : Option (List ℕ)} {ns : List ℕ} → o ≡ none → o ≡ some ns → P
-none-some p q = let z : _≡_ {A = ℕ} 0 1 = cc in absurd (omega arith)
 
 first-byte : (c : ℕ) (s : List ℕ) → starts c s ≡ true → s ≡ c ∷ drop 1 s
 first-byte c [] h = clash h refl
