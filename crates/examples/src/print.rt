@@ -2,24 +2,24 @@
 use lent::Judgement;
 use libc::STDOUT_FILENO;
 
-pub fn text(bytes: &[u8]) {
+fn text(bytes: &[u8]) {
     io::write_all(STDOUT_FILENO, bytes);
 }
 
-pub fn number(label: &[u8], n: u64) {
+fn number(label: &[u8], n: u64) {
     io::write_all(STDOUT_FILENO, label);
     io::print_decimal(STDOUT_FILENO, n);
 }
 
-pub fn wide(n: u32) -> u64 {
+fn wide(n: u32) -> u64 {
     n as u64
 }
 
-pub fn mark(n: u8) -> u64 {
+fn mark(n: u8) -> u64 {
     n as u64
 }
 
-pub fn bit(b: bool) -> u64 {
+fn bit(b: bool) -> u64 {
     if b { 1 } else { 0 }
 }
 

@@ -1,7 +1,7 @@
 -- The round trip of lines: a row's line is read back as that row, a line that is read as a row is that row's line, and a row's line is one line
 -- of at most 101 bytes. Assumes nothing.
 use Prim.Native.Nat.{ℕ, zero, suc, _+_, _≤_, _<_}
-use mathlib.Core.Path.{_≡_, refl, ap, sym, _∙_}
+use mathlib.Core.Path.{_≡_, refl, sym, _∙_}
 use mathlib.Core.Bool.{Bool, true, false, cond, _&&_, _||_}
 use mathlib.Core.List.{List, [], _∷_, _++_}
 use mathlib.Core.Option.{Option, none, some}
@@ -362,12 +362,6 @@ line-back s =
     (λ (e : ltb 101 (length s) ≡ true). rw e (λ z. one-not-zero z))
     (λ (e : ltb 101 (length s) ≡ false). rw e (by-back shapes s each))
 
-pub line-edit : (s row : List ℕ) → lineRead s ≡ editSaid row → (s ≡ editLine row) × (isEditRow row ≡ true)
-line-edit s row e = let b = line-back s (ap (λ (l : Line). l .number) e) in (b .0 ∙ ap lineText e, sym (ap rowInForm e) ∙ b .1)
-
-pub line-constraint : (s row : List ℕ) → lineRead s ≡ constraintSaid row → (s ≡ constraintLine row) × (isConstraintRow row ≡ true)
-line-constraint s row e = let b = line-back s (ap (λ (l : Line). l .number) e) in (b .0 ∙ ap lineText e, sym (ap rowInForm e) ∙ b .1)
-
 said-saying : (h : Shape) → Says h → (o : Option (List ℕ)) → Saying (said h o)
 said-saying h w none = fault-one refl
 said-saying h w (some ns) =
@@ -387,16 +381,3 @@ line-saying s =
     by (ltb 101 (length s))
     (λ (e : ltb 101 (length s) ≡ true). rw e (fault-one refl))
     (λ (e : ltb 101 (length s) ≡ false). rw e (by-saying shapes s each))
-
--- a line's parts tell which
-pub edit-saying : (l : Line) → Saying l → l .number ≡ 0 → l .isedit ≡ true → l ≡ editSaid (l .edit)
-edit-saying l (fault-one e) n h = one-not-zero (sym (ap (λ (x : Line). x .number) e) ∙ n)
-edit-saying l (fault-two e) n h = let z : _≡_ {A = ℕ} 2 0 = sym (ap (λ (x : Line). x .number) e) ∙ n in absurd (omega arith)
-edit-saying l (an-edit row e) n h = e ∙ ap editSaid (sym (ap (λ (x : Line). x .edit) e))
-edit-saying l (a-constraint row e) n h = clash h (ap (λ (x : Line). x .isedit) e)
-
-pub constraint-saying : (l : Line) → Saying l → l .number ≡ 0 → l .isedit ≡ false → l ≡ constraintSaid (l .constraint)
-constraint-saying l (fault-one e) n h = one-not-zero (sym (ap (λ (x : Line). x .number) e) ∙ n)
-constraint-saying l (fault-two e) n h = let z : _≡_ {A = ℕ} 2 0 = sym (ap (λ (x : Line). x .number) e) ∙ n in absurd (omega arith)
-constraint-saying l (an-edit row e) n h = clash (ap (λ (x : Line). x .isedit) e) h
-constraint-saying l (a-constraint row e) n h = e ∙ ap constraintSaid (sym (ap (λ (x : Line). x .constraint) e))

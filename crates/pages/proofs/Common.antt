@@ -21,14 +21,6 @@ common-right [] t = omega arith
 common-right (x ∷ s) [] = omega arith
 common-right (x ∷ s) (y ∷ t) = by (eqb x y) (λ e. rw e (omega (arith, common-right s t))) (λ e. rw e (omega arith))
 
-pub common-at : (s t : List ℕ) (q : ℕ) → q < commonBeginning s t → getD s q 0 ≡ getD t q 0
-unfolding commonBeginning
-common-at [] t q h = absurd (omega arith)
-common-at (x ∷ s) [] q h = absurd (omega arith)
-common-at (x ∷ s) (y ∷ t) zero h = by (eqb x y) (λ e. eqb-true x y e) (λ e. absurd (omega (arith, rw e at h)))
-common-at (x ∷ s) (y ∷ t) (suc q) h =
-    by (eqb x y) (λ e. let k : suc q < suc (commonBeginning s t) = rw e at h in common-at s t q (omega arith)) (λ e. absurd (omega (arith, rw e at h)))
-
 -- the first i names are the same, and the next differ, or a row ends
 pub common-found : (s t : List ℕ) (i : ℕ) → i ≤ length s → i ≤ length t → ((j : ℕ) → j < i → getD s j 0 ≡ getD t j 0)
     → (i < length s → i < length t → getD s i 0 ≡ getD t i 0 → ⊥) → i ≡ commonBeginning s t

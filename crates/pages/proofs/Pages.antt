@@ -3,7 +3,7 @@ use mathlib.Core.Path.{_≡_, refl, sym, ap, _∙_}
 use mathlib.Core.List.{List, [], _∷_, _++_}
 use Prim.Native.Nat.{ℕ, zero, suc, _≤_, _<_, suc-le-suc}
 use native.Mathlib.Omega.{arith}
-use lib.ListN.{length, getD, set, take, length-set, length-replicate}
+use lib.ListN.{length, getD, set, take}
 use lib.Seq.{getD-set-same, set-set, set-getD}
 use Rattle.record.specs.Stored.{padded}
 use Rattle.pages.specs.Pages.{Kind, View, touched, runEdit, run, kept, emptyCatalogue, viewOf}
@@ -25,11 +25,6 @@ module _ (K : Kind) where
   unfolding kept
   length-kept c [] = refl
   length-kept c (x ∷ xs) = ap suc (length-kept (runEdit K c x) xs)
-
-  pub length-run : (c : List (K .Entry)) (xs : List (K .Edit)) → length (run K c xs) ≡ length c
-  unfolding run runEdit
-  length-run c [] = refl
-  length-run c (x ∷ xs) = length-run (runEdit K c x) xs ∙ length-set c (K .place x) (K .action x (touched K c x))
 
   -- the entry that the edit at a place of the row touched
   pub kept-at : (c : List (K .Entry)) (xs : List (K .Edit)) (i : ℕ) (d : K .Entry) (e : K .Edit) → i < length xs
@@ -55,10 +50,6 @@ module _ (K : Kind) where
     pub catalogue-of : (xs : List (K .Edit)) → viewOf K places rows xs .catalogue ≡ run K (emptyCatalogue K places) xs
     unfolding viewOf
     catalogue-of xs = refl
-
-    pub length-catalogue : (xs : List (K .Edit)) → length (viewOf K places rows xs .catalogue) ≡ places
-    unfolding viewOf emptyCatalogue
-    length-catalogue xs = length-run (emptyCatalogue K places) xs ∙ length-replicate places (K .absent)
 
     pub length-journal : (xs : List (K .Edit)) → length xs ≤ rows → length (viewOf K places rows xs .journal) ≡ rows
     unfolding viewOf

@@ -201,9 +201,6 @@ module _ {R : Record} (w : WellFormed R) (p : Paired R) (h : sound R ≡ true) w
       (λ i d. ⊎-elim (λ (q : (a among schedule R []) × (2 ≡ 1) × (b ≡ 0)). absurd (let z = q .1 in omega arith)) (λ (q : (mem a (schedule R []) ≡ false) × (2 ≡ 0) × (b ≡ a)). absurd (let z = q .1 in omega arith)) d)
       (λ s. absurd (let z = s .rule in omega arith))
 
-  pub finished-paired : Paired (finished R)
-  finished-paired = record { lower = λ a b e. p .lower a b (finished-pairs a b e) }
-
   -- The schedule of the union is a sound row of the finished proposal.
   pub finished-row : Sound (finished R) (schedule R [])
   unfolding names

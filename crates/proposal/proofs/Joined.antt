@@ -15,7 +15,7 @@ use Rattle.lists.proofs.Lists.{by, clash, or-by, or-l, or-r, same-by, mem-head,
 use Rattle.record.proofs.Records.{is-by, is-self, has-head, has-tail}
 use Rattle.lists.specs.Keyed.{precedes, Ascending, united}
 use Rattle.lists.proofs.Order.{less-total}
-use Rattle.lists.proofs.Union.{Agree, agree-self, agree-sym, united-has, united-old, united-new, united-comm, united-part, ascending-united}
+use Rattle.lists.proofs.Union.{Agree, united-has, united-old, united-new, united-comm, united-part}
 use Rattle.table.specs.Table.{editKey, constraintKey, unite}
 use Rattle.table.proofs.Unions.{mem-by, mem-has, united-extends, joining-extends}
 use Rattle.proposal.specs.Proposal.{withConstraints}
@@ -72,10 +72,6 @@ module _ {M Q : Record} (j : Joins M Q) where
   pub unite-left : (e : Edit) → Has e (M .edits) → Has e (unite M Q .edits)
   unfolding unite
   unite-left e h = united-old editKey e (M .edits) (Q .edits) h
-
-  pub unite-right : (e : Edit) → Has e (Q .edits) → Has e (unite M Q .edits)
-  unfolding unite
-  unite-right e h = united-new editKey e (M .edits) (Q .edits) (j .bodies) (agree-self editKey (Q .edits) (j .right-edits)) h
 
   pub unite-from : (e : Edit) → Has e (unite M Q .edits) → Has e (M .edits) ⊎ Has e (Q .edits)
   unfolding unite

@@ -23,8 +23,8 @@ use Rattle.vote.proofs.Elections.{same-is}
 use Rattle.table.specs.Table.{editKey, constraintKey, unite}
 use Rattle.table.proofs.Unions.{united-extends, joining-extends}
 use Rattle.proposal.specs.Proposal.{withConstraints, before, unordered, settledIn, settledFirst, firsts, started, finished, proposed, Paired, Keeps, keeps}
-use Rattle.proposal.proofs.Joined.{con, has-in, in-has, has-with, written-with, extends-with, with-well-formed, with-part, Joins, unite-left, unite-right, has-unite, unite-well-formed, unite-part}
-use Rattle.proposal.proofs.Finished.{unordered-from, finished-written, finished-extends, finished-well-formed, finished-paired, finished-sound, finished-settled, finished-ascending, finished-again}
+use Rattle.proposal.proofs.Joined.{con, has-in, in-has, has-with, extends-with, with-well-formed, Joins, unite-left, has-unite, unite-well-formed, unite-part}
+use Rattle.proposal.proofs.Finished.{unordered-from, finished-extends, finished-well-formed, finished-sound, finished-settled, finished-ascending, finished-again}
 
 pub extends-trans : {P Q R : Record} → Extends P Q → Extends Q R → Extends P R
 extends-trans x y = record { edits = λ e h. y .edits e (x .edits e h); constraints = λ a k b h. y .constraints a k b (x .constraints a k b h) }
@@ -118,10 +118,6 @@ module _ {M Q : Record} (j : Joins M Q) (v : WellFormed M) (w : WellFormed Q) (p
     pub proposed-settled : (x : ℕ) → x among written (proposed M Q) → settled (proposed M Q) x ≡ true
     unfolding proposed
     proposed-settled = finished-settled started-well-formed started-paired h
-
-    proposed-pairs : Paired (proposed M Q)
-    unfolding proposed
-    proposed-pairs = finished-paired started-well-formed started-paired h
 
     proposed-ascending : Ascending constraintKey (proposed M Q .constraints)
     unfolding proposed

@@ -13,7 +13,7 @@ use Rattle.lists.specs.Lists.{mem, Has}
 use Rattle.record.specs.Record.{Record, written, nameOf, is, has, Extends}
 use Rattle.lists.specs.Keyed.{Ascending, united}
 use Rattle.lists.proofs.Logic.{any-by, any-has}
-use Rattle.lists.proofs.Union.{united-old, united-key, united-part, united-alone}
+use Rattle.lists.proofs.Union.{united-old, united-key, united-alone}
 use Rattle.table.specs.Table.{unite, editKey, constraintKey, emptyTables}
 
 -- a name in the table of edits is that of one of them
@@ -58,15 +58,7 @@ module _ (R S : Record) where
             (λ y n q. let g : y ≡ c = same-constraint y c q in any-has (is a k b) (united constraintKey (R .constraints) (S .constraints)) y n (rw g p)));
       }
 
--- a record with a part of itself
-pub united-within : (R S : Record) → Ascending editKey (R .edits) → Ascending constraintKey (R .constraints) → ((e : Edit) → Has e (S .edits) → Has e (R .edits)) → ((c : Constraint) → Has c (S .constraints) → Has c (R .constraints)) → unite R S ≡ R
-unfolding unite
-united-within R S a b f g =
-    let p : united editKey (R .edits) (S .edits) ≡ R .edits = united-part editKey (R .edits) (S .edits) a f in
-    let q : united constraintKey (R .constraints) (S .constraints) ≡ R .constraints = united-part constraintKey (R .constraints) (S .constraints) b g in
-    λ i. record { edits = p i; constraints = q i }
-
--- and with the empty record
+-- the empty record with a record
 pub united-empty : (S : Record) → Ascending editKey (S .edits) → Ascending constraintKey (S .constraints) → unite emptyTables S ≡ S
 unfolding unite
 united-empty S a b =

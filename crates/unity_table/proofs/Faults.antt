@@ -5,7 +5,7 @@ use mathlib.Core.Logic.{_≢_}
 use mathlib.Core.List.{List, [], _∷_, _++_, append-assoc, append-nil}
 use Prim.Native.Nat.{ℕ, suc, _+_}
 use native.Mathlib.Omega.{arith}
-use borrow.Author.Tests.{eqb-true, eqb-false, eq-eqb, ne-eqb}
+use borrow.Author.Tests.{eqb-true, eqb-false}
 use lib.Dec.{eqb}
 use lib.ListN.{length, length-append}
 use Rattle.lists.proofs.Lists.{by}
@@ -23,14 +23,6 @@ faultAt number n = cond (eqb number 0) noFault (record { number = number; row = 
 module _ {A : Type 0} (g : List A → A → ℕ) where
   abbrev pub runningBy : List A → List A → Fault
   runningBy above l = decidingFault (λ b x last. g b x) above l
-
-  running-later : (above : List A) (x : A) (l : List A) → g above x ≡ 0 → runningBy above (x ∷ l) ≡ runningBy (above ++ (x ∷ [])) l
-  unfolding decidingFault
-  running-later above x l z = rw (eq-eqb (g above x) 0 z)
-
-  running-here : (above : List A) (x : A) (l : List A) → g above x ≢ 0 → runningBy above (x ∷ l) ≡ record { number = g above x; row = suc (length above) }
-  unfolding decidingFault
-  running-here above x l n = rw (ne-eqb (g above x) 0 n)
 
   -- one row more
   pub running-more : (above l : List A) (x : A) → runningBy above (l ++ (x ∷ [])) ≡ cond (eqb (runningBy above l .number) 0) (faultAt (g (above ++ l) x) (length (above ++ l))) (runningBy above l)

@@ -137,7 +137,3 @@ module _ {R : Record} (w : WellFormed R) where
     pub bundle-enables : (a b : ℕ) → b among members R e → enables R a b ≡ true → enables (bundle R e) a b ≡ true
     unfolding between
     bundle-enables a b j h = has-bundle a 1 b h (rw (members-closed a b (leads-enables a b h) j, j))
-
-    pub bundle-required : (a : ℕ) → a among members R e → enables R a 0 ≡ true → enables (bundle R e) a 0 ≡ true
-    unfolding between
-    bundle-required a j h = has-bundle a 1 0 h (simp (j, or-true))
