@@ -44,9 +44,6 @@ later-zero m =
 pub late-zero : (l : ℕ) → lateFurther l 0 ≡ l
 late-zero l = by (eqb l 13) (λ e. rw e (sym (eqb-true l 13 e))) (λ e. rw e)
 
-pub later-none : (m : Step) (o : ℕ) → laterNumber m o ≡ 0 → m .number ≡ 0
-later-none m o h = by (eqb (m .number) 0) (λ e. eqb-true (m .number) 0 e) (λ (e : eqb (m .number) 0 ≡ false). rw e at h)
-
 -- 3, 4 or 13
 late-not : (k limit : ℕ) (joined : Rows) (count : ℕ) (above : Rows) (row : List ℕ) → lateFault k limit joined count above row ≡ 0 → ⊥
 unfolding lateFault
