@@ -1,4 +1,6 @@
 // Bundles (document 01, "Proposals and votes"): the bundle of an edit, whether it is eligible, and both asked of a lent record.
+use indexes::NAMES;
+use links::MARKS;
 use links::ROWS;
 use record::Constraint;
 use record::Edit;
@@ -34,7 +36,7 @@ pub struct Constraints {
 }
 
 // The edits that are marked, edit i at index i + 1.
-fn sift_edits(edits: [Edit; 127], n: usize, marks: &[u8; 128]) -> Edits
+fn sift_edits(edits: [Edit; 127], n: usize, marks: &[u8; MARKS]) -> Edits
     requires { ⌜ n ≤ 127 ⌝ }
     ensures { λ r. ⌜ ((p : edit.Edit → Bool) → ((i : ℕ) → i < n → eqb (getD (now (marks .entry)) (i + 1) 0) 1 ≡ p (getD edits i fillerEdit)) → r ≡ siftedEdits (sift p (take n edits))) ⌝ }
 {
@@ -57,7 +59,7 @@ fn sift_edits(edits: [Edit; 127], n: usize, marks: &[u8; 128]) -> Edits
 }
 
 // Whether the ends of a constraint are members, or a member and 0.
-fn is_between(table: &[u8; 2304], marks: &[u8; 128], left: u16, right: u16) -> bool
+fn is_between(table: &[u8; NAMES], marks: &[u8; MARKS], left: u16, right: u16) -> bool
     requires { ⌜ (length (now table) ≡ 2304) × ((x : ℕ) → getD (now table) x 0 < 128) ⌝ }
     ensures { λ r. ⌜ ((R : theory.Record) (m : List ℕ) → ((x : ℕ) → getD (now (table .entry)) x 0 ≡ placeIn (theory.names R) x) → now (marks .entry) ≡ marksOf R (λ y. mem y m)
         → left among theory.names R → right among theory.names R → r ≡ between m left right) ⌝ }
@@ -77,8 +79,8 @@ fn is_between(table: &[u8; 2304], marks: &[u8; 128], left: u16, right: u16) -> b
 fn sift_constraints(
     constraints: [Constraint; 512],
     n: usize,
-    table: &[u8; 2304],
-    marks: &[u8; 128],
+    table: &[u8; NAMES],
+    marks: &[u8; MARKS],
 ) -> Constraints
     requires { ⌜ (n ≤ 512) × (length (now table) ≡ 2304) × ((x : ℕ) → getD (now table) x 0 < 128) ⌝ }
     ensures { λ r. ⌜ ((R : theory.Record) (m : List ℕ) → ((x : ℕ) → getD (now (table .entry)) x 0 ≡ placeIn (theory.names R) x) → now (marks .entry) ≡ marksOf R (λ y. mem y m)
@@ -105,7 +107,7 @@ fn sift_constraints(
 
 // The bundle of an edit that the record knows, by the table of the record's names and the rows of what leads to a member: they are made once for many
 // edits. Pub for `keeping`, which makes both.
-pub fn bundle_by(multilog: Record, table: &[u8; 2304], rows: &[u16; ROWS], name: u16) -> Record
+pub fn bundle_by(multilog: Record, table: &[u8; NAMES], rows: &[u16; ROWS], name: u16) -> Record
     requires { ⌜ (length (now table) ≡ 2304) × ((x : ℕ) → getD (now table) x 0 < 128) × Safe (now rows) ⌝ }
     ensures { λ r. ⌜ ((R : theory.Record) → multilog ≡ stored R → Fit R → ((x : ℕ) → getD (now (table .entry)) x 0 ≡ placeIn (theory.names R) x)
         → Leads (leadsIn R) R 0 (now (rows .entry)) → name among theory.written R → r ≡ stored (vote.bundle R name)) ⌝ }
@@ -143,7 +145,7 @@ pub fn bundle(multilog: Record, name: u16) -> Record
 }
 
 // Whether the edits at indexes 1 to n - 1 are marked.
-fn every_marked(marks: [u8; 128], n: usize) -> bool
+fn every_marked(marks: [u8; MARKS], n: usize) -> bool
     requires { ⌜ n ≤ 128 ⌝ }
     ensures { λ r. ⌜ ((R : theory.Record) (test : ℕ → Bool) → n ≡ length (theory.names R) → marks ≡ marksOf R test → r ≡ all test (theory.written R)) ⌝ }
 {

@@ -1,6 +1,8 @@
 // A proposal is finished (document 01, "Proposals and votes", last paragraph): the edits in the schedule are marked required, the others aborted,
 // and the schedule's unordered pairs are ordered. Functions are pub for the crates of this workspace that make proposals.
+use indexes::NAMES;
 use insertion::Constraints;
+use links::MARKS;
 use pairs::Pairs;
 use record::Constraint;
 use record::Record;
@@ -24,13 +26,13 @@ ghost use Rattle.insertion.specs.Insertion.{tableOf};
 ghost use Rattle.decisions.specs.Decisions.{Paged, decided, pageOrder, onlyConstraints};
 
 // The page of each edit with nothing hidden.
-fn pages(multilog: Record) -> [u8; 128]
+fn pages(multilog: Record) -> [u8; MARKS]
     ensures { λ r. ⌜ (length r ≡ 128) × ((R : theory.Record) → multilog ≡ stored R → Fit R → r ≡ valuesOf R (placeIn (schedule R []))) ⌝ }
 {
     let n = indexes::name_count(multilog);
     let rows = indexes::resolved(multilog);
     let mustmarks = marks::must_marks(&rows);
-    let hidden = [0u8; 128];
+    let hidden = [0u8; MARKS];
     let row = schedules::schedule_row(n, &rows, mustmarks, &hidden);
     schedules::page_values(row)
 }
@@ -50,7 +52,7 @@ fn decision(name: u16, page: u8) -> Constraint
 }
 
 // The table joined by the decisions on all edits.
-fn with_decisions(table: Constraints, multilog: Record, pages: &[u8; 128]) -> Constraints
+fn with_decisions(table: Constraints, multilog: Record, pages: &[u8; MARKS]) -> Constraints
     requires { ⌜ length (now pages) ≡ 128 ⌝ }
     ensures { λ r. ⌜ ((R : theory.Record) (rest index : List ℕ) (t : List Constraint) → multilog ≡ stored R → Fit R → Paged R rest index (now (pages .entry))
         → table ≡ tableOf t → Ascending constraintKey t → r ≡ tableOf (united constraintKey t (proposal.decisions (0 ∷ rest) (theory.written R)))) ⌝ }
@@ -73,7 +75,7 @@ fn with_decisions(table: Constraints, multilog: Record, pages: &[u8; 128]) -> Co
 }
 
 // The decisions on all edits as the constraints of a record without edits.
-fn decisions_of(multilog: Record, pages: &[u8; 128]) -> Record
+fn decisions_of(multilog: Record, pages: &[u8; MARKS]) -> Record
     requires { ⌜ length (now pages) ≡ 128 ⌝ }
     ensures { λ r. ⌜ ((R : theory.Record) (rest index : List ℕ) → multilog ≡ stored R → Fit R → Paged R rest index (now (pages .entry))
         → r ≡ stored (onlyConstraints (proposal.decisions (0 ∷ rest) (theory.written R)))) ⌝ }
@@ -97,7 +99,7 @@ fn decisions_of(multilog: Record, pages: &[u8; 128]) -> Record
 }
 
 // The record's constraints joined by the decisions on all edits: both are in order, and where they have places for sure one walk joins them.
-fn decided_table(multilog: Record, pages: &[u8; 128]) -> Constraints
+fn decided_table(multilog: Record, pages: &[u8; MARKS]) -> Constraints
     requires { ⌜ length (now pages) ≡ 128 ⌝ }
     ensures { λ r. ⌜ ((R : theory.Record) (rest index : List ℕ) → multilog ≡ stored R → Checked R → Paged R rest index (now (pages .entry))
         → r ≡ tableOf (united constraintKey (R .constraints) (proposal.decisions (0 ∷ rest) (theory.written R)))) ⌝ }
@@ -110,7 +112,7 @@ fn decided_table(multilog: Record, pages: &[u8; 128]) -> Constraints
 }
 
 // The page of a name.
-fn page_of(index: &[u8; 2304], pages: &[u8; 128], name: u16) -> u8
+fn page_of(index: &[u8; NAMES], pages: &[u8; MARKS], name: u16) -> u8
     requires { ⌜ (length (now index) ≡ 2304) × ((x : ℕ) → getD (now index) x 0 < 128) × (length (now pages) ≡ 128) ⌝ }
     ensures { λ r. ⌜ r ≡ getD (now (pages .entry)) (getD (now (index .entry)) name 0) 0 ⌝ }
 {
@@ -138,8 +140,8 @@ fn order_row(table: Constraints, c: Constraint, a: u8, b: u8) -> Constraints
 fn with_orders(
     table: Constraints,
     pairs: Pairs,
-    index: &[u8; 2304],
-    pages: &[u8; 128],
+    index: &[u8; NAMES],
+    pages: &[u8; MARKS],
 ) -> Constraints
     requires { ⌜ (length (now index) ≡ 2304) × ((x : ℕ) → getD (now index) x 0 < 128) × (length (now pages) ≡ 128) × (pairs .count ≤ 512) ⌝ }
     ensures { λ r. ⌜ ((R : theory.Record) (rest : List ℕ) (t : List Constraint) → Paged R rest (now (index .entry)) (now (pages .entry)) → table ≡ tableOf t → Ascending constraintKey t

@@ -1,6 +1,8 @@
 // The union of a record and the bench's old proposal, with what was settled first (document 01, "Proposals and votes", last paragraph).
 // Functions are pub for the crates of this workspace that make proposals.
+use indexes::NAMES;
 use insertion::Constraints;
+use links::MARKS;
 use pairs::Pairs;
 use record::Constraint;
 use record::Record;
@@ -30,7 +32,7 @@ pub fn notafter(a: u16, b: u16) -> Constraint
 }
 
 // Whether an edit is settled in the old proposal; one that it does not know has no index and is not.
-fn settled_in(index: &[u8; 2304], settled: &[u8; 128], name: u16) -> bool
+fn settled_in(index: &[u8; NAMES], settled: &[u8; MARKS], name: u16) -> bool
     requires { ⌜ (length (now index) ≡ 2304) × ((x : ℕ) → getD (now index) x 0 < 128) ⌝ }
     ensures { λ r. ⌜ ((Q : theory.Record) → Settles Q (now (index .entry)) (now (settled .entry)) → r ≡ settledIn Q name) ⌝ }
 {
@@ -61,8 +63,8 @@ fn first_row(table: Constraints, c: Constraint, left: bool, right: bool) -> Cons
 fn with_firsts(
     table: Constraints,
     pairs: Pairs,
-    index: &[u8; 2304],
-    settled: &[u8; 128],
+    index: &[u8; NAMES],
+    settled: &[u8; MARKS],
 ) -> Constraints
     requires { ⌜ (length (now index) ≡ 2304) × ((x : ℕ) → getD (now index) x 0 < 128) × (pairs .count ≤ 512) ⌝ }
     ensures { λ r. ⌜ ((Q : theory.Record) (t l : List Constraint) → Settles Q (now (index .entry)) (now (settled .entry)) → table ≡ tableOf t → Ascending constraintKey t

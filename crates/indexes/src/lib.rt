@@ -1,5 +1,7 @@
 // A record by index: its names resolved once, its constraints as linked rows. Functions are pub for the crates that judge records. They are safe
 // for any counts and names; what they give is said of a record that is stored with checked tables.
+use links::ENABLES;
+use links::NONCOMMUTING;
 use links::ROWS;
 use record::Record;
 ghost use mathlib.Core.Path.{_≡_};
@@ -12,6 +14,13 @@ ghost use Rattle.links.specs.Links.{Safe};
 ghost use Rattle.marks.specs.Resolved.{Resolved};
 ghost use Rattle.indexes.specs.Fit.{Fit};
 
+// Names lie below this.
+pub const NAMES: usize = 2304;
+// What a record may hold.
+const EDIT_LIMIT: usize = 127;
+
+pub const CONSTRAINT_LIMIT: usize = 512;
+
 // Pub for `members`.
 pub fn within(count: usize, limit: usize) -> usize
     ensures { λ r. ⌜ r ≡ min count limit ⌝ }
@@ -23,33 +32,33 @@ pub fn within(count: usize, limit: usize) -> usize
 pub fn name_count(multilog: Record) -> usize
     ensures { λ r. ⌜ (r ≤ 128) × ((R : theory.Record) → multilog ≡ stored R → Fit R → r ≡ length (theory.names R)) ⌝ }
 {
-    within(multilog.editcount, 127) + 1
+    within(multilog.editcount, EDIT_LIMIT) + 1
 }
 
 // How many constraints there are.
 pub fn row_count(multilog: Record) -> usize
     ensures { λ r. ⌜ (r ≤ 512) × ((R : theory.Record) → multilog ≡ stored R → Fit R → r ≡ length (R .constraints)) ⌝ }
 {
-    within(multilog.constraintcount, 512)
+    within(multilog.constraintcount, CONSTRAINT_LIMIT)
 }
 
-fn put_index(table: &mut [u8; 2304], name: u16, index: u8)
+fn put_index(table: &mut [u8; NAMES], name: u16, index: u8)
     requires { ⌜ length (now table) ≡ 2304 ⌝ }
     ensures { λ _. ⌜ now (table .exit) ≡ set (now (table .entry)) name index ⌝ }
 {
     let at = links::wide16(name);
-    if at < 2304 {
+    if at < NAMES {
         table[at] = index;
     }
 }
 
 // The index of each name below 2304; 0 for INIT and for a name that the record does not know.
-pub fn index_table(multilog: Record) -> [u8; 2304]
+pub fn index_table(multilog: Record) -> [u8; NAMES]
     ensures { λ r. ⌜ (length r ≡ 2304) × ((x : ℕ) → getD r x 0 < 128)
         × ((R : theory.Record) → multilog ≡ stored R → Fit R → (x : ℕ) → getD r x 0 ≡ placeIn (theory.names R) x) ⌝ }
 {
-    let mut table = [0u8; 2304];
-    let count = within(multilog.editcount, 127);
+    let mut table = [0u8; NAMES];
+    let count = within(multilog.editcount, EDIT_LIMIT);
     let mut i: usize = 0;
     while i < count {
         let edit = multilog.edits[i];
@@ -60,11 +69,11 @@ pub fn index_table(multilog: Record) -> [u8; 2304]
 }
 
 // The index of a name, 0 where the record has none. Pub for the crates that resolve names, which have the table whole.
-pub fn index_of(table: &[u8; 2304], name: usize) -> usize
+pub fn index_of(table: &[u8; NAMES], name: usize) -> usize
     requires { ⌜ length (now table) ≡ 2304 ⌝ }
     ensures { λ r. ⌜ r ≡ getD (now (table .entry)) name 0 ⌝ }
 {
-    if name < 2304 {
+    if name < NAMES {
         return links::wide8(table[name]);
     }
     0
@@ -77,18 +86,18 @@ fn key_of(rule: u8, right: usize) -> usize
 {
     match rule {
         0 => right,
-        1 => 128 + right,
-        _ => 256 + right,
+        1 => ENABLES + right,
+        _ => NONCOMMUTING + right,
     }
 }
 
-fn rows_of(multilog: Record, table: &[u8; 2304]) -> [u16; ROWS]
+fn rows_of(multilog: Record, table: &[u8; NAMES]) -> [u16; ROWS]
     requires { ⌜ (length (now table) ≡ 2304) × ((x : ℕ) → getD (now table) x 0 < 128) ⌝ }
     ensures { λ r. ⌜ Safe r
         × ((R : theory.Record) → multilog ≡ stored R → Fit R → ((x : ℕ) → getD (now (table .entry)) x 0 ≡ placeIn (theory.names R) x) → Resolved R r) ⌝ }
 {
     let mut rows = [0u16; ROWS];
-    let count = within(multilog.constraintcount, 512);
+    let count = within(multilog.constraintcount, CONSTRAINT_LIMIT);
     let mut j: usize = 0;
     while j < count {
         let constraint = multilog.constraints[j];

@@ -1,5 +1,6 @@
 // The judgement of a record in memory: sound, must, never, settled, needs and the bench schedule. Each function is safe for any record; its
 // promise is for one that is stored with checked tables.
+use links::MARKS;
 use record::Body;
 use record::Edit;
 use record::Record;
@@ -20,10 +21,10 @@ ghost use Rattle.judge.specs.Judged.{markedEdits, scheduleOf, judgedOf};
 
 // Marks by index, 0 for INIT and i for the i-th edit; the page of each edit with nothing hidden, 0 where it is not in the schedule.
 pub struct Judged {
-    pub must: [u8; 128],
-    pub never: [u8; 128],
-    pub settled: [u8; 128],
-    pub place: [u8; 128],
+    pub must: [u8; MARKS],
+    pub never: [u8; MARKS],
+    pub settled: [u8; MARKS],
+    pub place: [u8; MARKS],
 }
 
 // Whether the record has a sound schedule.
@@ -37,7 +38,7 @@ pub fn sound(multilog: Record) -> bool
 }
 
 // The edits that must stand.
-pub fn musts(multilog: Record) -> [u8; 128]
+pub fn musts(multilog: Record) -> [u8; MARKS]
     ensures { λ r. ⌜ ((R : theory.Record) → multilog ≡ stored R → Fit R → r ≡ marksOf R (judgement.must R)) ⌝ }
 {
     let rows = indexes::resolved(multilog);
@@ -45,7 +46,7 @@ pub fn musts(multilog: Record) -> [u8; 128]
 }
 
 // The edits that can never stand.
-pub fn nevers(multilog: Record) -> [u8; 128]
+pub fn nevers(multilog: Record) -> [u8; MARKS]
     ensures { λ r. ⌜ ((R : theory.Record) → multilog ≡ stored R → Fit R → r ≡ marksOf R (judgement.never R)) ⌝ }
 {
     let n = indexes::name_count(multilog);
@@ -55,7 +56,7 @@ pub fn nevers(multilog: Record) -> [u8; 128]
 }
 
 // The edits that are settled.
-pub fn settleds(multilog: Record) -> [u8; 128]
+pub fn settleds(multilog: Record) -> [u8; MARKS]
     ensures { λ r. ⌜ ((R : theory.Record) → multilog ≡ stored R → Fit R → r ≡ marksOf R (judgement.settled R)) ⌝ }
 {
     let n = indexes::name_count(multilog);
@@ -66,7 +67,7 @@ pub fn settleds(multilog: Record) -> [u8; 128]
 }
 
 // The needs of the edit at an index; past the edits those of INIT.
-pub fn needs(multilog: Record, index: usize) -> [u8; 128]
+pub fn needs(multilog: Record, index: usize) -> [u8; MARKS]
     ensures { λ r. ⌜ ((R : theory.Record) → multilog ≡ stored R → Fit R → r ≡ marksOf R (λ y. mem y (theory_schedule.needs R (0 ∷ nameAt R index ∷ [])))) ⌝ }
 {
     let n = indexes::name_count(multilog);
@@ -114,7 +115,7 @@ fn edits_of(multilog: Record, row: schedules::Row) -> Schedule
 }
 
 // The bench schedule with these edits hidden.
-pub fn schedule(multilog: Record, hidden: [u8; 128]) -> Schedule
+pub fn schedule(multilog: Record, hidden: [u8; MARKS]) -> Schedule
     ensures { λ r. ⌜ ((R : theory.Record) → multilog ≡ stored R → Fit R → r ≡ scheduleOf R (markedEdits R hidden)) ⌝ }
 {
     let n = indexes::name_count(multilog);
@@ -127,12 +128,12 @@ pub fn schedule(multilog: Record, hidden: [u8; 128]) -> Schedule
 // Whether a record is sound, the edits that must stand, and its bench schedule.
 pub struct Planned {
     pub sound: bool,
-    pub must: [u8; 128],
+    pub must: [u8; MARKS],
     pub schedule: Schedule,
 }
 
 // All from the same linked rows, for a record that is about to be a bench's.
-pub fn plan(multilog: Record, hidden: [u8; 128]) -> Planned
+pub fn plan(multilog: Record, hidden: [u8; MARKS]) -> Planned
     ensures { λ r. ⌜ ((R : theory.Record) → multilog ≡ stored R → Fit R
         → (r .sound ≡ judgement.sound R) × (r .must ≡ marksOf R (judgement.must R)) × (r .schedule ≡ scheduleOf R (markedEdits R hidden))) ⌝ }
 {
@@ -157,7 +158,7 @@ pub fn judge(multilog: Record) -> Judged
     let mustmarks = marks::must_marks(&rows);
     let nevermarks = marks::never_marks(n, &rows, mustmarks);
     let settledmarks = marks::settled_marks(n, &rows, mustmarks, nevermarks);
-    let nothing = [0u8; 128];
+    let nothing = [0u8; MARKS];
     let row = schedules::schedule_row(n, &rows, mustmarks, &nothing);
     let pages = schedules::page_values(row);
     Judged {

@@ -132,9 +132,20 @@ module _ (R : Record) (f : Fit R) where
       let q′ : max b a ≡ b = omega arith in
       (rw (p, q) h, rw (p′, q′) h)
 
+  -- a rule past enables is noncommuting
+  pair-rule : (a k b : ℕ) → has a (suc (suc k)) b (R .constraints) ≡ true → has a 2 b (R .constraints) ≡ true
+  pair-rule a k b h = let r : suc (suc k) ≡ 2 = let z = f .rules a (suc (suc k)) b h in omega arith in rw r at h
+
   -- what the key of a constraint's row tells
+  rival-leads : (a b y : ℕ) → noncommuting R a b ≡ true → a among names R → b among names R → eqb b 0 ≡ false → y < 128
+      → rivalKey R (indexIn R a) (indexIn R b) ≡ y → (indexIn R b ≡ y) × (leadsIn R a b ≡ true)
+  unfolding rivalKey
+  rival-leads a b y h i k n l e =
+      let u = rw (at-index R a i, at-index R b k) at e in
+      by (notafter R b a) (λ q. absurd (let z = rw q at u in omega arith)) (λ q. (rw q at u, leads-in R a b (leads-rival (f .formed) a b h q) n))
+
   forward-leads : (a k b y : ℕ) → has a k b (R .constraints) ≡ true → y < 128 → forwardKey R (indexIn R a) k (indexIn R b) ≡ y → (indexIn R b ≡ y) × (leadsIn R a b ≡ true)
-  unfolding forwardKey enabledKey rivalKey
+  unfolding forwardKey enabledKey
   forward-leads a zero b y h l e = (e, leads-in R a b (leads-notafter (f .formed) a b h) (right-not-init a 0 b h (λ z. omega arith)))
   forward-leads a (suc zero) b y h l e =
       by (eqb (indexIn R b) 0)
@@ -142,24 +153,16 @@ module _ (R : Record) (f : Fit R) where
       (λ q. let n : eqb b 0 ≡ false = by (eqb b 0) (λ z. absurd (eqb-false (indexIn R b) 0 q (ap (indexIn R) (eqb-true b 0 z) ∙ init-index R))) (λ z. z) in
       (rw q at e, leads-in R a b (leads-enables (f .formed) a b h) n))
   forward-leads a (suc (suc k)) b y h l e =
-      let r : suc (suc k) ≡ 2 = let z = f .rules a (suc (suc k)) b h in omega arith in
-      let h′ : has a 2 b (R .constraints) ≡ true = rw r at h in
-      let u = rw (at-index R a (left-known (f .formed) a 2 b h′), at-index R b (right-known (f .formed) a 2 b h′)) at e in
-      by (notafter R b a)
-      (λ q. absurd (let z = rw q at u in omega arith))
-      (λ q. (rw q at u, leads-in R a b (leads-rival (f .formed) a b (paired-either a b h′ .0) q) (right-not-init a 2 b h′ (λ z. omega arith))))
+      let p = pair-rule a k b h in
+      rival-leads a b y (paired-either a b p .0) (left-known (f .formed) a 2 b p) (right-known (f .formed) a 2 b p) (right-not-init a 2 b p (λ z. omega arith)) l e
 
   backward-leads : (a k b y : ℕ) → has a k b (R .constraints) ≡ true → y < 128 → backwardKey R (indexIn R a) k (indexIn R b) ≡ y → (indexIn R a ≡ y) × (leadsIn R b a ≡ true)
-  unfolding backwardKey rivalKey
+  unfolding backwardKey
   backward-leads a zero b y h l e = absurd (omega arith)
   backward-leads a (suc zero) b y h l e = absurd (omega arith)
   backward-leads a (suc (suc k)) b y h l e =
-      let r : suc (suc k) ≡ 2 = let z = f .rules a (suc (suc k)) b h in omega arith in
-      let h′ : has a 2 b (R .constraints) ≡ true = rw r at h in
-      let u = rw (at-index R a (left-known (f .formed) a 2 b h′), at-index R b (right-known (f .formed) a 2 b h′)) at e in
-      by (notafter R a b)
-      (λ q. absurd (let z = rw q at u in omega arith))
-      (λ q. (rw q at u, leads-in R b a (leads-rival (f .formed) b a (paired-either a b h′ .1) q) (not-init (f .formed) a (f .formed .left a 2 b h′))))
+      let p = pair-rule a k b h in
+      rival-leads b a y (paired-either a b p .1) (right-known (f .formed) a 2 b p) (left-known (f .formed) a 2 b p) (not-init (f .formed) a (f .formed .left a 2 b p)) l e
 
   module _ (rows : List ℕ) (j : ℕ) (e : j ≡ length (R .constraints)) (w : Rowing R rows j) where
     forward-left : (i : ℕ) → i < length (R .constraints) → leftAt rows (2 * i) ≡ indexIn R (getD (R .constraints) i fillerConstraint .left)

@@ -1,5 +1,8 @@
 // The members of the bundle of an edit (document 01, "Proposals and votes"), by index: a closure over rows made from the constraints. Functions
 // are pub for the crates that make bundles; they are safe for any record.
+use indexes::NAMES;
+use links::MARKS;
+use links::NOTAFTER;
 use links::ROWS;
 use record::Record;
 ghost use mathlib.Core.Path.{_≡_};
@@ -21,7 +24,7 @@ fn rival_key(rows: &[u16; ROWS], from: usize, to: usize) -> usize
     ensures { λ r. ⌜ (r ≤ 128) × ((R : theory.Record) → Resolved R (now (rows .entry)) → from < length (theory.names R)
         → to < length (theory.names R) → r ≡ rivalKey R from to) ⌝ }
 {
-    if links::leads_to(0, rows, to, from) {
+    if links::leads_to(NOTAFTER, rows, to, from) {
         return 128;
     }
     to
@@ -74,14 +77,14 @@ fn link_both(rows: &mut [u16; ROWS], j: usize, a: usize, b: usize, forward: usiz
 }
 
 // The linked rows of what leads to a member; `own` are the record's.
-fn leading_rows(multilog: Record, table: &[u8; 2304], own: &[u16; ROWS]) -> [u16; ROWS]
+fn leading_rows(multilog: Record, table: &[u8; NAMES], own: &[u16; ROWS]) -> [u16; ROWS]
     requires { ⌜ (length (now table) ≡ 2304) × ((x : ℕ) → getD (now table) x 0 < 128) × Safe (now own) ⌝ }
     ensures { λ r. ⌜ Safe r
         × ((R : theory.Record) → multilog ≡ stored R → Fit R → ((x : ℕ) → getD (now (table .entry)) x 0 ≡ placeIn (theory.names R) x)
         → Resolved R (now (own .entry)) → Leads (leadsIn R) R 0 r) ⌝ }
 {
     let mut rows = [0u16; ROWS];
-    let count = indexes::within(multilog.constraintcount, 512);
+    let count = indexes::within(multilog.constraintcount, indexes::CONSTRAINT_LIMIT);
     let mut j: usize = 0;
     while j < count {
         let constraint = multilog.constraints[j];
@@ -97,7 +100,7 @@ fn leading_rows(multilog: Record, table: &[u8; 2304], own: &[u16; ROWS]) -> [u16
 
 // The linked rows of what leads to a member, from the record and the table of its names. They serve every edit of the record. Pub for `bundle` and
 // `keeping`, which make the table.
-pub fn member_rows(multilog: Record, table: &[u8; 2304]) -> [u16; ROWS]
+pub fn member_rows(multilog: Record, table: &[u8; NAMES]) -> [u16; ROWS]
     requires { ⌜ (length (now table) ≡ 2304) × ((x : ℕ) → getD (now table) x 0 < 128) ⌝ }
     ensures { λ r. ⌜ Safe r
         × ((R : theory.Record) → multilog ≡ stored R → Fit R → ((x : ℕ) → getD (now (table .entry)) x 0 ≡ placeIn (theory.names R) x) → Leads (leadsIn R) R 0 r) ⌝ }
@@ -107,12 +110,12 @@ pub fn member_rows(multilog: Record, table: &[u8; 2304]) -> [u16; ROWS]
 }
 
 // The members of the bundle of an edit that the record knows; the rows are those of what leads to a member. Pub for `bundle`, which has table and rows.
-pub fn member_marks(table: &[u8; 2304], rows: &[u16; ROWS], edit: u16) -> [u8; 128]
+pub fn member_marks(table: &[u8; NAMES], rows: &[u16; ROWS], edit: u16) -> [u8; MARKS]
     requires { ⌜ (length (now table) ≡ 2304) × ((x : ℕ) → getD (now table) x 0 < 128) × Safe (now rows) ⌝ }
     ensures { λ r. ⌜ (length r ≡ 128) × ((R : theory.Record) → Fit R → ((x : ℕ) → getD (now (table .entry)) x 0 ≡ placeIn (theory.names R) x)
         → Leads (leadsIn R) R 0 (now (rows .entry)) → edit among theory.written R → r ≡ marksOf R (λ y. mem y (members R edit))) ⌝ }
 {
     let x = indexes::index_of(table, links::wide16(edit));
-    let marks = [0u8; 128];
+    let marks = [0u8; MARKS];
     links::closed(0, rows, marks, x)
 }

@@ -1,5 +1,7 @@
 // The noncommuting pairs of a record with no order between them (document 01, "Proposals and votes", last paragraph). Functions are pub for the
 // crates of this workspace that make proposals.
+use indexes::NAMES;
+use links::NOTAFTER;
 use links::ROWS;
 use record::Constraint;
 use record::Record;
@@ -25,7 +27,7 @@ pub struct Pairs {
 }
 
 // Whether a constraint is a noncommuting pair with no order; an order is a direct row.
-fn is_unordered(c: Constraint, index: &[u8; 2304], rows: &[u16; ROWS]) -> bool
+fn is_unordered(c: Constraint, index: &[u8; NAMES], rows: &[u16; ROWS]) -> bool
     requires { ⌜ Safe (now rows) × (length (now index) ≡ 2304) × ((x : ℕ) → getD (now index) x 0 < 128) ⌝ }
     ensures { λ r. ⌜ ((R : theory.Record) → Resolved R (now (rows .entry))
         → ((x : ℕ) → getD (now (index .entry)) x 0 ≡ placeIn (names R) x) → c .left among names R → c .right among names R
@@ -36,10 +38,10 @@ fn is_unordered(c: Constraint, index: &[u8; 2304], rows: &[u16; ROWS]) -> bool
     }
     let a = indexes::index_of(index, links::wide16(c.left));
     let b = indexes::index_of(index, links::wide16(c.right));
-    if links::leads_to(0, rows, a, b) {
+    if links::leads_to(NOTAFTER, rows, a, b) {
         return false;
     }
-    !links::leads_to(0, rows, b, a)
+    !links::leads_to(NOTAFTER, rows, b, a)
 }
 
 // The pairs with no order, in the table's order.

@@ -1,5 +1,6 @@
 // The test of a row of names against a record in memory. It is safe for any record and any row; its promise is for a record that is stored with
 // checked tables.
+use indexes::NAMES;
 use record::Record;
 ghost use mathlib.Core.Path.{_≡_};
 ghost use mathlib.Core.Bool.{true, cond};
@@ -26,7 +27,7 @@ fn wide32(x: u32) -> usize
 }
 
 // The index of a known name; 128 where the record does not know it.
-fn known_index(table: &[u8; 2304], name: usize) -> usize
+fn known_index(table: &[u8; NAMES], name: usize) -> usize
     requires { ⌜ (length (now table) ≡ 2304) × ((x : ℕ) → getD (now table) x 0 < 128) ⌝ }
     ensures { λ r. ⌜ ((R : theory.Record) → Fit R → Indexed R (now (table .entry)) → r ≡ cond (mem name (theory.names R)) (at name (theory.names R)) 128) ⌝ }
 {
@@ -41,7 +42,7 @@ fn known_index(table: &[u8; 2304], name: usize) -> usize
 }
 
 // Places are numbers of the machine's width, so that a row of any length has them.
-fn seat_row(table: &[u8; 2304], row: &[u32]) -> Seats
+fn seat_row(table: &[u8; NAMES], row: &[u32]) -> Seats
     requires { ⌜ (length (now table) ≡ 2304) × ((x : ℕ) → getD (now table) x 0 < 128) ⌝ }
     ensures { λ r. ⌜ (length (r .places) ≡ 128) × ((R : theory.Record) → Fit R → Indexed R (now (table .entry))
         → (r .fit ≡ knownApart R (now (row .entry))) × (r .fit ≡ true → Seated R (now (row .entry)) (r .places))) ⌝ }
@@ -106,7 +107,7 @@ fn rule_fits(rule: u8, a: usize, b: usize) -> bool
 }
 
 // Whether each constraint fits the row.
-fn all_fit(multilog: Record, table: &[u8; 2304], places: [usize; 128]) -> bool
+fn all_fit(multilog: Record, table: &[u8; NAMES], places: [usize; 128]) -> bool
     requires { ⌜ (length (now table) ≡ 2304) × ((x : ℕ) → getD (now table) x 0 < 128) × (length places ≡ 128) ⌝ }
     ensures { λ r. ⌜ ((R : theory.Record) (row : List ℕ) → multilog ≡ stored R → Fit R → Indexed R (now (table .entry)) → Seated R row places
         → r ≡ all (λ c. fits row (c .left) (c .rule) (c .right)) (R .constraints)) ⌝ }

@@ -1,4 +1,6 @@
 // The bench schedule of a record by index, over its linked rows. Functions are pub for the crates that judge records.
+use links::ENABLES;
+use links::MARKS;
 use links::ROWS;
 ghost use mathlib.Core.Path.{_≡_};
 ghost use mathlib.Core.Bool.{Bool, true, false, _&&_};
@@ -18,12 +20,12 @@ ghost use Rattle.schedules.specs.Rows.{free, Held, foundAt, Hides, bars,
 
 // Edits in order, by index.
 pub struct Row {
-    pub indexes: [u8; 128],
+    pub indexes: [u8; MARKS],
     pub count: usize,
 }
 
 // Whether the edit at x waits and none that waits comes before it.
-fn is_free(rows: &[u16; ROWS], waits: &[u8; 128], x: usize) -> bool
+fn is_free(rows: &[u16; ROWS], waits: &[u8; MARKS], x: usize) -> bool
     requires { ⌜ Safe (now rows) × (x < 128) ⌝ }
     ensures { λ r. ⌜ ((R : Record) (test : ℕ → Bool) → Resolved R (now (rows .entry)) → x < length (names R)
         → now (waits .entry) ≡ marksOf R test → r ≡ free R test (nameAt R x)) ⌝ }
@@ -35,7 +37,7 @@ fn is_free(rows: &[u16; ROWS], waits: &[u8; 128], x: usize) -> bool
 }
 
 // The lowest that is free, from a place below which none is; n where there is none.
-fn lowest(n: usize, from: usize, rows: &[u16; ROWS], waits: &[u8; 128]) -> usize
+fn lowest(n: usize, from: usize, rows: &[u16; ROWS], waits: &[u8; MARKS]) -> usize
     requires { ⌜ Safe (now rows) × (n ≤ 128) × (from ≤ n) ⌝ }
     ensures { λ r. ⌜ ((R : Record) (test : ℕ → Bool) → Resolved R (now (rows .entry)) → n ≡ length (names R)
         → now (waits .entry) ≡ marksOf R test → ((y : ℕ) → y < from → free R test (nameAt R y) ≡ false)
@@ -52,7 +54,7 @@ fn lowest(n: usize, from: usize, rows: &[u16; ROWS], waits: &[u8; 128]) -> usize
 }
 
 // The lower of best and the edit at y, where that is free.
-fn lower_free(rows: &[u16; ROWS], waits: &[u8; 128], y: usize, best: usize) -> usize
+fn lower_free(rows: &[u16; ROWS], waits: &[u8; MARKS], y: usize, best: usize) -> usize
     requires { ⌜ Safe (now rows) × (y < 128) ⌝ }
     ensures { λ r. ⌜ (r ≤ best) × (y < r → Held (now (rows .entry)) (now (waits .entry)) y) ⌝ }
 {
@@ -66,7 +68,7 @@ fn lower_free(rows: &[u16; ROWS], waits: &[u8; 128], y: usize, best: usize) -> u
 }
 
 // The lowest that is free of those that come after the edit at x, where it lies below x; otherwise x.
-fn lowest_freed(rows: &[u16; ROWS], reversed: &[u16; ROWS], waits: &[u8; 128], x: usize) -> usize
+fn lowest_freed(rows: &[u16; ROWS], reversed: &[u16; ROWS], waits: &[u8; MARKS], x: usize) -> usize
     requires { ⌜ Safe (now rows) × Safe (now reversed) × (x < 128) ⌝ }
     ensures { λ r. ⌜ (r ≤ x) × ((R : Record) (y : ℕ) → Reversed R (now (reversed .entry)) → distinct (names R) ≡ true → x < length (names R) → y < length (names R)
         → notafter R (nameAt R x) (nameAt R y) ≡ true → y < r → Held (now (rows .entry)) (now (waits .entry)) y) ⌝ }
@@ -81,7 +83,7 @@ fn lowest_freed(rows: &[u16; ROWS], reversed: &[u16; ROWS], waits: &[u8; 128], x
 }
 
 // The marked set in order. None below the last placed was free before it was, so that the next is one that it held back, or lies above it.
-fn ordered_row(n: usize, rows: &[u16; ROWS], reversed: &[u16; ROWS], marks: [u8; 128]) -> Row
+fn ordered_row(n: usize, rows: &[u16; ROWS], reversed: &[u16; ROWS], marks: [u8; MARKS]) -> Row
     requires { ⌜ Safe (now rows) × Safe (now reversed) × (n ≤ 128) × (length marks ≡ 128) ⌝ }
     ensures { λ r. ⌜ (length (r .indexes) ≡ 128) × (r .count ≤ 128) × ((q : ℕ) → getD (r .indexes) q 0 < 128)
         × ((R : Record) (t : List ℕ) → Resolved R (now (rows .entry)) → Reversed R (now (reversed .entry))
@@ -89,16 +91,13 @@ fn ordered_row(n: usize, rows: &[u16; ROWS], reversed: &[u16; ROWS], marks: [u8;
         → marks ≡ marksOf R (λ y. mem y t) → RowIs R r (order R t)) ⌝ }
 {
     let mut waits = marks;
-    let mut indexes = [0u8; 128];
+    let mut indexes = [0u8; MARKS];
     let mut count: usize = 0;
     let mut from: usize = 0;
     while count < n {
         let x = lowest(n, from, rows, &waits);
         if x >= n {
-            return Row {
-                indexes: indexes,
-                count: count,
-            };
+            break;
         }
         waits[x] = 0;
         indexes[count] = x as u8;
@@ -112,7 +111,7 @@ fn ordered_row(n: usize, rows: &[u16; ROWS], reversed: &[u16; ROWS], marks: [u8;
 }
 
 // Whether the edit at x is marked and hidden, and isn't a must.
-fn is_barred(marks: &[u8; 128], hidden: &[u8; 128], mustmarks: &[u8; 128], x: usize) -> bool
+fn is_barred(marks: &[u8; MARKS], hidden: &[u8; MARKS], mustmarks: &[u8; MARKS], x: usize) -> bool
     requires { ⌜ x < 128 ⌝ }
     ensures { λ r. ⌜ ((R : Record) (hiddens t : List ℕ) → x < length (names R) → now (marks .entry) ≡ marksOf R (λ y. mem y t)
         → now (mustmarks .entry) ≡ marksOf R (must R) → Hides R (now (hidden .entry)) hiddens → r ≡ (mem (nameAt R x) t && bars R hiddens (nameAt R x))) ⌝ }
@@ -127,7 +126,7 @@ fn is_barred(marks: &[u8; 128], hidden: &[u8; 128], mustmarks: &[u8; 128], x: us
 }
 
 // Whether a hidden edit that isn't a must is marked.
-fn any_barred(n: usize, marks: &[u8; 128], hidden: &[u8; 128], mustmarks: &[u8; 128]) -> bool
+fn any_barred(n: usize, marks: &[u8; MARKS], hidden: &[u8; MARKS], mustmarks: &[u8; MARKS]) -> bool
     requires { ⌜ n ≤ 128 ⌝ }
     ensures { λ r. ⌜ ((R : Record) (hiddens t : List ℕ) → n ≡ length (names R) → t within names R → now (marks .entry) ≡ marksOf R (λ y. mem y t)
         → now (mustmarks .entry) ≡ marksOf R (must R) → Hides R (now (hidden .entry)) hiddens → r ≡ any (bars R hiddens) t) ⌝ }
@@ -146,10 +145,10 @@ fn any_barred(n: usize, marks: &[u8; 128], hidden: &[u8; 128], mustmarks: &[u8; 
 fn is_shut(
     n: usize,
     rows: &[u16; ROWS],
-    old: &[u8; 128],
-    marks: &[u8; 128],
-    hidden: &[u8; 128],
-    mustmarks: &[u8; 128],
+    old: &[u8; MARKS],
+    marks: &[u8; MARKS],
+    hidden: &[u8; MARKS],
+    mustmarks: &[u8; MARKS],
     x: usize,
     barring: bool,
 ) -> bool
@@ -162,7 +161,7 @@ fn is_shut(
     if !barring {
         return false;
     }
-    if links::any_row(rows, 128 + x, old, 0) {
+    if links::any_row(rows, ENABLES + x, old, 0) {
         return any_barred(n, marks, hidden, mustmarks);
     }
     is_barred(marks, hidden, mustmarks, x)
@@ -173,8 +172,8 @@ fn is_ringed(
     n: usize,
     rows: &[u16; ROWS],
     reversed: &[u16; ROWS],
-    old: &[u8; 128],
-    marks: [u8; 128],
+    old: &[u8; MARKS],
+    marks: [u8; MARKS],
     x: usize,
     ringed: bool,
 ) -> bool
@@ -195,13 +194,13 @@ fn admitted(
     n: usize,
     rows: &[u16; ROWS],
     reversed: &[u16; ROWS],
-    mustmarks: [u8; 128],
-    hidden: &[u8; 128],
+    mustmarks: [u8; MARKS],
+    hidden: &[u8; MARKS],
     barring: bool,
     ringed: bool,
-    marks: [u8; 128],
+    marks: [u8; MARKS],
     x: usize,
-) -> [u8; 128]
+) -> [u8; MARKS]
     requires { ⌜ Safe (now rows) × Safe (now reversed) × (n ≤ 128) × (x < 128) × (length mustmarks ≡ 128) × (length marks ≡ 128) ⌝ }
     ensures { λ r. ⌜ (length r ≡ 128) × ((R : Record) (hiddens t : List ℕ) → Resolved R (now (rows .entry)) → Reversed R (now (reversed .entry))
         → n ≡ length (names R)
@@ -215,7 +214,7 @@ fn admitted(
     if marks[need] != 1 {
         return marks;
     }
-    let more = links::closed(128, rows, marks, x);
+    let more = links::closed(ENABLES, rows, marks, x);
     if is_shut(n, rows, &marks, &more, hidden, &mustmarks, x, barring) {
         return marks;
     }
@@ -230,11 +229,11 @@ fn admitted_marks(
     n: usize,
     rows: &[u16; ROWS],
     reversed: &[u16; ROWS],
-    mustmarks: [u8; 128],
-    hidden: &[u8; 128],
+    mustmarks: [u8; MARKS],
+    hidden: &[u8; MARKS],
     barring: bool,
     ringed: bool,
-) -> [u8; 128]
+) -> [u8; MARKS]
     requires { ⌜ Safe (now rows) × Safe (now reversed) × (n ≤ 128) × (length mustmarks ≡ 128) ⌝ }
     ensures { λ r. ⌜ (length r ≡ 128) × ((R : Record) (hiddens : List ℕ) → Resolved R (now (rows .entry)) → Reversed R (now (reversed .entry))
         → n ≡ length (names R)
@@ -266,9 +265,9 @@ fn scheduled_marks(
     n: usize,
     rows: &[u16; ROWS],
     reversed: &[u16; ROWS],
-    mustmarks: [u8; 128],
-    hidden: &[u8; 128],
-) -> [u8; 128]
+    mustmarks: [u8; MARKS],
+    hidden: &[u8; MARKS],
+) -> [u8; MARKS]
     requires { ⌜ Safe (now rows) × Safe (now reversed) × (n ≤ 128) × (length mustmarks ≡ 128) ⌝ }
     ensures { λ r. ⌜ (length r ≡ 128) × ((R : Record) (hiddens : List ℕ) → Resolved R (now (rows .entry)) → Reversed R (now (reversed .entry))
         → n ≡ length (names R)
@@ -290,7 +289,12 @@ fn scheduled_marks(
 }
 
 // The bench schedule. Pub for `judge` and `decisions`, whose rows are safe.
-pub fn schedule_row(n: usize, rows: &[u16; ROWS], mustmarks: [u8; 128], hidden: &[u8; 128]) -> Row
+pub fn schedule_row(
+    n: usize,
+    rows: &[u16; ROWS],
+    mustmarks: [u8; MARKS],
+    hidden: &[u8; MARKS],
+) -> Row
     requires { ⌜ Safe (now rows) × (n ≤ 128) × (length mustmarks ≡ 128) ⌝ }
     ensures { λ r. ⌜ (length (r .indexes) ≡ 128) × (r .count ≤ 128) × ((q : ℕ) → getD (r .indexes) q 0 < 128)
         × ((R : Record) (hiddens : List ℕ) → Resolved R (now (rows .entry)) → n ≡ length (names R)
@@ -303,11 +307,11 @@ pub fn schedule_row(n: usize, rows: &[u16; ROWS], mustmarks: [u8; 128], hidden: 
 
 // The page of each edit. From the end, so that where a row had a repeat its first place would count. Pub for `judge` and `decisions`, which have it
 // of a schedule.
-pub fn page_values(row: Row) -> [u8; 128]
+pub fn page_values(row: Row) -> [u8; MARKS]
     requires { ⌜ (length (row .indexes) ≡ 128) × (row .count ≤ 128) × ((q : ℕ) → getD (row .indexes) q 0 < 128) ⌝ }
     ensures { λ r. ⌜ (length r ≡ 128) × ((R : Record) (list : List ℕ) → distinct (names R) ≡ true → length (names R) ≤ 128 → RowIs R row list → r ≡ valuesOf R (placeIn list)) ⌝ }
 {
-    let mut pages = [0u8; 128];
+    let mut pages = [0u8; MARKS];
     let mut k = row.count;
     while k > 0 {
         k -= 1;

@@ -1,5 +1,8 @@
 -- `links::first_row` meets its contract. Assumes nothing.
-use Rattle.links.proofs.Links.{read-first}
+use mathlib.Core.Bool.{Bool}
+use mathlib.Core.List.{List}
+use native.Mathlib.Omega.{arith}
+use Rattle.links.specs.Links.{headAt}
 use borrow.Author.Needs.{needs}
 use Rattle.links.proofs.first_row.Statement.{statement}
 use Rattle.links.proofs.first_row.Tie as tie
@@ -14,7 +17,11 @@ wide16-requires : tie.Need-wide16-requires
 wide16-requires c κs = search needs
 
 returns : tie.Need-returns
-returns c = let s = c .before .before in read-first (s .args .rows .now) (s .pre .0) (s .args .key) _ (s .pre .1) (c .wide16 .ensures)
+unfolding headAt
+returns c =
+    let s = c .before .before in
+    let e = c .wide16 .ensures in
+    (e, omega (arith, e, s .pre .0 .head (s .args .key) (s .pre .1)))
 
 pub first-row-spec : {M : Type 1} → statement M
 first-row-spec = tie.close (tie.spec mul-wide16 element-copy-out-wide16 wide16-requires returns)
