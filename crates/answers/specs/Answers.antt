@@ -1,8 +1,13 @@
 -- The call log: the lines of the answers, by kind. Assumes nothing.
 use Prim.Native.Nat.{ℕ}
-use mathlib.Core.List.{List, [], _∷_}
+use mathlib.Core.Bool.{Bool, cond}
+use mathlib.Core.List.{List, [], _∷_, _++_}
+use lib.Dec.{eqb}
+use Rattle.record.specs.declared.Record as declared
+use Rattle.record.specs.Stored.{recordOf}
 use Rattle.form.specs.Form.{fill}
 use Rattle.forms.specs.Forms.{tableOf, formAt}
+use Rattle.text.specs.Text.{textOf}
 
 unfoldable pub answerTable : List ℕ
 answerTable =
@@ -48,3 +53,18 @@ answerForm kind = formAt answerTable kind
 
 abbrev pub answerLine : ℕ → List ℕ → List ℕ
 answerLine kind numbers = fill (answerForm kind) numbers
+
+-- yes is 1 and no is 0
+abbrev pub bit : Bool → ℕ
+bit b = cond b 1 0
+
+-- the answer, or the refusal with the line's number
+abbrev pub answered : ℕ → List ℕ → ℕ → List ℕ
+answered number text line = cond (eqb number 0) text (answerLine 0 (number ∷ line ∷ []))
+
+-- the counts of a record and its text
+abbrev pub storedText : declared.Record → List ℕ
+storedText r = textOf (recordOf r)
+
+unfoldable pub recordText : declared.Record → List ℕ
+recordText r = answerLine 5 (r .editcount ∷ r .constraintcount ∷ []) ++ storedText r

@@ -1,6 +1,7 @@
 // The answers of a call log, printed one after the other into one buffer.
 use record::Record;
 ghost use mathlib.Core.Path.{_≡_};
+ghost use mathlib.Core.List.{[], _∷_};
 ghost use Prim.Native.Nat.{_-_, _≤_};
 ghost use lib.ListN.{take, drop};
 ghost use Rattle.record.specs.Record as theory;
@@ -10,18 +11,12 @@ ghost use Rattle.text.specs.Text.{textOf};
 ghost use Rattle.form.specs.Form.{fill};
 ghost use Rattle.forms.specs.Printed.{Printed};
 ghost use Rattle.report.specs.Report.{reportOf};
-ghost use Rattle.answers.specs.Answers.{answerTable, answerForm};
+ghost use Rattle.answers.specs.Answers.{answerTable, answerForm, answerLine};
 
 // Where a form of the table starts and ends.
 struct Place {
     at: usize,
     end: usize,
-}
-
-fn wide(n: u16) -> usize
-    ensures { λ r. ⌜ r ≡ n ⌝ }
-{
-    n as usize
 }
 
 // The place of a kind's form; a kind that has none ends where it starts.
@@ -63,8 +58,8 @@ fn place_of(kind: usize) -> Place
         601,
     ];
     Place {
-        at: wide(places[kind]),
-        end: wide(places[kind + 1]),
+        at: numbers::index16(places[kind]),
+        end: numbers::index16(places[kind + 1]),
     }
 }
 
@@ -108,6 +103,13 @@ pub fn tell(out: &mut [u8], at: usize, kind: usize, numbers: &[u64]) -> usize
         place.end,
         numbers,
     )
+}
+
+// The line of a refusal.
+pub fn print_refusal(number: u32, line: usize, out: &mut [u8], at: usize) -> usize
+    ensures { λ r. ⌜ Printed (answerLine 0 (number ∷ line ∷ [])) (now (out .entry)) at (now (out .exit)) r ⌝ }
+{
+    tell(&mut out[..], at, 0, &[number as u64, line as u64])
 }
 
 // Prints the text of a record.

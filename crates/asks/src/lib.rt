@@ -10,30 +10,12 @@ use turner::Turner;
 ghost use mathlib.Core.Path.{_≡_};
 ghost use mathlib.Core.Bool.{cond};
 ghost use mathlib.Core.List.{[], _∷_};
-ghost use Prim.Native.Nat.{suc, _≤_, min};
+ghost use Prim.Native.Nat.{suc, _≤_};
 ghost use lib.ListN.{length, take, drop};
 ghost use Rattle.lists.specs.Lists.{sift};
 ghost use Rattle.forms.specs.Printed.{Printed, textsFrom};
 ghost use Rattle.answers.specs.Answers.{answerLine};
 ghost use Rattle.asks.specs.Asks.{hides, hiddenLine, hiddenText, pageLine, scheduleText, cellsText, isPresent, entryText, catalogueText, rowText, rowAt, journalText, pageText};
-
-fn least(n: usize, limit: usize) -> usize
-    ensures { λ r. ⌜ r ≡ min n limit ⌝ }
-{
-    if limit < n {
-        return limit;
-    }
-    n
-}
-
-fn flag(test: bool) -> usize
-    ensures { λ r. ⌜ r ≡ cond test 1 0 ⌝ }
-{
-    if test {
-        return 1;
-    }
-    0
-}
 
 fn is_hidden(mark: u8) -> bool
     ensures { λ r. ⌜ r ≡ hides mark ⌝ }
@@ -65,7 +47,7 @@ fn count_hidden(marks: [u8; 128], n: usize) -> usize
     let mut i = 0;
     while i < n {
         let mark = marks[i + 1];
-        count += flag(is_hidden(mark));
+        count += numbers::bit(is_hidden(mark));
         i += 1;
     }
     count
@@ -109,7 +91,7 @@ pub fn print_hidden(out: &mut [u8], at: usize, bench: Bench) -> usize
     let multilog = bench.multilog;
     let marks = bench.hidden;
     let edits = multilog.edits;
-    let n = least(multilog.editcount, PAGES);
+    let n = numbers::lesser(multilog.editcount, PAGES);
     let count = count_hidden(marks, n);
     let place = tell_one(&mut out[..], at, 8, count as u64);
     print_hidden_edits(&mut out[..], place, edits, n, marks)
@@ -134,7 +116,7 @@ pub fn print_schedule(out: &mut [u8], at: usize, bench: Bench) -> usize
 {
     let schedule = bench.schedule;
     let edits = schedule.edits;
-    let n = least(schedule.count, PAGES);
+    let n = numbers::lesser(schedule.count, PAGES);
     let place = tell_one(&mut out[..], at, 10, n as u64);
     print_pages(&mut out[..], place, edits, n)
 }
@@ -184,7 +166,7 @@ fn count_present(entries: [Entry; PLACES]) -> usize
     let mut i = 0;
     while i < PLACES {
         let entry = entries[i];
-        count += flag(entry.present);
+        count += numbers::bit(entry.present);
         i += 1;
     }
     count
@@ -221,7 +203,7 @@ fn print_row(out: &mut [u8], at: usize, page: usize, edit: Edit, row: Entry) -> 
 {
     let body = edit.body;
     let chip = catalogue::place_of(body);
-    let present = flag(row.present);
+    let present = numbers::bit(row.present);
     let cells = row.cells;
     let numbers = [page as u64, chip as u64, present as u64];
     let place = answers::tell(&mut out[..], at, 19, &numbers);
@@ -258,7 +240,7 @@ pub fn print_journal(out: &mut [u8], at: usize, bench: Bench) -> usize
     let view = bench.view;
     let journal = view.journal;
     let rows = journal.rows;
-    let n = least(turner.opened, PAGES);
+    let n = numbers::lesser(turner.opened, PAGES);
     let place = tell_one(&mut out[..], at, 18, n as u64);
     print_rows(&mut out[..], place, edits, n, rows)
 }

@@ -2,17 +2,15 @@
 use mathlib.Core.List.{List, [], _∷_, _++_}
 use Prim.Native.Nat.{ℕ}
 use lib.ListN.{getD, take}
-use Rattle.record.specs.Stored.{recordOf}
-use Rattle.text.specs.Text.{textOf}
 use Rattle.report.specs.Report.{reportOf}
 use Rattle.ledger.specs.declared.Bench.{Bench}
-use Rattle.answers.specs.Answers.{answerLine}
+use Rattle.answers.specs.Answers.{recordText}
 use Rattle.asks.specs.Asks.{hiddenText, scheduleText, catalogueText, journalText, pageText}
 use Rattle.desk.specs.Desk.{Desk, Cells, Effect, ledgerOf, benchIn, tells, noEffect}
 
 -- the counts of the record and its text
-unfoldable pub textIn : Bench → List ℕ
-textIn b = answerLine 5 (b .multilog .editcount ∷ b .multilog .constraintcount ∷ []) ++ textOf (recordOf (b .multilog))
+abbrev pub textIn : Bench → List ℕ
+textIn b = recordText (b .multilog)
 
 abbrev pub hiddenIn : Bench → List ℕ
 hiddenIn b = hiddenText (take (b .multilog .editcount) (b .multilog .edits)) (b .hidden)

@@ -17,13 +17,13 @@ use Rattle.ledger.specs.Bench.{benchOf, outcome}
 use Rattle.ledger.proofs.Undone.{fed-more}
 use Rattle.forms.specs.Printed.{Printed}
 use Rattle.forms.proofs.Printing.{printed-nothing}
-use Rattle.answers.specs.Answers.{answerLine}
+use Rattle.answers.specs.Answers.{answerLine, bit}
 use Rattle.lending.specs.declared.Lending.{Lending}
 use Rattle.lending.specs.Kept.{Kept}
 use Rattle.desk.specs.Desk.{Desk, Cells, Request, outside, make, ledgerOf, benchIn, requested, replied, printedOf}
 use Rattle.desk.specs.Lends.{lendingOf, lendings, lendEdit, lendConstraint, lendNothing, lendBench, lendSeat, lendNoRoll, lendName, lendNoRow}
 use Rattle.desk.specs.Requests.{requestOf}
-use Rattle.desk_calls.specs.Lines.{Holds, bit, pagesText, adoptionText, callText, callOf, outcomeText}
+use Rattle.desk_calls.specs.Lines.{Holds, pagesText, adoptionText, callText, callOf, outcomeText}
 
 module _ {before : List ℕ} {at : ℕ} where
   pub setting-none : (number : ℕ) (text : List ℕ) → number ≡ 0 → at ≤ suc (length before) → Printed (cond (eqb number 0) [] text) before at before at

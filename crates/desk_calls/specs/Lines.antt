@@ -1,6 +1,6 @@
 -- A desk in memory, and what a line that lends or makes a call prints. Assumes nothing.
 use mathlib.Core.Path.{_≡_}
-use mathlib.Core.Bool.{Bool, cond}
+use mathlib.Core.Bool.{cond}
 use mathlib.Core.List.{List, [], _∷_}
 use Prim.Native.Nat.{ℕ}
 use lib.Dec.{eqb}
@@ -9,7 +9,7 @@ use Rattle.turner.specs.declared.Turner.{Turner}
 use Rattle.ledger.specs.declared.Answer.{Answer}
 use Rattle.ledger.specs.declared.Bench.{Bench}
 use Rattle.ledger.specs.Ledger.{Ledger, last}
-use Rattle.answers.specs.Answers.{answerLine}
+use Rattle.answers.specs.Answers.{answerLine, bit, answered}
 use Rattle.lending.specs.declared.Lending.{Lending}
 use Rattle.lending.specs.Kept.{Kept}
 use Rattle.desk.specs.Desk.{Desk, Cells, Effect, benchIn, requested, printedOf}
@@ -19,10 +19,6 @@ use Rattle.desk.specs.Requests.{requestOf}
 pub record Holds (D : Desk) (bench : Bench) (lending : Lending) (edits constraints : Rows) : Type 0 where
   pub benched : bench ≡ benchIn D
   pub kept : Kept (D .lent) lending edits constraints
-
--- yes is 1 and no is 0
-abbrev pub bit : Bool → ℕ
-bit b = cond b 1 0
 
 -- what an accepted call prints, and an accepted adoption: pages undone and redone, the open and the last page
 unfoldable pub pagesText : Answer → ℕ → ℕ → List ℕ
@@ -41,4 +37,4 @@ callOf which D c = requested D (λ a L. callText which a (L .opened) (last L)) (
 
 -- the same from the answer and the open and last page that the code has
 unfoldable pub outcomeText : ℕ → Answer → Turner → ℕ → List ℕ
-outcomeText which a t line = cond (eqb (a .number) 0) (callText which a (t .opened) (t .last)) (answerLine 0 (a .number ∷ line ∷ []))
+outcomeText which a t line = answered (a .number) (callText which a (t .opened) (t .last)) line

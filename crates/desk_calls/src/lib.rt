@@ -11,18 +11,10 @@ ghost use Prim.Native.Nat.{suc, _<_, _≤_};
 ghost use lib.Dec.{eqb};
 ghost use lib.ListN.{length};
 ghost use Rattle.forms.specs.Printed.{Printed};
-ghost use Rattle.answers.specs.Answers.{answerLine};
+ghost use Rattle.answers.specs.Answers.{answerLine, bit};
 ghost use Rattle.desk.specs.Desk.{Desk, printedOf};
 ghost use Rattle.desk.specs.Lends.{lendingOf};
-ghost use Rattle.desk_calls.specs.Lines.{Holds, bit, pagesText, adoptionText, outcomeText};
-
-// The line of a refusal.
-pub fn print_refusal(number: u32, line: usize, out: &mut [u8], at: usize) -> usize
-    ensures { λ r. ⌜ Printed (answerLine 0 (number ∷ line ∷ [])) (now (out .entry)) at (now (out .exit)) r ⌝ }
-{
-    let numbers = [number as u64, line as u64];
-    answers::tell(&mut out[..], at, 0, &numbers)
-}
+ghost use Rattle.desk_calls.specs.Lines.{Holds, pagesText, adoptionText, outcomeText};
 
 // An accepted line that lends prints nothing.
 fn print_setting(number: u32, line: usize, out: &mut [u8], at: usize) -> usize
@@ -31,7 +23,7 @@ fn print_setting(number: u32, line: usize, out: &mut [u8], at: usize) -> usize
     if number == 0 {
         return at;
     }
-    print_refusal(number, line, &mut out[..], at)
+    answers::print_refusal(number, line, &mut out[..], at)
 }
 
 fn bit_of(b: bool) -> u64
@@ -84,7 +76,7 @@ pub fn print_outcome(
     ensures { λ r. ⌜ Printed (outcomeText which answer turner line) (now (out .entry)) at (now (out .exit)) r ⌝ }
 {
     if answer.number != 0 {
-        return print_refusal(answer.number, line, &mut out[..], at);
+        return answers::print_refusal(answer.number, line, &mut out[..], at);
     }
     if which == 5 {
         return print_adoption(answer, turner, &mut out[..], at);

@@ -11,10 +11,10 @@ use Rattle.bundle.specs.declared.BundleAnswer.{BundleAnswer}
 use Rattle.join.specs.declared.Joined.{Joined}
 use Rattle.lent.specs.declared.RowAnswer.{RowAnswer}
 use Rattle.suggest.specs.declared.Suggested.{Suggested}
-use Rattle.answers.specs.Answers.{answerLine}
+use Rattle.answers.specs.Answers.{answerLine, answered, storedText, recordText}
 use Rattle.forms.specs.Printed.{Printed}
 use Rattle.forms.proofs.Printing.{printed-both}
-use Rattle.desk_votes.specs.Votes.{answered, electionLine, storedText, bundleText, recordText, ruleLine, suggestionText, testLine}
+use Rattle.desk_votes.specs.Votes.{electionLine, bundleText, ruleLine, suggestionText, testLine}
 
 module _ (number line : ℕ) (text before : List ℕ) (at : ℕ) {after : List ℕ} {end : ℕ} where
   pub refused-so : (number ≡ 0 → ⊥) → Printed (answerLine 0 (number ∷ line ∷ [])) before at after end → Printed (answered number text line) before at after end

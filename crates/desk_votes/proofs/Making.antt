@@ -25,7 +25,8 @@ use Rattle.lending.specs.Lent.{Lent, isLent, withRecord}
 use Rattle.lending.specs.Kept.{Kept}
 use Rattle.lent_proposals.specs.Made.{tablesOf, proposalOf, proposalIn}
 use Rattle.desk.specs.Desk.{Desk, Cells, printedOf}
-use Rattle.desk_votes.specs.Votes.{answered, recordText, makeProposal, votes, voteOf}
+use Rattle.answers.specs.Answers.{answered, recordText}
+use Rattle.desk_votes.specs.Votes.{makeProposal, votes, voteOf}
 
 -- a new proposal is within the limits
 module _ (t : proposal.Lent) (z : proposalFault t ≡ 0) where

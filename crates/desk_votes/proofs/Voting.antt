@@ -18,7 +18,8 @@ use Rattle.ledger.proofs.Valid.{start-valid, fed-valid}
 use Rattle.forms.specs.Printed.{Printed}
 use Rattle.lent_calls.specs.Calls.{proposalsOf, bundleIn, rowIn, suggestedIn}
 use Rattle.desk.specs.Desk.{Desk, Cells, Effect, ledgerOf, benchIn, printedOf}
-use Rattle.desk_votes.specs.Votes.{answered, electionLine, bundleText, suggestionText, testLine, electEdit, askBundle, askSuggestion, testRow, votes, voteOf}
+use Rattle.answers.specs.Answers.{answered}
+use Rattle.desk_votes.specs.Votes.{electionLine, bundleText, suggestionText, testLine, electEdit, askBundle, askSuggestion, testRow, votes, voteOf}
 
 -- the bench's record in memory, and what holds of it
 pub bench-stored : (D : Desk) {multilog : declared.Record} → multilog ≡ benchIn D .multilog → multilog ≡ stored (ledgerOf D .multilog)

@@ -1,31 +1,21 @@
 -- The lines of a call log about votes, proposals, suggestions and the test of a row, in the order of the log's forms. Assumes nothing.
-use mathlib.Core.Bool.{Bool, cond, _&&_}
+use mathlib.Core.Bool.{cond, _&&_}
 use mathlib.Core.List.{List, [], _∷_, _++_}
 use Prim.Native.Nat.{ℕ, _+_}
 use lib.Dec.{eqb, leb}
 use lib.ListN.{getD}
-use Rattle.record.specs.declared.Record as declared
 use Rattle.record.specs.Stored.{recordOf}
 use Rattle.row.specs.Row.{Row, cell}
-use Rattle.text.specs.Text.{textOf}
 use Rattle.vote.specs.declared.Election.{Election}
 use Rattle.election.specs.Election.{electionOf}
 use Rattle.bundle.specs.declared.BundleAnswer.{BundleAnswer}
 use Rattle.lent.specs.declared.RowAnswer.{RowAnswer}
 use Rattle.suggest.specs.declared.Suggested.{Suggested}
-use Rattle.answers.specs.Answers.{answerLine}
+use Rattle.answers.specs.Answers.{answerLine, bit, storedText, recordText}
 use Rattle.lending.specs.Lent.{withRecord}
 use Rattle.lent_calls.specs.Calls.{proposalsOf, bundleIn, rowIn, suggestedIn}
 use Rattle.lent_proposals.specs.Made.{proposalIn}
 use Rattle.desk.specs.Desk.{Desk, Cells, Effect, ledgerOf, tells, noEffect}
-
--- yes is 1 and no is 0
-abbrev pub bit : Bool → ℕ
-bit b = cond b 1 0
-
--- the answer, or the refusal with the line's number
-abbrev pub answered : ℕ → List ℕ → ℕ → List ℕ
-answered number text line = cond (eqb number 0) text (answerLine 0 (number ∷ line ∷ []))
 
 unfoldable pub electionLine : Election → List ℕ
 electionLine E = answerLine 2 (bit (E .won) ∷ E .greatest ∷ E .silent ∷ E .total ∷ [])
@@ -33,18 +23,11 @@ electionLine E = answerLine 2 (bit (E .won) ∷ E .greatest ∷ E .silent ∷ E 
 unfoldable pub electEdit : Desk → Cells → Effect
 electEdit D c = let E = electionOf (cell c 0) (proposalsOf (D .lent)) (D .lent .roll) in tells D (E .number) (electionLine E)
 
--- the counts of a record and its text
-abbrev pub storedText : declared.Record → List ℕ
-storedText r = textOf (recordOf r)
-
 unfoldable pub bundleText : BundleAnswer → List ℕ
 bundleText b = answerLine 4 (bit (b .eligible) ∷ b .bundle .editcount ∷ b .bundle .constraintcount ∷ []) ++ storedText (b .bundle)
 
 unfoldable pub askBundle : Desk → Cells → Effect
 askBundle D c = let b = bundleIn (D .lent) (cell c 1) (cell c 0) in tells D (b .number) (bundleText b)
-
-unfoldable pub recordText : declared.Record → List ℕ
-recordText r = answerLine 5 (r .editcount ∷ r .constraintcount ∷ []) ++ storedText r
 
 -- kept, an accepted proposal takes the place of the old one
 unfoldable pub makeProposal : Desk → Cells → Effect

@@ -11,11 +11,11 @@ ghost use mathlib.Core.Path.{_≡_};
 ghost use mathlib.Core.Bool.{cond};
 ghost use mathlib.Core.List.{[], _∷_};
 ghost use Prim.Native.Nat.{ℕ, _+_, _<_};
-ghost use Rattle.answers.specs.Answers.{answerLine};
 ghost use Rattle.forms.specs.Printed.{Printed};
 ghost use Rattle.lending.specs.Kept.{Kept};
 ghost use Rattle.desk.specs.Desk.{Desk, benchIn, printedOf};
-ghost use Rattle.desk_votes.specs.Votes.{answered, electionLine, bundleText, recordText, ruleLine, suggestionText, testLine, voteOf};
+ghost use Rattle.answers.specs.Answers.{answered, recordText};
+ghost use Rattle.desk_votes.specs.Votes.{electionLine, bundleText, ruleLine, suggestionText, testLine, voteOf};
 
 fn bit(b: bool) -> u64
     ensures { λ r. ⌜ r ≡ cond b 1 0 ⌝ }
@@ -23,18 +23,11 @@ fn bit(b: bool) -> u64
     if b { 1 } else { 0 }
 }
 
-// The line of a refusal.
-fn print_refusal(number: u32, line: usize, out: &mut [u8], at: usize) -> usize
-    ensures { λ r. ⌜ Printed (answerLine 0 (number ∷ line ∷ [])) (now (out .entry)) at (now (out .exit)) r ⌝ }
-{
-    answers::tell(&mut out[..], at, 0, &[number as u64, line as u64])
-}
-
 fn print_election(election: Election, line: usize, out: &mut [u8], at: usize) -> usize
     ensures { λ r. ⌜ Printed (answered (election .number) (electionLine election) line) (now (out .entry)) at (now (out .exit)) r ⌝ }
 {
     if election.number != 0 {
-        return print_refusal(election.number, line, &mut out[..], at);
+        return answers::print_refusal(election.number, line, &mut out[..], at);
     }
     let won = bit(election.won);
     answers::tell(
@@ -54,7 +47,7 @@ fn print_bundle(answer: BundleAnswer, line: usize, out: &mut [u8], at: usize) ->
     ensures { λ r. ⌜ Printed (answered (answer .number) (bundleText answer) line) (now (out .entry)) at (now (out .exit)) r ⌝ }
 {
     if answer.number != 0 {
-        return print_refusal(answer.number, line, &mut out[..], at);
+        return answers::print_refusal(answer.number, line, &mut out[..], at);
     }
     let small = answer.bundle;
     let eligible = bit(answer.eligible);
@@ -114,7 +107,7 @@ fn print_suggestion(suggested: Suggested, line: usize, out: &mut [u8], at: usize
     ensures { λ r. ⌜ Printed (answered (suggested .number) (suggestionText suggested) line) (now (out .entry)) at (now (out .exit)) r ⌝ }
 {
     if suggested.number != 0 {
-        return print_refusal(suggested.number, line, &mut out[..], at);
+        return answers::print_refusal(suggested.number, line, &mut out[..], at);
     }
     print_rules(suggested, &mut out[..], at)
 }
@@ -123,7 +116,7 @@ fn print_test(answer: RowAnswer, line: usize, out: &mut [u8], at: usize) -> usiz
     ensures { λ r. ⌜ Printed (answered (answer .number) (testLine answer) line) (now (out .entry)) at (now (out .exit)) r ⌝ }
 {
     if answer.number != 0 {
-        return print_refusal(answer.number, line, &mut out[..], at);
+        return answers::print_refusal(answer.number, line, &mut out[..], at);
     }
     let sound = bit(answer.sound);
     answers::tell(&mut out[..], at, 7, &[sound])
@@ -177,7 +170,7 @@ fn print_made(made: Joined, line: usize, out: &mut [u8], at: usize) -> usize
     ensures { λ r. ⌜ Printed (answered (made .number) (recordText (made .after)) line) (now (out .entry)) at (now (out .exit)) r ⌝ }
 {
     if made.number != 0 {
-        return print_refusal(made.number, line, &mut out[..], at);
+        return answers::print_refusal(made.number, line, &mut out[..], at);
     }
     let after = made.after;
     let head = answers::tell(

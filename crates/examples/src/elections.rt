@@ -29,11 +29,11 @@ fn rows(first: RollRow, second: RollRow, third: RollRow) -> [RollRow; 9] {
 
 fn told(label: &[u8], answer: Election) {
     print::text(label);
-    print::number(b": number=", print::wide(answer.number));
+    print::number(b": number=", numbers::wide32(answer.number));
     print::number(b" won=", print::bit(answer.won));
-    print::number(b" greatest=", print::wide(answer.greatest));
-    print::number(b" silent=", print::wide(answer.silent));
-    print::number(b" total=", print::wide(answer.total));
+    print::number(b" greatest=", numbers::wide32(answer.greatest));
+    print::number(b" silent=", numbers::wide32(answer.silent));
+    print::number(b" total=", numbers::wide32(answer.total));
     print::text(b"\n");
 }
 
@@ -99,12 +99,12 @@ fn adopted(label: &[u8], outcome: Outcome) -> Bench {
     let bench = outcome.bench;
     let turner = bench.turner;
     print::text(label);
-    print::number(b": number=", print::wide(answer.number));
+    print::number(b": number=", numbers::wide32(answer.number));
     print::number(b" undone=", answer.undone as u64);
     print::number(b" redone=", answer.redone as u64);
     print::number(b" won=", print::bit(answer.won));
-    print::number(b" greatest=", print::wide(answer.greatest));
-    print::number(b" total=", print::wide(answer.total));
+    print::number(b" greatest=", numbers::wide32(answer.greatest));
+    print::number(b" total=", numbers::wide32(answer.total));
     print::number(b" open=", turner.opened as u64);
     print::number(b" last=", turner.last as u64);
     print::text(b"\n");

@@ -11,15 +11,7 @@ fn number(label: &[u8], n: u64) {
     io::print_decimal(STDOUT_FILENO, n);
 }
 
-fn wide(n: u32) -> u64 {
-    n as u64
-}
-
-fn mark(n: u8) -> u64 {
-    n as u64
-}
-
-fn bit(b: bool) -> u64 {
+pub fn bit(b: bool) -> u64 {
     if b { 1 } else { 0 }
 }
 
@@ -29,10 +21,10 @@ fn edit(judgement: Judgement, index: usize) {
         return;
     }
     number(b"  edit ", index as u64);
-    number(b": must=", mark(judgement.must[index]));
-    number(b" never=", mark(judgement.never[index]));
-    number(b" settled=", mark(judgement.settled[index]));
-    number(b" place=", mark(judgement.place[index]));
+    number(b": must=", numbers::wide8(judgement.must[index]));
+    number(b" never=", numbers::wide8(judgement.never[index]));
+    number(b" settled=", numbers::wide8(judgement.settled[index]));
+    number(b" place=", numbers::wide8(judgement.place[index]));
     text(b"\n");
 }
 
@@ -41,7 +33,7 @@ pub fn judgement(label: &[u8], edits: &[[u32; 5]], constraints: &[[u32; 3]]) {
     let answer = lent::judge_lent(edits, constraints);
     let count = answer.count;
     text(label);
-    number(b": number=", wide(answer.number));
+    number(b": number=", numbers::wide32(answer.number));
     number(b" edits=", count as u64);
     text(b"\n");
     if 0 < count {
@@ -62,7 +54,7 @@ pub fn judgement(label: &[u8], edits: &[[u32; 5]], constraints: &[[u32; 3]]) {
 pub fn refusal(label: &[u8], edits: &[[u32; 5]], constraints: &[[u32; 3]]) {
     let answer = lent::judge_lent(edits, constraints);
     text(label);
-    number(b": number=", wide(answer.number));
+    number(b": number=", numbers::wide32(answer.number));
     text(b"\n");
 }
 
@@ -70,7 +62,7 @@ pub fn refusal(label: &[u8], edits: &[[u32; 5]], constraints: &[[u32; 3]]) {
 pub fn row(label: &[u8], edits: &[[u32; 5]], constraints: &[[u32; 3]], names: &[u32]) {
     let answer = lent::test_row(edits, constraints, names);
     text(label);
-    number(b": number=", wide(answer.number));
+    number(b": number=", numbers::wide32(answer.number));
     number(b" sound=", bit(answer.sound));
     text(b"\n");
 }

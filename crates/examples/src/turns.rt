@@ -14,7 +14,7 @@ fn tell_turn(label: &[u8], by: i32) {
     let number = answer.number;
     let page = answer.opened;
     print::text(label);
-    print::number(b"number=", print::wide(number as u32));
+    print::number(b"number=", numbers::wide32(number as u32));
     print::number(b" page=", page as u64);
     print::text(b"\n");
 }
@@ -26,7 +26,7 @@ fn tell_entry(label: &[u8], catalogue: Catalogue) {
     print::text(label);
     print::number(b"present=", print::bit(entry.present));
     print::number(b" filled=", print::bit(size.filled));
-    print::number(b" size=", print::wide(size.value));
+    print::number(b" size=", numbers::wide32(size.value));
     print::text(b"\n");
 }
 

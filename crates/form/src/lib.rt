@@ -10,6 +10,7 @@ ghost use Rattle.decimal.specs.Decimal.{decimal};
 ghost use Rattle.decimal.specs.Written.{Written};
 ghost use Rattle.form.specs.Spelling.{nameSpelling, answerSpelling, startsWith, numeralOf};
 ghost use Rattle.form.specs.Form.{isMark, spelling, fill, taken, told};
+ghost use Rattle.form.specs.Fit.{fitAfter};
 use decimal::Numeral;
 
 // The numbers with which a form gives a text, cut off at 2^32, or that it does not. Places past the form's own numbers hold 0.
@@ -148,32 +149,33 @@ fn number_at(numbers: &[u64], k: usize) -> u64
     0
 }
 
-// How many bytes the form takes with these numbers. Pub for `report`, whose forms are short.
-pub fn form_length(form: &[u8], numbers: &[u64]) -> usize
-    requires { ⌜ length (now form) ≤ 4096 ⌝ }
-    ensures { λ r. ⌜ r ≡ length (fill (now (form .entry)) (now (numbers .entry))) ⌝ }
-{
-    let mut total = 0;
-    let mut i = 0;
-    let mut k = 0;
-    while i < form.len() {
-        let c = form[i];
-        i += 1;
-        if is_mark(c) {
-            let n = number_at(numbers, k);
-            total += mark_length(c, n);
-            k += 1;
-        } else {
-            total += 1;
-        }
-    }
-    total
+// Whether all that was counted fits a room, and how much of the room is then left.
+pub struct Fit {
+    pub fits: bool,
+    pub left: usize,
 }
 
-fn counted_fits(form: &[u8], numbers: &[u64], room: usize) -> bool
-    ensures { λ r. ⌜ r ≡ leb (length (fill (now (form .entry)) (now (numbers .entry)))) room ⌝ }
+// What is left after so many bytes more. Pub for the crates that count lines.
+pub fn fit_more(fit: Fit, size: usize) -> Fit
+    ensures { λ r. ⌜ r ≡ fitAfter fit size ⌝ }
 {
-    let mut left = room;
+    if fit.left < size {
+        return Fit {
+            fits: false,
+            left: 0,
+        };
+    }
+    Fit {
+        fits: fit.fits,
+        left: fit.left - size,
+    }
+}
+
+// What is left after the form with these numbers. Pub for `report`, as before.
+pub fn form_fit(fit: Fit, form: &[u8], numbers: &[u64]) -> Fit
+    ensures { λ r. ⌜ r ≡ fitAfter fit (length (fill (now (form .entry)) (now (numbers .entry)))) ⌝ }
+{
+    let mut rest = fit;
     let mut i = 0;
     let mut k = 0;
     while i < form.len() {
@@ -181,20 +183,13 @@ fn counted_fits(form: &[u8], numbers: &[u64], room: usize) -> bool
         i += 1;
         if is_mark(c) {
             let n = number_at(numbers, k);
-            let size = mark_length(c, n);
-            if left < size {
-                return false;
-            }
-            left -= size;
+            rest = fit_more(rest, mark_length(c, n));
             k += 1;
         } else {
-            if left < 1 {
-                return false;
-            }
-            left -= 1;
+            rest = fit_more(rest, 1);
         }
     }
-    true
+    rest
 }
 
 // Whether the form with these numbers takes at most so many bytes. A byte of the form gives at most twenty, so where the room is ample
@@ -205,7 +200,12 @@ pub fn form_fits(form: &[u8], numbers: &[u64], room: usize) -> bool
     if form.len() <= room / 20 {
         return true;
     }
-    counted_fits(form, numbers, room)
+    let whole = Fit {
+        fits: true,
+        left: room,
+    };
+    let fit = form_fit(whole, form, numbers);
+    fit.fits
 }
 
 // Writes a word to the start of out, and answers how many bytes that took.

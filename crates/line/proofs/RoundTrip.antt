@@ -15,7 +15,7 @@ use Rattle.lists.proofs.Lists.{by, clash, and-l, and-r}
 use Rattle.form.specs.Spelling.{bytes, numberSpelling, nameSpelling, answerSpelling}
 use Rattle.form.specs.Form.{isMark, spelling, fill, taken}
 use Rattle.form.proofs.Forms.{slots, spelled-all, separate, differ, taken-fill, fill-taken, taken-other, room, Small, fill-room, oneLine, Ended, fill-ended}
-use Rattle.line.specs.Line.{setForm, editForm, ruleForm, editLine, constraintLine, editSaid, constraintSaid, faulty, Shape, editShape, ruleShape, setShapes, ruleShapes, shapes, fitsWord, said, readAs, readBy, lineRead}
+use Rattle.line.specs.Line.{setForm, editForm, ruleForm, editLine, constraintLine, editSaid, constraintSaid, faulty, Shape, editShape, ruleShape, setShapes, ruleShapes, shapes, fitsWord, said, readAs, readBy, lineRead, lineLimit}
 use Rattle.line.specs.Row.{isEditRow, isConstraintRow}
 use Rattle.line.specs.Lines.{lines}
 use Rattle.line.specs.declared.Line.{Line}
@@ -79,7 +79,7 @@ edit-line-first row rest = line-of-ended (editLine row) rest (edit-line-ended ro
 pub constraint-line-first : (row rest : List ℕ) → lines (constraintLine row ++ rest) ≡ constraintLine row ∷ lines rest
 constraint-line-first row rest = line-of-ended (constraintLine row) rest (constraint-line-ended row)
 
-short : (f ns : List ℕ) → fine f ≡ true → Small ns → length (fill f ns) ≤ 101
+short : (f ns : List ℕ) → fine f ≡ true → Small ns → length (fill f ns) ≤ lineLimit
 short f ns h s = omega (arith, fill-room f ns s, ltb-true (room f) 102 (and-r (oneLine f) (ltb (room f) 102) h))
 
 cell-small : (row : List ℕ) (i : ℕ) → all fitsWord row ≡ true → getD row i 0 < 4294967296
@@ -88,11 +88,11 @@ cell-small [] i h = omega arith
 cell-small (x ∷ row) zero h = ltb-true x 4294967296 (and-l (fitsWord x) (all fitsWord row) h)
 cell-small (x ∷ row) (suc i) h = cell-small row i (and-r (fitsWord x) (all fitsWord row) h)
 
-pub edit-line-short : (row : List ℕ) → all fitsWord row ≡ true → length (editLine row) ≤ 101
+pub edit-line-short : (row : List ℕ) → all fitsWord row ≡ true → length (editLine row) ≤ lineLimit
 unfolding editLine
 edit-line-short row h = short (editForm (getD row 1 0) (getD row 3 0)) _ (edit-fine (getD row 1 0) (getD row 3 0)) (cell-small row 0 h, (cell-small row 2 h, (cell-small row 4 h, tt)))
 
-pub constraint-line-short : (row : List ℕ) → all fitsWord row ≡ true → length (constraintLine row) ≤ 101
+pub constraint-line-short : (row : List ℕ) → all fitsWord row ≡ true → length (constraintLine row) ≤ lineLimit
 unfolding constraintLine
 constraint-line-short row h = short (ruleForm (getD row 1 0)) _ (rule-fine (getD row 1 0)) (cell-small row 0 h, (cell-small row 2 h, tt))
 
@@ -179,9 +179,9 @@ read-edit-cells n (suc (suc zero)) p f v a h l u =
     (read-remove n p (fits-cell row 0 a) (fits-cell row 2 a))
 read-edit-cells n (suc (suc (suc k))) p f v a h l u = absurd (omega arith)
 
-read-short : (s : List ℕ) → length s ≤ 101 → lineRead s ≡ readBy shapes s
+read-short : (s : List ℕ) → length s ≤ lineLimit → lineRead s ≡ readBy shapes s
 unfolding lineRead
-read-short s h = rw (le-ltb 101 (length s) h)
+read-short s h = rw (le-ltb lineLimit (length s) h)
 
 edit-row-parts : {P : Type 0} (row : List ℕ) → isEditRow row ≡ true
     → (eqb (length row) 5 ≡ true → all fitsWord row ≡ true → getD row 1 0 < 3 → getD row 3 0 < 4 → (eqb (getD row 1 0) 1 || (eqb (getD row 3 0) 0 && eqb (getD row 4 0) 0)) ≡ true → P) → P
@@ -358,9 +358,9 @@ each = (
 pub line-back : (s : List ℕ) → (lineRead s) .number ≡ 0 → (s ≡ lineText (lineRead s)) × (rowInForm (lineRead s) ≡ true)
 unfolding lineRead
 line-back s =
-    by (ltb 101 (length s))
-    (λ (e : ltb 101 (length s) ≡ true). rw e (λ z. one-not-zero z))
-    (λ (e : ltb 101 (length s) ≡ false). rw e (by-back shapes s each))
+    by (ltb lineLimit (length s))
+    (λ (e : ltb lineLimit (length s) ≡ true). rw e (λ z. one-not-zero z))
+    (λ (e : ltb lineLimit (length s) ≡ false). rw e (by-back shapes s each))
 
 said-saying : (h : Shape) → Says h → (o : Option (List ℕ)) → Saying (said h o)
 said-saying h w none = fault-one refl
@@ -378,6 +378,6 @@ by-saying (h ∷ hs) s w =
 pub line-saying : (s : List ℕ) → Saying (lineRead s)
 unfolding lineRead
 line-saying s =
-    by (ltb 101 (length s))
-    (λ (e : ltb 101 (length s) ≡ true). rw e (fault-one refl))
-    (λ (e : ltb 101 (length s) ≡ false). rw e (by-saying shapes s each))
+    by (ltb lineLimit (length s))
+    (λ (e : ltb lineLimit (length s) ≡ true). rw e (fault-one refl))
+    (λ (e : ltb lineLimit (length s) ≡ false). rw e (by-saying shapes s each))

@@ -16,7 +16,7 @@ use Rattle.form.specs.Spelling.{bytes, nameSpelling, numberSpelling}
 use Rattle.form.specs.Form.{isMark, spelling, taken, told}
 use Rattle.form.specs.declared.Filled.{Filled}
 use Rattle.form.proofs.Forms.{slots, fill-taken}
-use Rattle.line.specs.Line.{setForm, editForm, ruleForm, editSaid, constraintSaid, faulty, Shape, editShape, ruleShape, setShapes, ruleShapes, shapes, fitsWord, said, readAs, orElse, readBy, lineRead}
+use Rattle.line.specs.Line.{setForm, editForm, ruleForm, editSaid, constraintSaid, faulty, Shape, editShape, ruleShape, setShapes, ruleShapes, shapes, fitsWord, said, readAs, orElse, readBy, lineRead, lineLimit}
 use Rattle.line.specs.declared.Line.{Line}
 use Rattle.line.proofs.Signs.{ends, ends-run, ends-number, otherwise, Sign, sign, Shows, ruledOut, ruled-out, allBut, third-sign, letter}
 
@@ -292,13 +292,13 @@ module _ (s : List ℕ) (name : ℕ) (third : getD s 2 0 ≡ 102) (p : name ≡ 
 
 -- the whole line
 module _ (s : List ℕ) {r : Line} where
-  pub too-long : 101 < length s → r ≡ faulty 1 → r ≡ lineRead s
+  pub too-long : lineLimit < length s → r ≡ faulty 1 → r ≡ lineRead s
   unfolding lineRead
-  too-long h e = rw (lt-ltb 101 (length s) h) e
+  too-long h e = rw (lt-ltb lineLimit (length s) h) e
 
-  pub whole : length s ≤ 101 → r ≡ readBy shapes s → r ≡ lineRead s
+  pub whole : length s ≤ lineLimit → r ≡ readBy shapes s → r ≡ lineRead s
   unfolding lineRead
-  whole h e = rw (le-ltb 101 (length s) h) e
+  whole h e = rw (le-ltb lineLimit (length s) h) e
 
   pub no-line : {x : ℕ} → x ≡ getD s 2 0 → x ≢ 105 → x ≢ 102 → r ≡ faulty 1 → r ≡ readBy shapes s
   unfolding shapes setShapes ruleShapes editForm setForm ruleForm bytes all allBut ruledOut otherwise isMark

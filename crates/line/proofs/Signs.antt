@@ -19,6 +19,7 @@ use Rattle.decimal.proofs.Parts.{part-to-end}
 use Rattle.decimal.proofs.Laws.{number-short}
 use Rattle.decimal.proofs.RoundTrip.{size-nothing}
 use Rattle.form.specs.Spelling.{bytes}
+use Rattle.line.specs.Line.{lineLimit}
 use Rattle.form.specs.Form.{isMark, spelling, more, starts, taken}
 use Rattle.form.proofs.Lawful.{lawful}
 use Rattle.form.proofs.Forms.{mark-taken, mark-missing, byte-taken, byte-missing, plain}
@@ -169,5 +170,5 @@ module _ (s : List ℕ) (from : ℕ) where
     pub number-ends : from ≤ length s → (from + numeral .size ≡ from + numeralSize (drop from s)) × (from + numeral .size ≤ from + length s)
     number-ends h = (ap (λ (n : ℕ). from + n) number-size, omega (arith, number-inside h))
 
-pub name-near : (s : List ℕ) (name : ℕ) → length s ≤ 101 → name ≡ 5 + numeralSize (drop 5 s) → name ≤ 106
+pub name-near : (s : List ℕ) (name : ℕ) → length s ≤ lineLimit → name ≡ 5 + numeralSize (drop 5 s) → name ≤ 106
 name-near s name h e = omega (arith, number-short (drop 5 s), length-drop 5 s)

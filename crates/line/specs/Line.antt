@@ -84,6 +84,9 @@ unfoldable pub readBy : List Shape → List ℕ → Line
 readBy [] s = faulty 1
 readBy (shape ∷ rest) s = orElse (readAs shape s) (readBy rest s)
 
--- a line with its end, at most 100 bytes before it
+-- a line has at most 100 bytes before its end
+abbrev pub lineLimit : ℕ
+lineLimit = 101
+
 unfoldable pub lineRead : List ℕ → Line
-lineRead s = cond (ltb 101 (length s)) (faulty 1) (readBy shapes s)
+lineRead s = cond (ltb lineLimit (length s)) (faulty 1) (readBy shapes s)

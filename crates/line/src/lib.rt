@@ -7,9 +7,12 @@ ghost use lib.ListN.{length, drop, getD};
 ghost use Rattle.decimal.specs.Decimal.{decimal, numeralSize};
 ghost use Rattle.decimal.specs.Written.{Written};
 ghost use Rattle.form.specs.Form.{fill, taken, told};
-ghost use Rattle.line.specs.Line.{setForm, editForm, ruleForm, editLine, constraintLine, faulty, editShape, ruleShape, shapes, readAs, readBy, lineRead};
+ghost use Rattle.line.specs.Line.{setForm, editForm, ruleForm, editLine, constraintLine, faulty, editShape, ruleShape, shapes, readAs, readBy, lineLimit, lineRead};
 ghost use Rattle.line.specs.Lines.{firstLine};
 use form::Filled;
+
+// At most 100 bytes and the end. Pub for the crates that read lines of other forms.
+pub const LINE_LIMIT: usize = 101;
 
 // What a line says. Number 0: a row, an edit's or a constraint's; 1: it is not in form; 2: a number in it does not fit 32 bits.
 // Cells that say nothing hold 0.
@@ -145,7 +148,7 @@ pub fn number_end(bytes: &[u8], from: usize) -> usize
 
 // Set, by the letter after `field=`; the name ends at `name`.
 fn read_set(bytes: &[u8], name: usize) -> Line
-    requires { ⌜ (length (now bytes) ≤ 101) × (name ≡ 5 + numeralSize (drop 5 (now bytes))) × (getD (now bytes) 2 0 ≡ 105) × (getD (now bytes) (name + 4) 0 ≡ 115) ⌝ }
+    requires { ⌜ (length (now bytes) ≤ lineLimit) × (name ≡ 5 + numeralSize (drop 5 (now bytes))) × (getD (now bytes) 2 0 ≡ 105) × (getD (now bytes) (name + 4) 0 ≡ 115) ⌝ }
     ensures { λ r. ⌜ r ≡ readBy shapes (now (bytes .entry)) ⌝ }
 {
     let chip = number_end(bytes, name + 13);
@@ -161,7 +164,7 @@ fn read_set(bytes: &[u8], name: usize) -> Line
 
 // An edit, by the letter after `do=`.
 fn read_edit(bytes: &[u8]) -> Line
-    requires { ⌜ (length (now bytes) ≤ 101) × (getD (now bytes) 2 0 ≡ 105) ⌝ }
+    requires { ⌜ (length (now bytes) ≤ lineLimit) × (getD (now bytes) 2 0 ≡ 105) ⌝ }
     ensures { λ r. ⌜ r ≡ readBy shapes (now (bytes .entry)) ⌝ }
 {
     let name = number_end(bytes, 5);
@@ -176,7 +179,7 @@ fn read_edit(bytes: &[u8]) -> Line
 
 // A constraint, by its rule's third letter.
 fn read_rule(bytes: &[u8]) -> Line
-    requires { ⌜ (length (now bytes) ≤ 101) × (getD (now bytes) 2 0 ≡ 102) ⌝ }
+    requires { ⌜ (length (now bytes) ≤ lineLimit) × (getD (now bytes) 2 0 ≡ 102) ⌝ }
     ensures { λ r. ⌜ r ≡ readBy shapes (now (bytes .entry)) ⌝ }
 {
     let name = number_end(bytes, 5);
@@ -193,7 +196,7 @@ fn read_rule(bytes: &[u8]) -> Line
 pub fn read_line(bytes: &[u8]) -> Line
     ensures { λ r. ⌜ r ≡ lineRead (now (bytes .entry)) ⌝ }
 {
-    if 101 < bytes.len() {
+    if LINE_LIMIT < bytes.len() {
         return fault(1);
     }
     let third = byte_at(bytes, 2);
@@ -202,12 +205,6 @@ pub fn read_line(bytes: &[u8]) -> Line
         b'f' => read_rule(bytes),
         _ => fault(1),
     }
-}
-
-fn wide(n: u32) -> u64
-    ensures { λ r. ⌜ r ≡ n ⌝ }
-{
-    n as u64
 }
 
 // How many bytes two numbers take beside words of so many.
@@ -240,12 +237,12 @@ fn set_length(field: u32, name: u64, place: u64, value: u64) -> usize
 pub fn edit_line_length(row: [u32; 5]) -> usize
     ensures { λ r. ⌜ r ≡ length (editLine row) ⌝ }
 {
-    let name = wide(row[0]);
-    let place = wide(row[2]);
+    let name = numbers::wide32(row[0]);
+    let place = numbers::wide32(row[2]);
     let kind = row[1];
     match kind {
         0 => pair_length(22, name, place),
-        1 => set_length(row[3], name, place, wide(row[4])),
+        1 => set_length(row[3], name, place, numbers::wide32(row[4])),
         _ => pair_length(22, name, place),
     }
 }
@@ -254,8 +251,8 @@ pub fn edit_line_length(row: [u32; 5]) -> usize
 pub fn constraint_line_length(row: [u32; 3]) -> usize
     ensures { λ r. ⌜ r ≡ length (constraintLine row) ⌝ }
 {
-    let left = wide(row[0]);
-    let right = wide(row[2]);
+    let left = numbers::wide32(row[0]);
+    let right = numbers::wide32(row[2]);
     let rule = row[1];
     match rule {
         0 => pair_length(27, left, right),
@@ -323,12 +320,12 @@ pub fn write_edit_line(out: &mut [u8], row: [u32; 5]) -> usize
     requires { ⌜ length (editLine row) ≤ length (now out) ⌝ }
     ensures { λ r. ⌜ Written (editLine row) (now (out .entry)) r (now (out .exit)) ⌝ }
 {
-    let name = wide(row[0]);
-    let place = wide(row[2]);
+    let name = numbers::wide32(row[0]);
+    let place = numbers::wide32(row[2]);
     let kind = row[1];
     match kind {
         0 => write_pair(&mut out[..], b"edit=", name, b" do=insert chip=", place),
-        1 => write_set(&mut out[..], row[3], name, place, wide(row[4])),
+        1 => write_set(&mut out[..], row[3], name, place, numbers::wide32(row[4])),
         _ => write_pair(&mut out[..], b"edit=", name, b" do=remove chip=", place),
     }
 }
@@ -338,8 +335,8 @@ pub fn write_constraint_line(out: &mut [u8], row: [u32; 3]) -> usize
     requires { ⌜ length (constraintLine row) ≤ length (now out) ⌝ }
     ensures { λ r. ⌜ Written (constraintLine row) (now (out .entry)) r (now (out .exit)) ⌝ }
 {
-    let left = wide(row[0]);
-    let right = wide(row[2]);
+    let left = numbers::wide32(row[0]);
+    let right = numbers::wide32(row[2]);
     let rule = row[1];
     match rule {
         0 => write_pair(

@@ -178,7 +178,7 @@ fn print_told(
     let kind = order.kind;
     let cells = order.cells;
     if order.number != 0 {
-        return desk_calls::print_refusal(order.number, line, &mut out[..], at);
+        return answers::print_refusal(order.number, line, &mut out[..], at);
     }
     if kind < 19 {
         return print_vote(
@@ -196,7 +196,7 @@ fn print_told(
     if kind < 26 {
         return desk_asks::print_ask(bench, kind - 19, &mut out[..], at);
     }
-    desk_calls::print_refusal(2, line, &mut out[..], at)
+    answers::print_refusal(2, line, &mut out[..], at)
 }
 
 // The place among the requests of the call that an order makes; 8 or more where it makes none.

@@ -10,7 +10,7 @@ use lib.Dec.{eqb}
 use lib.ListN.{length, getD}
 use Rattle.lists.proofs.Lists.{by}
 use Rattle.line.specs.declared.Line.{Line}
-use Rattle.line.specs.Line.{faulty, lineRead}
+use Rattle.line.specs.Line.{faulty, lineRead, lineLimit}
 use Rattle.line.proofs.Says.{no-line}
 use Rattle.forms.specs.declared.Order.{Order}
 use Rattle.forms.specs.Forms.{noOrder, cellsOf, orderBy}
@@ -50,20 +50,20 @@ module _ (line : Line) {r : Order} where
 
 -- the whole line
 module _ (s : List ℕ) {r : Order} where
-  pub order-long : 101 < length s → r ≡ noOrder 1 → r ≡ orderRead s
+  pub order-long : lineLimit < length s → r ≡ noOrder 1 → r ≡ orderRead s
   unfolding orderRead
-  order-long h e = rw (lt-ltb 101 (length s) h) e
+  order-long h e = rw (lt-ltb lineLimit (length s) h) e
 
-  module _ (h : length s ≤ 101) where
+  module _ (h : length s ≤ lineLimit) where
     -- the third letter is that of no line of the exchanged text
     pub order-of-table : {x : ℕ} → x ≡ getD s 2 0 → x ≢ 102 → x ≢ 105 → r ≡ orderBy orderTable s → r ≡ orderRead s
     unfolding orderRead lineRead
-    order-of-table l f i e = rw (le-ltb 101 (length s) h, sym (no-line s {r = faulty 1} l i f refl)) e
+    order-of-table l f i e = rw (le-ltb lineLimit (length s) h, sym (no-line s {r = faulty 1} l i f refl)) e
 
     -- the table says nothing of the line
     pub order-of-line : noOrder 1 ≡ orderBy orderTable s → r ≡ lineOrder (lineRead s) → r ≡ orderRead s
     unfolding orderRead
     order-of-line w e =
         by (eqb (lineRead s .number) 1)
-        (λ (one : eqb (lineRead s .number) 1 ≡ true). rw (le-ltb 101 (length s) h, one, ← w) (e ∙ rw (eqb-true (lineRead s .number) 1 one)))
-        (λ (other : eqb (lineRead s .number) 1 ≡ false). rw (le-ltb 101 (length s) h, other) e)
+        (λ (one : eqb (lineRead s .number) 1 ≡ true). rw (le-ltb lineLimit (length s) h, one, ← w) (e ∙ rw (eqb-true (lineRead s .number) 1 one)))
+        (λ (other : eqb (lineRead s .number) 1 ≡ false). rw (le-ltb lineLimit (length s) h, other) e)

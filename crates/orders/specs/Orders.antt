@@ -5,7 +5,7 @@ use mathlib.Core.List.{List, [], _∷_}
 use lib.Dec.{ltb, eqb}
 use lib.ListN.{length}
 use Rattle.line.specs.declared.Line.{Line}
-use Rattle.line.specs.Line.{lineRead}
+use Rattle.line.specs.Line.{lineRead, lineLimit}
 use Rattle.forms.specs.declared.Order.{Order}
 use Rattle.forms.specs.Forms.{tableOf, noOrder, cellsOf, orderBy}
 
@@ -54,4 +54,4 @@ lineOrder line =
 -- a line with its end, at most 100 bytes before it
 unfoldable pub orderRead : List ℕ → Order
 orderRead s =
-    cond (ltb 101 (length s)) (noOrder 1) (cond (eqb (lineRead s .number) 1) (orderBy orderTable s) (lineOrder (lineRead s)))
+    cond (ltb lineLimit (length s)) (noOrder 1) (cond (eqb (lineRead s .number) 1) (orderBy orderTable s) (lineOrder (lineRead s)))

@@ -6,7 +6,7 @@ ghost use mathlib.Core.Path.{_≡_};
 ghost use Prim.Native.Nat.{_+_, _≤_};
 ghost use lib.ListN.{length, drop, getD};
 ghost use Rattle.decimal.specs.Decimal.{numeralSize};
-ghost use Rattle.line.specs.Line.{lineRead};
+ghost use Rattle.line.specs.Line.{lineRead, lineLimit};
 ghost use Rattle.forms.specs.Forms.{cellsOf, orderBy};
 ghost use Rattle.orders.specs.Orders.{orderTable, lineOrder, orderRead};
 
@@ -113,7 +113,7 @@ fn row_order(bytes: &[u8]) -> Order
 
 // No rows of a lent record or all the bench's; the record's number ends at `number`.
 fn rows_order(bytes: &[u8], number: usize) -> Order
-    requires { ⌜ (length (now bytes) ≤ 101) × (number ≡ 5 + numeralSize (drop 5 (now bytes))) × (getD (now bytes) 2 0 ≡ 110) × (getD (now bytes) (number + 1) 0 ≡ 114) ⌝ }
+    requires { ⌜ (length (now bytes) ≤ lineLimit) × (number ≡ 5 + numeralSize (drop 5 (now bytes))) × (getD (now bytes) 2 0 ≡ 110) × (getD (now bytes) (number + 1) 0 ≡ 114) ⌝ }
     ensures { λ r. ⌜ r ≡ orderBy orderTable (now (bytes .entry)) ⌝ }
 {
     let letter = line::byte_at(bytes, number + 6);
@@ -126,7 +126,7 @@ fn rows_order(bytes: &[u8], number: usize) -> Order
 
 // A row for a lent record, by the letter after the record's number.
 fn lent_order(bytes: &[u8]) -> Order
-    requires { ⌜ (length (now bytes) ≤ 101) × (getD (now bytes) 2 0 ≡ 110) ⌝ }
+    requires { ⌜ (length (now bytes) ≤ lineLimit) × (getD (now bytes) 2 0 ≡ 110) ⌝ }
     ensures { λ r. ⌜ r ≡ orderBy orderTable (now (bytes .entry)) ⌝ }
 {
     let number = line::number_end(bytes, 5);
@@ -141,7 +141,7 @@ fn lent_order(bytes: &[u8]) -> Order
 
 // The groups of the table, by the third letter.
 fn read_by_table(bytes: &[u8]) -> Order
-    requires { ⌜ length (now bytes) ≤ 101 ⌝ }
+    requires { ⌜ length (now bytes) ≤ lineLimit ⌝ }
     ensures { λ r. ⌜ r ≡ orderBy orderTable (now (bytes .entry)) ⌝ }
 {
     let third = line::byte_at(bytes, 2);
@@ -203,7 +203,7 @@ fn read_exchanged(bytes: &[u8]) -> Order
 pub fn read_order(bytes: &[u8]) -> Order
     ensures { λ r. ⌜ r ≡ orderRead (now (bytes .entry)) ⌝ }
 {
-    if 101 < bytes.len() {
+    if line::LINE_LIMIT < bytes.len() {
         return forms::no_order(1);
     }
     let third = line::byte_at(bytes, 2);

@@ -94,12 +94,6 @@ fn move_front(bytes: &mut [u8], from: usize, n: usize)
     }
 }
 
-fn least(a: usize, b: usize) -> usize
-    ensures { λ r. ⌜ r ≤ a ⌝ }
-{
-    if a < b { a } else { b }
-}
-
 // The whole lines of the first bytes of a chunk are run, and the rest moves to the front.
 fn feed(
     bench: Bench,
@@ -124,7 +118,7 @@ fn feed(
         count,
         &mut out[..],
     );
-    let rest = least(filled - whole, KEPT);
+    let rest = numbers::lesser(filled - whole, KEPT);
     move_front(&mut chunk[..], whole, rest);
     let held = ran.bench;
     let lent = ran.lending;

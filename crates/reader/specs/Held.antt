@@ -1,6 +1,6 @@
 -- Inner: the rows of a text as the reader holds them while it goes on; Text.antt says what is read. Assumes nothing.
 use mathlib.Core.Path.{_≡_}
-use mathlib.Core.Bool.{Bool, true, false, not}
+use mathlib.Core.Bool.{Bool, true, false, cond, not}
 use mathlib.Core.List.{List, []}
 use Prim.Native.Nat.{ℕ, _+_, _≤_}
 use lib.Dec.{ltb}
@@ -28,8 +28,7 @@ pub record ConstraintsHeld (constraints : Rows) (m : ℕ) : Type 0 where
 
 -- one row more, or none
 abbrev pub rowCount : Bool → ℕ
-rowCount true = 1
-rowCount false = 0
+rowCount one = cond one 1 0
 
 -- a row was judged below n others, m constraints being read, and is held where it has no fault
 pub record EditTaken (edits : Rows) (marks : List ℕ) (n m : ℕ) (row : Row) (number : ℕ) (edits′ : Rows) (marks′ : List ℕ) : Type 0 where

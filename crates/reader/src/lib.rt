@@ -15,7 +15,7 @@ ghost use Rattle.table.specs.Checked.{Marked};
 ghost use Rattle.line.specs.Lines.{lines};
 ghost use Rattle.text.specs.Text.{readRows, readText};
 ghost use Rattle.reader.specs.Reading.{readingOf};
-ghost use Rattle.reader.specs.Held.{EditsHeld, ConstraintsHeld, EditTaken, ConstraintTaken, LineTaken, rowCount};
+ghost use Rattle.reader.specs.Held.{EditsHeld, ConstraintsHeld, EditTaken, ConstraintTaken, LineTaken};
 
 // A record that was read, or the number and the line of the first fault. Number 0 is no fault; the line is then the count of lines.
 pub struct Reading {
@@ -53,12 +53,6 @@ fn edit_row_fault(t: &[[u32; 5]], n: usize) -> u32
     13
 }
 
-fn wide(n: u32) -> usize
-    ensures { λ r. ⌜ r ≡ n ⌝ }
-{
-    n as usize
-}
-
 // The number of an edit after n edits and m constraints. Without fault it is held.
 fn take_edit(edits: &mut [[u32; 5]], marks: &mut [u8], n: usize, m: usize, row: [u32; 5]) -> u32
     requires { ⌜ EditsHeld (now edits) (now marks) n ⌝ }
@@ -72,7 +66,7 @@ fn take_edit(edits: &mut [[u32; 5]], marks: &mut [u8], n: usize, m: usize, row: 
     if 0 < m {
         return 13;
     }
-    let name = wide(row[0]);
+    let name = numbers::index32(row[0]);
     marks[name] = 1;
     0
 }
@@ -142,15 +136,6 @@ fn take_line(
     take_constraint(&mut constraints[..], m, &marks[..], row)
 }
 
-fn row_count(one: bool) -> usize
-    ensures { λ r. ⌜ r ≡ rowCount one ⌝ }
-{
-    if one {
-        return 1;
-    }
-    0
-}
-
 fn refusal(number: u32, line: usize) -> Reading
     ensures { λ r. ⌜ r ≡ record { number = number; line = line; content = emptyRecord } ⌝ }
 {
@@ -179,8 +164,8 @@ fn read_rows(text: &[u8]) -> Reading
         if number != 0 {
             return refusal(number, n + m + 1);
         }
-        n += row_count(said.isedit);
-        m += row_count(!said.isedit);
+        n += numbers::bit(said.isedit);
+        m += numbers::bit(!said.isedit);
         at = end;
     }
     Reading {

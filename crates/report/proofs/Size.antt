@@ -26,7 +26,7 @@ use Rattle.text.specs.Text.{joinedLines, Answer, Accepted, Refused, readText}
 use Rattle.text.proofs.RoundTrip.{accepted-text}
 use Rattle.text.proofs.Limit.{refusal-small}
 use Rattle.writer.specs.Placed.{placing}
-use Rattle.writer.proofs.Starting.{start-enough}
+use Rattle.writer.proofs.Placing.{start-enough}
 use Rattle.report.specs.Report.{countsForm, reportForm, refusalForm, reportNumbers, reportOf, refusalLine, printed}
 
 counts-room : room countsForm ≤ 40

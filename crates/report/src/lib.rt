@@ -1,12 +1,12 @@
 // The report of a text (document 01, "Text"), and the line of a refusal.
+use form::Fit;
 use judge::Judged;
 use record::Edit;
 use record::Record;
-use writer::Fit;
 use writer::Written;
 ghost use mathlib.Core.Path.{_≡_};
 ghost use mathlib.Core.List.{_++_, map};
-ghost use Prim.Native.Nat.{_-_, _<_, _≤_};
+ghost use Prim.Native.Nat.{_<_, _≤_};
 ghost use lib.Dec.{leb};
 ghost use lib.ListN.{length, take};
 ghost use Rattle.record.specs.Record as theory;
@@ -14,8 +14,9 @@ ghost use Rattle.record.specs.Stored.{stored};
 ghost use Rattle.table.specs.Checked.{Checked};
 ghost use Rattle.decimal.specs.Written as part;
 ghost use Rattle.form.specs.Form.{fill};
+ghost use Rattle.form.specs.Fit.{fitAfter};
 ghost use Rattle.text.specs.Text.{joinedLines, readText};
-ghost use Rattle.writer.specs.Placed.{placed, placing, fitOf};
+ghost use Rattle.writer.specs.Placed.{placed, placing};
 ghost use Rattle.report.specs.Report.{countsForm, reportForm, reportOf, refusalLine, printed, reported, reportedOut};
 ghost use Rattle.report.specs.Rows.{numbersAt, numbered};
 
@@ -26,21 +27,15 @@ pub struct Reported {
     pub size: usize,
 }
 
-fn wide(n: u8) -> u64
-    ensures { λ r. ⌜ r ≡ n ⌝ }
-{
-    n as u64
-}
-
 // The numbers of the line of the edit at an index.
 fn edit_numbers(name: u16, judged: Judged, index: usize) -> [u64; 5]
     requires { ⌜ index < 128 ⌝ }
     ensures { λ r. ⌜ r ≡ numbersAt name judged index ⌝ }
 {
-    let must = wide(judged.must[index]);
-    let never = wide(judged.never[index]);
-    let settled = wide(judged.settled[index]);
-    let place = wide(judged.place[index]);
+    let must = numbers::wide8(judged.must[index]);
+    let never = numbers::wide8(judged.never[index]);
+    let settled = numbers::wide8(judged.settled[index]);
+    let place = numbers::wide8(judged.place[index]);
     [name as u64, must, never, settled, place]
 }
 
@@ -59,10 +54,10 @@ fn report_rows(edits: [Edit; 127], n: usize, judged: Judged) -> [[u64; 5]; 127]
     rows
 }
 
-fn line_length(numbers: &[u64]) -> usize
-    ensures { λ r. ⌜ r ≡ length (fill reportForm (now (numbers .entry))) ⌝ }
+fn line_fit(fit: Fit, numbers: &[u64]) -> Fit
+    ensures { λ r. ⌜ r ≡ fitAfter fit (length (fill reportForm (now (numbers .entry)))) ⌝ }
 {
-    form::form_length(b"edit=@ must=? never=? settled=? place=#\n", numbers)
+    form::form_fit(fit, b"edit=@ must=? never=? settled=? place=#\n", numbers)
 }
 
 fn write_line(out: &mut [u8], numbers: &[u64]) -> usize
@@ -76,27 +71,17 @@ fn write_line(out: &mut [u8], numbers: &[u64]) -> usize
     )
 }
 
-// The room that the lines leave.
-fn lines_fit(rows: &[[u64; 5]], room: usize) -> Fit
-    ensures { λ r. ⌜ r ≡ fitOf (joinedLines (map (fill reportForm) (now (rows .entry)))) room ⌝ }
+// What is left after the lines.
+fn lines_fit(fit: Fit, rows: &[[u64; 5]]) -> Fit
+    ensures { λ r. ⌜ r ≡ fitAfter fit (length (joinedLines (map (fill reportForm) (now (rows .entry))))) ⌝ }
 {
-    let mut left = room;
+    let mut rest = fit;
     let mut i = 0;
     while i < rows.len() {
-        let size = line_length(&rows[i][..]);
-        if left < size {
-            return Fit {
-                fits: false,
-                left: 0,
-            };
-        }
-        left -= size;
+        rest = line_fit(rest, &rows[i][..]);
         i += 1;
     }
-    Fit {
-        fits: true,
-        left: left,
-    }
+    rest
 }
 
 fn write_lines(out: &mut [u8], rows: &[[u64; 5]]) -> usize
@@ -112,26 +97,10 @@ fn write_lines(out: &mut [u8], rows: &[[u64; 5]]) -> usize
     at
 }
 
-// The room that a text of this size leaves.
-fn size_fit(size: usize, room: usize) -> Fit
-    ensures { λ r. ⌜ r ≡ record { fits = leb size room; left = room - size } ⌝ }
+fn counts_fit(fit: Fit, counts: &[u64]) -> Fit
+    ensures { λ r. ⌜ r ≡ fitAfter fit (length (fill countsForm (now (counts .entry)))) ⌝ }
 {
-    if room < size {
-        return Fit {
-            fits: false,
-            left: 0,
-        };
-    }
-    Fit {
-        fits: true,
-        left: room - size,
-    }
-}
-
-fn counts_length(counts: &[u64]) -> usize
-    ensures { λ r. ⌜ r ≡ length (fill countsForm (now (counts .entry))) ⌝ }
-{
-    form::form_length(b"edits=# rules=#\n", counts)
+    form::form_fit(fit, b"edits=# rules=#\n", counts)
 }
 
 fn write_counts(out: &mut [u8], counts: &[u64]) -> usize
@@ -141,15 +110,17 @@ fn write_counts(out: &mut [u8], counts: &[u64]) -> usize
     form::write_form(&mut out[..], b"edits=# rules=#\n", counts)
 }
 
-// The room that a report leaves.
-fn report_fit(counts: &[u64], rows: &[[u64; 5]], room: usize) -> Fit
-    ensures { λ r. ⌜ r ≡ fitOf (fill countsForm (now (counts .entry)) ++ joinedLines (map (fill reportForm) (now (rows .entry)))) room ⌝ }
+// Whether a report takes at most so many bytes.
+fn report_fits(counts: &[u64], rows: &[[u64; 5]], room: usize) -> bool
+    ensures { λ r. ⌜ r ≡ leb (length (fill countsForm (now (counts .entry)) ++ joinedLines (map (fill reportForm) (now (rows .entry))))) room ⌝ }
 {
-    let first = size_fit(counts_length(counts), room);
-    if !first.fits {
-        return first;
-    }
-    lines_fit(rows, first.left)
+    let whole = Fit {
+        fits: true,
+        left: room,
+    };
+    let first = counts_fit(whole, counts);
+    let all = lines_fit(first, rows);
+    all.fits
 }
 
 fn write_report(out: &mut [u8], counts: &[u64], rows: &[[u64; 5]]) -> usize
@@ -165,8 +136,7 @@ fn place_report(out: &mut [u8], counts: &[u64], rows: &[[u64; 5]]) -> Written
     ensures { λ r. ⌜ (r ≡ placing (fill countsForm (now (counts .entry)) ++ joinedLines (map (fill reportForm) (now (rows .entry)))) 0 (now (out .entry)))
         × (now (out .exit) ≡ placed (fill countsForm (now (counts .entry)) ++ joinedLines (map (fill reportForm) (now (rows .entry)))) 0 (now (out .entry))) ⌝ }
 {
-    let fit = report_fit(counts, rows, out.len());
-    if !fit.fits {
+    if !report_fits(counts, rows, out.len()) {
         return Written { number: 12, end: 0 };
     }
     let size = write_report(&mut out[..], counts, rows);

@@ -17,7 +17,7 @@ use Rattle.ground.specs.Ground.{Rows, Kind, noPlace, otherBody, misplaced, rowF
 use Rattle.table.specs.Table.{emptyTables, namesOf, unknown, pairNotAllowed, constraintFurther, editKind, constraintKind}
 use Rattle.table.proofs.Records.{empty-checked, joining-editplaces, joining-constraintplaces}
 use Rattle.line.specs.declared.Line.{Line}
-use Rattle.line.specs.Line.{lineRead}
+use Rattle.line.specs.Line.{lineRead, lineLimit}
 use Rattle.line.specs.Lines.{lines, joined}
 use Rattle.line.proofs.Ends.{ended-line}
 use Rattle.line.proofs.RoundTrip.{line-back, Saying, fault-one, fault-two, an-edit, a-constraint, line-saying}
@@ -34,16 +34,16 @@ given-few edits constraints g =
     omega arith
 
 -- a line without fault has at most 101 bytes
-line-limit : (l : List ℕ) → (lineRead l) .number ≡ 0 → length l ≤ 101
+line-limit : (l : List ℕ) → (lineRead l) .number ≡ 0 → length l ≤ lineLimit
 unfolding lineRead
 line-limit l =
-    by (ltb 101 (length l))
-    (λ (e : ltb 101 (length l) ≡ true). rw e (λ z. let y : _≡_ {A = ℕ} 1 0 = z in absurd (omega arith)))
-    (λ (e : ltb 101 (length l) ≡ false). λ z. ltb-false 101 (length l) e)
+    by (ltb lineLimit (length l))
+    (λ (e : ltb lineLimit (length l) ≡ true). rw e (λ z. let y : _≡_ {A = ℕ} 1 0 = z in absurd (omega arith)))
+    (λ (e : ltb lineLimit (length l) ≡ false). λ z. ltb-false lineLimit (length l) e)
 
-too-long : (n : ℕ) (edits constraints : Rows) (l : List ℕ) (rest : List (List ℕ)) → 101 < length l → readFrom n edits constraints (l ∷ rest) ≡ Refused 1 (suc n)
+too-long : (n : ℕ) (edits constraints : Rows) (l : List ℕ) (rest : List (List ℕ)) → lineLimit < length l → readFrom n edits constraints (l ∷ rest) ≡ Refused 1 (suc n)
 unfolding readFrom lineFault lineRead
-too-long n edits constraints l rest h = rw (lt-ltb 101 (length l) h)
+too-long n edits constraints l rest h = rw (lt-ltb lineLimit (length l) h)
 
 -- a text goes to its first byte 10, or has none
 pub record FirstEnd (s : List ℕ) : Type 0 where
@@ -124,7 +124,7 @@ module _ (q : List ℕ) where
   abbrev Goal : ℕ → Rows → Rows → List ℕ → Type 0
   Goal n edits constraints s = Decided (readFrom n edits constraints (lines s)) (readFrom n edits constraints (lines (s ++ q)))
 
-  open-line : (n : ℕ) (edits constraints : Rows) (u : List ℕ) → 101 < length u → mem 10 u ≡ false → Goal n edits constraints u
+  open-line : (n : ℕ) (edits constraints : Rows) (u : List ℕ) → lineLimit < length u → mem 10 u ≡ false → Goal n edits constraints u
   open-line n edits constraints [] k m = absurd (omega arith)
   open-line n edits constraints (d ∷ u) k m =
       let a = begins d u [] m in
@@ -160,7 +160,7 @@ module _ (q : List ℕ) where
       let one : length l ≡ length (f .inner) + 1 = length-append (f .inner) (10 ∷ []) in
       ended-next n edits constraints (f .inner) (f .rest) s (f .plain) (f .is)
       (λ z.
-      let m : length l ≤ 101 = line-limit l (line-fault-none edits constraints (lineRead l) z .0) in
+      let m : length l ≤ lineLimit = line-limit l (line-fault-none edits constraints (lineRead l) z .0) in
       decide fuel (f .rest) (suc n) (editsWith (lineRead l) edits) (constraintsWith (lineRead l) constraints) (omega arith) (given-more edits constraints l g z) (ap suc c ∙ sym (count-more edits constraints (lineRead l))) (omega arith)))
       (λ (m : mem 10 s ≡ false). open-line n edits constraints s (omega (arith, given-few edits constraints g)) m)
       (first-end s)

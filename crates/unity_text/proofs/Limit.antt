@@ -10,6 +10,7 @@ use native.Mathlib.Omega.{arith}
 use borrow.Author.Tests.{eqb-true, eqb-false, ltb-false}
 use lib.Dec.{eqb, ltb}
 use lib.ListN.{length, length-append}
+use Rattle.line.specs.Line.{lineLimit}
 use Rattle.lists.specs.Lists.{mem}
 use Rattle.lists.proofs.Lists.{by, clash, mem-snoc}
 use Rattle.form.specs.Spelling.{bytes}
@@ -30,14 +31,14 @@ some-by (some ns) h k = k ns refl
 record FormedLine (line : List ℕ) : Type 0 where
   numbers : List ℕ
   is : taken weightsForm line ≡ some numbers
-  short : length line ≤ 101
+  short : length line ≤ lineLimit
 
 formed-line : (line : List ℕ) → inForm line ≡ true → FormedLine line
 unfolding numbersIn
 formed-line line =
-    by (ltb 101 (length line))
-    (λ (e : ltb 101 (length line) ≡ true). rw e (λ h. clash h refl))
-    (λ (e : ltb 101 (length line) ≡ false). rw e (λ h. some-by (taken weightsForm line) h (λ ns q. record { numbers = ns; is = q; short = ltb-false 101 (length line) e })))
+    by (ltb lineLimit (length line))
+    (λ (e : ltb lineLimit (length line) ≡ true). rw e (λ h. clash h refl))
+    (λ (e : ltb lineLimit (length line) ≡ false). rw e (λ h. some-by (taken weightsForm line) h (λ ns q. record { numbers = ns; is = q; short = ltb-false lineLimit (length line) e })))
 
 -- and ends
 pub no-question : mem 63 weightsForm ≡ false
@@ -59,7 +60,7 @@ no-end line m =
     (λ (h : inForm line ≡ false). h)
 
 -- 101 bytes without an end, whatever follows on the line
-open-unformed : (s more : List ℕ) → 101 ≤ length s → mem 10 s ≡ false → inForm (s ++ more) ≡ false
+open-unformed : (s more : List ℕ) → lineLimit ≤ length s → mem 10 s ≡ false → inForm (s ++ more) ≡ false
 open-unformed s [] k m = rw (append-nil s) (no-end s m)
 open-unformed s (c ∷ more) k m =
     by (inForm (s ++ (c ∷ more)))
@@ -88,7 +89,7 @@ module _ (q : List ℕ) where
   abbrev Goal : List (List ℕ) → List ℕ → Type 0
   Goal above s = Decided (decidingFault weightsLineFault above (lines s)) (decidingFault weightsLineFault above (lines (s ++ q)))
 
-  open-line : (above : List (List ℕ)) (s : List ℕ) → 101 ≤ length s → mem 10 s ≡ false → Goal above s
+  open-line : (above : List (List ℕ)) (s : List ℕ) → lineLimit ≤ length s → mem 10 s ≡ false → Goal above s
   open-line above [] k m = absurd (omega arith)
   open-line above (c ∷ s) k m =
       let a = begins c s [] m in

@@ -7,6 +7,7 @@ use Prim.Native.Nat.{ℕ, _+_, _≤_, _<_}
 use native.Mathlib.Omega.{arith}
 use borrow.Author.Tests.{lt-ltb, le-ltb}
 use lib.ListN.{length, getD, take, replicate}
+use Rattle.line.specs.Line.{lineLimit}
 use Rattle.lists.proofs.Lists.{by}
 use Rattle.decimal.specs.Decimal.{saturated}
 use Rattle.form.specs.declared.Filled.{Filled}
@@ -22,14 +23,14 @@ use Rattle.unity_text.specs.Text.{weightsForm, numbersIn}
 use Rattle.unity_text.specs.Said.{cut, saidOf}
 
 module _ (line : List ℕ) where
-  pub said-long : 101 < length line → {r : Said} → r ≡ saidOf none → r ≡ saidOf (numbersIn line)
+  pub said-long : lineLimit < length line → {r : Said} → r ≡ saidOf none → r ≡ saidOf (numbersIn line)
   unfolding numbersIn
-  said-long h q = rw (lt-ltb 101 (length line) h) q
+  said-long h q = rw (lt-ltb lineLimit (length line) h) q
 
-  module _ (few : length line ≤ 101) {t : Filled} (e : t ≡ told (taken weightsForm line)) where
+  module _ (few : length line ≤ lineLimit) {t : Filled} (e : t ≡ told (taken weightsForm line)) where
     numbers-are : numbersIn line ≡ taken weightsForm line
     unfolding numbersIn
-    numbers-are = rw (le-ltb 101 (length line) few)
+    numbers-are = rw (le-ltb lineLimit (length line) few)
 
     pub said-other : t .fits ≡ false → {r : Said} → r ≡ saidOf none → r ≡ saidOf (numbersIn line)
     said-other h q = rw (numbers-are, no-fit (taken weightsForm line) (sym (ap (λ (x : Filled). x .fits) e) ∙ h)) q

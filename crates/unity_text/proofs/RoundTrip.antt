@@ -7,6 +7,7 @@ use Prim.Native.Nat.{ℕ, zero, suc, _+_, _≤_, _<_}
 use native.Mathlib.Omega.{arith}
 use borrow.Author.Tests.{leb-true, le-leb, le-ltb}
 use lib.ListN.{length, getD}
+use Rattle.line.specs.Line.{lineLimit}
 use Rattle.lists.specs.Lists.{all}
 use Rattle.lists.proofs.Lists.{by, and-l, and-r}
 use Rattle.form.specs.Spelling.{bytes, numberSpelling}
@@ -44,19 +45,19 @@ form-slots : slots weightsForm ≡ 3
 unfolding weightsForm bytes slots isMark
 form-slots = refl
 
-form-room : room weightsForm ≤ 101
+form-room : room weightsForm ≤ lineLimit
 unfolding weightsForm bytes room isMark
 form-room = omega arith
 
 -- a line with numbers of 32 bits is
 pub short-line : (a : Weights) → a .greatest < 4294967296 → a .silent < 4294967296 → a .total < 4294967296 → isShort a ≡ true
-short-line a p q r = le-leb (length (weightsLine a)) 101 (omega (arith, form-room, fill-room weightsForm (weightsNumbers a) (p, (q, (r, tt)))))
+short-line a p q r = le-leb (length (weightsLine a)) lineLimit (omega (arith, form-room, fill-room weightsForm (weightsNumbers a) (p, (q, (r, tt)))))
 
 numbers-back : (a : Weights) → isShort a ≡ true → numbersIn (weightsLine a) ≡ some (weightsNumbers a)
 unfolding numbersIn
 numbers-back a h =
     let ns = weightsNumbers a in
-    rw (le-ltb 101 (length (weightsLine a)) (leb-true (length (weightsLine a)) 101 h)) (taken-fill weightsForm ns form-separate (spelled-all weightsForm ns no-question) (rw form-slots))
+    rw (le-ltb lineLimit (length (weightsLine a)) (leb-true (length (weightsLine a)) lineLimit h)) (taken-fill weightsForm ns form-separate (spelled-all weightsForm ns no-question) (rw form-slots))
 
 answers-back : (l : List Weights) → all isShort l ≡ true → map weightsIn (map weightsLine l) ≡ l
 unfolding all

@@ -20,7 +20,7 @@ use Rattle.form.proofs.Forms.{fill-wide}
 use Rattle.line.specs.Lines.{lines}
 use Rattle.text.proofs.Limit.{given-small, first-small}
 use Rattle.writer.specs.Placed.{placing}
-use Rattle.writer.proofs.Starting.{start-enough}
+use Rattle.writer.proofs.Placing.{start-enough}
 use Rattle.report.specs.Report.{refusalForm, refusalLine}
 use Rattle.unity_table.specs.declared.Weights.{Weights}
 use Rattle.unity_table.specs.Unity.{electionLimit, isEmpty, isWon, shares, outOfRange, tooWide, weightsFault, Fault, isLast, decidingFault, countBy, summary}

@@ -11,6 +11,7 @@ use Rattle.form.specs.Form.{fill, taken}
 use Rattle.line.specs.Lines.{lines}
 use Rattle.text.specs.Text.{joinedLines}
 use Rattle.report.specs.Report.{refusalLine}
+use Rattle.line.specs.Line.{lineLimit}
 use Rattle.unity_table.specs.declared.Weights.{Weights}
 use Rattle.unity_table.specs.declared.Unity.{Unity}
 use Rattle.unity_table.specs.Unity.{weightsOf, weightsFault, decidingFault, unityBy}
@@ -20,10 +21,6 @@ weightsForm = bytes "greatest=# silent=# total=#\n"
 
 unfoldable pub unityForm : List ℕ
 unityForm = bytes "mean=#/# least=#/# greatest=#/# won=# empty=#\n"
-
--- at most 100 bytes and the end
-abbrev pub lineLimit : ℕ
-lineLimit = 101
 
 -- the numbers of a line with its end
 unfoldable pub numbersIn : List ℕ → Option (List ℕ)

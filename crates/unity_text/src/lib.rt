@@ -8,9 +8,6 @@ ghost use Rattle.writer.specs.Placed.{placed, placing};
 ghost use Rattle.unity_text.specs.Text.{numbersIn, textUnity, printedUnity};
 ghost use Rattle.unity_text.specs.Said.{saidOf};
 
-// At most 100 bytes and the end.
-const LINE_LIMIT: usize = 101;
-
 // What a line says, or that it is not in form.
 struct Said {
     fits: bool,
@@ -35,7 +32,7 @@ fn no_answer() -> Said
 fn read_answer(line: &[u8]) -> Said
     ensures { λ r. ⌜ r ≡ saidOf (numbersIn (now (line .entry))) ⌝ }
 {
-    if LINE_LIMIT < line.len() {
+    if line::LINE_LIMIT < line.len() {
         return no_answer();
     }
     let filled = form::read_form(b"greatest=# silent=# total=#\n", line);

@@ -1,7 +1,7 @@
 -- Document 01, "Text": lines written after the bytes that already stand there, at a given place; 12 where they do not fit. Assumes nothing.
 use mathlib.Core.Bool.{Bool, cond}
 use mathlib.Core.List.{List, _++_}
-use Prim.Native.Nat.{ℕ, _+_, _-_}
+use Prim.Native.Nat.{ℕ, _+_}
 use lib.Dec.{leb}
 use lib.ListN.{length, take, drop}
 use Rattle.record.specs.declared.Edit.{Edit}
@@ -9,7 +9,6 @@ use Rattle.record.specs.declared.Constraint.{Constraint}
 use Rattle.row.specs.Row.{editRow, constraintRow}
 use Rattle.line.specs.Line.{editLine, constraintLine}
 use Rattle.writer.specs.declared.Written.{Written}
-use Rattle.writer.specs.declared.Fit.{Fit}
 
 abbrev pub fitsAt : List ℕ → ℕ → List ℕ → Bool
 fitsAt text at out = leb (at + length text) (length out)
@@ -20,10 +19,6 @@ placed text at out = cond (fitsAt text at out) (take at out ++ (text ++ drop (at
 
 unfoldable pub placing : List ℕ → ℕ → List ℕ → Written
 placing text at out = cond (fitsAt text at out) (record { number = 0; end = at + length text }) (record { number = 12; end = 0 })
-
--- how much of the room a text leaves, where it fits
-abbrev pub fitOf : List ℕ → ℕ → Fit
-fitOf text room = record { fits = leb (length text) room; left = room - length text }
 
 -- the line of an edit, and of a constraint
 abbrev pub editText : Edit → List ℕ

@@ -1,16 +1,19 @@
 // A record is written as a text, and a form where it fits (document 01, "Text").
+use form::Fit;
 use record::Constraint;
 use record::Edit;
 use record::Record;
 ghost use mathlib.Core.Path.{_≡_};
 ghost use mathlib.Core.List.{map};
-ghost use Prim.Native.Nat.{_≤_, min};
+ghost use Prim.Native.Nat.{_≤_};
+ghost use lib.Dec.{leb};
 ghost use lib.ListN.{length, take};
 ghost use Rattle.record.specs.Stored.{recordOf};
 ghost use Rattle.decimal.specs.Written as part;
 ghost use Rattle.form.specs.Form.{fill};
+ghost use Rattle.form.specs.Fit.{fitAfter};
 ghost use Rattle.text.specs.Text.{joinedLines, textOf};
-ghost use Rattle.writer.specs.Placed.{placed, placing, fitOf, editText, constraintText};
+ghost use Rattle.writer.specs.Placed.{placed, placing, editText, constraintText};
 
 // Number 0: the place after the text. 12: it does not fit.
 pub struct Written {
@@ -33,84 +36,51 @@ pub fn place_form(form: &[u8], numbers: &[u64], out: &mut [u8]) -> Written
     }
 }
 
-// Whether a text fits some room, and how much of it is then left.
-pub struct Fit {
-    pub fits: bool,
-    pub left: usize,
-}
-
-// The room that the lines of the first n edits leave.
-fn edits_fit(a: [Edit; 127], n: usize, room: usize) -> Fit
+// What is left after the lines of the first n edits.
+fn edits_fit(fit: Fit, a: [Edit; 127], n: usize) -> Fit
     requires { ⌜ n ≤ 127 ⌝ }
-    ensures { λ r. ⌜ r ≡ fitOf (joinedLines (map editText (take n a))) room ⌝ }
+    ensures { λ r. ⌜ r ≡ fitAfter fit (length (joinedLines (map editText (take n a)))) ⌝ }
 {
-    let mut left = room;
+    let mut rest = fit;
     let mut i = 0;
     while i < n {
         let e = a[i];
-        let size = line::edit_line_length(row::edit_row(e));
-        if left < size {
-            return Fit {
-                fits: false,
-                left: 0,
-            };
-        }
-        left -= size;
+        rest = form::fit_more(rest, line::edit_line_length(row::edit_row(e)));
         i += 1;
     }
-    Fit {
-        fits: true,
-        left: left,
-    }
+    rest
 }
 
-// The room that the lines of the first n constraints leave.
-fn constraints_fit(a: [Constraint; 512], n: usize, room: usize) -> Fit
+// What is left after the lines of the first n constraints.
+fn constraints_fit(fit: Fit, a: [Constraint; 512], n: usize) -> Fit
     requires { ⌜ n ≤ 512 ⌝ }
-    ensures { λ r. ⌜ r ≡ fitOf (joinedLines (map constraintText (take n a))) room ⌝ }
+    ensures { λ r. ⌜ r ≡ fitAfter fit (length (joinedLines (map constraintText (take n a)))) ⌝ }
 {
-    let mut left = room;
+    let mut rest = fit;
     let mut i = 0;
     while i < n {
         let c = a[i];
-        let size = line::constraint_line_length(row::constraint_row(c));
-        if left < size {
-            return Fit {
-                fits: false,
-                left: 0,
-            };
-        }
-        left -= size;
+        rest = form::fit_more(rest, line::constraint_line_length(row::constraint_row(c)));
         i += 1;
     }
-    Fit {
-        fits: true,
-        left: left,
-    }
+    rest
 }
 
-fn least(n: usize, limit: usize) -> usize
-    ensures { λ r. ⌜ r ≡ min n limit ⌝ }
-{
-    if limit < n {
-        return limit;
-    }
-    n
-}
-
-// The room that the text of a record leaves.
-fn text_fit(content: Record, room: usize) -> Fit
-    ensures { λ r. ⌜ r ≡ fitOf (textOf (recordOf content)) room ⌝ }
+// Whether the text of a record takes at most so many bytes.
+fn text_fits(content: Record, room: usize) -> bool
+    ensures { λ r. ⌜ r ≡ leb (length (textOf (recordOf content))) room ⌝ }
 {
     let a = content.edits;
     let b = content.constraints;
-    let n = least(content.editcount, 127);
-    let m = least(content.constraintcount, 512);
-    let edits = edits_fit(a, n, room);
-    if !edits.fits {
-        return edits;
-    }
-    constraints_fit(b, m, edits.left)
+    let n = numbers::lesser(content.editcount, 127);
+    let m = numbers::lesser(content.constraintcount, 512);
+    let whole = Fit {
+        fits: true,
+        left: room,
+    };
+    let edits = edits_fit(whole, a, n);
+    let fit = constraints_fit(edits, b, m);
+    fit.fits
 }
 
 // Writes the lines of the first n edits to the start of out, and answers how many bytes that took.
@@ -150,8 +120,8 @@ fn write_rows(out: &mut [u8], content: Record) -> usize
 {
     let a = content.edits;
     let b = content.constraints;
-    let n = least(content.editcount, 127);
-    let m = least(content.constraintcount, 512);
+    let n = numbers::lesser(content.editcount, 127);
+    let m = numbers::lesser(content.constraintcount, 512);
     let k = write_edits(&mut out[..], a, n);
     k + write_constraints(&mut out[k..], b, m)
 }
@@ -164,8 +134,7 @@ pub fn write_text(content: Record, out: &mut [u8], at: usize) -> Written
         return Written { number: 12, end: 0 };
     }
     let room = out.len() - at;
-    let fit = text_fit(content, room);
-    if !fit.fits {
+    if !text_fits(content, room) {
         return Written { number: 12, end: 0 };
     }
     let size = write_rows(&mut out[at..], content);

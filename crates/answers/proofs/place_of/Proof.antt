@@ -7,31 +7,31 @@ use Rattle.answers.proofs.place_of.Tie as tie
 returns : tie.Need-returns
 returns c = no-place (c .before .args .kind) (c .if1 .taken)
 
-mul-wide : tie.Need-mul-wide
-mul-wide c = search needs
+mul-index16 : tie.Need-mul-index16
+mul-index16 c = search needs
 
-array-read-wide : tie.Need-array-read-wide
-array-read-wide c = search needs
+array-read-index16 : tie.Need-array-read-index16
+array-read-index16 c = search needs
 
-wide-requires : tie.Need-wide-requires
-wide-requires c κs = search needs
+index16-requires : tie.Need-index16-requires
+index16-requires c κs = search needs
 
-add-wide : tie.Need-add-wide
-add-wide c = search needs
+add-index16 : tie.Need-add-index16
+add-index16 c = search needs
 
-mul-wide-2 : tie.Need-mul-wide-2
-mul-wide-2 c = search needs
+mul-index16-2 : tie.Need-mul-index16-2
+mul-index16-2 c = search needs
 
-array-read-wide-2 : tie.Need-array-read-wide-2
-array-read-wide-2 c = search needs
+array-read-index16-2 : tie.Need-array-read-index16-2
+array-read-index16-2 c = search needs
 
-wide-requires-2 : tie.Need-wide-requires-2
-wide-requires-2 c κs = search needs
+index16-requires-2 : tie.Need-index16-requires-2
+index16-requires-2 c κs = search needs
 
 returns-2 : tie.Need-returns-2
-returns-2 c = place-is (c .before .before .before .args .kind) (c .before .before .if1 .left) (c .before .wide .ensures) (c .wide2 .ensures)
+returns-2 c = place-is (c .before .before .before .args .kind) (c .before .before .if1 .left) (c .before .index16 .ensures) (c .index162 .ensures)
 
 pub place-of-spec : {M : Type 1} → statement M
 place-of-spec =
     tie.close
-    (tie.spec returns mul-wide array-read-wide wide-requires add-wide mul-wide-2 array-read-wide-2 wide-requires-2 returns-2)
+    (tie.spec returns mul-index16 array-read-index16 index16-requires add-index16 mul-index16-2 array-read-index16-2 index16-requires-2 returns-2)

@@ -26,11 +26,11 @@ array-read-mark c = omega (arith, c .before .loop .inv .near, c .before .before 
 is-hidden-requires : tie.Need-is-hidden-requires Inv-loop μ-loop
 is-hidden-requires c κs = search needs
 
-flag-requires : tie.Need-flag-requires Inv-loop μ-loop
-flag-requires c κs = search needs
+bit-requires : tie.Need-bit-requires Inv-loop μ-loop
+bit-requires c κs = search needs
 
 add-count : tie.Need-add-count Inv-loop μ-loop
-add-count c = omega (arith, (hidden-next (c .before .before .before .before .args .t1) (c .before .before .before .before .args .n) (c .before .before .before .loop .inv) (c .before .before .loop-test .taken) (c .before .is-hidden .ensures) (c .flag .ensures)) .small)
+add-count c = omega (arith, (hidden-next (c .before .before .before .before .args .t1) (c .before .before .before .before .args .n) (c .before .before .before .loop .inv) (c .before .before .loop-test .taken) (c .before .is-hidden .ensures) (c .bit .ensures)) .small)
 
 add-i : tie.Need-add-i Inv-loop μ-loop
 add-i c = omega (arith, c .before .before .before .loop .inv .near, c .before .before .before .before .pre)
@@ -39,7 +39,7 @@ loop-less : tie.Need-loop-less Inv-loop μ-loop
 loop-less c = omega (arith, c .before .before .loop-test .taken)
 
 loop-again : tie.Need-loop-again Inv-loop μ-loop
-loop-again c = hidden-next (c .before .before .before .before .args .t1) (c .before .before .before .before .args .n) (c .before .before .before .loop .inv) (c .before .before .loop-test .taken) (c .before .is-hidden .ensures) (c .flag .ensures)
+loop-again c = hidden-next (c .before .before .before .before .args .t1) (c .before .before .before .before .args .n) (c .before .before .before .loop .inv) (c .before .before .loop-test .taken) (c .before .is-hidden .ensures) (c .bit .ensures)
 
 returns : tie.Need-returns Inv-loop μ-loop
 returns c = counting-end hides (drop 1 (c .before .before .args .t1)) (c .before .before .args .n) (c .before .loop .inv) (c .loop-test .left)
@@ -54,7 +54,7 @@ count-hidden-spec =
     add-mark
     array-read-mark
     is-hidden-requires
-    flag-requires
+    bit-requires
     add-count
     add-i
     loop-less

@@ -27,11 +27,11 @@ mul-entry c = search needs
 array-copy-out-entry : tie.Need-array-copy-out-entry Inv-loop μ-loop
 array-copy-out-entry c = search needs
 
-flag-requires : tie.Need-flag-requires Inv-loop μ-loop
-flag-requires c κs = search needs
+bit-requires : tie.Need-bit-requires Inv-loop μ-loop
+bit-requires c κs = search needs
 
 add-count : tie.Need-add-count Inv-loop μ-loop
-add-count c = omega (arith, (counting-next isPresent (c .before .before .before .before .args .t1) 64 (c .before .before .before .loop .inv) _ (c .before .before .loop-test .taken) (c .flag .ensures)) .small, c .before .before .loop-test .taken)
+add-count c = omega (arith, (counting-next isPresent (c .before .before .before .before .args .t1) 64 (c .before .before .before .loop .inv) _ (c .before .before .loop-test .taken) (c .bit .ensures)) .small, c .before .before .loop-test .taken)
 
 add-i : tie.Need-add-i Inv-loop μ-loop
 add-i c = search needs
@@ -40,7 +40,7 @@ loop-less : tie.Need-loop-less Inv-loop μ-loop
 loop-less c = search needs
 
 loop-again : tie.Need-loop-again Inv-loop μ-loop
-loop-again c = counting-next isPresent (c .before .before .before .before .args .t1) 64 (c .before .before .before .loop .inv) _ (c .before .before .loop-test .taken) (c .flag .ensures)
+loop-again c = counting-next isPresent (c .before .before .before .before .args .t1) 64 (c .before .before .before .loop .inv) _ (c .before .before .loop-test .taken) (c .bit .ensures)
 
 returns : tie.Need-returns Inv-loop μ-loop
 returns c = let s : length (c .before .before .args .t1) ≡ 64 = search (needs, length-mapped) in counting-end isPresent (c .before .before .args .t1) 64 (c .before .loop .inv) (c .loop-test .left) ∙ ap (λ l. length (sift isPresent l)) (all-of (c .before .before .args .t1) 64 s)
@@ -54,7 +54,7 @@ count-present-spec =
     loop-holds
     mul-entry
     array-copy-out-entry
-    flag-requires
+    bit-requires
     add-count
     add-i
     loop-less

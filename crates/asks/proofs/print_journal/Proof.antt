@@ -9,21 +9,21 @@ use Rattle.answers.specs.Answers.{answerLine}
 use Rattle.asks.proofs.print_journal.Statement.{statement}
 use Rattle.asks.proofs.print_journal.Tie as tie
 
-least-requires : tie.Need-least-requires
-least-requires c κs = search needs
+lesser-requires : tie.Need-lesser-requires
+lesser-requires c κs = search needs
 
 tell-one-requires : tie.Need-tell-one-requires
 tell-one-requires c κs = search needs
 
 print-rows-requires : tie.Need-print-rows-requires
-print-rows-requires c κs = (omega (arith, c .before .before .before .before .before .least .ensures), printed-end (answerLine 18 (c .before .before .before .before .before .least .result ∷ [])) (c .before .before .before .before .before .before .before .before .before .before .before .before .before .args .out .now) (c .before .before .before .before .before .before .before .before .before .before .before .before .before .args .at) (c .before .before .before .tell-one .ensures))
+print-rows-requires c κs = (omega (arith, c .before .before .before .before .before .lesser .ensures), printed-end (answerLine 18 (c .before .before .before .before .before .lesser .result ∷ [])) (c .before .before .before .before .before .before .before .before .before .before .before .before .before .args .out .now) (c .before .before .before .before .before .before .before .before .before .before .before .before .before .args .at) (c .before .before .before .tell-one .ensures))
 
 same-length : tie.Need-same-length
 same-length c = (c .before .before .print-rows .ensures .0 .size) ∙ (c .before .before .before .before .before .before .tell-one .ensures .size)
 
 returns : tie.Need-returns
-returns c = let s = c .before .before .before .before .before .before .before .before .before .before .before .before .before .before .before .before .args in journal-printed (s .bench .schedule .edits) (s .bench .turner .opened) (c .before .before .print-rows .ensures .1) (c .before .before .before .before .before .before .before .before .least .ensures) (s .out .now) (s .at) (s .bench .view .journal .rows) (c .before .before .before .before .before .before .tell-one .ensures) (c .before .before .print-rows .ensures .0)
+returns c = let s = c .before .before .before .before .before .before .before .before .before .before .before .before .before .before .before .before .args in journal-printed (s .bench .schedule .edits) (s .bench .turner .opened) (c .before .before .print-rows .ensures .1) (c .before .before .before .before .before .before .before .before .lesser .ensures) (s .out .now) (s .at) (s .bench .view .journal .rows) (c .before .before .before .before .before .before .tell-one .ensures) (c .before .before .print-rows .ensures .0)
 
 pub print-journal-spec : {M : Type 1} → statement M
 print-journal-spec =
-    tie.close (tie.spec least-requires tell-one-requires print-rows-requires same-length returns)
+    tie.close (tie.spec lesser-requires tell-one-requires print-rows-requires same-length returns)

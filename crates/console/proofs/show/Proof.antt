@@ -1,6 +1,6 @@
 -- `console::show` meets its contract. Assumes nothing.
 use lib.Seq.{length-take-le}
-use Rattle.writer.proofs.Texts.{placed-inside}
+use Rattle.writer.proofs.Placing.{placed-inside}
 use Rattle.text.specs.Text.{readText}
 use Rattle.report.specs.Report.{printed}
 use mathlib.Core.Path.{sym}

@@ -1,7 +1,7 @@
 -- `desk_asks::print_record` meets its contract. Assumes nothing.
 use borrow.Author.Needs.{needs}
 use Rattle.forms.proofs.Printing.{printed-both}
-use Rattle.desk_asks.specs.Questions.{textIn}
+use Rattle.answers.specs.Answers.{recordText}
 use Rattle.desk_asks.proofs.print_record.Statement.{statement}
 use Rattle.desk_asks.proofs.print_record.Tie as tie
 
@@ -18,7 +18,7 @@ same-length : tie.Need-same-length
 same-length c = search needs
 
 returns : tie.Need-returns
-unfolding textIn
+unfolding recordText
 returns c = printed-both _ _ _ _ (c .before .before .before .before .before .before .tell .ensures) (c .before .before .print-text .ensures)
 
 pub print-record-spec : {M : Type 1} → statement M

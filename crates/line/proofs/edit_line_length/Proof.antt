@@ -10,17 +10,17 @@ use Rattle.line.proofs.Puts.{length-as, edit-line-is, words-length, ins
 use Rattle.line.proofs.edit_line_length.Statement.{statement}
 use Rattle.line.proofs.edit_line_length.Tie as tie
 
-array-read-wide : tie.Need-array-read-wide
-array-read-wide c = search needs
+array-read-wide32 : tie.Need-array-read-wide32
+array-read-wide32 c = search needs
 
-wide-requires : tie.Need-wide-requires
-wide-requires c κs = search needs
+wide32-requires : tie.Need-wide32-requires
+wide32-requires c κs = search needs
 
-array-read-wide-2 : tie.Need-array-read-wide-2
-array-read-wide-2 c = search needs
+array-read-wide32-2 : tie.Need-array-read-wide32-2
+array-read-wide32-2 c = search needs
 
-wide-requires-2 : tie.Need-wide-requires-2
-wide-requires-2 c κs = search needs
+wide32-requires-2 : tie.Need-wide32-requires-2
+wide32-requires-2 c κs = search needs
 
 array-read-kind : tie.Need-array-read-kind
 array-read-kind c = search needs
@@ -31,11 +31,11 @@ pair-length-requires c κs = search needs
 array-read-set-length : tie.Need-array-read-set-length
 array-read-set-length c = search needs
 
-array-read-wide-3 : tie.Need-array-read-wide-3
-array-read-wide-3 c = search needs
+array-read-wide32-3 : tie.Need-array-read-wide32-3
+array-read-wide32-3 c = search needs
 
-wide-requires-3 : tie.Need-wide-requires-3
-wide-requires-3 c κs = search needs
+wide32-requires-3 : tie.Need-wide32-requires-3
+wide32-requires-3 c κs = search needs
 
 set-length-requires : tie.Need-set-length-requires
 set-length-requires c κs = search needs
@@ -45,29 +45,29 @@ pair-length-requires-2 c κs = search needs
 
 returns : tie.Need-returns
 unfolding bytes
-returns c = let a = c .before .before .before .before .args in words-length (bytes "edit=") (bytes " do=insert chip=") (c .before .before .before .wide .result) (c .before .before .wide2 .result) (edit-line-is (a .t1) (editForm 0 (getD (a .t1) 3 0)) (ap (λ (k : ℕ). editForm k (getD (a .t1) 3 0)) (c .before .match .keys1)) (c .before .before .before .wide .ensures) (c .before .before .wide2 .ensures) refl ∙ insert-words _ _ _ _) refl (c .pair-length .ensures .0)
+returns c = let a = c .before .before .before .before .args in words-length (bytes "edit=") (bytes " do=insert chip=") (c .before .before .before .wide32 .result) (c .before .before .wide322 .result) (edit-line-is (a .t1) (editForm 0 (getD (a .t1) 3 0)) (ap (λ (k : ℕ). editForm k (getD (a .t1) 3 0)) (c .before .match .keys1)) (c .before .before .before .wide32 .ensures) (c .before .before .wide322 .ensures) refl ∙ insert-words _ _ _ _) refl (c .pair-length .ensures .0)
 
 returns-2 : tie.Need-returns-2
 unfolding editForm
-returns-2 c = let a = c .before .before .before .before .before .args in length-as (editLine (a .t1)) _ (edit-line-is (a .t1) (setForm (getD (a .t1) 3 0)) (ap (λ (k : ℕ). editForm k (getD (a .t1) 3 0)) (c .before .before .match .keys2)) (c .before .before .before .before .wide .ensures) (c .before .before .before .wide2 .ensures) (c .before .wide3 .ensures)) (c .set-length .ensures)
+returns-2 c = let a = c .before .before .before .before .before .args in length-as (editLine (a .t1)) _ (edit-line-is (a .t1) (setForm (getD (a .t1) 3 0)) (ap (λ (k : ℕ). editForm k (getD (a .t1) 3 0)) (c .before .before .match .keys2)) (c .before .before .before .before .wide32 .ensures) (c .before .before .before .wide322 .ensures) (c .before .wide323 .ensures)) (c .set-length .ensures)
 
 returns-3 : tie.Need-returns-3
 unfolding bytes
-returns-3 c = let a = c .before .before .before .before .args in words-length (bytes "edit=") (bytes " do=remove chip=") (c .before .before .before .wide .result) (c .before .before .wide2 .result) (edit-line-is (a .t1) (editForm 2 (getD (a .t1) 3 0)) (kind-rest (getD (a .t1) 1 0) (getD (a .t1) 3 0) (c .before .match .rest .0 .1) (c .before .match .rest .1)) (c .before .before .before .wide .ensures) (c .before .before .wide2 .ensures) refl ∙ remove-words _ _ _ _) refl (c .pair-length2 .ensures .0)
+returns-3 c = let a = c .before .before .before .before .args in words-length (bytes "edit=") (bytes " do=remove chip=") (c .before .before .before .wide32 .result) (c .before .before .wide322 .result) (edit-line-is (a .t1) (editForm 2 (getD (a .t1) 3 0)) (kind-rest (getD (a .t1) 1 0) (getD (a .t1) 3 0) (c .before .match .rest .0 .1) (c .before .match .rest .1)) (c .before .before .before .wide32 .ensures) (c .before .before .wide322 .ensures) refl ∙ remove-words _ _ _ _) refl (c .pair-length2 .ensures .0)
 
 pub edit-line-length-spec : {M : Type 1} → statement M
 edit-line-length-spec =
     tie.close
     (tie.spec
-    array-read-wide
-    wide-requires
-    array-read-wide-2
-    wide-requires-2
+    array-read-wide32
+    wide32-requires
+    array-read-wide32-2
+    wide32-requires-2
     array-read-kind
     pair-length-requires
     array-read-set-length
-    array-read-wide-3
-    wide-requires-3
+    array-read-wide32-3
+    wide32-requires-3
     set-length-requires
     pair-length-requires-2
     returns

@@ -28,11 +28,11 @@ part-run-lines-end c = search needs
 run-lines-requires : tie.Need-run-lines-requires
 run-lines-requires c κs = search needs
 
-sub-least : tie.Need-sub-least
-sub-least c = search needs
+sub-lesser : tie.Need-sub-lesser
+sub-lesser c = search needs
 
-least-requires : tie.Need-least-requires
-least-requires c κs = search needs
+lesser-requires : tie.Need-lesser-requires
+lesser-requires c κs = search needs
 
 move-front-requires : tie.Need-move-front-requires
 move-front-requires c κs = search needs
@@ -50,7 +50,7 @@ same-length-4 : tie.Need-same-length-4
 same-length-4 c = search needs
 
 returns : tie.Need-returns
-returns c = omega (arith, c .before .before .before .before .before .before .least .ensures, c .before .before .before .before .before .before .before .before .before .before .before .before .before .before .before .before .before .before .before .before .before .before .pre)
+returns c = omega (arith, c .before .before .before .before .before .before .lesser .ensures, c .before .before .before .before .before .before .before .before .before .before .before .before .before .before .before .before .before .before .before .before .before .before .pre)
 
 pub feed-spec : {M : Type 1} → statement M
 feed-spec =
@@ -64,8 +64,8 @@ feed-spec =
     part-run-lines-start
     part-run-lines-end
     run-lines-requires
-    sub-least
-    least-requires
+    sub-lesser
+    lesser-requires
     move-front-requires
     same-length
     same-length-2

@@ -60,23 +60,23 @@ refusal-requires c κs = search needs
 returns : tie.Need-returns Inv-loop μ-loop
 returns c = upto-refused (c .before .before .before .before .before .before .before .before .before .before .before .before .before .before .before .args .text .now) (c .before .before .before .before .before .before .before .before .before .before .before .before .before .loop .inv) (c .before .before .before .before .before .before .before .before .before .before .before .before .loop-test .taken) (c .before .before .before .before .before .before .before .before .before .before .before .line-end .ensures) (c .before .before .before .before .before .before .before .before .before .read-line .ensures) (c .before .before .before .before .before .take-line .ensures) (c .before .if1 .taken) (c .refusal .ensures)
 
-row-count-requires : tie.Need-row-count-requires Inv-loop μ-loop
-row-count-requires c κs = search needs
+bit-requires : tie.Need-bit-requires Inv-loop μ-loop
+bit-requires c κs = search needs
 
 add-n : tie.Need-add-n Inv-loop μ-loop
-add-n c = let u = c .before .before .before .before .before .before .before .before .before .before .before .before .before .loop .inv in omega (arith, u .edits-held .few, row-least (c .before .before .before .before .before .before .before .before .before .read-line .result .isedit) (c .row-count .ensures))
+add-n c = let u = c .before .before .before .before .before .before .before .before .before .before .before .before .before .loop .inv in omega (arith, u .edits-held .few, row-least (c .before .before .before .before .before .before .before .before .before .read-line .result .isedit) (c .bit .ensures))
 
-row-count-requires-2 : tie.Need-row-count-requires-2 Inv-loop μ-loop
-row-count-requires-2 c κs = search needs
+bit-requires-2 : tie.Need-bit-requires-2 Inv-loop μ-loop
+bit-requires-2 c κs = search needs
 
 add-m : tie.Need-add-m Inv-loop μ-loop
-add-m c = let u = c .before .before .before .before .before .before .before .before .before .before .before .before .before .before .before .loop .inv in omega (arith, u .constraints-held .few, row-least (not (c .before .before .before .before .before .before .before .before .before .before .before .read-line .result .isedit)) (c .row-count2 .ensures))
+add-m c = let u = c .before .before .before .before .before .before .before .before .before .before .before .before .before .before .before .loop .inv in omega (arith, u .constraints-held .few, row-least (not (c .before .before .before .before .before .before .before .before .before .before .before .read-line .result .isedit)) (c .bit2 .ensures))
 
 loop-less : tie.Need-loop-less Inv-loop μ-loop
 loop-less c = let l = c .before .before .before .before .before .before .before .before .before .before .before .before .before .before .before .loop in let x = next-line (c .before .before .before .before .before .before .before .before .before .before .before .before .before .before .before .before .before .args .text .now) (l .at) (c .before .before .before .before .before .before .before .before .before .before .before .before .before .before .loop-test .taken) (c .before .before .before .before .before .before .before .before .before .before .before .before .before .line-end .ensures) in omega (arith, x .forward, x .inside)
 
 loop-again : tie.Need-loop-again Inv-loop μ-loop
-loop-again c = upto-next (c .before .before .before .before .before .before .before .before .before .before .before .before .before .before .before .before .before .args .text .now) (c .before .before .before .before .before .before .before .before .before .before .before .before .before .before .before .loop .inv) (c .before .before .before .before .before .before .before .before .before .before .before .before .before .before .loop-test .taken) (c .before .before .before .before .before .before .before .before .before .before .before .before .before .line-end .ensures) (c .before .before .before .before .before .before .before .before .before .before .before .read-line .ensures) (c .before .before .before .before .before .before .before .take-line .ensures) (c .before .before .before .if1 .left) (c .before .before .row-count .ensures) (c .row-count2 .ensures)
+loop-again c = upto-next (c .before .before .before .before .before .before .before .before .before .before .before .before .before .before .before .before .before .args .text .now) (c .before .before .before .before .before .before .before .before .before .before .before .before .before .before .before .loop .inv) (c .before .before .before .before .before .before .before .before .before .before .before .before .before .before .loop-test .taken) (c .before .before .before .before .before .before .before .before .before .before .before .before .before .line-end .ensures) (c .before .before .before .before .before .before .before .before .before .before .before .read-line .ensures) (c .before .before .before .before .before .before .before .take-line .ensures) (c .before .before .before .if1 .left) (c .before .before .bit .ensures) (c .bit2 .ensures)
 
 add-t28 : tie.Need-add-t28 Inv-loop μ-loop
 add-t28 c = let u = c .before .loop .inv in omega (arith, u .edits-held .few, u .constraints-held .few)
@@ -126,9 +126,9 @@ read-rows-spec =
     add-refusal-2
     refusal-requires
     returns
-    row-count-requires
+    bit-requires
     add-n
-    row-count-requires-2
+    bit-requires-2
     add-m
     loop-less
     loop-again

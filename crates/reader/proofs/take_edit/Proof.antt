@@ -27,14 +27,14 @@ same-length-2 c = search needs
 returns-2 : tie.Need-returns-2
 returns-2 c = let s = c .before .before .before .before .before in edit-after (s .args .edits .now) (s .args .marks .now) (s .args .n) (s .args .m) (s .args .t5) (s .pre) (c .before .before .edit-row-fault .ensures) (c .before .if1 .left) (c .if2 .taken)
 
-array-read-wide : tie.Need-array-read-wide
-array-read-wide c = search needs
+array-read-index32 : tie.Need-array-read-index32
+array-read-index32 c = search needs
 
-wide-requires : tie.Need-wide-requires
-wide-requires c κs = search needs
+index32-requires : tie.Need-index32-requires
+index32-requires c κs = search needs
 
 slice-write-marks : tie.Need-slice-write-marks
-slice-write-marks c = let s = c .before .before .before .before .before .before in name-inside (s .args .edits .now) (s .args .marks .now) (s .args .n) (s .args .m) (s .args .t5) (s .pre) (c .before .before .before .edit-row-fault .ensures) (c .before .before .if1 .left) (c .wide .ensures)
+slice-write-marks c = let s = c .before .before .before .before .before .before in name-inside (s .args .edits .now) (s .args .marks .now) (s .args .n) (s .args .m) (s .args .t5) (s .pre) (c .before .before .before .edit-row-fault .ensures) (c .before .before .if1 .left) (c .index32 .ensures)
 
 same-length-3 : tie.Need-same-length-3
 same-length-3 c = search needs
@@ -43,7 +43,7 @@ same-length-4 : tie.Need-same-length-4
 same-length-4 c = search needs
 
 returns-3 : tie.Need-returns-3
-returns-3 c = let s = c .before .before .before .before .before .before in edit-taken (s .args .edits .now) (s .args .marks .now) (s .args .n) (s .args .m) (s .args .t5) (s .pre) (c .before .before .before .edit-row-fault .ensures) (c .before .before .if1 .left) (c .before .if2 .left) (c .wide .ensures)
+returns-3 c = let s = c .before .before .before .before .before .before in edit-taken (s .args .edits .now) (s .args .marks .now) (s .args .n) (s .args .m) (s .args .t5) (s .pre) (c .before .before .before .edit-row-fault .ensures) (c .before .before .if1 .left) (c .before .if2 .left) (c .index32 .ensures)
 
 pub take-edit-spec : {M : Type 1} → statement M
 take-edit-spec =
@@ -56,8 +56,8 @@ take-edit-spec =
     returns
     same-length-2
     returns-2
-    array-read-wide
-    wide-requires
+    array-read-index32
+    index32-requires
     slice-write-marks
     same-length-3
     same-length-4

@@ -2,7 +2,7 @@
 use mathlib.Core.Path.{sym}
 use borrow.Author.Needs.{needs}
 use lib.Seq.{length-take-le}
-use Rattle.writer.proofs.Texts.{placed-inside}
+use Rattle.writer.proofs.Placing.{placed-inside}
 use Rattle.unity.proofs.main.Statement.{statement}
 use Rattle.unity.proofs.main.Tie as tie
 

@@ -1,5 +1,5 @@
 -- `writer::constraints_fit` meets its contract. Assumes nothing.
-use Rattle.writer.proofs.Writing.{Leaves, leaves-all, leaves-none, leaves-next, leaves-end}
+use Rattle.writer.proofs.Writing.{Leaves, leaves-all, leaves-next, leaves-end}
 use Rattle.writer.specs.Placed.{constraintText}
 use Rattle.line.specs.Line.{constraintLine}
 use Prim.Native.Nat.{ℕ, _-_}
@@ -11,13 +11,13 @@ use Rattle.writer.proofs.constraints_fit.Statement.{statement}
 use Rattle.writer.proofs.constraints_fit.Tie as tie
 
 abbrev Inv-loop : tie.InvT-loop
-Inv-loop n room a left₀ i₀ left i = Leaves constraintText a n room left i
+Inv-loop n a rest₀ i₀ rest i = Leaves constraintText a n rest₀ rest i
 
 abbrev μ-loop : tie.MeasureT-loop
-μ-loop n room a left₀ i₀ left i = n - i
+μ-loop n a rest₀ i₀ rest i = n - i
 
 loop-holds : tie.Need-loop-holds Inv-loop μ-loop
-loop-holds c = let s = c .args in leaves-all constraintText (s .t1) (s .n) (s .room) (search needs)
+loop-holds c = let s = c .args in leaves-all constraintText (s .t2) (s .n) (s .fit) (search needs)
 
 mul-c : tie.Need-mul-c Inv-loop μ-loop
 mul-c c = search needs
@@ -31,8 +31,8 @@ constraint-row-requires c κs = search needs
 constraint-line-length-requires : tie.Need-constraint-line-length-requires Inv-loop μ-loop
 constraint-line-length-requires c κs = search needs
 
-returns : tie.Need-returns Inv-loop μ-loop
-returns c = let s = c .before .before .before .before .before .before .args in leaves-none constraintText (s .t1) (s .n) (s .room) (c .before .before .before .before .before .loop .inv) _ (c .before .before .before .before .loop-test .taken) (c .before .constraint-line-length .ensures ∙ ap (λ (r : List ℕ). length (constraintLine r)) (c .before .before .constraint-row .ensures)) (c .if1 .taken)
+fit-more-requires : tie.Need-fit-more-requires Inv-loop μ-loop
+fit-more-requires c κs = search needs
 
 add-i : tie.Need-add-i Inv-loop μ-loop
 add-i c = search needs
@@ -41,10 +41,12 @@ loop-less : tie.Need-loop-less Inv-loop μ-loop
 loop-less c = search needs
 
 loop-again : tie.Need-loop-again Inv-loop μ-loop
-loop-again c = let s = c .before .before .before .before .before .before .args in leaves-next constraintText (s .t1) (s .n) (s .room) (c .before .before .before .before .before .loop .inv) _ (c .before .before .before .before .loop-test .taken) (c .before .constraint-line-length .ensures ∙ ap (λ (r : List ℕ). length (constraintLine r)) (c .before .before .constraint-row .ensures)) (c .if1 .left)
+loop-again c =
+    let s = c .before .before .before .before .before .before .args in
+    leaves-next constraintText (s .t2) (s .n) (s .fit) (c .before .before .before .before .before .loop .inv) _ (c .before .before .before .before .loop-test .taken) (c .before .constraint-line-length .ensures ∙ ap (λ (r : List ℕ). length (constraintLine r)) (c .before .before .constraint-row .ensures)) (c .fit-more .ensures)
 
-returns-2 : tie.Need-returns-2 Inv-loop μ-loop
-returns-2 c = let s = c .before .before .args in leaves-end constraintText (s .t1) (s .n) (s .room) (c .before .loop .inv) (c .loop-test .left)
+returns : tie.Need-returns Inv-loop μ-loop
+returns c = let s = c .before .before .args in leaves-end constraintText (s .t2) (s .n) (s .fit) (c .before .loop .inv) (c .loop-test .left)
 
 pub constraints-fit-spec : {M : Type 1} → statement M
 constraints-fit-spec =
@@ -57,8 +59,8 @@ constraints-fit-spec =
     array-copy-out-c
     constraint-row-requires
     constraint-line-length-requires
-    returns
+    fit-more-requires
     add-i
     loop-less
     loop-again
-    returns-2)
+    returns)

@@ -1,5 +1,5 @@
 -- `writer::edits_fit` meets its contract. Assumes nothing.
-use Rattle.writer.proofs.Writing.{Leaves, leaves-all, leaves-none, leaves-next, leaves-end}
+use Rattle.writer.proofs.Writing.{Leaves, leaves-all, leaves-next, leaves-end}
 use Rattle.writer.specs.Placed.{editText}
 use Rattle.line.specs.Line.{editLine}
 use Prim.Native.Nat.{ℕ, _-_}
@@ -11,13 +11,13 @@ use Rattle.writer.proofs.edits_fit.Statement.{statement}
 use Rattle.writer.proofs.edits_fit.Tie as tie
 
 abbrev Inv-loop : tie.InvT-loop
-Inv-loop n room a left₀ i₀ left i = Leaves editText a n room left i
+Inv-loop n a rest₀ i₀ rest i = Leaves editText a n rest₀ rest i
 
 abbrev μ-loop : tie.MeasureT-loop
-μ-loop n room a left₀ i₀ left i = n - i
+μ-loop n a rest₀ i₀ rest i = n - i
 
 loop-holds : tie.Need-loop-holds Inv-loop μ-loop
-loop-holds c = let s = c .args in leaves-all editText (s .t1) (s .n) (s .room) (search needs)
+loop-holds c = let s = c .args in leaves-all editText (s .t2) (s .n) (s .fit) (search needs)
 
 mul-e : tie.Need-mul-e Inv-loop μ-loop
 mul-e c = search needs
@@ -31,8 +31,8 @@ edit-row-requires c κs = search needs
 edit-line-length-requires : tie.Need-edit-line-length-requires Inv-loop μ-loop
 edit-line-length-requires c κs = search needs
 
-returns : tie.Need-returns Inv-loop μ-loop
-returns c = let s = c .before .before .before .before .before .before .args in leaves-none editText (s .t1) (s .n) (s .room) (c .before .before .before .before .before .loop .inv) _ (c .before .before .before .before .loop-test .taken) (c .before .edit-line-length .ensures ∙ ap (λ (r : List ℕ). length (editLine r)) (c .before .before .edit-row .ensures)) (c .if1 .taken)
+fit-more-requires : tie.Need-fit-more-requires Inv-loop μ-loop
+fit-more-requires c κs = search needs
 
 add-i : tie.Need-add-i Inv-loop μ-loop
 add-i c = search needs
@@ -41,10 +41,12 @@ loop-less : tie.Need-loop-less Inv-loop μ-loop
 loop-less c = search needs
 
 loop-again : tie.Need-loop-again Inv-loop μ-loop
-loop-again c = let s = c .before .before .before .before .before .before .args in leaves-next editText (s .t1) (s .n) (s .room) (c .before .before .before .before .before .loop .inv) _ (c .before .before .before .before .loop-test .taken) (c .before .edit-line-length .ensures ∙ ap (λ (r : List ℕ). length (editLine r)) (c .before .before .edit-row .ensures)) (c .if1 .left)
+loop-again c =
+    let s = c .before .before .before .before .before .before .args in
+    leaves-next editText (s .t2) (s .n) (s .fit) (c .before .before .before .before .before .loop .inv) _ (c .before .before .before .before .loop-test .taken) (c .before .edit-line-length .ensures ∙ ap (λ (r : List ℕ). length (editLine r)) (c .before .before .edit-row .ensures)) (c .fit-more .ensures)
 
-returns-2 : tie.Need-returns-2 Inv-loop μ-loop
-returns-2 c = let s = c .before .before .args in leaves-end editText (s .t1) (s .n) (s .room) (c .before .loop .inv) (c .loop-test .left)
+returns : tie.Need-returns Inv-loop μ-loop
+returns c = let s = c .before .before .args in leaves-end editText (s .t2) (s .n) (s .fit) (c .before .loop .inv) (c .loop-test .left)
 
 pub edits-fit-spec : {M : Type 1} → statement M
 edits-fit-spec =
@@ -57,8 +59,8 @@ edits-fit-spec =
     array-copy-out-e
     edit-row-requires
     edit-line-length-requires
-    returns
+    fit-more-requires
     add-i
     loop-less
     loop-again
-    returns-2)
+    returns)

@@ -1,5 +1,5 @@
 -- `writer::place_form` meets its contract. Assumes nothing.
-use Rattle.writer.proofs.Starting.{start-none, start-room, start-written}
+use Rattle.writer.proofs.Placing.{start-none, start-room, start-written}
 use Rattle.form.specs.Form.{fill}
 use borrow.Author.Tests.{not-true, not-false}
 use borrow.Author.Needs.{needs}
