@@ -7,6 +7,7 @@ use Prim.Native.Nat.{ℕ, _*_}
 use lib.Dec.{eqb, leb}
 use Rattle.record.specs.declared.Body.the-variants.{Insert, Remove}
 use Rattle.record.specs.declared.Edit.{Edit}
+use Rattle.record.specs.declared.Constraint.{Constraint}
 use Rattle.record.specs.Record.{Record}
 use Rattle.record.specs.Sound.{SoundRecord, Must, Never}
 use Rattle.table.specs.Table.{emptyTables}
@@ -18,12 +19,15 @@ use Rattle.mergeability.specs.Mergeability.{EachSound, EachOneBody, Send
 abbrev insert : ℕ → ℕ → Edit
 insert name place = record { name = name; body = Insert place }
 
+abbrev con : ℕ → ℕ → ℕ → Constraint
+con a k b = record { left = a; rule = k; right = b }
+
 abbrev row : ℕ → ℕ → RollRow
 row bench weight = record { bench = bench; weight = weight }
 
 -- 257 is required
 abbrev pub old : Record
-old = record { edits = insert 257 5 ∷ []; constraints = record { left = 257; rule = 1; right = 0 } ∷ [] }
+old = record { edits = insert 257 5 ∷ []; constraints = con 257 1 0 ∷ [] }
 
 -- besides, 258 is aborted; 257 comes before it and enables it
 abbrev pub new : Record
