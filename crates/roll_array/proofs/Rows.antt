@@ -16,9 +16,6 @@ use denote.Array.{Array, array-vals, array-tells, array-makes}
 use denote.Index.{row}
 use denote.Laws.{Is, shows}
 use denote.Memory.{cellAt, partAt, partOf, mem}
-use denote.Builtin.{u32}
-use denote.Signature.{Slot, plain, shrSliceOf}
-use denote.Signature.Array.{arrayOf}
 use denote.Slice.{Room}
 use denote.Steps.{owned, nothing, only}
 use denote.Struct.Steps.{spelt}
@@ -26,13 +23,6 @@ use denote.Struct.Laws as LL
 use Rattle.vote.specs.declared.RollRow.{RollRow}
 use Rattle.vote.proofs.RollRow as T
 use Rattle.vote.proofs.RollRow.Laws as T′
-
--- the places of the lent proposals in a signature of two lifetimes
-abbrev pub edits : Slot 2
-edits = arrayOf (shrSliceOf (0 ∷ []) tt (arrayOf (plain (λ _. u32)) 5)) 8
-
-abbrev pub constraints : Slot 2
-constraints = arrayOf (shrSliceOf (1 ∷ []) tt (arrayOf (plain (λ _. u32)) 3)) 8
 
 -- nine rows have room
 pub roomy : (m : ℕ) → m ≤ 9 → Room T.the-row m

@@ -1,19 +1,23 @@
+-- `roll_array::adopt` meets its contract. Assumes nothing.
+use lib.ListN.{take}
 use borrow.Author.Needs.{needs}
-use Rattle.roll_array.proofs.Taken.{adopted}
+use Rattle.roll_array.proofs.Taken.{taken}
 use Rattle.roll_array.proofs.adopt.Statement.{statement}
 use Rattle.roll_array.proofs.adopt.Tie as tie
 
-at-most-nine-requires : tie.Need-at-most-nine-requires
-at-most-nine-requires c κs = search needs
+lesser-requires : tie.Need-lesser-requires
+lesser-requires c κs = search needs
 
-lent-adopt-requires : tie.Need-lent-adopt-requires
-lent-adopt-requires c κs = search needs
+first-rows-requires : tie.Need-first-rows-requires
+first-rows-requires c κs = search needs
+
+adopt-requires : tie.Need-adopt-requires
+adopt-requires c κs = search needs
 
 returns : tie.Need-returns
 returns c =
-    let s = c .before .before in
-    let n = c .before .at-most-nine in
-    adopted (s .args .rows) (s .args .count) (n .result) (s .good .1 .1 .1 .1 .0 .1 .0 .1) (n .ensures .1 .0) (n .ensures .1 .1) (s .args .bench) (s .args .edit) _ _ (c .lent-adopt .ensures)
+    let s = c .before .before .before in
+    c .adopt .ensures (take (s .args .count) (s .args .rows)) (taken (s .args .rows) (s .args .count) (s .good .1 .1 .1 .1 .0 .1 .0 .1) (c .before .before .lesser .ensures) (c .before .first-rows .ensures))
 
 pub adopt-spec : {M : Type 1} → statement M
-adopt-spec = tie.close (tie.spec at-most-nine-requires lent-adopt-requires returns)
+adopt-spec = tie.close (tie.spec lesser-requires first-rows-requires adopt-requires returns)

@@ -1,19 +1,23 @@
+-- `roll_array::election` meets its contract. Assumes nothing.
+use lib.ListN.{take}
 use borrow.Author.Needs.{needs}
-use Rattle.roll_array.proofs.Taken.{elected}
+use Rattle.roll_array.proofs.Taken.{taken}
 use Rattle.roll_array.proofs.election.Statement.{statement}
 use Rattle.roll_array.proofs.election.Tie as tie
 
-at-most-nine-requires : tie.Need-at-most-nine-requires
-at-most-nine-requires c κs = search needs
+lesser-requires : tie.Need-lesser-requires
+lesser-requires c κs = search needs
 
-lent-election-requires : tie.Need-lent-election-requires
-lent-election-requires c κs = search needs
+first-rows-requires : tie.Need-first-rows-requires
+first-rows-requires c κs = search needs
+
+election-requires : tie.Need-election-requires
+election-requires c κs = search needs
 
 returns : tie.Need-returns
 returns c =
-    let s = c .before .before in
-    let n = c .before .at-most-nine in
-    elected (s .args .rows) (s .args .count) (n .result) (search needs) (n .ensures .1 .0) (n .ensures .1 .1) (s .args .edit) _ _ (c .lent-election .ensures)
+    let s = c .before .before .before .args in
+    c .election .ensures (take (s .count) (s .rows)) (taken (s .rows) (s .count) (search needs) (c .before .before .lesser .ensures) (c .before .first-rows .ensures))
 
 pub election-spec : {M : Type 1} → statement M
-election-spec = tie.close (tie.spec at-most-nine-requires lent-election-requires returns)
+election-spec = tie.close (tie.spec lesser-requires first-rows-requires election-requires returns)
