@@ -2,11 +2,11 @@
 use lent::Judgement;
 use libc::STDOUT_FILENO;
 
-fn text(bytes: &[u8]) {
+pub fn text(bytes: &[u8]) {
     io::write_all(STDOUT_FILENO, bytes);
 }
 
-fn number(label: &[u8], n: u64) {
+pub fn number(label: &[u8], n: u64) {
     io::write_all(STDOUT_FILENO, label);
     io::print_decimal(STDOUT_FILENO, n);
 }
