@@ -1,5 +1,5 @@
 // Bundles (document 01, "Proposals and votes"): the bundle of an edit, whether it is eligible, and both asked of a lent record.
-use indexes::NAMES;
+use row::NAMES;
 use links::MARKS;
 use links::ROWS;
 use record::Constraint;

@@ -1,6 +1,6 @@
 // A proposal is finished (document 01, "Proposals and votes", last paragraph): the edits in the schedule are marked required, the others aborted,
 // and the schedule's unordered pairs are ordered. Functions are pub for the crates of this workspace that make proposals.
-use indexes::NAMES;
+use row::NAMES;
 use insertion::Constraints;
 use links::MARKS;
 use pairs::Pairs;

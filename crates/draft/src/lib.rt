@@ -1,6 +1,6 @@
 // The union of a record and the bench's old proposal, with what was settled first (document 01, "Proposals and votes", last paragraph).
 // Functions are pub for the crates of this workspace that make proposals.
-use indexes::NAMES;
+use row::NAMES;
 use insertion::Constraints;
 use links::MARKS;
 use pairs::Pairs;

@@ -3,7 +3,10 @@
 use links::ENABLES;
 use links::NONCOMMUTING;
 use links::ROWS;
+use record::CONSTRAINTS;
+use record::EDITS;
 use record::Record;
+use row::NAMES;
 ghost use mathlib.Core.Path.{_≡_};
 ghost use Prim.Native.Nat.{ℕ, min, _+_, _*_, _<_, _≤_};
 ghost use lib.ListN.{length, getD, set};
@@ -14,14 +17,7 @@ ghost use Rattle.links.specs.Links.{Safe};
 ghost use Rattle.marks.specs.Resolved.{Resolved};
 ghost use Rattle.indexes.specs.Fit.{Fit};
 
-// Names lie below this.
-pub const NAMES: usize = 2304;
-// What a record may hold.
-const EDIT_LIMIT: usize = 127;
-
-pub const CONSTRAINT_LIMIT: usize = 512;
-
-// Pub for `members`.
+// The lesser of a count and its limit. Pub for `members`.
 pub fn within(count: usize, limit: usize) -> usize
     ensures { λ r. ⌜ r ≡ min count limit ⌝ }
 {
@@ -32,14 +28,14 @@ pub fn within(count: usize, limit: usize) -> usize
 pub fn name_count(multilog: Record) -> usize
     ensures { λ r. ⌜ (r ≤ 128) × ((R : theory.Record) → multilog ≡ stored R → Fit R → r ≡ length (theory.names R)) ⌝ }
 {
-    within(multilog.editcount, EDIT_LIMIT) + 1
+    within(multilog.editcount, EDITS) + 1
 }
 
 // How many constraints there are.
 pub fn row_count(multilog: Record) -> usize
     ensures { λ r. ⌜ (r ≤ 512) × ((R : theory.Record) → multilog ≡ stored R → Fit R → r ≡ length (R .constraints)) ⌝ }
 {
-    within(multilog.constraintcount, CONSTRAINT_LIMIT)
+    within(multilog.constraintcount, CONSTRAINTS)
 }
 
 fn put_index(table: &mut [u8; NAMES], name: u16, index: u8)
@@ -58,7 +54,7 @@ pub fn index_table(multilog: Record) -> [u8; NAMES]
         × ((R : theory.Record) → multilog ≡ stored R → Fit R → (x : ℕ) → getD r x 0 ≡ placeIn (theory.names R) x) ⌝ }
 {
     let mut table = [0u8; NAMES];
-    let count = within(multilog.editcount, EDIT_LIMIT);
+    let count = within(multilog.editcount, EDITS);
     let mut i: usize = 0;
     while i < count {
         let edit = multilog.edits[i];
@@ -97,7 +93,7 @@ fn rows_of(multilog: Record, table: &[u8; NAMES]) -> [u16; ROWS]
         × ((R : theory.Record) → multilog ≡ stored R → Fit R → ((x : ℕ) → getD (now (table .entry)) x 0 ≡ placeIn (theory.names R) x) → Resolved R r) ⌝ }
 {
     let mut rows = [0u16; ROWS];
-    let count = within(multilog.constraintcount, CONSTRAINT_LIMIT);
+    let count = within(multilog.constraintcount, CONSTRAINTS);
     let mut j: usize = 0;
     while j < count {
         let constraint = multilog.constraints[j];

@@ -1,6 +1,7 @@
 // The members of the bundle of an edit (document 01, "Proposals and votes"), by index: a closure over rows made from the constraints. Functions
 // are pub for the crates that make bundles; they are safe for any record.
-use indexes::NAMES;
+use record::CONSTRAINTS;
+use row::NAMES;
 use links::MARKS;
 use links::NOTAFTER;
 use links::ROWS;
@@ -84,7 +85,7 @@ fn leading_rows(multilog: Record, table: &[u8; NAMES], own: &[u16; ROWS]) -> [u1
         → Resolved R (now (own .entry)) → Leads (leadsIn R) R 0 r) ⌝ }
 {
     let mut rows = [0u16; ROWS];
-    let count = indexes::within(multilog.constraintcount, indexes::CONSTRAINT_LIMIT);
+    let count = indexes::within(multilog.constraintcount, CONSTRAINTS);
     let mut j: usize = 0;
     while j < count {
         let constraint = multilog.constraints[j];

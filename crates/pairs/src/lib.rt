@@ -1,6 +1,6 @@
 // The noncommuting pairs of a record with no order between them (document 01, "Proposals and votes", last paragraph). Functions are pub for the
 // crates of this workspace that make proposals.
-use indexes::NAMES;
+use row::NAMES;
 use links::NOTAFTER;
 use links::ROWS;
 use record::Constraint;

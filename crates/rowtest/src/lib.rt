@@ -1,6 +1,6 @@
 // The test of a row of names against a record in memory. It is safe for any record and any row; its promise is for a record that is stored with
 // checked tables.
-use indexes::NAMES;
+use row::NAMES;
 use record::Record;
 ghost use mathlib.Core.Path.{_≡_};
 ghost use mathlib.Core.Bool.{true, cond};
