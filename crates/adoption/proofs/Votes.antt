@@ -10,7 +10,7 @@ use Rattle.record.specs.declared.Record as declared
 use Rattle.record.specs.Record.{Record}
 use Rattle.record.specs.Stored.{stored}
 use Rattle.lists.proofs.Lists.{by, clash}
-use Rattle.table.specs.Table.{recordFault, unite}
+use Rattle.table.specs.Table.{recordJoinFault, unite}
 use Rattle.table.specs.Checked.{Checked}
 use Rattle.table.proofs.Records.{record-checked}
 use Rattle.join.specs.declared.Joined.{Joined}
@@ -72,7 +72,7 @@ module _ (e : ℕ) (P : Proposals) (roll : List RollRow) (E : Election) (h : E �
 
     pub adopt-won : (bundle : declared.Record) (joined : Joined) (r : Outcome) → E .number ≡ 0 → E .won ≡ true
         → (electionFault e P roll ≡ 0 → (B : Record) → winner (cast e P roll) ≡ some B → bundle ≡ stored B)
-        → ((R S : Record) → bench .multilog ≡ stored R → Checked R → bundle ≡ stored S → joined ≡ join.outcome (recordFault R S) R (unite R S))
+        → ((R S : Record) → bench .multilog ≡ stored R → Checked R → bundle ≡ stored S → joined ≡ join.joinedOf (recordJoinFault R S) R (unite R S))
         → Joins bench joined E r → r ≡ outcome (step (fed start calls) (adopt e P roll))
     unfolding judge act Joins
     adopt-won bundle joined r z w s g f =
@@ -83,6 +83,6 @@ module _ (e : ℕ) (P : Proposals) (roll : List RollRow) (E : Election) (h : E �
         winner-by (winner (cast e P roll))
         (λ q. clash (sym (ap (λ (x : Election). x .won) (k .1)) ∙ w) (open-is (cast e P roll) q))
         (λ B q.
-        let c : recordFault R B ≡ 0 → Checked (unite R B) = record-checked R B (v .checked) in
-        f calls (recordFault R B) (unite R B) b (g R B (bench-record L bench b) (v .checked) (s (k .0) B q)) c (λ x. union-keeps R B (v .checked) (c x))
-        ∙ ap outcome (sym (step-joined L (adopt e P roll) (recordFault R B) (unite R B) E (rw (k .0, q)) (rw (q, ← k .1)))))
+        let c : recordJoinFault R B ≡ 0 → Checked (unite R B) = record-checked R B (v .checked) in
+        f calls (recordJoinFault R B) (unite R B) b (g R B (bench-record L bench b) (v .checked) (s (k .0) B q)) c (λ x. union-keeps R B (v .checked) (c x))
+        ∙ ap outcome (sym (step-joined L (adopt e P roll) (recordJoinFault R B) (unite R B) E (rw (k .0, q)) (rw (q, ← k .1)))))

@@ -54,13 +54,13 @@ placed-is kind h =
     let r = and-r (same form (answerForm kind)) (leb at end && leb end 601) t in
     (same-eq form (answerForm kind) (and-l (same form (answerForm kind)) (leb at end && leb end 601) t), (leb-true at end (and-l (leb at end) (leb end 601) r), leb-true end 601 (and-r (leb at end) (leb end 601) r)))
 
-pub place-is : (kind : ℕ) → kind < 28 → {at end : ℕ} → at ≡ getD places kind 0 → end ≡ getD places (kind + 1) 0 → Placed kind at end
-place-is kind h p q = rw (p, q) (placed-is kind h)
+pub answer-place-is : (kind : ℕ) → kind < 28 → {at end : ℕ} → at ≡ getD places kind 0 → end ≡ getD places (kind + 1) 0 → Placed kind at end
+answer-place-is kind h p q = rw (p, q) (placed-is kind h)
 
 form-count : length (lines answerTable) ≡ 28
 unfolding answerTable tableOf bytes lines
 form-count = refl
 
-pub no-place : (kind : ℕ) → 28 ≤ kind → Placed kind 0 0
+pub no-answer-place : (kind : ℕ) → 28 ≤ kind → Placed kind 0 0
 unfolding answerForm formAt
-no-place kind h = (sym (List·getD-eq-default (lines answerTable) [] (omega (arith, form-count))), (omega arith, omega arith))
+no-answer-place kind h = (sym (List·getD-eq-default (lines answerTable) [] (omega (arith, form-count))), (omega arith, omega arith))

@@ -13,7 +13,7 @@ use Rattle.decimal.proofs.Parts.{part-written, part-to-end}
 use Rattle.writer.specs.declared.Written.{Written}
 use Rattle.writer.specs.Placed.{placing, placed}
 use Rattle.forms.specs.Printed.{Printed}
-use Rattle.forms.proofs.Printing.{printed-fits, printed-over}
+use Rattle.forms.proofs.Printing.{form-printed-fits, printed-over}
 
 abbrev Places : List ℕ → ℕ → List ℕ → Written → List ℕ → Type 0
 Places text at out w after = (w ≡ placing text at out) × (after ≡ placed text at out)
@@ -36,11 +36,11 @@ module _ (text out : List ℕ) (at : ℕ) {w : Written} {after : List ℕ} (p : 
   pub text-printed : w .number ≡ 0 → Printed text out at after (w .end)
   text-printed n =
       le-by (at + length text) (length out)
-      (λ h. let q = placed-there h in printed-fits text out at h (q .1 .0) (q .1 .1))
+      (λ h. let q = placed-there h in form-printed-fits text out at h (q .1 .0) (q .1 .1))
       (λ h. absurd (omega (arith, not-placed h .0)))
 
-  pub text-refused : w .number ≢ 0 → Printed text out at after (length out + 1)
-  text-refused n =
+  pub answer-text-refused : w .number ≢ 0 → Printed text out at after (length out + 1)
+  answer-text-refused n =
       le-by (at + length text) (length out)
       (λ h. absurd (n (placed-there h .0)))
       (λ h. printed-over text out at h (omega arith) (ap length (not-placed h .1)))
@@ -67,7 +67,7 @@ module _ (text out : List ℕ) (at : ℕ) (near : at ≤ length out) {w : Writte
   pub part-printed : w .number ≡ 0 → Printed text out at whole (at + w .end)
   part-printed n =
       le-by (at + length text) (length out)
-      (λ h. let q = part-there h in printed-fits text out at h (ap (λ (k : ℕ). at + k) (q .1 .0)) (q .1 .1))
+      (λ h. let q = part-there h in form-printed-fits text out at h (ap (λ (k : ℕ). at + k) (q .1 .0)) (q .1 .1))
       (λ h. absurd (omega (arith, part-not h .0)))
 
   pub part-refused : w .number ≢ 0 → Printed text out at whole (length out + 1)

@@ -59,8 +59,8 @@ abbrev pub bit : Bool → ℕ
 bit b = cond b 1 0
 
 -- the answer, or the refusal with the line's number
-abbrev pub answered : ℕ → List ℕ → ℕ → List ℕ
-answered number text line = cond (eqb number 0) text (answerLine 0 (number ∷ line ∷ []))
+abbrev pub answeredText : ℕ → List ℕ → ℕ → List ℕ
+answeredText number text line = cond (eqb number 0) text (answerLine 0 (number ∷ line ∷ []))
 
 -- the counts of a record and its text
 abbrev pub storedText : declared.Record → List ℕ

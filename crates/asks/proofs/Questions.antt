@@ -8,7 +8,7 @@ use native.Mathlib.Omega.{arith}
 use borrow.Author.Tests.{eq-eqb, ne-eqb}
 use lib.ListN.{length, getD, take, drop, length-take}
 use lib.Seq.{take-length}
-use Rattle.lists.specs.Lists.{sift}
+use Rattle.lists.specs.Lists.{filter}
 use Rattle.lists.proofs.Arrays.{getD-any}
 use Rattle.record.specs.declared.Edit.{Edit}
 use Rattle.pages.proofs.Turns.{take-least}
@@ -43,7 +43,7 @@ module _ (edits : List Edit) (count : ℕ) {n : ℕ} (s : length edits ≡ 127) 
   size = e ∙ sym (length-take count edits ∙ rw s)
 
   module _ (before : List ℕ) (at : ℕ) {middle after : List ℕ} {place end : ℕ} where
-    pub hidden-printed : (marks : List ℕ) {k : ℕ} → k ≡ length (sift hides (take n (drop 1 marks))) → Printed (answerLine 8 (k ∷ [])) before at middle place
+    pub hidden-printed : (marks : List ℕ) {k : ℕ} → k ≡ length (filter hides (take n (drop 1 marks))) → Printed (answerLine 8 (k ∷ [])) before at middle place
         → Printed (textsFrom (hiddenLine marks) 1 (take n edits)) middle place after end → Printed (hiddenText (take count edits) marks) before at after end
     unfolding hiddenText
     hidden-printed marks {k} c p q =
@@ -66,7 +66,7 @@ module _ (before : List ℕ) (at : ℕ) {middle after : List ℕ} {place end : �
   unfolding entryText
   entry-printed chip entry e p q = rw e (printed-both (answerLine 13 (chip ∷ [])) (cellsText 14 chip (entry .cells)) before at p q)
 
-  pub catalogue-printed : (entries : List Entry) {k : ℕ} → k ≡ length (sift isPresent entries) → Printed (answerLine 12 (k ∷ [])) before at middle place
+  pub catalogue-printed : (entries : List Entry) {k : ℕ} → k ≡ length (filter isPresent entries) → Printed (answerLine 12 (k ∷ [])) before at middle place
       → Printed (textsFrom entryText 0 entries) middle place after end → Printed (catalogueText entries) before at after end
   unfolding catalogueText
   catalogue-printed entries {k} c p q = rw (← c) (printed-both (answerLine 12 (k ∷ [])) (textsFrom entryText 0 entries) before at p q)

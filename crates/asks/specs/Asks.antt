@@ -4,7 +4,7 @@ use mathlib.Core.Bool.{Bool, cond}
 use mathlib.Core.List.{List, [], _∷_, _++_}
 use lib.Dec.{eqb}
 use lib.ListN.{length, getD, take, drop}
-use Rattle.lists.specs.Lists.{sift}
+use Rattle.lists.specs.Lists.{filter}
 use Rattle.record.specs.declared.Edit.{Edit}
 use Rattle.catalogue.specs.declared.Cell.{Cell}
 use Rattle.catalogue.specs.declared.Entry.{Entry}
@@ -22,7 +22,7 @@ hiddenLine marks i e = cond (hides (getD marks i 0)) (answerLine 9 (e .name ∷ 
 
 unfoldable pub hiddenText : List Edit → List ℕ → List ℕ
 hiddenText edits marks =
-    answerLine 8 (length (sift hides (take (length edits) (drop 1 marks))) ∷ []) ++ textsFrom (hiddenLine marks) 1 edits
+    answerLine 8 (length (filter hides (take (length edits) (drop 1 marks))) ∷ []) ++ textsFrom (hiddenLine marks) 1 edits
 
 -- The schedule: page q has the q-th edit.
 abbrev pub pageLine : ℕ → Edit → List ℕ
@@ -46,7 +46,7 @@ unfoldable pub entryText : ℕ → Entry → List ℕ
 entryText chip entry = cond (isPresent entry) (answerLine 13 (chip ∷ []) ++ cellsText 14 chip (entry .cells)) []
 
 unfoldable pub catalogueText : List Entry → List ℕ
-catalogueText entries = answerLine 12 (length (sift isPresent entries) ∷ []) ++ textsFrom entryText 0 entries
+catalogueText entries = answerLine 12 (length (filter isPresent entries) ∷ []) ++ textsFrom entryText 0 entries
 
 -- The journal: for each open page the touched chip and the entry as it was before. Row q - 1 is that of page q.
 unfoldable pub rowText : ℕ → Edit → Entry → List ℕ

@@ -12,7 +12,7 @@ ghost use mathlib.Core.Bool.{cond};
 ghost use mathlib.Core.List.{[], _∷_};
 ghost use Prim.Native.Nat.{suc, _≤_};
 ghost use lib.ListN.{length, take, drop};
-ghost use Rattle.lists.specs.Lists.{sift};
+ghost use Rattle.lists.specs.Lists.{filter};
 ghost use Rattle.forms.specs.Printed.{Printed, textsFrom};
 ghost use Rattle.answers.specs.Answers.{answerLine};
 ghost use Rattle.asks.specs.Asks.{hides, hiddenLine, hiddenText, pageLine, scheduleText, cellsText, isPresent, entryText, catalogueText, rowText, rowAt, journalText, pageText};
@@ -41,7 +41,7 @@ fn tell_two(out: &mut [u8], at: usize, kind: usize, first: u64, second: u64) -> 
 // How many of the first n edits are hidden.
 fn count_hidden(marks: [u8; 128], n: usize) -> usize
     requires { ⌜ n ≤ 127 ⌝ }
-    ensures { λ r. ⌜ r ≡ length (sift hides (take n (drop 1 marks))) ⌝ }
+    ensures { λ r. ⌜ r ≡ length (filter hides (take n (drop 1 marks))) ⌝ }
 {
     let mut count = 0;
     let mut i = 0;
@@ -160,7 +160,7 @@ fn print_entry(out: &mut [u8], at: usize, chip: usize, entry: Entry) -> usize
 }
 
 fn count_present(entries: [Entry; PLACES]) -> usize
-    ensures { λ r. ⌜ r ≡ length (sift isPresent entries) ⌝ }
+    ensures { λ r. ⌜ r ≡ length (filter isPresent entries) ⌝ }
 {
     let mut count = 0;
     let mut i = 0;

@@ -25,7 +25,7 @@ use Rattle.vote.specs.declared.Election.{Election}
 use Rattle.turner.specs.declared.Turned.{Turned}
 use Rattle.turner.specs.declared.Turned.the-variants.{To, Refused}
 use Rattle.turner.specs.declared.TurnAnswer.{TurnAnswer}
-use Rattle.turner.specs.Turn.{turned, answerOf}
+use Rattle.turner.specs.Turn.{turned, turnedAnswer}
 use Rattle.turner.proofs.Signed.{turn-is}
 use Rattle.turner.proofs.Landed.{turned-lands}
 use Rattle.turning.specs.declared.Turning.{Turning}
@@ -34,7 +34,7 @@ use Rattle.pages.specs.Steps.{commonBeginning, Agree}
 use Rattle.record.proofs.Padded.{take-padded}
 use Rattle.catalogue.specs.declared.View.{View}
 use Rattle.catalogue.specs.declared.Changed.{Changed}
-use Rattle.catalogue.specs.Chips.{rows, viewOf, scheduleOf}
+use Rattle.catalogue.specs.Chips.{rows, chipsView, scheduleOf}
 use Rattle.catalogue.specs.Changes as moves
 use Rattle.ledger.specs.declared.Answer.{Answer}
 use Rattle.ledger.specs.declared.Bench.{Bench}
@@ -43,7 +43,7 @@ use Rattle.ledger.specs.Ledger.{Ledger, Call, turn, start, pages, last, judge, 
 use Rattle.ledger.specs.Bench.{pageEdits, openEdits, benchOf, outcome, Answers}
 use Rattle.ledger.proofs.Valid.{Valid, start-valid, fed-valid}
 use Rattle.ledger.proofs.Undone.{from-valid, step-refused, step-accepted, at-page}
-use Rattle.bench.specs.Changes.{plainAnswer, refusedWith, openAt, turnReply, Opens, Keeps, pagesOf, Reschedules}
+use Rattle.bench.specs.Changes.{plainAnswer, refusedWith, openAt, turnReply, Opens, KeepsEdits, pagesOf, Reschedules}
 use Rattle.bench.proofs.Pages.{names-named, named-agree, pages-written, pages-room, open-written, last-room}
 
 -- a call that the ledger refuses with this number
@@ -76,14 +76,14 @@ module _ (L : Ledger) (bench : Bench) (e : bench ≡ benchOf L) (page : ℕ) (h 
   unfolding benchOf scheduleOf
   opened-edits = ap (λ (b : Bench). take page (b .schedule .edits)) e ∙ take-padded rows fillerEdit page (pageEdits L) (omega (arith, length-pages L))
 
-  pub open-is : openAt bench page ≡ benchOf (at-page L page)
+  pub election-open-is : openAt bench page ≡ benchOf (at-page L page)
   unfolding openAt benchOf at-page openEdits pageEdits last pages
-  open-is = λ i. record {
+  election-open-is = λ i. record {
     multilog = e i .multilog;
     hidden = e i .hidden;
     schedule = e i .schedule;
     turner = record { opened = page; last = e i .turner .last };
-    view = viewOf (opened-edits i);
+    view = chipsView (opened-edits i);
   }
 
 last-is : (L : Ledger) (bench : Bench) → bench ≡ benchOf L → bench .turner .last ≡ last L
@@ -95,31 +95,31 @@ pub open-same : (L : Ledger) → Valid L → (bench : Bench) → bench ≡ bench
 unfolding benchOf at-page
 open-same L v bench e =
     let o : bench .turner .opened ≡ L .opened = ap (λ (b : Bench). b .turner .opened) e in
-    ap (openAt bench) o ∙ (open-is L bench e (L .opened) (v .opened-within) ∙ sym e)
+    ap (openAt bench) o ∙ (election-open-is L bench e (L .opened) (v .opened-within) ∙ sym e)
 
 -- as the code opens it
-pub opens : (bench : Bench) (page : ℕ) (w : View) → moves.Turns (bench .schedule) (bench .turner .opened) page (bench .view) w
+pub opens : (bench : Bench) (page : ℕ) (w : View) → moves.ViewTurns (bench .schedule) (bench .turner .opened) page (bench .view) w
     → Opens bench page (record { multilog = bench .multilog; hidden = bench .hidden; schedule = bench .schedule; turner = record { opened = page; last = bench .turner .last }; view = w })
-unfolding Opens openAt benchOf moves.Turns openEdits
+unfolding Opens openAt benchOf moves.ViewTurns openEdits
 opens bench page w m = λ calls e h.
     let L = fed start calls in
     let v = fed-valid start calls start-valid in
     let o : bench .turner .opened ≡ L .opened = ap (λ (b : Bench). b .turner .opened) e in
     let n = length-pages L in
     let l = last-is L bench e in
-    let x : w ≡ viewOf (take page (pageEdits L)) =
+    let x : w ≡ chipsView (take page (pageEdits L)) =
     m (pageEdits L) (omega (arith, last-room L v)) (ap (λ (b : Bench). b .schedule) e) (omega (arith, v .opened-within)) (omega arith)
-    (ap (λ (b : Bench). b .view) e ∙ ap (λ (k : ℕ). viewOf (take k (pageEdits L))) (sym o)) in
-    let y = x ∙ ap viewOf (sym (opened-edits L bench e page (omega arith))) in
+    (ap (λ (b : Bench). b .view) e ∙ ap (λ (k : ℕ). chipsView (take k (pageEdits L))) (sym o)) in
+    let y = x ∙ ap chipsView (sym (opened-edits L bench e page (omega arith))) in
     λ i. record { multilog = bench .multilog; hidden = bench .hidden; schedule = bench .schedule; turner = record { opened = page; last = bench .turner .last }; view = y i }
 
 -- a turn, by the number as the code holds it
 module _ (L : Ledger) (v : Valid L) (bench : Bench) (e : bench ≡ benchOf L) (by : ℤ) (fits : SFits w32 by) (t : Turning) (h : t ≡ turningOf (bench .turner) (toZ w32 (ofZ w32 by))) where
   abbrev answer : TurnAnswer
-  answer = answerOf (L .opened) (turned (L .opened) (last L) by)
+  answer = turnedAnswer (L .opened) (turned (L .opened) (last L) by)
 
   answer-is : turnAnswerOf (L .opened) (last L) by ≡ answer
-  answer-is = ap (answerOf (L .opened)) (turn-is (L .opened) (last L) by (omega (arith, v .opened-within, last-room L v)))
+  answer-is = ap (turnedAnswer (L .opened)) (turn-is (L .opened) (last L) by (omega (arith, v .opened-within, last-room L v)))
 
   turning-is : t ≡ record { number = answer .number; turner = record { opened = answer .opened; last = last L } }
   unfolding benchOf
@@ -132,15 +132,15 @@ module _ (L : Ledger) (v : Valid L) (bench : Bench) (e : bench ≡ benchOf L) (b
   turn-refused z = go (turned (L .opened) (last L) by) refl
     where
       go : (u : Turned) → turned (L .opened) (last L) by ≡ u → refusedWith bench 10 ≡ outcome (step L (turn by))
-      go (To page) q = absurd (z (ap (λ (r : Turning). r .number) turning-is ∙ ap (λ (u : Turned). answerOf (L .opened) u .number) q))
-      go Refused q = refused-is L bench (turn by) 10 e (ap (λ (u : Turned). answerOf (L .opened) u .number) q) (λ x. omega arith)
+      go (To page) q = absurd (z (ap (λ (r : Turning). r .number) turning-is ∙ ap (λ (u : Turned). turnedAnswer (L .opened) u .number) q))
+      go Refused q = refused-is L bench (turn by) 10 e (ap (λ (u : Turned). turnedAnswer (L .opened) u .number) q) (λ x. omega arith)
 
   landed-within : answer .opened ≤ last L
   landed-within = go (turned (L .opened) (last L) by) refl
     where
       go : (u : Turned) → turned (L .opened) (last L) by ≡ u → answer .opened ≤ last L
-      go (To page) q = omega (arith, ap (λ (u : Turned). answerOf (L .opened) u .opened) q, turned-lands (last L) page (L .opened) by q .within)
-      go Refused q = omega (arith, ap (λ (u : Turned). answerOf (L .opened) u .opened) q, v .opened-within)
+      go (To page) q = omega (arith, ap (λ (u : Turned). turnedAnswer (L .opened) u .opened) q, turned-lands (last L) page (L .opened) by q .within)
+      go Refused q = omega (arith, ap (λ (u : Turned). turnedAnswer (L .opened) u .opened) q, v .opened-within)
 
   pub turned-within : t .turner .opened ≤ last L
   turned-within = omega (arith, ap (λ (r : Turning). r .turner .opened) turning-is, landed-within)
@@ -149,7 +149,7 @@ module _ (L : Ledger) (v : Valid L) (bench : Bench) (e : bench ≡ benchOf L) (b
   unfolding judge act outcome at-page
   turn-accepted z =
       let p : t .turner .opened ≡ answer .opened = ap (λ (r : Turning). r .turner .opened) turning-is in
-      let x : openAt bench (t .turner .opened) ≡ benchOf (at-page L (answer .opened)) = ap (openAt bench) p ∙ open-is L bench e (answer .opened) landed-within in
+      let x : openAt bench (t .turner .opened) ≡ benchOf (at-page L (answer .opened)) = ap (openAt bench) p ∙ election-open-is L bench e (answer .opened) landed-within in
       accepted-is L (turn by) _ (sym (ap (λ (r : Turning). r .number) turning-is) ∙ z) (ap (λ (b : Bench). record { answer = plainAnswer 0; bench = b }) x)
 
   pub turn-told : turnReply bench t ≡ outcome (step L (turn by))
@@ -158,11 +158,11 @@ module _ (L : Ledger) (v : Valid L) (bench : Bench) (e : bench ≡ benchOf L) (b
     where
       go : (u : Turned) → turned (L .opened) (last L) by ≡ u → turnReply bench t ≡ outcome (step L (turn by))
       go (To page) q =
-          let z : t .number ≡ 0 = ap (λ (r : Turning). r .number) turning-is ∙ ap (λ (u : Turned). answerOf (L .opened) u .number) q in
+          let z : t .number ≡ 0 = ap (λ (r : Turning). r .number) turning-is ∙ ap (λ (u : Turned). turnedAnswer (L .opened) u .number) q in
           ap (λ (n : ℕ). record { answer = plainAnswer n; bench = openAt bench (t .turner .opened) }) z ∙ turn-accepted z
       go Refused q =
-          let n : t .number ≡ 10 = ap (λ (r : Turning). r .number) turning-is ∙ ap (λ (u : Turned). answerOf (L .opened) u .number) q in
-          let p : t .turner .opened ≡ L .opened = ap (λ (r : Turning). r .turner .opened) turning-is ∙ ap (λ (u : Turned). answerOf (L .opened) u .opened) q in
+          let n : t .number ≡ 10 = ap (λ (r : Turning). r .number) turning-is ∙ ap (λ (u : Turned). turnedAnswer (L .opened) u .number) q in
+          let p : t .turner .opened ≡ L .opened = ap (λ (r : Turning). r .turner .opened) turning-is ∙ ap (λ (u : Turned). turnedAnswer (L .opened) u .opened) q in
           let o : bench .turner .opened ≡ L .opened = ap (λ (b : Bench). b .turner .opened) e in
           let x : openAt bench (t .turner .opened) ≡ bench = ap (openAt bench) (p ∙ sym o) ∙ open-same L v bench e in
           (λ i. record { answer = plainAnswer (n i); bench = x i }) ∙ turn-refused (λ z. omega arith)
@@ -182,7 +182,7 @@ turn-opens bench by fits t h z b o a q = λ calls e.
 
 -- a change
 module _ (L : Ledger) (v : Valid L) (bench : Bench) (e : bench ≡ benchOf L) (R : Record) (h : List ℕ) (k : Checked R) (s : sound R ≡ true)
-    (keeps : Keeps (L .multilog) R) where
+    (keeps : KeepsEdits (L .multilog) R) where
   news : List Edit
   news = map (editNamed (R .edits)) (drop 1 (schedule R h))
 
@@ -209,20 +209,20 @@ module _ (L : Ledger) (v : Valid L) (bench : Bench) (e : bench ≡ benchOf L) (R
 
   pub change-is : (E : Election) (multilog : declared.Record) (hidden : List ℕ) (new : Schedule) (moved : Changed)
       → multilog ≡ stored R → hidden ≡ marksOf R (λ x. mem x h) → new ≡ pagesOf R h
-      → moves.Changes (bench .schedule) (bench .turner .opened) new (bench .view) moved
+      → moves.ViewChanges (bench .schedule) (bench .turner .opened) new (bench .view) moved
       → record {
         answer = record { number = 0; undone = moved .undone; redone = moved .redone; won = E .won; greatest = E .greatest; silent = E .silent; total = E .total };
         bench = record { multilog = multilog; hidden = hidden; schedule = new; turner = record { opened = new .count; last = new .count }; view = moved .view };
       } ≡ outcome (change L R h E)
-  unfolding change outcome benchOf pagesOf moves.Changes pageEdits openEdits pages last news scheduleOf
+  unfolding change outcome benchOf pagesOf moves.ViewChanges pageEdits openEdits pages last news scheduleOf
   change-is E multilog hidden new moved hm hh hn m =
       let row = drop 1 (schedule R h) in
       let old = take (L .opened) (pageEdits L) in
       let n = length-pages L in
       let o = ap (λ (b : Bench). b .turner .opened) e in
-      let told : moved ≡ record { view = viewOf news; undone = L .opened - moves.common old news; redone = length news - moves.common old news } =
+      let told : moved ≡ record { view = chipsView news; undone = L .opened - moves.common old news; redone = length news - moves.common old news } =
       rw o at (m (pageEdits L) news (omega (arith, last-room L v)) (omega (arith, pages-room R k s h, length-news)) (ap (λ (b : Bench). b .schedule) e) hn
-      (omega (arith, o, v .opened-within)) (rw o agree) (ap (λ (b : Bench). b .view) e ∙ ap (λ (q : ℕ). viewOf (take q (pageEdits L))) (sym o))) in
+      (omega (arith, o, v .opened-within)) (rw o agree) (ap (λ (b : Bench). b .view) e ∙ ap (λ (q : ℕ). chipsView (take q (pageEdits L))) (sym o))) in
       let c = common-is in
       let whole : news ≡ take (length row) news = sym (ap (λ (q : ℕ). take q news) (sym length-news) ∙ take-length news) in
       (λ i. record {
@@ -231,12 +231,12 @@ module _ (L : Ledger) (v : Valid L) (bench : Bench) (e : bench ≡ benchOf L) (R
       })
       ∙ (λ i. record {
         answer = record { number = 0; undone = L .opened - c i; redone = length-news i - c i; won = E .won; greatest = E .greatest; silent = E .silent; total = E .total };
-        bench = record { multilog = stored R; hidden = marksOf R (λ x. mem x h); schedule = scheduleOf news; turner = record { opened = length-news i; last = length-news i }; view = viewOf (whole i) };
+        bench = record { multilog = stored R; hidden = marksOf R (λ x. mem x h); schedule = scheduleOf news; turner = record { opened = length-news i; last = length-news i }; view = chipsView (whole i) };
       })
 
 -- the same of every list of calls
 pub change-from : (bench : Bench) (multilog : declared.Record) (hidden : List ℕ) (new : Schedule) (E : Election) (moved : Changed)
-    → moves.Changes (bench .schedule) (bench .turner .opened) new (bench .view) moved
+    → moves.ViewChanges (bench .schedule) (bench .turner .opened) new (bench .view) moved
     → Reschedules bench multilog hidden new E (record {
       answer = record { number = 0; undone = moved .undone; redone = moved .redone; won = E .won; greatest = E .greatest; silent = E .silent; total = E .total };
       bench = record { multilog = multilog; hidden = hidden; schedule = new; turner = record { opened = new .count; last = new .count }; view = moved .view };

@@ -15,7 +15,7 @@ use Rattle.links.specs.Marks.{marksOf}
 use Rattle.table.specs.Checked.{Checked}
 use Rattle.vote.specs.declared.Election.{Election}
 use Rattle.turning.specs.declared.Turning.{Turning}
-use Rattle.catalogue.specs.Chips.{viewOf, scheduleOf}
+use Rattle.catalogue.specs.Chips.{chipsView, scheduleOf}
 use Rattle.ledger.specs.declared.Answer.{Answer}
 use Rattle.ledger.specs.declared.Bench.{Bench}
 use Rattle.ledger.specs.declared.Outcome.{Outcome}
@@ -37,7 +37,7 @@ openAt bench page = record {
   hidden = bench .hidden;
   schedule = bench .schedule;
   turner = record { opened = page; last = bench .turner .last };
-  view = viewOf (take page (bench .schedule .edits));
+  view = chipsView (take page (bench .schedule .edits));
 }
 
 -- what a turn of the bench's turner comes to on the bench; a refused one leaves the page
@@ -49,8 +49,8 @@ unfoldable pub Opens : Bench → ℕ → Bench → Type 0
 Opens bench page r = (calls : List Call) → bench ≡ benchOf (fed start calls) → page ≤ bench .turner .last → r ≡ openAt bench page
 
 -- S has every edit of R, with its body
-abbrev pub Keeps : Record → Record → Type 0
-Keeps R S = (x : ℕ) → x among written R → editNamed (S .edits) x ≡ editNamed (R .edits) x
+abbrev pub KeepsEdits : Record → Record → Type 0
+KeepsEdits R S = (x : ℕ) → x among written R → editNamed (S .edits) x ≡ editNamed (R .edits) x
 
 -- the bench schedule as it is stored
 unfoldable pub pagesOf : Record → List ℕ → Schedule
@@ -60,11 +60,11 @@ pagesOf R hidden = scheduleOf (map (editNamed (R .edits)) (drop 1 (schedule R hi
 -- ledger's change.
 unfoldable pub Changes : Bench → declared.Record → List ℕ → Election → Outcome → Type 0
 Changes bench multilog hidden E r = (calls : List Call) (R : Record) (h : List ℕ) → bench ≡ benchOf (fed start calls)
-    → multilog ≡ stored R → h within written R → hidden ≡ marksOf R (λ x. mem x h) → Checked R → sound R ≡ true → Keeps (fed start calls .multilog) R
+    → multilog ≡ stored R → h within written R → hidden ≡ marksOf R (λ x. mem x h) → Checked R → sound R ≡ true → KeepsEdits (fed start calls .multilog) R
     → r ≡ outcome (change (fed start calls) R h E)
 
 -- the same where the new schedule is given too
 unfoldable pub Reschedules : Bench → declared.Record → List ℕ → Schedule → Election → Outcome → Type 0
 Reschedules bench multilog hidden new E r = (calls : List Call) (R : Record) (h : List ℕ) → bench ≡ benchOf (fed start calls)
-    → multilog ≡ stored R → hidden ≡ marksOf R (λ x. mem x h) → new ≡ pagesOf R h → Checked R → sound R ≡ true → Keeps (fed start calls .multilog) R
+    → multilog ≡ stored R → hidden ≡ marksOf R (λ x. mem x h) → new ≡ pagesOf R h → Checked R → sound R ≡ true → KeepsEdits (fed start calls .multilog) R
     → r ≡ outcome (change (fed start calls) R h E)

@@ -11,16 +11,16 @@ use borrow.Author.Tests.{eq-eqb, ne-eqb}
 use Rattle.record.specs.declared.Edit.{Edit}
 use Rattle.record.specs.declared.Constraint.{Constraint}
 use Rattle.record.specs.declared.Record as declared
-use Rattle.lists.specs.Lists.{mem, at, sift, _among_}
+use Rattle.lists.specs.Lists.{mem, indexOf, filter, _among_}
 use Rattle.record.specs.Record.{Record, names, written}
 use Rattle.record.specs.Stored.{stored, fillerEdit, fillerConstraint}
-use Rattle.lists.proofs.Lists.{mem-at}
+use Rattle.lists.proofs.Lists.{mem-index}
 use Rattle.record.proofs.Padded.{take-padded}
 use Rattle.links.specs.Marks.{marksOf, placeIn}
 use Rattle.links.proofs.Names.{getD-place, place-known}
 use Rattle.links.proofs.Marks.{marks-at}
 use Rattle.vote.specs.Bundle.{members, between, bundle}
-use Rattle.bundle.specs.Bundles.{siftedEdits, siftedConstraints}
+use Rattle.bundle.specs.Bundles.{filteredEdits, filteredConstraints}
 use Rattle.indexes.specs.Fit.{Fit}
 use Rattle.indexes.proofs.Tables.{name-at, edit-count, constraint-count, constraint-at, length-names}
 use Rattle.indexes.proofs.Resolving.{has-at, left-known, right-known}
@@ -33,8 +33,8 @@ bit-is false = refl
 module _ (R : Record) (m table marks : List ℕ) (t : (x : ℕ) → getD table x 0 ≡ placeIn (names R) x) (e : marks ≡ marksOf R (λ y. mem y m)) where
   mark-of : (x i : ℕ) → x among names R → i ≡ getD table x 0 → eqb (getD marks i 0) 1 ≡ mem x m
   mark-of x i k q =
-      let p : i ≡ at x (names R) = q ∙ (t x ∙ place-known x (names R) k) in
-      rw (p, e, marks-at R (λ y. mem y m) (at x (names R)) (mem-at x (names R) k), getD-place x (names R) k) (bit-is (mem x m))
+      let p : i ≡ indexOf x (names R) = q ∙ (t x ∙ place-known x (names R) k) in
+      rw (p, e, marks-at R (λ y. mem y m) (indexOf x (names R)) (mem-index x (names R) k), getD-place x (names R) k) (bit-is (mem x m))
 
   module _ (l i : ℕ) (k : l among names R) (q : i ≡ getD table l 0) where
     pub not-from : (r : ℕ) → (getD marks i 0 ≡ 1 → ⊥) → false ≡ between m l r
@@ -64,8 +64,8 @@ module _ (r : declared.Record) (R : Record) (q : r ≡ stored R) (f : Fit R) (e 
       let s = has-at (R .constraints) k fillerConstraint l in
       rw (constraint-at r R q k fillerConstraint l) (left-known (f .formed) _ _ _ s, right-known (f .formed) _ _ _ s)
 
-  pub bundle-is : (a : List Edit) (n : ℕ) (b : List Constraint) (m : ℕ) → record { rows = a; count = n } ≡ siftedEdits (sift (λ x. mem (x .name) (members R e)) (take (r .editcount) (r .edits)))
-      → record { rows = b; count = m } ≡ siftedConstraints (sift (λ c. between (members R e) (c .left) (c .right)) (take (r .constraintcount) (r .constraints)))
+  pub bundle-is : (a : List Edit) (n : ℕ) (b : List Constraint) (m : ℕ) → record { rows = a; count = n } ≡ filteredEdits (filter (λ x. mem (x .name) (members R e)) (take (r .editcount) (r .edits)))
+      → record { rows = b; count = m } ≡ filteredConstraints (filter (λ c. between (members R e) (c .left) (c .right)) (take (r .constraintcount) (r .constraints)))
       → record { edits = a; editcount = n; constraints = b; constraintcount = m } ≡ stored (bundle R e)
   unfolding bundle
   bundle-is a n b m ea eb =
@@ -75,8 +75,8 @@ module _ (r : declared.Record) (R : Record) (q : r ≡ stored R) (f : Fit R) (e 
       let pb = rw tc at eb in
       λ j. record { edits = pa j .rows; editcount = pa j .count; constraints = pb j .rows; constraintcount = pb j .count }
 
-pub edits-within : (r : declared.Record) (R : Record) → r ≡ stored R → Fit R → r .editcount ≤ 127
-edits-within r R q f = omega (arith, edit-count r R q, f .edits)
+pub bundle-edits-within : (r : declared.Record) (R : Record) → r ≡ stored R → Fit R → r .editcount ≤ 127
+bundle-edits-within r R q f = omega (arith, edit-count r R q, f .edits)
 
-pub constraints-within : (r : declared.Record) (R : Record) → r ≡ stored R → Fit R → r .constraintcount ≤ 512
-constraints-within r R q f = omega (arith, constraint-count r R q, f .constraints)
+pub bundle-constraints-within : (r : declared.Record) (R : Record) → r ≡ stored R → Fit R → r .constraintcount ≤ 512
+bundle-constraints-within r R q f = omega (arith, constraint-count r R q, f .constraints)

@@ -1,3 +1,3 @@
-pub mod Sifting
+pub mod Filtering
 pub mod Bundling
 pub mod Judging

@@ -18,11 +18,11 @@ use Rattle.bundle.specs.declared.Edits.{Edits}
 use Rattle.bundle.specs.declared.Constraints.{Constraints}
 use Rattle.bundle.specs.declared.BundleAnswer.{BundleAnswer}
 
-abbrev pub siftedEdits : List Edit → Edits
-siftedEdits l = record { rows = padded 127 fillerEdit l; count = length l }
+abbrev pub filteredEdits : List Edit → Edits
+filteredEdits l = record { rows = padded 127 fillerEdit l; count = length l }
 
-abbrev pub siftedConstraints : List Constraint → Constraints
-siftedConstraints l = record { rows = padded 512 fillerConstraint l; count = length l }
+abbrev pub filteredConstraints : List Constraint → Constraints
+filteredConstraints l = record { rows = padded 512 fillerConstraint l; count = length l }
 
 -- the number of the refusal: rows, then the faults of the whole call
 unfoldable pub lentBundleFault : Rows → Rows → ℕ → ℕ

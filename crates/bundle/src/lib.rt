@@ -1,10 +1,10 @@
 // Bundles (document 01, "Proposals and votes"): the bundle of an edit, whether it is eligible, and both asked of a lent record.
-use row::NAMES;
 use links::MARKS;
 use links::ROWS;
 use record::Constraint;
 use record::Edit;
 use record::Record;
+use row::NAMES;
 ghost use mathlib.Core.Path.{_≡_};
 ghost use mathlib.Core.Bool.{Bool};
 ghost use mathlib.Core.List.{List};
@@ -13,7 +13,7 @@ ghost use lib.Dec.{eqb};
 ghost use lib.ListN.{length, getD, take};
 ghost use Rattle.record.specs.declared.Edit as edit;
 ghost use Rattle.record.specs.Record as theory;
-ghost use Rattle.lists.specs.Lists.{mem, sift, all, _among_};
+ghost use Rattle.lists.specs.Lists.{mem, filter, all, _among_};
 ghost use Rattle.record.specs.Stored.{stored, fillerEdit, fillerConstraint};
 ghost use Rattle.record.specs.Judgement.{settled};
 ghost use Rattle.links.specs.Marks.{marksOf, placeIn};
@@ -22,7 +22,7 @@ ghost use Rattle.indexes.specs.Fit.{Fit};
 ghost use Rattle.members.specs.Rows.{leadsIn};
 ghost use Rattle.vote.specs.Bundle.{between};
 ghost use Rattle.vote.specs.Bundle as vote;
-ghost use Rattle.bundle.specs.Bundles.{siftedEdits, siftedConstraints, refusedBundle, bundleAnswer};
+ghost use Rattle.bundle.specs.Bundles.{filteredEdits, filteredConstraints, refusedBundle, bundleAnswer};
 
 // Rows past the count hold the filler.
 pub struct Edits {
@@ -36,9 +36,9 @@ pub struct Constraints {
 }
 
 // The edits that are marked, edit i at index i + 1.
-fn sift_edits(edits: [Edit; 127], n: usize, marks: &[u8; MARKS]) -> Edits
+fn filter_edits(edits: [Edit; 127], n: usize, marks: &[u8; MARKS]) -> Edits
     requires { ⌜ n ≤ 127 ⌝ }
-    ensures { λ r. ⌜ ((p : edit.Edit → Bool) → ((i : ℕ) → i < n → eqb (getD (now (marks .entry)) (i + 1) 0) 1 ≡ p (getD edits i fillerEdit)) → r ≡ siftedEdits (sift p (take n edits))) ⌝ }
+    ensures { λ r. ⌜ ((p : edit.Edit → Bool) → ((i : ℕ) → i < n → eqb (getD (now (marks .entry)) (i + 1) 0) 1 ≡ p (getD edits i fillerEdit)) → r ≡ filteredEdits (filter p (take n edits))) ⌝ }
 {
     let old = record::empty();
     let mut rows = old.edits;
@@ -76,7 +76,7 @@ fn is_between(table: &[u8; NAMES], marks: &[u8; MARKS], left: u16, right: u16) -
 }
 
 // The constraints between members.
-fn sift_constraints(
+fn filter_constraints(
     constraints: [Constraint; 512],
     n: usize,
     table: &[u8; NAMES],
@@ -85,7 +85,7 @@ fn sift_constraints(
     requires { ⌜ (n ≤ 512) × (length (now table) ≡ 2304) × ((x : ℕ) → getD (now table) x 0 < 128) ⌝ }
     ensures { λ r. ⌜ ((R : theory.Record) (m : List ℕ) → ((x : ℕ) → getD (now (table .entry)) x 0 ≡ placeIn (theory.names R) x) → now (marks .entry) ≡ marksOf R (λ y. mem y m)
         → ((i : ℕ) → i < n → (getD constraints i fillerConstraint .left among theory.names R) × (getD constraints i fillerConstraint .right among theory.names R))
-        → r ≡ siftedConstraints (sift (λ c. between m (c .left) (c .right)) (take n constraints))) ⌝ }
+        → r ≡ filteredConstraints (filter (λ c. between m (c .left) (c .right)) (take n constraints))) ⌝ }
 {
     let old = record::empty();
     let mut rows = old.constraints;
@@ -123,8 +123,8 @@ pub fn bundle_by(multilog: Record, table: &[u8; NAMES], rows: &[u16; ROWS], name
     let marks = members::member_marks(table, rows, name);
     let edits = multilog.edits;
     let constraints = multilog.constraints;
-    let kept = sift_edits(edits, n, &marks);
-    let between = sift_constraints(constraints, m, table, &marks);
+    let kept = filter_edits(edits, n, &marks);
+    let between = filter_constraints(constraints, m, table, &marks);
     let rows = kept.rows;
     let rules = between.rows;
     Record {

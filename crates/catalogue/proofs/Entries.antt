@@ -56,7 +56,7 @@ module _ (n : ℕ) (entries : List Entry) (edit : Edit) (place : ℕ) (at : plac
   ran-past h = rw (← at, set-out entries place (runBody n (edit .body) (touched (shelf n) entries edit)) h)
 
 -- the empty view is stored as absent entries alone
-pub empty-stored : (made : Entry) → made ≡ absentEntry cells
+pub empty-view-stored : (made : Entry) → made ≡ absentEntry cells
     → record { catalogue = record { entries = replicate places made }; journal = record { rows = replicate rows made } } ≡ emptyView
-unfolding chips-specs.viewOf viewOf run kept emptyCatalogue padded
-empty-stored made e = rw e
+unfolding chips-specs.chipsView viewOf run kept emptyCatalogue padded
+empty-view-stored made e = rw e

@@ -21,7 +21,7 @@ pub record Sized (n places rows : ℕ) (view : View (shelf n)) : Type 0 where
   pub journal : length (view .journal) ≡ rows
 
 -- what is left to run: the view comes to the same as the view at the start
-pub record Running (n places rows : ℕ) (edits : List Edit) (from to : ℕ) (start : View (shelf n)) (page : ℕ) (view : View (shelf n)) : Type 0 where
+pub record LeftToRun (n places rows : ℕ) (edits : List Edit) (from to : ℕ) (start : View (shelf n)) (page : ℕ) (view : View (shelf n)) : Type 0 where
   pub sized : Sized n places rows view
   pub rest : forward (shelf n) from (slice from to edits) start ≡ forward (shelf n) page (slice page to edits) view
 
@@ -31,14 +31,14 @@ pub record Undoing (n places rows : ℕ) (edits : List Edit) (to from : ℕ) (st
   pub rest : back (shelf n) to (slice to from edits) start ≡ back (shelf n) to (slice to page edits) view
 
 module _ (n places rows : ℕ) (edits : List Edit) (d : Edit) (start view : View (shelf n)) (from to page place : ℕ) where
-  module _ (run : Running n places rows edits from to start page view) (test : page < to) (room : to ≤ length edits)
+  module _ (run : LeftToRun n places rows edits from to start page view) (test : page < to) (room : to ≤ length edits)
       (at : place ≡ placeOf (getD edits page d .body)) where
     run-on : (next : View (shelf n)) → Sized n places rows next → next ≡ stepForward (shelf n) page (getD edits page d) view
-        → Running n places rows edits from to start (page + 1) next
+        → LeftToRun n places rows edits from to start (page + 1) next
     run-on next s e = record { sized = s; rest = run .rest ∙ forward-more (shelf n) edits d view next page to test room e }
 
     pub run-within : (e made : Entry) → place < places → made ≡ runBody n (getD edits page d .body) (getD (view .catalogue) place e)
-        → Running n places rows edits from to start (page + 1)
+        → LeftToRun n places rows edits from to start (page + 1)
         (record { catalogue = set (view .catalogue) place made; journal = set (view .journal) page (getD (view .catalogue) place e) })
     unfolding stepForward
     run-within e made h m =
@@ -49,7 +49,7 @@ module _ (n places rows : ℕ) (edits : List Edit) (d : Edit) (start view : View
         (λ i. record { catalogue = entries i; journal = set (view .journal) page (entry i) })
 
     pub run-past : (made : Entry) → places ≤ place → made ≡ absentEntry n
-        → Running n places rows edits from to start (page + 1) (record { catalogue = view .catalogue; journal = set (view .journal) page made })
+        → LeftToRun n places rows edits from to start (page + 1) (record { catalogue = view .catalogue; journal = set (view .journal) page made })
     unfolding stepForward
     run-past made h m =
         let l : length (view .catalogue) ≤ place = omega (arith, run .sized .catalogue) in
@@ -86,9 +86,9 @@ module _ (n places rows : ℕ) (edits : List Edit) (d : Edit) (start view : View
 
 -- after the loop, with the end or the start cut off at the last row
 module _ (n places rows : ℕ) (edits : List Edit) (room : length edits ≡ rows) (start view : View (shelf n)) (from to page cut : ℕ) where
-  pub run-end : Running n places rows edits from cut start page view → cut ≤ page → cut ≡ min to rows
+  pub pages-run-end : LeftToRun n places rows edits from cut start page view → cut ≤ page → cut ≡ min to rows
       → view ≡ forward (shelf n) from (slice from to edits) start
-  run-end run h e =
+  pages-run-end run h e =
       sym (forward-end (shelf n) edits view page cut h) ∙ sym (run .rest)
       ∙ ap (λ l. forward (shelf n) from (drop from l) start) (rw e (take-least to rows edits room))
 

@@ -20,8 +20,8 @@ use Rattle.pages.proofs.Turns.{pages-turn, pages-change}
 use Rattle.pages.proofs.Common.{common-left, common-right, common-found, common-take}
 use Rattle.catalogue.specs.declared.View.{View}
 use Rattle.catalogue.specs.declared.Changed.{Changed}
-use Rattle.catalogue.specs.Chips.{rows, places, chips, storedView, contentOf, viewOf, scheduleOf}
-use Rattle.catalogue.specs.Changes.{Turns, Changes, changed, common}
+use Rattle.catalogue.specs.Chips.{rows, places, chips, storedView, contentOf, chipsView, scheduleOf}
+use Rattle.catalogue.specs.Changes.{ViewTurns, ViewChanges, changed, common}
 
 name-at : (l : List Edit) (n j : ℕ) → j < n → getD (map nameOf (take n l)) j 0 ≡ getD l j fillerEdit .name
 name-at l n j h = List·getD-map nameOf (take n l) j fillerEdit ∙ ap nameOf (getD-take n l j fillerEdit h)
@@ -74,10 +74,10 @@ turn-stored edits opened page view h k =
     let b = slice-padded rows fillerEdit page opened edits h in
     λ i. cond (leb opened page) (steps.forward chips opened (a i) view) (steps.back chips page (b i) view)
 
-pub turn-opens : (schedule : Schedule) (opened page : ℕ) (view r : View) → r ≡ storedView (steps.turn chips (schedule .edits) opened page (contentOf view))
-    → Turns schedule opened page view r
-unfolding Turns viewOf scheduleOf
-turn-opens schedule opened page view r e edits room s h k v =
+pub view-turn-opens : (schedule : Schedule) (opened page : ℕ) (view r : View) → r ≡ storedView (steps.turn chips (schedule .edits) opened page (contentOf view))
+    → ViewTurns schedule opened page view r
+unfolding ViewTurns chipsView scheduleOf
+view-turn-opens schedule opened page view r e edits room s h k v =
     e ∙ (λ i. storedView (steps.turn chips (s i .edits) opened page (contentOf (v i))))
     ∙ ap storedView (turn-stored edits opened page (pages.viewOf chips places rows (take opened edits)) h k ∙ pages-turn chips places rows edits opened page room h k)
 
@@ -87,7 +87,7 @@ pub change-moves : (view : View) (old : Schedule) (opened : ℕ) (new : Schedule
     → w ≡ storedView (steps.back chips c (slice c opened (old .edits)) (contentOf view))
     → x ≡ storedView (steps.forward chips c (slice c (new .count) (new .edits)) (contentOf w))
     → record { view = x; undone = opened - c; redone = new .count - c } ≡ changed view old opened new
-unfolding changed steps.change
+unfolding changed steps.rescheduled
 change-moves view old opened new c w x hc hw hx = rw (hx, hw, hc)
 
 -- the rows of a stored schedule up to its count
@@ -98,8 +98,8 @@ same-edits : (old new : List Edit) → Agree nameOf old new → take (common old
 unfolding common
 same-edits old new agree = common-take nameOf old new agree
 
-pub change-opens : (view : View) (old : Schedule) (opened : ℕ) (new : Schedule) (r : Changed) → r ≡ changed view old opened new → Changes old opened new view r
-unfolding Changes viewOf scheduleOf changed
+pub change-opens : (view : View) (old : Schedule) (opened : ℕ) (new : Schedule) (r : Changed) → r ≡ changed view old opened new → ViewChanges old opened new view r
+unfolding ViewChanges chipsView scheduleOf changed
 change-opens view old opened new r e edits news room size o n h agree v =
     let before : take opened (old .edits) ≡ take opened edits = (λ i. take opened (o i .edits)) ∙ take-padded rows fillerEdit opened edits h in
     let after : take (new .count) (new .edits) ≡ news = (λ i. take (n i .count) (n i .edits)) ∙ pages-stored news in
@@ -107,7 +107,7 @@ change-opens view old opened new r e edits news room size o n h agree v =
     let fits : length (take opened edits) ≤ rows = omega (arith, length-take opened edits) in
     let come = pages-change chips places rows (take opened edits) news (common (take opened edits) news) fits size (short .0) (short .1) (same-edits (take opened edits) news agree) in
     e ∙ (λ i. record {
-      view = storedView (steps.change chips (before i) (after i) (common (before i) (after i)) (contentOf (v i)));
+      view = storedView (steps.rescheduled chips (before i) (after i) (common (before i) (after i)) (contentOf (v i)));
       undone = opened - common (before i) (after i);
       redone = n i .count - common (before i) (after i);
     })

@@ -11,7 +11,7 @@ use Rattle.catalogue.specs.declared.View.{View}
 use Rattle.catalogue.specs.Entries.{placeOf, absentEntry, runBody}
 
 -- a shelf whose entries have n cells
-abbrev pub shelf : ℕ → pages.Kind
+abbrev pub shelf : ℕ → pages.Shelf
 shelf n = record { Edit = Edit; Entry = Entry; absent = absentEntry n; place = λ edit. placeOf (edit .body); action = λ edit. runBody n (edit .body) }
 
 abbrev pub cells : ℕ
@@ -23,7 +23,7 @@ places = 64
 abbrev pub rows : ℕ
 rows = 127
 
-abbrev pub chips : pages.Kind
+abbrev pub chips : pages.Shelf
 chips = shelf cells
 
 -- a view as it is stored, and what it holds
@@ -34,11 +34,11 @@ abbrev pub contentOf : View → pages.View chips
 contentOf view = record { catalogue = view .catalogue .entries; journal = view .journal .rows }
 
 -- the view that open edits make
-unfoldable pub viewOf : List Edit → View
-viewOf edits = storedView (pages.viewOf chips places rows edits)
+unfoldable pub chipsView : List Edit → View
+chipsView edits = storedView (pages.viewOf chips places rows edits)
 
 abbrev pub emptyView : View
-emptyView = viewOf []
+emptyView = chipsView []
 
 -- a row of edits, no longer than the journal, as it is stored
 unfoldable pub scheduleOf : List Edit → Schedule

@@ -11,7 +11,7 @@ ghost use Rattle.pages.specs.Pages.{runEdit};
 ghost use Rattle.pages.specs.Steps.{back, forward, turn};
 ghost use Rattle.catalogue.specs.Entries.{absentEntry, cellOf, placeOf, runBody};
 ghost use Rattle.catalogue.specs.Chips.{cells, chips, contentOf, emptyView, storedView};
-ghost use Rattle.catalogue.specs.Changes.{Changes, Turns, changed, common};
+ghost use Rattle.catalogue.specs.Changes.{ViewChanges, ViewTurns, changed, common};
 
 // The sizes of the chip catalogue; specs/Chips.antt has the same numbers.
 pub const CELLS: usize = 4;
@@ -201,7 +201,7 @@ fn back_to(view: View, schedule: Schedule, from: usize, to: usize) -> View
 // From the open page to another page of the schedule.
 pub fn turn_to(view: View, schedule: Schedule, opened: usize, page: usize) -> View
     ensures moves { λ r. ⌜ r ≡ storedView (turn chips (schedule .edits) opened page (contentOf view)) ⌝ }
-    ensures opens { λ r. ⌜ Turns schedule opened page view r ⌝ }
+    ensures opens { λ r. ⌜ ViewTurns schedule opened page view r ⌝ }
 {
     if opened <= page {
         forward_to(view, schedule, opened, page)
@@ -237,7 +237,7 @@ pub struct Changed {
 // Back to the common beginning by the journal, and on along the new schedule.
 pub fn change(view: View, old: Schedule, opened: usize, new: Schedule) -> Changed
     ensures moves { λ r. ⌜ r ≡ changed view old opened new ⌝ }
-    ensures opens { λ r. ⌜ Changes old opened new view r ⌝ }
+    ensures opens { λ r. ⌜ ViewChanges old opened new view r ⌝ }
 {
     let last = new.count;
     let common = common_beginning(old, opened, new);

@@ -28,9 +28,9 @@ unfolding countOf
 election-counted e P rows = refl
 
 module _ (e : ℕ) (P : Proposals) (rows : List RollRow) where
-  pub rows-refused : (n : ℕ) → n ≡ firstGiven (proposalFault P) benches → (n ≡ 0 → ⊥) → refusedCount n ≡ countOf e P rows
+  pub count-rows-refused : (n : ℕ) → n ≡ firstGiven (proposalFault P) benches → (n ≡ 0 → ⊥) → refusedCount n ≡ countOf e P rows
   unfolding countOf electionOf electionFault
-  rows-refused n q h =
+  count-rows-refused n q h =
       let z : eqb (firstGiven (proposalFault P) benches) 0 ≡ false = ne-eqb (firstGiven (proposalFault P) benches) 0 (λ y. h (q ∙ y)) in
       rw (z, z, q)
 
@@ -40,19 +40,19 @@ module _ (e : ℕ) (P : Proposals) (rows : List RollRow) where
     roll-refused h = rw (z, h)
 
     module _ (f : rollFaulty rows ≡ false) where
-      pub name-refused : isName e ≡ false → refusedCount 2 ≡ countOf e P rows
+      pub count-name-refused : isName e ≡ false → refusedCount 2 ≡ countOf e P rows
       unfolding countOf electionOf electionFault
-      name-refused h = rw (z, f, h)
+      count-name-refused h = rw (z, f, h)
 
       module _ (n : isName e ≡ true) where
-        pub unknown-refused : any (λ k. mem e (written (held P k))) benches ≡ false → refusedCount 5 ≡ countOf e P rows
+        pub count-unknown-refused : any (λ k. mem e (written (held P k))) benches ≡ false → refusedCount 5 ≡ countOf e P rows
         unfolding countOf electionOf electionFault
-        unknown-refused h = rw (z, f, n, h)
+        count-unknown-refused h = rw (z, f, n, h)
 
         module _ (k : any (λ k. mem e (written (held P k))) benches ≡ true) where
-          pub unsound-refused : all (λ k. sound (held P k)) benches ≡ false → refusedCount 8 ≡ countOf e P rows
+          pub count-unsound-refused : all (λ k. sound (held P k)) benches ≡ false → refusedCount 8 ≡ countOf e P rows
           unfolding countOf electionOf electionFault
-          unsound-refused h = rw (z, f, n, k, h)
+          count-unsound-refused h = rw (z, f, n, k, h)
 
           pub count-answered : all (λ k. sound (held P k)) benches ≡ true → (x : Election) (b : declared.Record) → x ≡ counted (cast e P rows) → b ≡ winnerStored (winner (cast e P rows))
               → record { election = x; bundle = b } ≡ countOf e P rows

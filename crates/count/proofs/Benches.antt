@@ -53,10 +53,10 @@ module _ (f : ℕ → ℕ) where
   given-hit (x ∷ l) zero h z n = rw (ne-eqb (f x) 0 n)
   given-hit (x ∷ l) (suc k) h z n = rw (z 0 (omega arith)) (given-hit l k (omega arith) (λ j i. z (suc j) (omega arith)) n)
 
-  pub given-none : (l : List ℕ) → ((j : ℕ) → j < length l → f (getD l j 0) ≡ 0) → 0 ≡ firstGiven f l
+  pub benches-given-none : (l : List ℕ) → ((j : ℕ) → j < length l → f (getD l j 0) ≡ 0) → 0 ≡ firstGiven f l
   unfolding firstGiven
-  given-none [] z = refl
-  given-none (x ∷ l) z = rw (z 0 (omega arith)) (given-none l (λ j i. z (suc j) (omega arith)))
+  benches-given-none [] z = refl
+  benches-given-none (x ∷ l) z = rw (z 0 (omega arith)) (benches-given-none l (λ j i. z (suc j) (omega arith)))
 
 -- the proposal of the bench at place k, past the eighth an empty one
 module _ {A B : Type 0} (rows : A → Rows) (cells : B → Rows) (es : List A) (cs : List B) (k : ℕ) (a : A) (b : B) (ea : rows a ≡ []) (eb : cells b ≡ []) where
@@ -86,8 +86,8 @@ module _ {A B : Type 0} (rows : A → Rows) (cells : B → Rows) (es : List A) (
     pub first-fault : (n ≡ 0 → ⊥) → n ≡ firstGiven (proposalFault (lentProposals (map rows es) (map cells cs))) benches
     first-fault z = sym fault-is ∙ given-hit (proposalFault (lentProposals (map rows es) (map cells cs))) benches k h w (λ q. z (sym fault-is ∙ q))
 
-    pub no-fault : n ≡ 0 → Faultless (k + 1)
-    no-fault z j l = is-by j k (λ q. rw q (fault-is ∙ z)) (λ q. w j (omega (arith, q)))
+    pub count-no-fault : n ≡ 0 → Faultless (k + 1)
+    count-no-fault z j l = is-by j k (λ q. rw q (fault-is ∙ z)) (λ q. w j (omega (arith, q)))
 
   pub all-faultless : (k : ℕ) → 8 ≤ k → Faultless k → 0 ≡ firstGiven (proposalFault (lentProposals (map rows es) (map cells cs))) benches
-  all-faultless k h w = given-none (proposalFault (lentProposals (map rows es) (map cells cs))) benches (λ j l. w j (omega arith))
+  all-faultless k h w = benches-given-none (proposalFault (lentProposals (map rows es) (map cells cs))) benches (λ j l. w j (omega arith))

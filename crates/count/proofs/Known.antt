@@ -22,23 +22,23 @@ use Rattle.count.proofs.Proposals.{held-checked}
 use Rattle.election.specs.Election.{held, proposalFault}
 
 -- a row with this name
-abbrev pub named : ℕ → Row → Bool
-named x row = eqb x (cell row 0)
+abbrev pub count-named : ℕ → Row → Bool
+count-named x row = eqb x (cell row 0)
 
 module _ (x : ℕ) where
-  any-named : (t : Rows) → any (named x) t ≡ mem x (namesOf t)
+  any-named : (t : Rows) → any (count-named x) t ≡ mem x (namesOf t)
   unfolding any mem
   any-named [] = refl
-  any-named (r ∷ t) = ap (λ (b : Bool). named x r || b) (any-named t)
+  any-named (r ∷ t) = ap (λ (b : Bool). count-named x r || b) (any-named t)
 
   module _ (t : Rows) (i : ℕ) where
     pub name-found : i < length t → cell (getD t i []) 0 ≡ x → true ≡ mem x (namesOf t)
-    name-found h e = sym (sym (any-named t) ∙ rw (take-length t) at (some-found (named x) t (length t) i [] h (omega arith) (eq-eqb x _ (sym e))))
+    name-found h e = sym (sym (any-named t) ∙ rw (take-length t) at (some-found (count-named x) t (length t) i [] h (omega arith) (eq-eqb x _ (sym e))))
 
-    pub name-next : i < length t → (cell (getD t i []) 0 ≡ x → ⊥) → any (named x) (take i t) ≡ false → any (named x) (take (i + 1) t) ≡ false
-    name-next h m n = some-more (named x) t i [] h n (ne-eqb x _ (λ q. m (sym q)))
+    pub name-next : i < length t → (cell (getD t i []) 0 ≡ x → ⊥) → any (count-named x) (take i t) ≡ false → any (count-named x) (take (i + 1) t) ≡ false
+    name-next h m n = some-more (count-named x) t i [] h n (ne-eqb x _ (λ q. m (sym q)))
 
-    pub name-missing : length t ≤ i → any (named x) (take i t) ≡ false → false ≡ mem x (namesOf t)
+    pub name-missing : length t ≤ i → any (count-named x) (take i t) ≡ false → false ≡ mem x (namesOf t)
     name-missing h n = sym (sym (any-named t) ∙ rw (take-all i t h) at n)
 
 -- the names of rows in range are those of their edits; what is not in range is the filler, whose row is not either

@@ -69,5 +69,5 @@ pub benches-end : (k : ℕ) → k ≤ 8 → 8 ≤ k → take k benches ≡ bench
 benches-end k a b = let e : k ≡ 8 = omega arith in rw e
 
 -- a bench of the roll
-pub bench-low : (row : RollRow) → isBench row ≡ true → (1 ≤ row .bench) × (row .bench ≤ 8)
-bench-low row h = (leb-true 1 (row .bench) (and-l (leb 1 (row .bench)) (leb (row .bench) 8) h), leb-true (row .bench) 8 (and-r (leb 1 (row .bench)) (leb (row .bench) 8) h))
+pub proposal-bench-low : (row : RollRow) → isBench row ≡ true → (1 ≤ row .bench) × (row .bench ≤ 8)
+proposal-bench-low row h = (leb-true 1 (row .bench) (and-l (leb 1 (row .bench)) (leb (row .bench) 8) h), leb-true (row .bench) 8 (and-r (leb 1 (row .bench)) (leb (row .bench) 8) h))

@@ -17,16 +17,16 @@ use Rattle.vote.specs.declared.RollRow.{RollRow}
 use Rattle.vote.specs.Tally.{Ballot, ballots, total}
 use Rattle.lists.proofs.Front.{take-more}
 use Rattle.roll.specs.declared.Roll.{Roll}
-use Rattle.roll.specs.Roll.{benchOf, isBench, rollFaulty, fillerRow, rollOf}
+use Rattle.roll.specs.Roll.{rollBench, isBench, rollFaulty, fillerRow, rollOf}
 use Rattle.tally.specs.declared.Tally.{Tally}
 use Rattle.tally.specs.Groups.{tallyOf}
 use Rattle.tally.proofs.Counts.{total-more}
 use Rattle.count.specs.Count.{Faultless, ballotOf}
 use Rattle.election.specs.Election.{Proposals, cast}
 
-pub faulty-is : (roll : Roll) (rows : List RollRow) → roll ≡ rollOf rows → roll .faulty ≡ rollFaulty rows
+pub roll-faulty-is : (roll : Roll) (rows : List RollRow) → roll ≡ rollOf rows → roll .faulty ≡ rollFaulty rows
 unfolding rollOf
-faulty-is roll rows e = by (rollFaulty rows) (λ f. ap (λ r. r .faulty) e ∙ rw f) (λ f. ap (λ r. r .faulty) e ∙ rw f)
+roll-faulty-is roll rows e = by (rollFaulty rows) (λ f. ap (λ r. r .faulty) e ∙ rw f) (λ f. ap (λ r. r .faulty) e ∙ rw f)
 
 -- a roll without fault
 module _ (roll : Roll) (rows : List RollRow) (e : roll ≡ rollOf rows) (f : rollFaulty rows ≡ false) where
@@ -39,7 +39,7 @@ module _ (roll : Roll) (rows : List RollRow) (e : roll ≡ rollOf rows) (f : rol
 
   pub rows-few : length rows ≤ 8
   unfolding rollFaulty
-  rows-few = ltb-false 8 (length rows) (or-no-r (not (distinct (map benchOf rows))) (ltb 8 (length rows)) (or-no-r (not (all isBench rows)) (not (distinct (map benchOf rows)) || ltb 8 (length rows)) f))
+  rows-few = ltb-false 8 (length rows) (or-no-r (not (distinct (map rollBench rows))) (ltb 8 (length rows)) (or-no-r (not (all isBench rows)) (not (distinct (map rollBench rows)) || ltb 8 (length rows)) f))
 
   row-at : (i : ℕ) (d : RollRow) → i < length rows → getD (roll .rows) i d ≡ getD rows i d
   row-at i d h = ap (λ r. getD (r .rows) i d) stored-roll ∙ getD-padded 8 fillerRow rows i d h
@@ -47,17 +47,17 @@ module _ (roll : Roll) (rows : List RollRow) (e : roll ≡ rollOf rows) (f : rol
   row-bench : (i : ℕ) (d : RollRow) → i < length rows → isBench (getD rows i d) ≡ true
   unfolding rollFaulty
   row-bench i d h =
-      all-has isBench rows (not-false (all isBench rows) (or-no-l (not (all isBench rows)) (not (distinct (map benchOf rows)) || ltb 8 (length rows)) f)) (getD rows i d) (has-getD rows i d h)
+      all-has isBench rows (not-false (all isBench rows) (or-no-l (not (all isBench rows)) (not (distinct (map rollBench rows)) || ltb 8 (length rows)) f)) (getD rows i d) (has-getD rows i d h)
 
   -- the first i rows are counted
   module _ (e′ : ℕ) (P : Proposals) where
-    pub record Counting (i : ℕ) (t : Tally) : Type 0 where
+    pub record RollCounting (i : ℕ) (t : Tally) : Type 0 where
       pub tally-is : t ≡ tallyOf (cast e′ P (take i rows))
       pub low : total (cast e′ P (take i rows)) ≤ 65535 * i
 
-    pub counting-start : (t : Tally) → t ≡ tallyOf [] → Counting 0 t
+    pub roll-counting-start : (t : Tally) → t ≡ tallyOf [] → RollCounting 0 t
     unfolding cast ballots total
-    counting-start t q = record { tally-is = q; low = omega arith }
+    roll-counting-start t q = record { tally-is = q; low = omega arith }
 
     cast-more : (i : ℕ) (d : RollRow) → i < length rows → cast e′ P (take (i + 1) rows) ≡ cast e′ P (take i rows) ++ (ballotOf e′ P (getD rows i d) ∷ [])
     unfolding cast ballots
@@ -67,9 +67,9 @@ module _ (roll : Roll) (rows : List RollRow) (e : roll ≡ rollOf rows) (f : rol
     unfolding cast ballots
     cast-length i h = length-map (take i rows) (ballotOf e′ P) ∙ length-take-le i rows h
 
-    module _ (i : ℕ) (t r : Tally) (d : RollRow) (h : i < length rows) (g : Faultless P) (w : Counting i t) (k : getD (roll .rows) i d .weight ≤ 65535)
+    module _ (i : ℕ) (t r : Tally) (d : RollRow) (h : i < length rows) (g : Faultless P) (w : RollCounting i t) (k : getD (roll .rows) i d .weight ≤ 65535)
         (s : (l : List Ballot) → Faultless P → isBench (getD (roll .rows) i d) ≡ true → t ≡ tallyOf l → length l < 8 → total l ≤ 524280 → r ≡ tallyOf (l ++ (ballotOf e′ P (getD (roll .rows) i d) ∷ []))) where
-      pub counting-step : Counting (i + 1) r
+      pub counting-step : RollCounting (i + 1) r
       counting-step =
           let l = cast e′ P (take i rows) in
           let q = row-at i d h in
@@ -82,8 +82,8 @@ module _ (roll : Roll) (rows : List RollRow) (e : roll ≡ rollOf rows) (f : rol
             low = rw (m, total-more l (getD rows i d .weight) (ballotOf e′ P (getD rows i d) .vote)) (let k′ = rw q at k in omega (arith, w .low));
           }
 
-    pub counting-end : (i : ℕ) (t : Tally) → length rows ≤ i → Counting i t → t ≡ tallyOf (cast e′ P rows)
-    counting-end i t h w = rw (take-all i rows h) at (w .tally-is)
+    pub roll-counting-end : (i : ℕ) (t : Tally) → length rows ≤ i → RollCounting i t → t ≡ tallyOf (cast e′ P rows)
+    roll-counting-end i t h w = rw (take-all i rows h) at (w .tally-is)
 
     pub cast-few : length (cast e′ P rows) ≤ 8
     unfolding cast ballots
@@ -92,5 +92,5 @@ module _ (roll : Roll) (rows : List RollRow) (e : roll ≡ rollOf rows) (f : rol
 -- a roll without fault by its rows and their number
 pub by-rows : (roll : Roll) (rows : List RollRow) → roll ≡ rollOf rows → rollFaulty rows ≡ false → record { rows = roll .rows; count = roll .count; faulty = false } ≡ rollOf rows
 by-rows roll rows e f =
-    let p : false ≡ roll .faulty = sym (faulty-is roll rows e ∙ f) in
+    let p : false ≡ roll .faulty = sym (roll-faulty-is roll rows e ∙ f) in
     (λ i. record { rows = roll .rows; count = roll .count; faulty = p i }) ∙ e

@@ -21,7 +21,7 @@ use Rattle.table.specs.Checked.{Checked}
 use Rattle.unite.specs.Union.{Unites}
 use Rattle.proposal.specs.Proposal.{decisions, decisionOn}
 use Rattle.insertion.specs.declared.Constraints.{Constraints}
-use Rattle.insertion.specs.Insertion.{tableOf}
+use Rattle.insertion.specs.Insertion.{heldTable}
 use Rattle.draft.proofs.Joins.{united-none}
 use Rattle.decisions.specs.Decisions.{onlyConstraints}
 
@@ -65,8 +65,8 @@ module _ (row : List ℕ) where
 
     -- the table of the union
     pub table-united : length (R .constraints) ≤ 385 → {table : Constraints}
-        → (length (unite R (onlyConstraints (decisions row (written R))) .constraints) ≤ 512 → table ≡ tableOf (unite R (onlyConstraints (decisions row (written R))) .constraints))
-        → table ≡ tableOf (united constraintKey (R .constraints) (decisions row (written R)))
+        → (length (unite R (onlyConstraints (decisions row (written R))) .constraints) ≤ 512 → table ≡ heldTable (unite R (onlyConstraints (decisions row (written R))) .constraints))
+        → table ≡ heldTable (united constraintKey (R .constraints) (decisions row (written R)))
     unfolding unite
     table-united h e = e (constraints-unite h .places)
 

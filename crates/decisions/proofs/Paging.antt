@@ -12,7 +12,7 @@ use lib.Seq.{length-take-le}
 use Rattle.record.specs.declared.Edit.{Edit}
 use Rattle.record.specs.declared.Constraint.{Constraint}
 use Rattle.record.specs.declared.Record as declared
-use Rattle.lists.specs.Lists.{mem, at, _among_, Has}
+use Rattle.lists.specs.Lists.{mem, indexOf, _among_, Has}
 use Rattle.record.specs.Record.{Record, names, written, nameOf, WellFormed}
 use Rattle.record.specs.Stored.{stored}
 use Rattle.record.specs.Schedule.{schedule}
@@ -27,11 +27,11 @@ use Rattle.table.proofs.Tables.{held}
 use Rattle.links.specs.Marks.{nameAt, placeIn}
 use Rattle.links.proofs.Marks.{values-at}
 use Rattle.links.proofs.Names.{getD-among, place-known}
-use Rattle.proposal.specs.Proposal.{withConstraints, before, unordered, decisions, orders, finished, decisionOn}
+use Rattle.proposal.specs.Proposal.{joinedConstraints, before, unordered, decisions, orders, finished, decisionOn}
 use Rattle.proposal.proofs.Finished.{unordered-from}
 use Rattle.insertion.specs.declared.Constraints.{Constraints}
-use Rattle.insertion.specs.Insertion.{tableOf}
-use Rattle.pairs.proofs.Sifting.{in-array}
+use Rattle.insertion.specs.Insertion.{heldTable}
+use Rattle.pairs.proofs.Filtering.{in-array}
 use Rattle.pairs.proofs.Unordered.{index-low, index-name}
 use Rattle.draft.proofs.Places.{place-none, place-some, place-mem}
 use Rattle.draft.proofs.Joins.{united-append, united-one, united-none, joins-next}
@@ -42,7 +42,7 @@ module _ (rest : List ℕ) (x : ℕ) (n : x ≡ 0 → ⊥) {page : ℕ} (e : pag
   pub not-in : page ≡ 0 → mem x (0 ∷ rest) ≡ false
   not-in z = place-mem rest x n ∙ place-none rest x (λ q. absurd (n q)) (sym e ∙ z)
 
-  pub is-in : (page ≡ 0 → ⊥) → (mem x (0 ∷ rest) ≡ true) × (page ≡ at x (0 ∷ rest))
+  pub is-in : (page ≡ 0 → ⊥) → (mem x (0 ∷ rest) ≡ true) × (page ≡ indexOf x (0 ∷ rest))
   is-in z =
       let m : mem x (0 ∷ rest) ≡ true = place-mem rest x n ∙ place-some rest x (λ q. z (e ∙ q)) in
       (m, e ∙ place-known x (0 ∷ rest) m)
@@ -71,7 +71,7 @@ module _ (row : List ℕ) where
   orders-append [] t = refl
   orders-append (c ∷ s) t =
       by (mem (c .left) row && mem (c .right) row)
-      (λ e. rw e (ap (λ (l : List Constraint). cond (ltb (at (c .left) row) (at (c .right) row)) (before (c .left) (c .right)) (before (c .right) (c .left)) ∷ l) (orders-append s t)))
+      (λ e. rw e (ap (λ (l : List Constraint). cond (ltb (indexOf (c .left) row) (indexOf (c .right) row)) (before (c .left) (c .right)) (before (c .right) (c .left)) ∷ l) (orders-append s t)))
       (λ e. rw e (orders-append s t))
 
 -- the order of a pair
@@ -87,8 +87,8 @@ order-is rest c n m {a} {b} e f =
     (λ y. let v : mem (c .right) (0 ∷ rest) ≡ false = not-in rest (c .right) m f y in rw (ne-eqb a 0 z, eq-eqb b 0 y, p, v))
     (λ y. let v = is-in rest (c .right) m f y in
     let q : mem (c .right) (0 ∷ rest) ≡ true = v .0 in
-    let s : at (c .left) (0 ∷ rest) ≡ a = sym (u .1) in
-    let t : at (c .right) (0 ∷ rest) ≡ b = sym (v .1) in
+    let s : indexOf (c .left) (0 ∷ rest) ≡ a = sym (u .1) in
+    let t : indexOf (c .right) (0 ∷ rest) ≡ b = sym (v .1) in
     rw (ne-eqb a 0 z, ne-eqb b 0 y, p, q, s, t) (by (ltb a b) (λ r. rw r) (λ r. rw r))))
 
 -- what is read of a page
@@ -101,39 +101,39 @@ module _ (R : Record) (rest index pages : List ℕ) (g : Paged R rest index page
 
   -- the i-th edit, its name and its page
   module _ (edits : List Edit) (n : ℕ) (w : n ≤ length edits) (e : take n edits ≡ R .edits) (i : ℕ) (d : Edit) (h : i < n) where
-    pub named : (i < length (written R)) × (getD edits i d .name ≡ getD (written R) i 0)
+    pub decisions-named : (i < length (written R)) × (getD edits i d .name ≡ getD (written R) i 0)
     unfolding written
-    named =
+    decisions-named =
         let q = in-array edits (R .edits) n i d e h w in
         let m = length-map (R .edits) nameOf in
         (omega (arith, q .0), ap (λ (x : Edit). x .name) (q .1) ∙ sym (getD-mapped nameOf (R .edits) i d 0 (q .0)))
 
     known : getD (written R) i 0 among written R
-    known = getD-among (written R) i (named .0)
+    known = getD-among (written R) i (decisions-named .0)
 
     page-here : getD pages (i + 1) 0 ≡ placeIn (0 ∷ rest) (getD (written R) i 0)
     unfolding names
-    page-here = let l = named .0 in rw (add-one i) (page-at (suc i) (omega arith))
+    page-here = let l = decisions-named .0 in rw (add-one i) (page-at (suc i) (omega arith))
 
     -- the decision on it
     pub decision-here : {c : Constraint} → c ≡ decided (getD edits i d .name) (getD pages (i + 1) 0) → c ≡ decisionOn (0 ∷ rest) (getD (written R) i 0)
     decision-here p =
         let x = getD (written R) i 0 in
         let z : x ≡ 0 → ⊥ = λ y. clash (rw y at known) (g .formed .unwritten) in
-        p ∙ ap (λ (y : ℕ). decided y (getD pages (i + 1) 0)) (named .1) ∙ decision-is rest x z page-here
+        p ∙ ap (λ (y : ℕ). decided y (getD pages (i + 1) 0)) (decisions-named .1) ∙ decision-is rest x z page-here
 
     pub decisions-next : (t : List Constraint) → Ascending constraintKey t → {c : Constraint} {table : Constraints} → c ≡ decided (getD edits i d .name) (getD pages (i + 1) 0)
-        → table ≡ tableOf (inserted constraintKey c (united constraintKey t (decisions (0 ∷ rest) (take i (written R))))) → table ≡ tableOf (united constraintKey t (decisions (0 ∷ rest) (take (i + 1) (written R))))
+        → table ≡ heldTable (inserted constraintKey c (united constraintKey t (decisions (0 ∷ rest) (take i (written R))))) → table ≡ heldTable (united constraintKey t (decisions (0 ∷ rest) (take (i + 1) (written R))))
     unfolding decisions
     decisions-next t a {c} p q =
-        joins-next (decisions (0 ∷ rest)) (decisions-none (0 ∷ rest)) (decisions-append (0 ∷ rest)) t a (written R) i 0 (named .0)
-        (q ∙ ap tableOf (united-one constraintKey _ c ∙ ap (λ (y : Constraint). united constraintKey (united constraintKey t (decisions (0 ∷ rest) (take i (written R)))) (y ∷ [])) (decision-here p)))
+        joins-next (decisions (0 ∷ rest)) (decisions-none (0 ∷ rest)) (decisions-append (0 ∷ rest)) t a (written R) i 0 (decisions-named .0)
+        (q ∙ ap heldTable (united-one constraintKey _ c ∙ ap (λ (y : Constraint). united constraintKey (united constraintKey t (decisions (0 ∷ rest) (take i (written R)))) (y ∷ [])) (decision-here p)))
 
   -- one pair more
   pub orders-next : (t : List Constraint) → Ascending constraintKey t → (rows : List Constraint) (n i : ℕ) (d : Constraint) → take n rows ≡ unordered R → i < n → n ≤ length rows → {a b : ℕ}
       → a ≡ getD pages (getD index (getD rows i d .left) 0) 0 → b ≡ getD pages (getD index (getD rows i d .right) 0) 0 → {table : Constraints}
-      → table ≡ tableOf (united constraintKey (united constraintKey t (orders (0 ∷ rest) (take i (unordered R)))) (pageOrder a b (getD rows i d .left) (getD rows i d .right)))
-      → table ≡ tableOf (united constraintKey t (orders (0 ∷ rest) (take (i + 1) (unordered R))))
+      → table ≡ heldTable (united constraintKey (united constraintKey t (orders (0 ∷ rest) (take i (unordered R)))) (pageOrder a b (getD rows i d .left) (getD rows i d .right)))
+      → table ≡ heldTable (united constraintKey t (orders (0 ∷ rest) (take (i + 1) (unordered R))))
   orders-next t s rows n i d q h w {a} {b} p r e =
       let j = in-array rows (unordered R) n i d q h w in
       let c = getD rows i d in
@@ -146,27 +146,27 @@ module _ (R : Record) (rest index pages : List ℕ) (g : Paged R rest index page
       (page-named (c .left) (written-names R (c .left) l) p) (page-named (c .right) (written-names R (c .right) v) r)
       ∙ ap (λ (y : Constraint). orders (0 ∷ rest) (y ∷ [])) (j .1) in
       joins-next (orders (0 ∷ rest)) (orders-none (0 ∷ rest)) (orders-append (0 ∷ rest)) t s (unordered R) i d (j .0)
-      (e ∙ ap (λ (y : List Constraint). tableOf (united constraintKey (united constraintKey t (orders (0 ∷ rest) (take i (unordered R)))) y)) o)
+      (e ∙ ap (λ (y : List Constraint). heldTable (united constraintKey (united constraintKey t (orders (0 ∷ rest) (take i (unordered R)))) y)) o)
 
 -- the order of a pair, case by case
 module _ (a b left right : ℕ) (t : List Constraint) where
-  pub no-left : a ≡ 0 → {table : Constraints} → table ≡ tableOf t → table ≡ tableOf (united constraintKey t (pageOrder a b left right))
+  pub no-left : a ≡ 0 → {table : Constraints} → table ≡ heldTable t → table ≡ heldTable (united constraintKey t (pageOrder a b left right))
   unfolding pageOrder
-  no-left h e = rw (eq-eqb a 0 h) (e ∙ ap tableOf (united-none constraintKey t))
+  no-left h e = rw (eq-eqb a 0 h) (e ∙ ap heldTable (united-none constraintKey t))
 
   module _ (n : a ≡ 0 → ⊥) where
-    pub no-right : b ≡ 0 → {table : Constraints} → table ≡ tableOf t → table ≡ tableOf (united constraintKey t (pageOrder a b left right))
+    pub no-right : b ≡ 0 → {table : Constraints} → table ≡ heldTable t → table ≡ heldTable (united constraintKey t (pageOrder a b left right))
     unfolding pageOrder
-    no-right h e = rw (ne-eqb a 0 n, eq-eqb b 0 h) (e ∙ ap tableOf (united-none constraintKey t))
+    no-right h e = rw (ne-eqb a 0 n, eq-eqb b 0 h) (e ∙ ap heldTable (united-none constraintKey t))
 
-    module _ (m : b ≡ 0 → ⊥) {row : Constraint} {table : Constraints} (e : table ≡ tableOf (inserted constraintKey row t)) where
-      pub in-order : a < b → row ≡ before left right → table ≡ tableOf (united constraintKey t (pageOrder a b left right))
+    module _ (m : b ≡ 0 → ⊥) {row : Constraint} {table : Constraints} (e : table ≡ heldTable (inserted constraintKey row t)) where
+      pub decisions-in-order : a < b → row ≡ before left right → table ≡ heldTable (united constraintKey t (pageOrder a b left right))
       unfolding pageOrder
-      in-order h r = rw (ne-eqb a 0 n, ne-eqb b 0 m, lt-ltb a b h) (e ∙ ap tableOf (united-one constraintKey t row ∙ ap (λ (x : Constraint). united constraintKey t (x ∷ [])) r))
+      decisions-in-order h r = rw (ne-eqb a 0 n, ne-eqb b 0 m, lt-ltb a b h) (e ∙ ap heldTable (united-one constraintKey t row ∙ ap (λ (x : Constraint). united constraintKey t (x ∷ [])) r))
 
-      pub in-reverse : b ≤ a → row ≡ before right left → table ≡ tableOf (united constraintKey t (pageOrder a b left right))
+      pub in-reverse : b ≤ a → row ≡ before right left → table ≡ heldTable (united constraintKey t (pageOrder a b left right))
       unfolding pageOrder
-      in-reverse h r = rw (ne-eqb a 0 n, ne-eqb b 0 m, le-ltb a b h) (e ∙ ap tableOf (united-one constraintKey t row ∙ ap (λ (x : Constraint). united constraintKey t (x ∷ [])) r))
+      in-reverse h r = rw (ne-eqb a 0 n, ne-eqb b 0 m, le-ltb a b h) (e ∙ ap heldTable (united-one constraintKey t row ∙ ap (λ (x : Constraint). united constraintKey t (x ∷ [])) r))
 
 -- the edits of a stored record
 pub held-edits : (r : declared.Record) (R : Record) → r ≡ stored R → take (r .editcount) (r .edits) ≡ R .edits
@@ -179,7 +179,7 @@ scheduled-rest R w h = schedule-sound R w h [] .starts
 -- both joined
 pub finished-is : (R : Record) (rest : List ℕ) → schedule R [] ≡ 0 ∷ rest
     → united constraintKey (united constraintKey (R .constraints) (decisions (0 ∷ rest) (written R))) (orders (0 ∷ rest) (unordered R)) ≡ finished R .constraints
-unfolding finished withConstraints
+unfolding finished joinedConstraints
 finished-is R rest e =
     sym (united-append constraintKey (R .constraints) (decisions (0 ∷ rest) (written R)) (orders (0 ∷ rest) (unordered R)))
     ∙ ap (λ (row : List ℕ). united constraintKey (R .constraints) (decisions row (written R) ++ orders row (unordered R))) (sym e)

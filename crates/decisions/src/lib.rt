@@ -1,11 +1,11 @@
 // A proposal is finished (document 01, "Proposals and votes", last paragraph): the edits in the schedule are marked required, the others aborted,
 // and the schedule's unordered pairs are ordered. Functions are pub for the crates of this workspace that make proposals.
-use row::NAMES;
 use insertion::Constraints;
 use links::MARKS;
 use pairs::Pairs;
 use record::Constraint;
 use record::Record;
+use row::NAMES;
 ghost use mathlib.Core.Path.{_≡_};
 ghost use mathlib.Core.Bool.{true};
 ghost use mathlib.Core.List.{List, [], _∷_};
@@ -22,7 +22,7 @@ ghost use Rattle.table.specs.Checked.{Checked};
 ghost use Rattle.links.specs.Marks.{placeIn, valuesOf};
 ghost use Rattle.indexes.specs.Fit.{Fit};
 ghost use Rattle.proposal.specs.Proposal as proposal;
-ghost use Rattle.insertion.specs.Insertion.{tableOf};
+ghost use Rattle.insertion.specs.Insertion.{heldTable};
 ghost use Rattle.decisions.specs.Decisions.{Paged, decided, pageOrder, onlyConstraints};
 
 // The page of each edit with nothing hidden.
@@ -55,7 +55,7 @@ fn decision(name: u16, page: u8) -> Constraint
 fn with_decisions(table: Constraints, multilog: Record, pages: &[u8; MARKS]) -> Constraints
     requires { ⌜ length (now pages) ≡ 128 ⌝ }
     ensures { λ r. ⌜ ((R : theory.Record) (rest index : List ℕ) (t : List Constraint) → multilog ≡ stored R → Fit R → Paged R rest index (now (pages .entry))
-        → table ≡ tableOf t → Ascending constraintKey t → r ≡ tableOf (united constraintKey t (proposal.decisions (0 ∷ rest) (theory.written R)))) ⌝ }
+        → table ≡ heldTable t → Ascending constraintKey t → r ≡ heldTable (united constraintKey t (proposal.decisions (0 ∷ rest) (theory.written R)))) ⌝ }
 {
     let n = multilog.editcount;
     if 127 < n {
@@ -102,7 +102,7 @@ fn decisions_of(multilog: Record, pages: &[u8; MARKS]) -> Record
 fn decided_table(multilog: Record, pages: &[u8; MARKS]) -> Constraints
     requires { ⌜ length (now pages) ≡ 128 ⌝ }
     ensures { λ r. ⌜ ((R : theory.Record) (rest index : List ℕ) → multilog ≡ stored R → Checked R → Paged R rest index (now (pages .entry))
-        → r ≡ tableOf (united constraintKey (R .constraints) (proposal.decisions (0 ∷ rest) (theory.written R)))) ⌝ }
+        → r ≡ heldTable (united constraintKey (R .constraints) (proposal.decisions (0 ∷ rest) (theory.written R)))) ⌝ }
 {
     if 385 < multilog.constraintcount {
         return with_decisions(insertion::table_of(multilog), multilog, pages);
@@ -122,7 +122,7 @@ fn page_of(index: &[u8; NAMES], pages: &[u8; MARKS], name: u16) -> u8
 
 // The table joined by the order of a pair by its pages.
 fn order_row(table: Constraints, c: Constraint, a: u8, b: u8) -> Constraints
-    ensures { λ r. ⌜ ((t : List Constraint) → table ≡ tableOf t → Ascending constraintKey t → r ≡ tableOf (united constraintKey t (pageOrder a b (c .left) (c .right)))) ⌝ }
+    ensures { λ r. ⌜ ((t : List Constraint) → table ≡ heldTable t → Ascending constraintKey t → r ≡ heldTable (united constraintKey t (pageOrder a b (c .left) (c .right)))) ⌝ }
 {
     if a == 0 {
         return table;
@@ -144,8 +144,8 @@ fn with_orders(
     pages: &[u8; MARKS],
 ) -> Constraints
     requires { ⌜ (length (now index) ≡ 2304) × ((x : ℕ) → getD (now index) x 0 < 128) × (length (now pages) ≡ 128) × (pairs .count ≤ 512) ⌝ }
-    ensures { λ r. ⌜ ((R : theory.Record) (rest : List ℕ) (t : List Constraint) → Paged R rest (now (index .entry)) (now (pages .entry)) → table ≡ tableOf t → Ascending constraintKey t
-        → take (pairs .count) (pairs .rows) ≡ proposal.unordered R → r ≡ tableOf (united constraintKey t (proposal.orders (0 ∷ rest) (proposal.unordered R)))) ⌝ }
+    ensures { λ r. ⌜ ((R : theory.Record) (rest : List ℕ) (t : List Constraint) → Paged R rest (now (index .entry)) (now (pages .entry)) → table ≡ heldTable t → Ascending constraintKey t
+        → take (pairs .count) (pairs .rows) ≡ proposal.unordered R → r ≡ heldTable (united constraintKey t (proposal.orders (0 ∷ rest) (proposal.unordered R)))) ⌝ }
 {
     let rows = pairs.rows;
     let n = pairs.count;
@@ -164,7 +164,7 @@ fn with_orders(
 
 // The constraints of the finished proposal.
 pub fn finished(multilog: Record) -> Constraints
-    ensures { λ r. ⌜ ((R : theory.Record) → multilog ≡ stored R → Checked R → sound R ≡ true → r ≡ tableOf (proposal.finished R .constraints)) ⌝ }
+    ensures { λ r. ⌜ ((R : theory.Record) → multilog ≡ stored R → Checked R → sound R ≡ true → r ≡ heldTable (proposal.finished R .constraints)) ⌝ }
 {
     let pairs = pairs::unordered_pairs(multilog);
     let index = indexes::index_table(multilog);

@@ -30,7 +30,7 @@ use Rattle.lending.specs.Kept.{Kept}
 use Rattle.desk.specs.Desk.{Desk, Cells, Effect, outside, make, ledgerOf, benchIn, replied}
 use Rattle.desk.specs.Lends.{lendings, lendingOf, lendEdit, lendConstraint, lendNothing, lendBench, lendSeat, lendNoRoll, lendName, lendNoRow}
 use Rattle.desk.proofs.Signs.{signed-fits}
-use Rattle.desk.specs.Requests.{requests, requestOf, mergeOf, hideOf, showOf, forwardOf, backOf, isTurn, signedPages, turnOf, adoptOf, addEditOf, addConstraintOf}
+use Rattle.desk.specs.Requests.{requests, requestOf, mergeOf, hideOf, showOf, forwardRequest, backOf, isTurn, signedPages, turnRequest, adoptOf, addEditOf, addConstraintOf}
 
 -- the ledger that calls left
 pub ledger-valid : (D : Desk) → Valid (ledgerOf D)
@@ -112,8 +112,8 @@ module _ (D : Desk) (bench : Bench) (r : Outcome) (b : bench ≡ benchIn D) wher
     unfolding requestOf requests showOf
     show-reply e a = reply-as 2 e (reply-made (show (cell c 0)) a)
 
-    pub turn-reply : isTurn which ≡ true → r ≡ replied D (turnOf which D c) → r ≡ replied D (requestOf which D c)
-    unfolding requestOf requests forwardOf backOf turnOf signedPages isTurn
+    pub turn-reply : isTurn which ≡ true → r ≡ replied D (turnRequest which D c) → r ≡ replied D (requestOf which D c)
+    unfolding requestOf requests forwardRequest backOf turnRequest signedPages isTurn
     turn-reply e q =
         or-by (eqb which 3) (eqb which 4) e
         (λ f. let g = eqb-true which 3 f in reply-as 3 g (rw g at q))
@@ -133,22 +133,22 @@ module _ (D : Desk) (bench : Bench) (r : Outcome) (b : bench ≡ benchIn D) wher
 
   -- a turn by so many pages
   module _ (c : Cells) (pages : ℕ) (p : cell c 0 ≡ pages) where
-    pub far-turn : (which : ℕ) → 2147483647 < pages → r ≡ refusedWith bench 2 → r ≡ replied D (turnOf which D c)
-    unfolding turnOf
+    pub far-turn : (which : ℕ) → 2147483647 < pages → r ≡ refusedWith bench 2 → r ≡ replied D (turnRequest which D c)
+    unfolding turnRequest
     far-turn which h q = let e : ltb (cell c 0) 2147483648 ≡ false = le-ltb (cell c 0) 2147483648 (omega arith) in rw e (reply-outside q)
 
-    pub near-turn : (which : ℕ) → pages ≤ 2147483647 → Answers bench (turn (signedPages which pages)) r → r ≡ replied D (turnOf which D c)
-    unfolding turnOf
+    pub near-turn : (which : ℕ) → pages ≤ 2147483647 → Answers bench (turn (signedPages which pages)) r → r ≡ replied D (turnRequest which D c)
+    unfolding turnRequest
     near-turn which h a =
         let q : ltb (cell c 0) 2147483648 ≡ true = lt-ltb (cell c 0) 2147483648 (omega arith) in
         rw q (reply-made (turn (signedPages which (cell c 0))) (rw (sym p) at a))
 
 -- a turn of the bench's turner
 module _ (turner : Turner) (which pages : ℕ) (t : Turning) where
-  pub turned-far : 2147483647 < pages → t ≡ record { number = 2; turner = turner } → (t .turner .last ≡ turner .last)
-      × ((D : Desk) (bench : Bench) (c : Cells) → bench ≡ benchIn D → bench .turner ≡ turner → cell c 0 ≡ pages → turnReply bench t ≡ replied D (turnOf which D c))
+  pub session-turned-far : 2147483647 < pages → t ≡ record { number = 2; turner = turner } → (t .turner .last ≡ turner .last)
+      × ((D : Desk) (bench : Bench) (c : Cells) → bench ≡ benchIn D → bench .turner ≡ turner → cell c 0 ≡ pages → turnReply bench t ≡ replied D (turnRequest which D c))
   unfolding turnReply benchIn
-  turned-far h q = (
+  session-turned-far h q = (
     ap (λ (u : Turning). u .turner .last) q,
     λ D bench c e b p.
         let x : openAt bench (t .turner .opened) ≡ bench = ap (λ (u : Turning). openAt bench (u .turner .opened)) q ∙ (ap (λ (u : Turner). openAt bench (u .opened)) (sym b) ∙ open-same (ledgerOf D) (ledger-valid D) bench e) in
@@ -156,7 +156,7 @@ module _ (turner : Turner) (which pages : ℕ) (t : Turning) where
   )
 
   pub turned-near : pages ≤ 2147483647 → t ≡ turningOf turner (signedPages which pages) → (t .turner .last ≡ turner .last)
-      × ((D : Desk) (bench : Bench) (c : Cells) → bench ≡ benchIn D → bench .turner ≡ turner → cell c 0 ≡ pages → turnReply bench t ≡ replied D (turnOf which D c))
+      × ((D : Desk) (bench : Bench) (c : Cells) → bench ≡ benchIn D → bench .turner ≡ turner → cell c 0 ≡ pages → turnReply bench t ≡ replied D (turnRequest which D c))
   turned-near h q = (
     ap (λ (u : Turning). u .turner .last) q,
     λ D bench c e b p.

@@ -1,7 +1,7 @@
 -- A desk: one bench, and what the lines of a call log have lent. Assumes nothing.
 use mathlib.Core.List.{List, [], _∷_, _++_}
 use Prim.Native.Nat.{ℕ}
-use Rattle.answers.specs.Answers.{answered}
+use Rattle.answers.specs.Answers.{answeredText}
 use Rattle.ledger.specs.declared.Answer.{Answer}
 use Rattle.ledger.specs.declared.Bench.{Bench}
 use Rattle.ledger.specs.Ledger.{Ledger, Call, start, fed, step}
@@ -68,4 +68,4 @@ replied D (make call) = outcome (step (ledgerOf D) call)
 
 -- what is printed of a line: its answer, or its refusal with the line's number
 unfoldable pub printedOf : Effect → ℕ → List ℕ
-printedOf e line = answered (e .number) (e .text) line
+printedOf e line = answeredText (e .number) (e .text) line

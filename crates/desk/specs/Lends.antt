@@ -7,18 +7,18 @@ use Rattle.table.specs.Table.{emptyTables}
 use Rattle.lending.specs.Lent.{Lent, editPlaces, constraintPlaces, rowsFault, withEdit, withConstraint, withRecord, recordNumber, seatNumber, withSeat, withoutRoll, nameNumber, withName, withoutRow}
 use Rattle.desk.specs.Desk.{Desk, Cells, Effect, ledgerOf, lends, noEffect}
 
-abbrev pub editCells : Cells → Row
-editCells c = cell c 1 ∷ cell c 2 ∷ cell c 3 ∷ cell c 4 ∷ cell c 5 ∷ []
+abbrev pub lentEditCells : Cells → Row
+lentEditCells c = cell c 1 ∷ cell c 2 ∷ cell c 3 ∷ cell c 4 ∷ cell c 5 ∷ []
 
-abbrev pub constraintCells : Cells → Row
-constraintCells c = cell c 1 ∷ cell c 2 ∷ cell c 3 ∷ []
+abbrev pub lentConstraintCells : Cells → Row
+lentConstraintCells c = cell c 1 ∷ cell c 2 ∷ cell c 3 ∷ []
 
 unfoldable pub lendEdit : Desk → Cells → Effect
-lendEdit D c = lends D (rowsFault editPlaces (D .lent .edits) (cell c 0)) (withEdit (D .lent) (cell c 0) (editCells c))
+lendEdit D c = lends D (rowsFault editPlaces (D .lent .edits) (cell c 0)) (withEdit (D .lent) (cell c 0) (lentEditCells c))
 
 unfoldable pub lendConstraint : Desk → Cells → Effect
 lendConstraint D c =
-    lends D (rowsFault constraintPlaces (D .lent .constraints) (cell c 0)) (withConstraint (D .lent) (cell c 0) (constraintCells c))
+    lends D (rowsFault constraintPlaces (D .lent .constraints) (cell c 0)) (withConstraint (D .lent) (cell c 0) (lentConstraintCells c))
 
 unfoldable pub lendNothing : Desk → Cells → Effect
 lendNothing D c = lends D (recordNumber (cell c 0)) (withRecord (D .lent) (cell c 0) emptyTables)

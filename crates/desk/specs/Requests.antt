@@ -24,8 +24,8 @@ showOf D c = make (show (cell c 0))
 abbrev pub isPages : ℕ → Bool
 isPages n = ltb n 2147483648
 
-unfoldable pub forwardOf : Desk → Cells → Request
-forwardOf D c = cond (isPages (cell c 0)) (make (turn (pos (cell c 0)))) outside
+unfoldable pub forwardRequest : Desk → Cells → Request
+forwardRequest D c = cond (isPages (cell c 0)) (make (turn (pos (cell c 0)))) outside
 
 unfoldable pub backOf : Desk → Cells → Request
 backOf D c = cond (isPages (cell c 0)) (make (turn (negℤ (pos (cell c 0))))) outside
@@ -38,8 +38,8 @@ isTurn which = eqb which 3 || eqb which 4
 unfoldable pub signedPages : ℕ → ℕ → ℤ
 signedPages which pages = cond (eqb which 3) (pos pages) (negℤ (pos pages))
 
-unfoldable pub turnOf : ℕ → Desk → Cells → Request
-turnOf which D c = cond (isPages (cell c 0)) (make (turn (signedPages which (cell c 0)))) outside
+unfoldable pub turnRequest : ℕ → Desk → Cells → Request
+turnRequest which D c = cond (isPages (cell c 0)) (make (turn (signedPages which (cell c 0)))) outside
 
 unfoldable pub adoptOf : Desk → Cells → Request
 adoptOf D c = make (adopt (cell c 0) (proposalsOf (D .lent)) (D .lent .roll))
@@ -51,7 +51,7 @@ unfoldable pub addConstraintOf : Desk → Cells → Request
 addConstraintOf D c = make (addConstraint (cell c 0 ∷ cell c 1 ∷ cell c 2 ∷ []))
 
 unfoldable pub requests : List (Desk → Cells → Request)
-requests = mergeOf ∷ hideOf ∷ showOf ∷ forwardOf ∷ backOf ∷ adoptOf ∷ addEditOf ∷ addConstraintOf ∷ []
+requests = mergeOf ∷ hideOf ∷ showOf ∷ forwardRequest ∷ backOf ∷ adoptOf ∷ addEditOf ∷ addConstraintOf ∷ []
 
 abbrev pub noRequest : Desk → Cells → Request
 noRequest D c = outside

@@ -15,7 +15,7 @@ ghost use Rattle.ledger.specs.declared.Bench.{Bench};
 ghost use Rattle.bench.specs.Changes.{turnReply};
 ghost use Rattle.desk.specs.Desk.{Desk, Cells, benchIn, replied};
 ghost use Rattle.desk.specs.Lends.{lendingOf};
-ghost use Rattle.desk.specs.Requests.{isTurn, signedPages, turnOf, requestOf};
+ghost use Rattle.desk.specs.Requests.{isTurn, signedPages, turnRequest, requestOf};
 
 // What is lent after a line that makes no call, and the place after what it printed. Such a line hands back no bench, which is long to copy.
 pub struct Told {
@@ -129,7 +129,7 @@ fn signed(which: usize, pages: u32) -> i32
 // A turn of the bench's turner by so many pages. The bench itself is not needed: what a row of turns comes to is opened once, after the last.
 pub fn turn_by(turner: Turner, which: usize, pages: u32) -> Turning
     ensures { λ r. ⌜ (r .turner .last ≡ turner .last)
-        × ((D : Desk) (bench : Bench) (c : Cells) → bench ≡ benchIn D → bench .turner ≡ turner → cell c 0 ≡ pages → turnReply bench r ≡ replied D (turnOf which D c)) ⌝ }
+        × ((D : Desk) (bench : Bench) (c : Cells) → bench ≡ benchIn D → bench .turner ≡ turner → cell c 0 ≡ pages → turnReply bench r ≡ replied D (turnRequest which D c)) ⌝ }
 {
     if 2147483647 < pages {
         return Turning {

@@ -9,7 +9,7 @@ use Rattle.turner.specs.declared.Turner.{Turner}
 use Rattle.ledger.specs.declared.Answer.{Answer}
 use Rattle.ledger.specs.declared.Bench.{Bench}
 use Rattle.ledger.specs.Ledger.{Ledger, last}
-use Rattle.answers.specs.Answers.{answerLine, bit, answered}
+use Rattle.answers.specs.Answers.{answerLine, bit, answeredText}
 use Rattle.lending.specs.declared.Lending.{Lending}
 use Rattle.lending.specs.Kept.{Kept}
 use Rattle.desk.specs.Desk.{Desk, Cells, Effect, benchIn, requested, printedOf}
@@ -37,4 +37,4 @@ callOf which D c = requested D (λ a L. callText which a (L .opened) (last L)) (
 
 -- the same from the answer and the open and last page that the code has
 unfoldable pub outcomeText : ℕ → Answer → Turner → ℕ → List ℕ
-outcomeText which a t line = answered (a .number) (callText which a (t .opened) (t .last)) line
+outcomeText which a t line = answeredText (a .number) (callText which a (t .opened) (t .last)) line

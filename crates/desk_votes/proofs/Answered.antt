@@ -11,31 +11,31 @@ use Rattle.bundle.specs.declared.BundleAnswer.{BundleAnswer}
 use Rattle.join.specs.declared.Joined.{Joined}
 use Rattle.lent.specs.declared.RowAnswer.{RowAnswer}
 use Rattle.suggest.specs.declared.Suggested.{Suggested}
-use Rattle.answers.specs.Answers.{answerLine, answered, storedText, recordText}
+use Rattle.answers.specs.Answers.{answerLine, answeredText, storedText, recordText}
 use Rattle.forms.specs.Printed.{Printed}
 use Rattle.forms.proofs.Printing.{printed-both}
 use Rattle.desk_votes.specs.Votes.{electionLine, bundleText, ruleLine, suggestionText, testLine}
 
 module _ (number line : ℕ) (text before : List ℕ) (at : ℕ) {after : List ℕ} {end : ℕ} where
-  pub refused-so : (number ≡ 0 → ⊥) → Printed (answerLine 0 (number ∷ line ∷ [])) before at after end → Printed (answered number text line) before at after end
+  pub refused-so : (number ≡ 0 → ⊥) → Printed (answerLine 0 (number ∷ line ∷ [])) before at after end → Printed (answeredText number text line) before at after end
   refused-so z p = let e : eqb number 0 ≡ false = ne-eqb number 0 z in rw e p
 
-  pub answered-so : number ≡ 0 → Printed text before at after end → Printed (answered number text line) before at after end
+  pub answered-so : number ≡ 0 → Printed text before at after end → Printed (answeredText number text line) before at after end
   answered-so z p = let e : eqb number 0 ≡ true = eq-eqb number 0 z in rw e p
 
 module _ (line : ℕ) (before : List ℕ) (at : ℕ) {after : List ℕ} {end : ℕ} where
   pub election-answered : (E : Election) → E .number ≡ 0 → {won : ℕ} → won ≡ cond (E .won) 1 0
       → Printed (answerLine 2 (won ∷ E .greatest ∷ E .silent ∷ E .total ∷ [])) before at after end
-      → Printed (answered (E .number) (electionLine E) line) before at after end
+      → Printed (answeredText (E .number) (electionLine E) line) before at after end
   unfolding electionLine
   election-answered E z q p = answered-so (E .number) line (electionLine E) before at z (rw q at p)
 
-  pub bundle-answered : (b : BundleAnswer) → b .number ≡ 0 → {eligible : ℕ} → eligible ≡ cond (b .eligible) 1 0 → {middle : List ℕ} {place : ℕ}
+  pub bundle-line-answered : (b : BundleAnswer) → b .number ≡ 0 → {eligible : ℕ} → eligible ≡ cond (b .eligible) 1 0 → {middle : List ℕ} {place : ℕ}
       → Printed (answerLine 4 (eligible ∷ b .bundle .editcount ∷ b .bundle .constraintcount ∷ [])) before at middle place
       → Printed (storedText (b .bundle)) middle place after end
-      → Printed (answered (b .number) (bundleText b) line) before at after end
+      → Printed (answeredText (b .number) (bundleText b) line) before at after end
   unfolding bundleText
-  bundle-answered b z {eligible} q {middle} {place} p r =
+  bundle-line-answered b z {eligible} q {middle} {place} p r =
       let head = answerLine 4 (cond (b .eligible) 1 0 ∷ b .bundle .editcount ∷ b .bundle .constraintcount ∷ []) in
       let h : Printed head before at middle place = rw q at p in
       answered-so (b .number) line (bundleText b) before at z (printed-both head (storedText (b .bundle)) before at h r)
@@ -43,14 +43,14 @@ module _ (line : ℕ) (before : List ℕ) (at : ℕ) {after : List ℕ} {end : �
   pub record-answered : (made : Joined) → made .number ≡ 0 → {middle : List ℕ} {place : ℕ}
       → Printed (answerLine 5 (made .after .editcount ∷ made .after .constraintcount ∷ [])) before at middle place
       → Printed (storedText (made .after)) middle place after end
-      → Printed (answered (made .number) (recordText (made .after)) line) before at after end
+      → Printed (answeredText (made .number) (recordText (made .after)) line) before at after end
   unfolding recordText
   record-answered made z p r =
       answered-so (made .number) line (recordText (made .after)) before at z
       (printed-both (answerLine 5 (made .after .editcount ∷ made .after .constraintcount ∷ [])) (storedText (made .after)) before at p r)
 
   pub test-answered : (a : RowAnswer) → a .number ≡ 0 → {sound : ℕ} → sound ≡ cond (a .sound) 1 0
-      → Printed (answerLine 7 (sound ∷ [])) before at after end → Printed (answered (a .number) (testLine a) line) before at after end
+      → Printed (answerLine 7 (sound ∷ [])) before at after end → Printed (answeredText (a .number) (testLine a) line) before at after end
   unfolding testLine
   test-answered a z q p = answered-so (a .number) line (testLine a) before at z (rw q at p)
 
@@ -64,9 +64,9 @@ module _ (s : Suggested) (before : List ℕ) (at : ℕ) where
   head = answerLine 6 (s .count ∷ [])
 
   module _ {middle : List ℕ} {place : ℕ} (p : Printed head before at middle place) where
-    pub no-rule : s .count < 1 → Printed (suggestionText s) before at middle place
+    pub no-rule-answer : s .count < 1 → Printed (suggestionText s) before at middle place
     unfolding suggestionText
-    no-rule h =
+    no-rule-answer h =
         let a : leb 1 (s .count) ≡ false = lt-leb 1 (s .count) h in
         let b : leb 2 (s .count) ≡ false = lt-leb 2 (s .count) (omega arith) in
         rw (a, b, append-nil) p

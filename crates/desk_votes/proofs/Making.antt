@@ -17,7 +17,7 @@ use Rattle.ground.proofs.Grounds.{orelse-none}
 use Rattle.table.proofs.Tables.{stored-back}
 use Rattle.join.specs.declared.Joined.{Joined}
 use Rattle.propose.specs.Propose as proposal
-use Rattle.propose.specs.Propose.{proposalFault, newProposal, newOutcome}
+use Rattle.propose.specs.Propose.{proposeFault, newProposal, newOutcome}
 use Rattle.propose.proofs.Answers.{fault, new, short, fault-is, number-is, new-few, editcount-is, constraintcount-is}
 use Rattle.forms.specs.Printed.{Printed}
 use Rattle.lending.specs.declared.Lending.{Lending}
@@ -25,11 +25,11 @@ use Rattle.lending.specs.Lent.{Lent, isLent, withRecord}
 use Rattle.lending.specs.Kept.{Kept}
 use Rattle.lent_proposals.specs.Made.{tablesOf, proposalOf, proposalIn}
 use Rattle.desk.specs.Desk.{Desk, Cells, printedOf}
-use Rattle.answers.specs.Answers.{answered, recordText}
+use Rattle.answers.specs.Answers.{answeredText, recordText}
 use Rattle.desk_votes.specs.Votes.{makeProposal, votes, voteOf}
 
 -- a new proposal is within the limits
-module _ (t : proposal.Lent) (z : proposalFault t ≡ 0) where
+module _ (t : proposal.LentToPropose) (z : proposeFault t ≡ 0) where
   none : fault t ≡ 0
   none = orelse-none (fault t) (short t) (sym (fault-is t) ∙ z) .0
 
@@ -72,7 +72,7 @@ module _ (D : Desk) (c : Cells) (made : Joined) (q : made ≡ proposalIn (D .len
       rw q w
 
   pub proposal-printed : (line : ℕ) (before : List ℕ) (at : ℕ) {after : List ℕ} {end : ℕ}
-      → Printed (answered (made .number) (recordText (made .after)) line) before at after end → Printed (printedOf (voteOf 2 D c) line) before at after end
+      → Printed (answeredText (made .number) (recordText (made .after)) line) before at after end → Printed (printedOf (voteOf 2 D c) line) before at after end
   unfolding voteOf votes makeProposal printedOf
   proposal-printed line before at p = rw q at p
 

@@ -18,7 +18,7 @@ use Rattle.ledger.proofs.Valid.{start-valid, fed-valid}
 use Rattle.forms.specs.Printed.{Printed}
 use Rattle.lent_calls.specs.Calls.{proposalsOf, bundleIn, rowIn, suggestedIn}
 use Rattle.desk.specs.Desk.{Desk, Cells, Effect, ledgerOf, benchIn, printedOf}
-use Rattle.answers.specs.Answers.{answered}
+use Rattle.answers.specs.Answers.{answeredText}
 use Rattle.desk_votes.specs.Votes.{electionLine, bundleText, suggestionText, testLine, electEdit, askBundle, askSuggestion, testRow, votes, voteOf}
 
 -- the bench's record in memory, and what holds of it
@@ -35,22 +35,22 @@ module _ (D : Desk) (which : ℕ) (c : Cells) (line : ℕ) (before : List ℕ) (
   effect-as E q p = rw q p
 
   pub vote-election : which ≡ 0 → (E : Election) → E ≡ electionOf (cell c 0) (proposalsOf (D .lent)) (D .lent .roll)
-      → Printed (answered (E .number) (electionLine E) line) before at after end → Printed (printedOf (voteOf which D c) line) before at after end
+      → Printed (answeredText (E .number) (electionLine E) line) before at after end → Printed (printedOf (voteOf which D c) line) before at after end
   unfolding voteOf votes electEdit printedOf
   vote-election q E e p = effect-as (electEdit D c) (ap (λ (k : ℕ). voteOf k D c) q) (rw e at p)
 
   pub vote-bundle : which ≡ 1 → (b : BundleAnswer) → b ≡ bundleIn (D .lent) (cell c 1) (cell c 0)
-      → Printed (answered (b .number) (bundleText b) line) before at after end → Printed (printedOf (voteOf which D c) line) before at after end
+      → Printed (answeredText (b .number) (bundleText b) line) before at after end → Printed (printedOf (voteOf which D c) line) before at after end
   unfolding voteOf votes askBundle printedOf
   vote-bundle q b e p = effect-as (askBundle D c) (ap (λ (k : ℕ). voteOf k D c) q) (rw e at p)
 
   pub vote-suggestion : which ≡ 3 → (s : Suggested) → s ≡ suggestedIn (ledgerOf D .multilog) (cell c 0) (cell c 1) (cell c 2)
-      → Printed (answered (s .number) (suggestionText s) line) before at after end → Printed (printedOf (voteOf which D c) line) before at after end
+      → Printed (answeredText (s .number) (suggestionText s) line) before at after end → Printed (printedOf (voteOf which D c) line) before at after end
   unfolding voteOf votes askSuggestion printedOf
   vote-suggestion q s e p = effect-as (askSuggestion D c) (ap (λ (k : ℕ). voteOf k D c) q) (rw e at p)
 
   pub vote-test : (which ≡ 0 → ⊥) → (which ≡ 1 → ⊥) → (which ≡ 2 → ⊥) → (which ≡ 3 → ⊥) → which < 5 → (a : RowAnswer) → a ≡ rowIn (D .lent) (cell c 0)
-      → Printed (answered (a .number) (testLine a) line) before at after end → Printed (printedOf (voteOf which D c) line) before at after end
+      → Printed (answeredText (a .number) (testLine a) line) before at after end → Printed (printedOf (voteOf which D c) line) before at after end
   unfolding voteOf votes testRow printedOf
   vote-test first second third fourth h a e p =
       let q : which ≡ 4 = omega arith in

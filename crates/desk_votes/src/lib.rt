@@ -14,7 +14,7 @@ ghost use Prim.Native.Nat.{ℕ, _+_, _<_};
 ghost use Rattle.forms.specs.Printed.{Printed};
 ghost use Rattle.lending.specs.Kept.{Kept};
 ghost use Rattle.desk.specs.Desk.{Desk, benchIn, printedOf};
-ghost use Rattle.answers.specs.Answers.{answered, recordText};
+ghost use Rattle.answers.specs.Answers.{answeredText, recordText};
 ghost use Rattle.desk_votes.specs.Votes.{electionLine, bundleText, ruleLine, suggestionText, testLine, voteOf};
 
 fn bit(b: bool) -> u64
@@ -24,7 +24,7 @@ fn bit(b: bool) -> u64
 }
 
 fn print_election(election: Election, line: usize, out: &mut [u8], at: usize) -> usize
-    ensures { λ r. ⌜ Printed (answered (election .number) (electionLine election) line) (now (out .entry)) at (now (out .exit)) r ⌝ }
+    ensures { λ r. ⌜ Printed (answeredText (election .number) (electionLine election) line) (now (out .entry)) at (now (out .exit)) r ⌝ }
 {
     if election.number != 0 {
         return answers::print_refusal(election.number, line, &mut out[..], at);
@@ -44,7 +44,7 @@ fn print_election(election: Election, line: usize, out: &mut [u8], at: usize) ->
 }
 
 fn print_bundle(answer: BundleAnswer, line: usize, out: &mut [u8], at: usize) -> usize
-    ensures { λ r. ⌜ Printed (answered (answer .number) (bundleText answer) line) (now (out .entry)) at (now (out .exit)) r ⌝ }
+    ensures { λ r. ⌜ Printed (answeredText (answer .number) (bundleText answer) line) (now (out .entry)) at (now (out .exit)) r ⌝ }
 {
     if answer.number != 0 {
         return answers::print_refusal(answer.number, line, &mut out[..], at);
@@ -104,7 +104,7 @@ fn print_rules(suggested: Suggested, out: &mut [u8], at: usize) -> usize
 }
 
 fn print_suggestion(suggested: Suggested, line: usize, out: &mut [u8], at: usize) -> usize
-    ensures { λ r. ⌜ Printed (answered (suggested .number) (suggestionText suggested) line) (now (out .entry)) at (now (out .exit)) r ⌝ }
+    ensures { λ r. ⌜ Printed (answeredText (suggested .number) (suggestionText suggested) line) (now (out .entry)) at (now (out .exit)) r ⌝ }
 {
     if suggested.number != 0 {
         return answers::print_refusal(suggested.number, line, &mut out[..], at);
@@ -113,7 +113,7 @@ fn print_suggestion(suggested: Suggested, line: usize, out: &mut [u8], at: usize
 }
 
 fn print_test(answer: RowAnswer, line: usize, out: &mut [u8], at: usize) -> usize
-    ensures { λ r. ⌜ Printed (answered (answer .number) (testLine answer) line) (now (out .entry)) at (now (out .exit)) r ⌝ }
+    ensures { λ r. ⌜ Printed (answeredText (answer .number) (testLine answer) line) (now (out .entry)) at (now (out .exit)) r ⌝ }
 {
     if answer.number != 0 {
         return answers::print_refusal(answer.number, line, &mut out[..], at);
@@ -167,7 +167,7 @@ pub fn print_vote(
 
 // A new proposal, or why there is none.
 fn print_made(made: Joined, line: usize, out: &mut [u8], at: usize) -> usize
-    ensures { λ r. ⌜ Printed (answered (made .number) (recordText (made .after)) line) (now (out .entry)) at (now (out .exit)) r ⌝ }
+    ensures { λ r. ⌜ Printed (answeredText (made .number) (recordText (made .after)) line) (now (out .entry)) at (now (out .exit)) r ⌝ }
 {
     if made.number != 0 {
         return answers::print_refusal(made.number, line, &mut out[..], at);

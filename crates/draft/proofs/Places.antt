@@ -5,19 +5,19 @@ use mathlib.Core.List.{List, _∷_}
 use Prim.Native.Nat.{ℕ}
 use native.Mathlib.Omega.{arith}
 use borrow.Author.Tests.{ne-eqb}
-use Rattle.lists.specs.Lists.{mem, at}
+use Rattle.lists.specs.Lists.{mem, indexOf}
 use Rattle.lists.proofs.Lists.{by, is-by}
 use Rattle.links.specs.Marks.{placeIn}
 
 module _ (l : List ℕ) (x : ℕ) where
   pub place-none : (x ≡ 0 → mem x l ≡ false) → placeIn (0 ∷ l) x ≡ 0 → mem x l ≡ false
-  unfolding placeIn mem at
+  unfolding placeIn mem indexOf
   place-none n h =
       is-by x 0 n
       (λ e. by (mem x l) (λ m. absurd (let z = rw (ne-eqb x 0 e, m) at h in omega arith)) (λ m. m))
 
   pub place-some : (placeIn (0 ∷ l) x ≡ 0 → ⊥) → mem x l ≡ true
-  unfolding placeIn mem at
+  unfolding placeIn mem indexOf
   place-some h =
       is-by x 0 (λ e. absurd (h (rw e)))
       (λ e. by (mem x l) (λ m. m) (λ m. absurd (h (rw (ne-eqb x 0 e, m)))))

@@ -1,11 +1,11 @@
 // The union of a record and the bench's old proposal, with what was settled first (document 01, "Proposals and votes", last paragraph).
 // Functions are pub for the crates of this workspace that make proposals.
-use row::NAMES;
 use insertion::Constraints;
 use links::MARKS;
 use pairs::Pairs;
 use record::Constraint;
 use record::Record;
+use row::NAMES;
 ghost use mathlib.Core.Path.{_≡_};
 ghost use mathlib.Core.List.{List};
 ghost use Prim.Native.Nat.{ℕ, _≤_, _<_};
@@ -17,7 +17,7 @@ ghost use Rattle.lists.specs.Keyed.{Ascending, united};
 ghost use Rattle.table.specs.Table.{constraintKey};
 ghost use Rattle.table.specs.Checked.{Checked};
 ghost use Rattle.proposal.specs.Proposal.{before, unordered, settledIn, settledFirst, firsts};
-ghost use Rattle.insertion.specs.Insertion.{tableOf};
+ghost use Rattle.insertion.specs.Insertion.{heldTable};
 ghost use Rattle.draft.specs.Draft.{Settles};
 
 // The constraint "a notafter b".
@@ -45,7 +45,7 @@ fn settled_in(index: &[u8; NAMES], settled: &[u8; MARKS], name: u16) -> bool
 
 // The table joined by the row of a pair of which one is settled.
 fn first_row(table: Constraints, c: Constraint, left: bool, right: bool) -> Constraints
-    ensures { λ r. ⌜ ((t : List Constraint) → table ≡ tableOf t → Ascending constraintKey t → r ≡ tableOf (united constraintKey t (settledFirst left right (c .left) (c .right)))) ⌝ }
+    ensures { λ r. ⌜ ((t : List Constraint) → table ≡ heldTable t → Ascending constraintKey t → r ≡ heldTable (united constraintKey t (settledFirst left right (c .left) (c .right)))) ⌝ }
 {
     if left {
         if right {
@@ -67,8 +67,8 @@ fn with_firsts(
     settled: &[u8; MARKS],
 ) -> Constraints
     requires { ⌜ (length (now index) ≡ 2304) × ((x : ℕ) → getD (now index) x 0 < 128) × (pairs .count ≤ 512) ⌝ }
-    ensures { λ r. ⌜ ((Q : theory.Record) (t l : List Constraint) → Settles Q (now (index .entry)) (now (settled .entry)) → table ≡ tableOf t → Ascending constraintKey t
-        → take (pairs .count) (pairs .rows) ≡ l → r ≡ tableOf (united constraintKey t (firsts Q l))) ⌝ }
+    ensures { λ r. ⌜ ((Q : theory.Record) (t l : List Constraint) → Settles Q (now (index .entry)) (now (settled .entry)) → table ≡ heldTable t → Ascending constraintKey t
+        → take (pairs .count) (pairs .rows) ≡ l → r ≡ heldTable (united constraintKey t (firsts Q l))) ⌝ }
 {
     let rows = pairs.rows;
     let n = pairs.count;
@@ -88,7 +88,7 @@ fn with_firsts(
 // The constraints of the union with the rows "b notafter a".
 pub fn started(both: Record, old: Record) -> Constraints
     ensures { λ r. ⌜ ((U Q : theory.Record) → both ≡ stored U → Checked U → old ≡ stored Q → Checked Q
-        → r ≡ tableOf (united constraintKey (U .constraints) (firsts Q (unordered U)))) ⌝ }
+        → r ≡ heldTable (united constraintKey (U .constraints) (firsts Q (unordered U)))) ⌝ }
 {
     let pairs = pairs::unordered_pairs(both);
     let index = indexes::index_table(old);

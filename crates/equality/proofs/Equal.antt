@@ -36,9 +36,9 @@ module _ {A : Type 0} (equal : A → A → Bool) where
   same-snoc (w ∷ s) [] x y h e = clash h refl
   same-snoc (w ∷ s) (z ∷ t) x y h e = and-i (equal w z) (sameList equal (s ++ (x ∷ [])) (t ++ (y ∷ []))) (and-l (equal w z) (sameList equal s t) h) (same-snoc s t x y (and-r (equal w z) _ h) e)
 
-  pub same-more : (a b : List A) (i : ℕ) (d f : A) → i < length a → i < length b → sameList equal (take i a) (take i b) ≡ true → equal (getD a i d) (getD b i f) ≡ true
+  pub same-rows-more : (a b : List A) (i : ℕ) (d f : A) → i < length a → i < length b → sameList equal (take i a) (take i b) ≡ true → equal (getD a i d) (getD b i f) ≡ true
       → sameList equal (take (i + 1) a) (take (i + 1) b) ≡ true
-  same-more a b i d f p q h e = rw (take-more a i d p, take-more b i f q) (same-snoc (take i a) (take i b) (getD a i d) (getD b i f) h e)
+  same-rows-more a b i d f p q h e = rw (take-more a i d p, take-more b i f q) (same-snoc (take i a) (take i b) (getD a i d) (getD b i f) h e)
 
   pub same-broken : (a b : List A) (n i : ℕ) (d f : A) → i < n → n ≤ length a → n ≤ length b → equal (getD a i d) (getD b i f) ≡ false → sameList equal (take n a) (take n b) ≡ false
   unfolding sameList

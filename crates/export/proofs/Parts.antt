@@ -51,15 +51,15 @@ empty-holds b k = record { benched = b; kept = k }
 
 -- the run of the lines of a log, in memory
 abbrev Ran : Desk → ℕ → List ℕ → Bench → Lending → Rows → Rows → ℕ → List ℕ → List ℕ → ℕ → Type 0
-Ran D count log bench lending edits constraints after before out at =
-    Holds (runLines (begun D count) (lines log) .desk) bench lending edits constraints × (after ≡ runLines (begun D count) (lines log) .count)
+Ran D count log bench lending edits constraints prefixed before out at =
+    Holds (runLines (begun D count) (lines log) .desk) bench lending edits constraints × (prefixed ≡ runLines (begun D count) (lines log) .count)
     × Printed (runLines (begun D count) (lines log) .printed) before 0 out at
 
-module _ (kept log work : List ℕ) (few : length kept + length log ≤ 4611686018427387904) {bench held last : Bench} {lending lent lastlent : Lending} {edits constraints edits1 constraints1 edits2 constraints2 : Rows} {n m at end : ℕ} {between after : List ℕ}
+module _ (kept log work : List ℕ) (few : length kept + length log ≤ 4611686018427387904) {bench held last : Bench} {lending lent lastlent : Lending} {edits constraints edits1 constraints1 edits2 constraints2 : Rows} {n m at end : ℕ} {between prefixed : List ℕ}
     (b : bench ≡ benchOf start) (k : Kept nothingLent lending edits constraints)
     (f : (D : Desk) → Holds D bench lending edits constraints → 0 ≤ suc (length work) → 0 + length kept ≤ 4611686018427387904 → Ran D 0 kept held lent edits1 constraints1 n work between at)
-    (g : (D : Desk) → Holds D held lent edits1 constraints1 → 0 ≤ suc (length between) → n + length log ≤ 4611686018427387904 → Ran D n log last lastlent edits2 constraints2 m between after end) where
-  pub two-logs : Worked (answersAfter kept log) work after end
+    (g : (D : Desk) → Holds D held lent edits1 constraints1 → 0 ≤ suc (length between) → n + length log ≤ 4611686018427387904 → Ran D n log last lastlent edits2 constraints2 m between prefixed end) where
+  pub two-logs : Worked (answersAfter kept log) work prefixed end
   unfolding answersAfter logRun
   two-logs =
       let p = f emptyDesk (empty-holds b k) (omega arith) (omega arith) in
@@ -91,19 +91,19 @@ lines-parts (c ∷ s) log =
     (λ (e : eqb c 10 ≡ false). rw (e, h, q) refl))
 
 -- what is printed before leaves the rest of a run as it is
-abbrev pub after : List ℕ → Run → Run
-after printed r = record { desk = r .desk; count = r .count; printed = printed ++ r .printed }
+abbrev pub prefixed : List ℕ → Run → Run
+prefixed printed r = record { desk = r .desk; count = r .count; printed = printed ++ r .printed }
 
-after-both : (first second : List ℕ) (r : Run) → after (first ++ second) r ≡ after first (after second r)
+after-both : (first second : List ℕ) (r : Run) → prefixed (first ++ second) r ≡ prefixed first (prefixed second r)
 after-both first second r = ap {B = Run} (λ (p : List ℕ). record { desk = r .desk; count = r .count; printed = p }) (append-assoc first second (r .printed))
 
-run-after : (r : Run) (l : List (List ℕ)) → runLines r l ≡ after (r .printed) (runLines (begun (r .desk) (r .count)) l)
+run-after : (r : Run) (l : List (List ℕ)) → runLines r l ≡ prefixed (r .printed) (runLines (begun (r .desk) (r .count)) l)
 unfolding runLines runLine
 run-after r [] = ap {B = Run} (λ (p : List ℕ). record { desk = r .desk; count = r .count; printed = p }) (sym (append-nil (r .printed)))
 run-after r (x ∷ l) =
     let told = printedOf (orderEffect (r .desk) (orderRead x)) (suc (r .count)) in
     let next = runLine (begun (r .desk) (r .count)) x in
-    run-after (runLine r x) l ∙ after-both (r .printed) told (runLines (begun (next .desk) (next .count)) l) ∙ ap (after (r .printed)) (sym (run-after next l))
+    run-after (runLine r x) l ∙ after-both (r .printed) told (runLines (begun (next .desk) (next .count)) l) ∙ ap (prefixed (r .printed)) (sym (run-after next l))
 
 run-parts : (r : Run) (l m : List (List ℕ)) → runLines r (l ++ m) ≡ runLines (runLines r l) m
 unfolding runLines
@@ -111,7 +111,7 @@ run-parts r [] m = refl
 run-parts r (x ∷ l) m = run-parts (runLine r x) l m
 
 pub kept-log : (inner log : List ℕ) → let kept = inner ++ (10 ∷ []) in
-    logRun (kept ++ log) ≡ after (logRun kept .printed) (runLines (begun (logRun kept .desk) (logRun kept .count)) (lines log))
+    logRun (kept ++ log) ≡ prefixed (logRun kept .printed) (runLines (begun (logRun kept .desk) (logRun kept .count)) (lines log))
 unfolding logRun
 kept-log inner log =
     let kept = inner ++ (10 ∷ []) in

@@ -18,7 +18,7 @@ use Rattle.reader.specs.declared.Reading.{Reading}
 use Rattle.reader.specs.Reading.{readingOf}
 use Rattle.writer.specs.declared.Written.{Written}
 use Rattle.writer.specs.Placed.{placed, placing}
-use Rattle.report.proofs.Reports.{refused, accepted}
+use Rattle.report.proofs.Reports.{refused, report-accepted}
 use Rattle.forms.specs.Printed.{Printed}
 use Rattle.ground.specs.Ground.{Rows}
 use Rattle.ledger.specs.declared.Bench.{Bench}
@@ -37,7 +37,7 @@ module _ (text : List ℕ) {reading : Reading} (e : reading ≡ readingOf (lengt
   check-refused z {r} q = refused text e z (λ p. q ∙ rw p refl)
 
   pub check-accepted : reading .number ≡ 0 → {r : Reply} → r ≡ record { number = 0; line = 0; size = 0 } → r ≡ checkedReply (readText text)
-  check-accepted z q = accepted text e z (λ R p c k. q ∙ rw p refl)
+  check-accepted z q = report-accepted text e z (λ R p c k. q ∙ rw p refl)
 
   module _ (out : List ℕ) where
     pub rewrite-refused : (reading .number ≡ 0 → ⊥) → {r : Reply} → r ≡ record { number = reading .number; line = reading .line; size = 0 }
@@ -48,7 +48,7 @@ module _ (text : List ℕ) {reading : Reading} (e : reading ≡ readingOf (lengt
         → (w ≡ placing (textOf (recordOf (reading .content))) 0 out) × (after ≡ placed (textOf (recordOf (reading .content))) 0 out)
         → (record { number = w .number; line = 0; size = w .end } ≡ rewrittenReply (readText text) out) × (after ≡ rewrittenOut (readText text) out)
     rewrite-accepted z {w} {after} f =
-        accepted text e z (λ R p c k.
+        report-accepted text e z (λ R p c k.
         let h : recordOf (reading .content) ≡ R = ap recordOf c ∙ stored-back R in
         let i : w ≡ placing (textOf R) 0 out = f .0 ∙ ap (λ (S : Record). placing (textOf S) 0 out) h in
         (rw p (ap {B = Reply} (λ (v : Written). record { number = v .number; line = 0; size = v .end }) i), rw p (f .1 ∙ ap (λ (S : Record). placed (textOf S) 0 out) h)))

@@ -13,7 +13,7 @@ use Rattle.record.specs.declared.Constraint.{Constraint}
 use Rattle.lists.specs.Lists.{all, mem, _among_, Has}
 use Rattle.record.specs.Record.{Record, nameOf, written, names, has}
 use Rattle.lists.proofs.Lists.{by, clash, and-l, and-r, or-no-l, or-no-r, cons-by, is-by}
-use Rattle.record.proofs.Records.{all-has}
+use Rattle.record.proofs.Records.{all-constraints}
 use Rattle.lists.proofs.Logic as logic
 use Rattle.row.proofs.Cells.{name-small}
 use Rattle.row.specs.Row.{cell, bodyCells, isName, isSide, editInRange, constraintInRange, editRow, constraintRow}
@@ -54,6 +54,6 @@ checked-fit R k = record {
   ascends = checked-ascending R k;
   low = λ x i. cons-by x 0 (written R) i (λ e. omega arith)
       (λ j. mem-by x (R .edits) j (λ e m q. rw q (name-small (e .name) (edit-name e (logic.all-has (λ e. editInRange (editRow e)) (R .edits) (k .editrange) e m)))));
-  rules = λ a r b h. rule-low a r b (all-has (λ a r b. constraintInRange (a ∷ r ∷ b ∷ [])) (R .constraints) (k .constraintrange) a r b h);
-  paired = λ a b h. pair-lower a b (not-true _ (all-has (λ a r b. not (pairNotAllowed a r b)) (R .constraints) (k .pairs) a 2 b h));
+  rules = λ a r b h. rule-low a r b (all-constraints (λ a r b. constraintInRange (a ∷ r ∷ b ∷ [])) (R .constraints) (k .constraintrange) a r b h);
+  paired = λ a b h. pair-lower a b (not-true _ (all-constraints (λ a r b. not (pairNotAllowed a r b)) (R .constraints) (k .pairs) a 2 b h));
 }

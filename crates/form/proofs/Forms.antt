@@ -14,7 +14,7 @@ use lib.Seq.{drop-append-seam, getD-drop}
 use Rattle.lists.specs.Lists.{mem, all}
 use Rattle.lists.proofs.Lists.{by, clash, and-l, and-r, mem-append, none-some, or-no-l, or-no-r}
 use Rattle.form.specs.Spelling.{nameSpelling, numberSpelling}
-use Rattle.form.specs.Form.{isMark, spelling, fill, more, starts, taken}
+use Rattle.form.specs.Form.{isMark, spelling, fill, more, beginsWith, taken}
 use Rattle.form.proofs.Lawful.{stopped, lawful}
 
 -- how many numbers a form takes
@@ -28,13 +28,13 @@ spelled [] ns = true
 spelled (c ∷ form) ns = cond (isMark c) ((spelling c) .spells (getD ns 0 0) && spelled form (drop 1 ns)) (spelled form ns)
 
 -- no spelling of the mark c goes on into what the form gives
-abbrev pub apart : ℕ → List ℕ → Bool
-apart c [] = true
-apart c (d ∷ form) = not (isMark d) && (spelling c) .stops d
+abbrev pub spelledApart : ℕ → List ℕ → Bool
+spelledApart c [] = true
+spelledApart c (d ∷ form) = not (isMark d) && (spelling c) .stops d
 
 unfoldable pub separate : List ℕ → Bool
 separate [] = true
-separate (c ∷ form) = cond (isMark c) (apart c form && separate form) (separate form)
+separate (c ∷ form) = cond (isMark c) (spelledApart c form && separate form) (separate form)
 
 -- two different bytes of two forms give texts that begin differently
 abbrev pub unlike : ℕ → ℕ → Bool
@@ -82,11 +82,11 @@ module _ (c : ℕ) (f : List ℕ) where
     unfolding fill
     fill-byte ns = rw m
 
-    pub byte-taken : (s : List ℕ) → starts c s ≡ true → taken (c ∷ f) s ≡ taken f (drop 1 s)
+    pub byte-taken : (s : List ℕ) → beginsWith c s ≡ true → taken (c ∷ f) s ≡ taken f (drop 1 s)
     unfolding taken
     byte-taken s h = rw (m, h)
 
-    pub byte-missing : (s : List ℕ) → starts c s ≡ false → taken (c ∷ f) s ≡ none
+    pub byte-missing : (s : List ℕ) → beginsWith c s ≡ false → taken (c ∷ f) s ≡ none
     unfolding taken
     byte-missing s h = rw (m, h)
 
@@ -114,7 +114,7 @@ taken-nothing : taken [] (fill [] []) ≡ some []
 unfolding fill taken
 taken-nothing = refl
 
-apart-fill : (c : ℕ) (f ns : List ℕ) → apart c f ≡ true → stopped (spelling c) (fill f ns) ≡ true
+apart-fill : (c : ℕ) (f ns : List ℕ) → spelledApart c f ≡ true → stopped (spelling c) (fill f ns) ≡ true
 apart-fill c [] ns h = rw (fill-nothing ns)
 apart-fill c (d ∷ f) ns h =
     rw (fill-byte d f (not-true (isMark d) (and-l (not (isMark d)) _ h)) ns) (and-r (not (isMark d)) ((spelling c) .stops d) h)
@@ -130,7 +130,7 @@ written-taken c f n s m h =
     mark-taken c f m ((spelling c) .write n ++ s) (λ e. write-some c n (sym z ∙ e))
     ∙ rw (z, drop-append-seam ((spelling c) .write n) s)
 
-filled-mark : (c : ℕ) (f ns : List ℕ) → isMark c ≡ true → apart c f ≡ true → (spelling c) .spells (getD ns 0 0) ≡ true → length ns ≡ suc (slots f)
+filled-mark : (c : ℕ) (f ns : List ℕ) → isMark c ≡ true → spelledApart c f ≡ true → (spelling c) .spells (getD ns 0 0) ≡ true → length ns ≡ suc (slots f)
     → ((ms : List ℕ) → ms ≡ drop 1 ns → length ms ≡ slots f → taken f (fill f ms) ≡ some ms) → taken (c ∷ f) (fill (c ∷ f) ns) ≡ some ns
 filled-mark c f [] m p k l h = absurd (omega arith)
 filled-mark c f (n ∷ ns) m p k l h =
@@ -146,10 +146,10 @@ taken-fill [] (n ∷ ns) p k l = absurd (omega arith)
 taken-fill (c ∷ f) ns p k l =
     by (isMark c)
     (λ (m : isMark c ≡ true).
-    let q : (apart c f && separate f) ≡ true = rw m at p in
+    let q : (spelledApart c f && separate f) ≡ true = rw m at p in
     let r : ((spelling c) .spells (getD ns 0 0) && spelled f (drop 1 ns)) ≡ true = rw m at k in
-    filled-mark c f ns m (and-l (apart c f) (separate f) q) (and-l ((spelling c) .spells (getD ns 0 0)) _ r) (rw m at l)
-    (λ ms e z. taken-fill f ms (and-r (apart c f) (separate f) q) (rw e (and-r ((spelling c) .spells (getD ns 0 0)) (spelled f (drop 1 ns)) r)) z))
+    filled-mark c f ns m (and-l (spelledApart c f) (separate f) q) (and-l ((spelling c) .spells (getD ns 0 0)) _ r) (rw m at l)
+    (λ ms e z. taken-fill f ms (and-r (spelledApart c f) (separate f) q) (rw e (and-r ((spelling c) .spells (getD ns 0 0)) (spelled f (drop 1 ns)) r)) z))
     (λ (m : isMark c ≡ false).
     rw (fill-byte c f m ns) (byte-taken c f m (c ∷ fill f ns) (eq-eqb c c refl) ∙ taken-fill f ns (rw m at p) (rw m at k) (rw m at l)))
 
@@ -158,7 +158,7 @@ more-some : {P : Type 0} (n : ℕ) (o : Option (List ℕ)) (ns : List ℕ) → m
 more-some n none ns e k = let z : _≡_ {A = ℕ} 0 1 = cc in absurd (omega arith)
 more-some n (some ms) ns e k = k ms refl (cc)
 
-first-byte : (c : ℕ) (s : List ℕ) → starts c s ≡ true → s ≡ c ∷ drop 1 s
+first-byte : (c : ℕ) (s : List ℕ) → beginsWith c s ≡ true → s ≡ c ∷ drop 1 s
 first-byte c [] h = clash h refl
 first-byte c (x ∷ s) h = ap (λ (y : ℕ). y ∷ s) (sym (eqb-true c x h))
 
@@ -176,7 +176,7 @@ given-mark c f s ns m h g =
           ∙ ap (λ (l : List ℕ). (spelling c) .write ((spelling c) .value s) ++ l) (g .1 (and-r ((spelling c) .spells ((spelling c) .value s)) (spelled f ns) k))),
     )
 
-given-byte : (c : ℕ) (f s ns : List ℕ) → isMark c ≡ false → starts c s ≡ true → Given f (drop 1 s) ns → Given (c ∷ f) s ns
+given-byte : (c : ℕ) (f s ns : List ℕ) → isMark c ≡ false → beginsWith c s ≡ true → Given f (drop 1 s) ns → Given (c ∷ f) s ns
 unfolding slots spelled
 given-byte c f s ns m h g =
     rw m (g .0, λ k. rw (fill-byte c f m ns) (first-byte c s h ∙ ap (λ (l : List ℕ). c ∷ l) (g .1 k)))
@@ -197,7 +197,7 @@ fill-taken (c ∷ f) s ns h =
     more-some ((spelling c) .value s) (taken f (drop ((spelling c) .size s) s)) ns (sym (mark-taken c f m s z) ∙ h)
     (λ ms q r. rw r (given-mark c f s ms m z (fill-taken f (drop ((spelling c) .size s) s) ms q)))))
     (λ (m : isMark c ≡ false).
-    by (starts c s)
+    by (beginsWith c s)
     (λ e. given-byte c f s ns m e (fill-taken f (drop 1 s) ns (sym (byte-taken c f m s e) ∙ h)))
     (λ e. none-some (byte-missing c f m s e) h))
 
@@ -212,7 +212,7 @@ nothing-more d g ns =
 no-text : (c : ℕ) (f : List ℕ) → taken (c ∷ f) [] ≡ none
 no-text c f = by (isMark c) (λ m. mark-missing c f m [] (lawful c .nothing)) (λ m. byte-missing c f m [] refl)
 
-other-byte : (d : ℕ) (n c : ℕ) (s : List ℕ) → (spelling d) .begins c ≡ false → starts c ((spelling d) .write n ++ s) ≡ false
+other-byte : (d : ℕ) (n c : ℕ) (s : List ℕ) → (spelling d) .begins c ≡ false → beginsWith c ((spelling d) .write n ++ s) ≡ false
 other-byte d n c s h =
     let b = lawful d .begun n in
     rw (b .is) (ne-eqb c (b .first) (λ e. clash (rw (sym e) at (b .begins)) h))
@@ -245,10 +245,10 @@ taken-other (c ∷ f) (d ∷ g) ns p h =
     (λ (e : eqb c d ≡ true).
     by (isMark d)
     (λ (m : isMark d ≡ true).
-    let q : (apart d g && separate g) ≡ true = rw m at p in
+    let q : (spelledApart d g && separate g) ≡ true = rw m at p in
     rw (eqb-true c d e, fill-mark d g m ns)
-    (written-taken d f (getD ns 0 0) (fill g (drop 1 ns)) m (apart-fill d g (drop 1 ns) (and-l (apart d g) (separate g) q))
-    ∙ more-none _ (taken-other f g (drop 1 ns) (and-r (apart d g) (separate g) q) (rw e at h))))
+    (written-taken d f (getD ns 0 0) (fill g (drop 1 ns)) m (apart-fill d g (drop 1 ns) (and-l (spelledApart d g) (separate g) q))
+    ∙ more-none _ (taken-other f g (drop 1 ns) (and-r (spelledApart d g) (separate g) q) (rw e at h))))
     (λ (m : isMark d ≡ false).
     rw (eqb-true c d e, fill-byte d g m ns) (byte-taken d f m (d ∷ fill g ns) (eq-eqb d d refl) ∙ taken-other f g ns (rw m at p) (rw e at h))))
     (λ (e : eqb c d ≡ false). begin-alike c d f g ns e (rw e at h))
@@ -258,19 +258,19 @@ unfoldable pub room : List ℕ → ℕ
 room [] = 0
 room (c ∷ form) = cond (isMark c) (10 + room form) (1 + room form)
 
-abbrev pub Small : List ℕ → Type 0
-Small [] = Unit
-Small (n ∷ ns) = (n < 4294967296) × Small ns
+abbrev pub AllSmall : List ℕ → Type 0
+AllSmall [] = Unit
+AllSmall (n ∷ ns) = (n < 4294967296) × AllSmall ns
 
-small-first : (ns : List ℕ) → Small ns → getD ns 0 0 < 4294967296
+small-first : (ns : List ℕ) → AllSmall ns → getD ns 0 0 < 4294967296
 small-first [] h = omega arith
 small-first (n ∷ ns) h = h .0
 
-small-rest : (ns : List ℕ) → Small ns → Small (drop 1 ns)
+small-rest : (ns : List ℕ) → AllSmall ns → AllSmall (drop 1 ns)
 small-rest [] h = tt
 small-rest (n ∷ ns) h = h .1
 
-pub fill-room : (f ns : List ℕ) → Small ns → length (fill f ns) ≤ room f
+pub fill-room : (f ns : List ℕ) → AllSmall ns → length (fill f ns) ≤ room f
 unfolding room
 fill-room [] ns h = rw (fill-nothing ns) (omega arith)
 fill-room (c ∷ f) ns h =

@@ -9,7 +9,7 @@ ghost use lib.ListN.{length, getD, set};
 ghost use Rattle.decimal.specs.Decimal.{decimal};
 ghost use Rattle.decimal.specs.Written.{Written};
 ghost use Rattle.form.specs.Spelling.{nameSpelling, answerSpelling, startsWith, numeralOf};
-ghost use Rattle.form.specs.Form.{isMark, spelling, fill, taken, told};
+ghost use Rattle.form.specs.Form.{isMark, spelling, fill, taken, filledOf};
 ghost use Rattle.form.specs.Fit.{fitAfter};
 use decimal::Numeral;
 
@@ -274,7 +274,7 @@ fn store(numbers: &mut [u64; 8], k: usize, n: u64)
 }
 
 fn no_fit() -> Filled
-    ensures { λ r. ⌜ r ≡ told none ⌝ }
+    ensures { λ r. ⌜ r ≡ filledOf none ⌝ }
 {
     Filled {
         numbers: [0; 8],
@@ -284,7 +284,7 @@ fn no_fit() -> Filled
 
 // The numbers with which the form gives these bytes, where it does.
 pub fn read_form(form: &[u8], bytes: &[u8]) -> Filled
-    ensures { λ r. ⌜ r ≡ told (taken (now (form .entry)) (now (bytes .entry))) ⌝ }
+    ensures { λ r. ⌜ r ≡ filledOf (taken (now (form .entry)) (now (bytes .entry))) ⌝ }
 {
     let mut numbers = [0u64; 8];
     let mut at = 0;

@@ -14,11 +14,11 @@ use Rattle.lists.proofs.Lists.{by, clash, and-l, and-r}
 use Rattle.lists.proofs.Arrays.{take-map}
 use Rattle.decimal.specs.Decimal.{saturated}
 use Rattle.decimal.proofs.RoundTrip.{saturated-test, saturated-same}
-use Rattle.form.specs.Form.{told}
+use Rattle.form.specs.Form.{filledOf}
 use Rattle.form.specs.declared.Filled.{Filled}
 use Rattle.line.specs.Line.{fitsWord}
 use Rattle.forms.specs.declared.Order.{Order}
-use Rattle.forms.specs.Forms.{noOrder, cellsOf, ordered, orderOr}
+use Rattle.forms.specs.Forms.{noOrder, cellsOf, orderOf, orderOr}
 
 -- numbers kept as cells while each fits 32 bits
 pub record Keeping (numbers cells : List ℕ) (i : ℕ) : Type 0 where
@@ -46,12 +46,12 @@ module _ (kind : ℕ) (numbers : List ℕ) where
       numbers-size = w .numbers-size;
     }
 
-    pub keeping-large : {r : Order} → i < 8 → 4294967295 < getD numbers i 0 → r ≡ noOrder 2 → r ≡ ordered kind numbers
-    unfolding ordered all
+    pub keeping-large : {r : Order} → i < 8 → 4294967295 < getD numbers i 0 → r ≡ noOrder 2 → r ≡ orderOf kind numbers
+    unfolding orderOf all
     keeping-large h l e = e ∙ rw (w .all-but, next-number h, le-ltb (getD numbers i 0) 4294967296 (omega arith))
 
-    pub keeping-end : 8 ≤ i → record { number = 0; kind = kind; cells = cells } ≡ ordered kind numbers
-    unfolding ordered all
+    pub keeping-end : 8 ≤ i → record { number = 0; kind = kind; cells = cells } ≡ orderOf kind numbers
+    unfolding orderOf all
     keeping-end h =
         let e : cells ≡ numbers = sym (take-all i cells (omega (arith, w .cells-size))) ∙ w .kept ∙ take-all i numbers (omega (arith, w .numbers-size)) in
         rw (w .all-but, drop-of-length-le numbers {i = i} (omega (arith, w .numbers-size)), e)
@@ -68,8 +68,8 @@ saturated-fit [] h = refl
 saturated-fit (n ∷ ns) h =
     rw (saturated-same n (ltb-true n 4294967296 (and-l (fitsWord n) (all fitsWord ns) h)), saturated-fit ns (and-r (fitsWord n) (all fitsWord ns) h))
 
-saturated-ordered : (kind : ℕ) (ns : List ℕ) → ordered kind (map saturated ns) ≡ ordered kind ns
-unfolding ordered
+saturated-ordered : (kind : ℕ) (ns : List ℕ) → orderOf kind (map saturated ns) ≡ orderOf kind ns
+unfolding orderOf
 saturated-ordered kind ns =
     by (all fitsWord ns)
     (λ (e : all fitsWord ns ≡ true). rw (saturated-fit ns e))
@@ -80,11 +80,11 @@ told-cells ns = sym (ap (take 8) (map-append saturated ns (replicate 8 0))) ∙ 
 
 -- a form that takes the bytes, and one that does not
 module _ (kind : ℕ) {t : Filled} {r : Order} where
-  pub form-fits : (o : Option (List ℕ)) (other : Order) → t ≡ told o → t .fits ≡ true → r ≡ ordered kind (t .numbers) → r ≡ orderOr kind o other
+  pub form-fits : (o : Option (List ℕ)) (other : Order) → t ≡ filledOf o → t .fits ≡ true → r ≡ orderOf kind (t .numbers) → r ≡ orderOr kind o other
   form-fits none other e h q = clash h (ap (λ (x : Filled). x .fits) e)
   form-fits (some ns) other e h q =
-      q ∙ ap (ordered kind) (ap (λ (x : Filled). x .numbers) e ∙ told-cells ns) ∙ saturated-ordered kind (cellsOf ns)
+      q ∙ ap (orderOf kind) (ap (λ (x : Filled). x .numbers) e ∙ told-cells ns) ∙ saturated-ordered kind (cellsOf ns)
 
-  pub form-refuses : (o : Option (List ℕ)) (other : Order) → t ≡ told o → t .fits ≡ false → r ≡ other → r ≡ orderOr kind o other
+  pub form-refuses : (o : Option (List ℕ)) (other : Order) → t ≡ filledOf o → t .fits ≡ false → r ≡ other → r ≡ orderOr kind o other
   form-refuses none other e h q = q
   form-refuses (some ns) other e h q = clash (ap (λ (x : Filled). x .fits) e) h

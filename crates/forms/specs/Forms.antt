@@ -28,13 +28,13 @@ noOrder number = record { number = number; kind = 0; cells = replicate 8 0 }
 abbrev pub cellsOf : List ℕ → List ℕ
 cellsOf ns = take 8 (ns ++ replicate 8 0)
 
-unfoldable pub ordered : ℕ → List ℕ → Order
-ordered kind cells = cond (all fitsWord cells) (record { number = 0; kind = kind; cells = cells }) (noOrder 2)
+unfoldable pub orderOf : ℕ → List ℕ → Order
+orderOf kind cells = cond (all fitsWord cells) (record { number = 0; kind = kind; cells = cells }) (noOrder 2)
 
 -- what a form says of a text where it takes it, and what else is said
 abbrev pub orderOr : ℕ → Option (List ℕ) → Order → Order
 orderOr kind none other = other
-orderOr kind (some ns) other = ordered kind (cellsOf ns)
+orderOr kind (some ns) other = orderOf kind (cellsOf ns)
 
 -- the first form that takes the bytes decides; the first argument is the kind of the first form
 unfoldable pub orderFrom : ℕ → List (List ℕ) → List ℕ → Order

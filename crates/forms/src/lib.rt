@@ -4,7 +4,7 @@ ghost use mathlib.Core.Path.{_≡_};
 ghost use Prim.Native.Nat.{_-_, _≤_};
 ghost use lib.ListN.{length, take, drop};
 ghost use Rattle.form.specs.Form.{fill, taken};
-ghost use Rattle.forms.specs.Forms.{noOrder, ordered, orderOr};
+ghost use Rattle.forms.specs.Forms.{noOrder, orderOf, orderOr};
 ghost use Rattle.forms.specs.Printed.{Printed};
 
 // Number 0: an order of this kind, with its numbers. 1: not in form. 2: a number does not fit 32 bits. Cells that say nothing hold 0.
@@ -28,7 +28,7 @@ pub fn no_order(number: u32) -> Order
 
 // The order of these numbers, where each fits 32 bits.
 fn order_of(kind: usize, numbers: [u64; 8]) -> Order
-    ensures { λ r. ⌜ r ≡ ordered kind numbers ⌝ }
+    ensures { λ r. ⌜ r ≡ orderOf kind numbers ⌝ }
 {
     let mut cells = [0u32; 8];
     let mut i = 0;

@@ -25,11 +25,11 @@ unfolding bounded
 bounded-wide n h = rw (le-ltb n limit64 h)
 
 -- what an answer says of its number
-pub record Told (n : ℕ) (r : Bounded) : Type 0 where
+pub record BoundedBy (n : ℕ) (r : Bounded) : Type 0 where
   pub value : r .value ≡ n
   pub small : n < limit64
 
-pub told-fits : (n : ℕ) (r : Bounded) → r ≡ bounded n → r .fits ≡ true → Told n r
+pub told-fits : (n : ℕ) (r : Bounded) → r ≡ bounded n → r .fits ≡ true → BoundedBy n r
 unfolding bounded
 told-fits n r e t =
     by (ltb n limit64)

@@ -29,9 +29,9 @@ pub least-more : (l : List Fraction) (g : Fraction) → leastFraction (l ++ (g �
 unfolding leastFraction
 least-more l g = first-more isBelow l g
 
-pub greatest-more : (l : List Fraction) (g : Fraction) → greatestFraction (l ++ (g ∷ [])) ≡ cond (eqb (length l) 0 || isBelow (greatestFraction l) g) g (greatestFraction l)
+pub greatest-fraction-more : (l : List Fraction) (g : Fraction) → greatestFraction (l ++ (g ∷ [])) ≡ cond (eqb (length l) 0 || isBelow (greatestFraction l) g) g (greatestFraction l)
 unfolding greatestFraction
-greatest-more l g = first-more isAbove l g
+greatest-fraction-more l g = first-more isAbove l g
 
 -- Of fractions with denominators above 0, what is not below a fraction that is not below a third is not below that.
 module _ (f g h : Fraction) (pos : 0 < g .denominator) where
@@ -60,12 +60,12 @@ unfolding isBelow
 below-self f = le-ltb (f .numerator * f .denominator) (f .numerator * f .denominator) (omega arith)
 
 -- The first is among them, and no other comes before it, where "not before" goes on from one fraction to the next.
-pub record Ordered (before : Fraction → Fraction → Bool) : Type 0 where
+pub record StrictOrder (before : Fraction → Fraction → Bool) : Type 0 where
   pub self : (f : Fraction) → before f f ≡ false
   pub turned : (f g : Fraction) → before f g ≡ true → before g f ≡ false
   pub trans : (f g h : Fraction) → 0 < g .denominator → before f g ≡ false → before g h ≡ false → before f h ≡ false
 
-module _ (before : Fraction → Fraction → Bool) (o : Ordered before) where
+module _ (before : Fraction → Fraction → Bool) (o : StrictOrder before) where
   first-from : (f : Fraction) (l : List Fraction) → 0 < f .denominator → Positive l → First before (f ∷ l) (firstFrom before f l)
   unfolding firstFrom
   first-from f [] p h = record { among = inl refl; first = λ g m. ⊎-elim (λ (e : g ≡ f). rw e (o .self f)) (λ m. absurd m) m }
@@ -90,10 +90,10 @@ module _ (before : Fraction → Fraction → Bool) (o : Ordered before) where
   pub first-is : (f : Fraction) (l : List Fraction) → Positive (f ∷ l) → First before (f ∷ l) (firstBy before (f ∷ l))
   first-is f l h = first-from f l (h .0) (h .1)
 
-pub below-ordered : Ordered isBelow
+pub below-ordered : StrictOrder isBelow
 below-ordered = record { self = below-self; turned = below-turned; trans = below-trans }
 
-pub above-ordered : Ordered isAbove
+pub above-ordered : StrictOrder isAbove
 above-ordered = record { self = below-self; turned = λ f g. below-turned g f; trans = λ f g h p q r. below-trans h g f p r q }
 
 pub least-is : (f : Fraction) (l : List Fraction) → Positive (f ∷ l) → First isBelow (f ∷ l) (leastFraction (f ∷ l))

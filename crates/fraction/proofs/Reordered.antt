@@ -14,7 +14,7 @@ use Rattle.fraction.specs.declared.Fraction.{Fraction}
 use Rattle.fraction.specs.Fraction.{Positive, Divided, LeastCommonDenominator, commonDenominator, numeratorOver, sumOf, zeroFraction, mean, lowestTerms, isBelow, isAbove, First, firstBy, leastFraction, greatestFraction}
 use Rattle.fraction.specs.Divisor.{gcd}
 use Rattle.fraction.proofs.Fractions.{same-fraction, common-denominator-is, numerator-times}
-use Rattle.fraction.proofs.Extremes.{Ordered, first-is, below-ordered, above-ordered}
+use Rattle.fraction.proofs.Extremes.{StrictOrder, first-is, below-ordered, above-ordered}
 
 -- over any common denominator the sum is the same fraction
 pub same-sum : (n : ℕ) (l : List Fraction) → Positive l → Divided n l → numeratorOver n l * sumOf l .denominator ≡ sumOf l .numerator * n
@@ -112,7 +112,7 @@ none-left : {A : Type 0} {x : A} {l : List A} → List·Permᴰ [] (x ∷ l) →
 none-left r = let n = length-reordered r in omega arith
 
 -- one law for both: neither of the two firsts comes before the other
-module _ (before : Fraction → Fraction → Bool) (o : Ordered before) (both : (f g : Fraction) → before f g ≡ false → before g f ≡ false → (isBelow f g ≡ false) × (isBelow g f ≡ false)) where
+module _ (before : Fraction → Fraction → Bool) (o : StrictOrder before) (both : (f g : Fraction) → before f g ≡ false → before g f ≡ false → (isBelow f g ≡ false) × (isBelow g f ≡ false)) where
   first-same : {l m : List Fraction} (x y : Fraction) → List·Permᴰ l m → Reduced l → First before l x → First before m y → x ≡ y
   first-same {l} {m} x y r h p q =
       let a : Has y l = has-reordered y (Permᴰ·symm r) (q .among) in
@@ -133,6 +133,6 @@ pub least-reordered : (l m : List Fraction) → List·Permᴰ l m → Reduced l 
 unfolding leastFraction
 least-reordered = first-reordered isBelow below-ordered (λ f g a b. (a, b))
 
-pub greatest-reordered : (l m : List Fraction) → List·Permᴰ l m → Reduced l → greatestFraction l ≡ greatestFraction m
+pub greatest-fraction-reordered : (l m : List Fraction) → List·Permᴰ l m → Reduced l → greatestFraction l ≡ greatestFraction m
 unfolding greatestFraction
-greatest-reordered = first-reordered isAbove above-ordered (λ f g a b. (b, a))
+greatest-fraction-reordered = first-reordered isAbove above-ordered (λ f g a b. (b, a))

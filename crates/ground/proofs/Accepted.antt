@@ -16,18 +16,18 @@ use Rattle.lists.proofs.Logic.{any-no, any-by}
 use Rattle.lists.proofs.Union.{late, ascending-last, ascending-snoc, ascending-united, united-snoc, united-old, united-alone, inserted-known, length-inserted}
 use Rattle.row.specs.Row.{Row, same}
 use Rattle.row.proofs.Compared.{same-eq}
-use Rattle.ground.specs.Ground.{Rows, Kind, alike, known, noPlace, otherBody, misplaced, rowFault, tableFault, _given_, _orelse_}
+use Rattle.ground.specs.Ground.{Rows, TableKind, alike, known, noPlace, otherBody, misplaced, rowFault, tableFault, _given_, _orelse_}
 use Rattle.ground.proofs.Grounds.{orelse-none, given-none, Clean, clean, clean-is, before-none, clashes}
 
 -- a row without fault
-pub record RowClean (K : Kind) (joined above : Rows) (row : Row) : Type 0 where
+pub record RowClean (K : TableKind) (joined above : Rows) (row : Row) : Type 0 where
   pub range : K .inRange row ≡ true
   pub place : noPlace (K .key) (K .limit) joined above row ≡ false
   pub body : otherBody (K .key) joined above row ≡ false
   pub further : K .further row ≡ 0
   pub order : misplaced (K .key) above row ≡ false
 
-module _ (K : Kind) (joined : Rows) where
+module _ (K : TableKind) (joined : Rows) where
   pub row-clean : (above : Rows) (row : Row) → rowFault K joined above row ≡ 0 → RowClean K joined above row
   unfolding rowFault
   row-clean above row h =
@@ -116,7 +116,7 @@ module _ (K : Kind) (joined : Rows) where
       accepted-within l = clean-within [] t (clean (rowFault K joined) [] t h) l
 
 -- to a table by itself without fault
-module _ (K : Kind) where
+module _ (K : TableKind) where
   front-ascends : (s u : Rows) → Ascending (take (K .key)) (s ++ u) → Ascending (take (K .key)) s
   front-ascends [] u a = tt
   front-ascends (x ∷ s) u a = (front-below s (a .0), front-ascends s u (a .1))

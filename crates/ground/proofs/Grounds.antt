@@ -119,9 +119,9 @@ module _ (k : ℕ) where
             ap (clashes row) splits ∙ any-append (λ r. alike k row r && not (same row r)) (take p J) (getD J p [] ∷ drop (suc p) J) ∙ rw (f .1) (g .1),
           )
 
-      pub place-known : alike k row (getD J p []) ≡ true → (known k row J ≡ true) × (clashes row J ≡ not (same row (getD J p [])))
+      pub row-place-known : alike k row (getD J p []) ≡ true → (known k row J ≡ true) × (clashes row J ≡ not (same row (getD J p [])))
       unfolding any
-      place-known e =
+      row-place-known e =
           let f = before-none row (take p J) b in
           let u : take k row ≡ take k (getD J p []) = same-eq (take k row) (take k (getD J p [])) e in
           let g = above-none row (drop (suc p) J) (λ r m. rw u (below-has (take k) (getD J p []) r (drop (suc p) J) (ascending-at J p h a) m)) in (

@@ -21,8 +21,8 @@ use Rattle.row.proofs.Compared.{neither-same}
 use Rattle.ground.specs.declared.Step.{Step}
 use Rattle.ground.specs.Ground.{Rows, known, noPlace, otherBody, misplaced, firstFault}
 use Rattle.ground.specs.Walk.{stepped, stepAt, asNew, lateNumber, laterNumber, PlaceOf, lateFault}
-use Rattle.ground.proofs.Grounds.{clashes, place-end, place-new, place-known, scan-here, scan-more}
-use Rattle.ground.proofs.Walks.{Walk, Told, passes, stays, joins, lacks, differs}
+use Rattle.ground.proofs.Grounds.{clashes, place-end, place-new, row-place-known, scan-here, scan-more}
+use Rattle.ground.proofs.Walks.{Walk, StepTold, passes, stays, joins, lacks, differs}
 
 -- row i after the row before it
 module _ (k : ℕ) (t : Rows) (i : ℕ) where
@@ -109,7 +109,7 @@ module _ (k limit : ℕ) (joined above : Rows) (count : ℕ) (row : List ℕ) wh
     number-there true h f e m g = number-new (leb limit count) refl e (place-new k joined row p a (v .under) h f) m g
     number-there false h f e m g =
         number-known (same row (getD joined p [])) e
-        (place-known k joined row p a (v .under) h (neither-same (take k row) (take k (getD joined p [])) (long ∙ sym (wide (getD joined p []) (has-getD joined p [] h))) f (v .stops h)))
+        (row-place-known k joined row p a (v .under) h (neither-same (take k row) (take k (getD joined p [])) (long ∙ sym (wide (getD joined p []) (has-getD joined p [] h))) f (v .stops h)))
         m g
 
     number-once : (x : List ℕ) → (p < length joined → x ≡ getD joined p []) → known k row above ≡ false → (m : Step) → m ≡ stepAt k (ltb p (length joined)) x row (leb limit count)
@@ -142,7 +142,7 @@ module _ (f : Rows → List ℕ → ℕ) (k limit : ℕ) (joined t : Rows) (at c
   four-not : _≡_ {A = ℕ} 4 0 → ⊥
   four-not z = omega arith
 
-  pub walk-goes : (m : Step) → Told k limit joined t at count i m → laterNumber m other ≡ 0 → Goes m
+  pub walk-goes : (m : Step) → StepTold k limit joined t at count i m → laterNumber m other ≡ 0 → Goes m
   walk-goes m (passes g l w) z = rw (g, add-zero count, add-zero i) (w, refl)
   walk-goes m (stays g p q w) z =
       let y : other ≡ 0 = rw g at z in
@@ -153,7 +153,7 @@ module _ (f : Rows → List ℕ → ℕ) (k limit : ℕ) (joined t : Rows) (at c
   walk-goes m (lacks g p) z = absurd (three-not (rw g at z))
   walk-goes m (differs g p q) z = absurd (four-not (rw g at z))
 
-  pub walk-stops : (m : Step) → Told k limit joined t at count i m → (laterNumber m other ≡ 0 → ⊥) → firstFault f (take i t) (drop i t) ≡ laterNumber m other
+  pub walk-stops : (m : Step) → StepTold k limit joined t at count i m → (laterNumber m other ≡ 0 → ⊥) → firstFault f (take i t) (drop i t) ≡ laterNumber m other
   walk-stops m (passes g l w) z = absurd (z (rw g))
   walk-stops m (stays g p q w) z = let y : laterNumber m other ≡ other = rw g in rw y (scan-here f t i h other (e ∙ rw (p, q)) (λ v. z (y ∙ v)))
   walk-stops m (joins g p q w) z = let y : laterNumber m other ≡ other = rw g in rw y (scan-here f t i h other (e ∙ rw (p, q)) (λ v. z (y ∙ v)))

@@ -14,10 +14,10 @@ use Rattle.lists.specs.Keyed.{precedes, Ascending, united}
 use Rattle.lists.proofs.Logic.{has-mapped}
 use Rattle.row.specs.Row.{Row, same}
 use Rattle.ground.specs.declared.Step.{Step}
-use Rattle.ground.specs.Ground.{Rows, Kind, alike, known, noPlace, otherBody, misplaced, rowFault, firstFault, tableFault, _given_, _orelse_}
+use Rattle.ground.specs.Ground.{Rows, TableKind, alike, known, noPlace, otherBody, misplaced, rowFault, firstFault, tableFault, _given_, _orelse_}
 use Rattle.ground.specs.Walk.{stepped, stepAt, lateNumber, laterNumber, PlaceOf, lateFault, lateFurther}
 use Rattle.ground.proofs.Grounds.{given-orelse, scan-here, scan-end, orelse-zero}
-use Rattle.ground.proofs.Walks.{Walk, Told, told, walk-start, bounds}
+use Rattle.ground.proofs.Walks.{Walk, StepTold, told, walk-start, bounds}
 use Rattle.ground.proofs.Lates.{table-length, table-at, late-number, walk-goes, walk-stops}
 
 -- a comparison, of the rows that the compared values are
@@ -63,7 +63,7 @@ late-further-not l o z =
     thirteen y = omega arith
 
 -- the number of a row, by what is known of it
-module _ (K : Kind) (joined above : Rows) (row : Row) where
+module _ (K : TableKind) (joined above : Rows) (row : Row) where
   pub outside : K .inRange row ≡ false → rowFault K joined above row ≡ 2
   unfolding rowFault
   outside e = rw e
@@ -100,7 +100,7 @@ module _ (K : Kind) (joined above : Rows) (row : Row) where
 -- a kind of table with the type of its elements, whose rows are all of one width
 pub record Elements : Type 1 where
   pub A : Type 0
-  pub kind : Kind
+  pub kind : TableKind
   pub rowOf : A → Row
   pub width : ℕ
   pub narrow : kind .key ≤ width
@@ -135,11 +135,11 @@ module _ (K : Elements) where
           rw z (sym (table-at (K .rowOf) es n l p d q))
 
       -- a row out of order
-      pub late-is : (count i : ℕ) → length (getD t i []) ≡ K .width → Ascending (take key) J
+      pub late-fault-is : (count i : ℕ) → length (getD t i []) ≡ K .width → Ascending (take key) J
           → (p : ℕ) → PlaceOf key J (getD t i []) p → (j : ℕ) (d : K .A) → (p < n → j ≡ p) → {x : Row} → x ≡ K .rowOf (getD es j d)
           → (m : Step) → m ≡ stepAt key (ltb p n) x (getD t i []) (leb limit count)
           → (g : Bool) → g ≡ known key (getD t i []) (take i t) → {r : ℕ} → r ≡ lateNumber g (m .number) → r ≡ lateFault key limit J count (take i t) (getD t i [])
-      late-is count i long a p v j d place {x} f m e g again h =
+      late-fault-is count i long a p v j d place {x} f m e g again h =
           let y : length J ≡ n = table-length (K .rowOf) es n l in
           h ∙ late-number key limit J (take i t) count (getD t i []) key (keys-wide (take n es)) a (key-wide (getD t i []) long) p v x (λ k. f ∙ here p j d place k) m (rw y e) g again
 
@@ -170,7 +170,7 @@ module _ (K : Elements) where
               ordered : Ascending (take key) J → misplaced key (take i t) (getD t i []) ≡ false
               ordered a = sym (follows (s a .0 .order)) ∙ rw g
 
-              state-told : Ascending (take key) J → Told key limit J t at count i m
+              state-told : Ascending (take key) J → StepTold key limit J t at count i m
               unfolding misplaced
               state-told a =
                   let y : length J ≡ n = table-length (K .rowOf) es n l in

@@ -2,9 +2,9 @@
 use mathlib.Core.Path.{_≡_}
 use mathlib.Core.Bool.{Bool, true, false}
 use Rattle.ground.specs.declared.Step.{Step}
-use Rattle.ground.specs.Walk.{stepped, passedRow, knownRow, newRow, refused, asNew}
+use Rattle.ground.specs.Walk.{stepped, passedRow, knownRow, newRow, refusedStep, asNew}
 
-pub new-full : {f : Bool} → f ≡ true → refused 3 ≡ asNew f
+pub new-full : {f : Bool} → f ≡ true → refusedStep 3 ≡ asNew f
 new-full e = rw e
 
 pub new-fits : {f : Bool} → f ≡ false → newRow ≡ asNew f
@@ -29,6 +29,6 @@ module _ (t l u q f : Bool) where
       unfolding stepped
       stepped-known i j = rw (e, g, i, j)
 
-      pub stepped-other : u ≡ false → q ≡ false → refused 4 ≡ stepped t l u q f
+      pub stepped-other : u ≡ false → q ≡ false → refusedStep 4 ≡ stepped t l u q f
       unfolding stepped
       stepped-other i j = rw (e, g, i, j)

@@ -19,8 +19,8 @@ use Rattle.row.specs.Row.{same}
 use Rattle.row.proofs.Compared.{same-eq, neither-same}
 use Rattle.ground.specs.declared.Step.{Step}
 use Rattle.ground.specs.Ground.{Rows, alike, known, noPlace, otherBody}
-use Rattle.ground.specs.Walk.{stepped, stepAt, passedRow, knownRow, newRow, refused, asNew}
-use Rattle.ground.proofs.Grounds.{clashes, before-none, place-end, place-new, place-known}
+use Rattle.ground.specs.Walk.{stepped, stepAt, passedRow, knownRow, newRow, refusedStep, asNew}
+use Rattle.ground.proofs.Grounds.{clashes, before-none, place-end, place-new, row-place-known}
 
 -- i rows are judged, at rows of the joined table are passed, count places are taken
 pub record Walk (k : ℕ) (joined t : Rows) (at count i : ℕ) : Type 0 where
@@ -34,12 +34,12 @@ unfolding united any
 walk-start k joined t = record { near = omega arith; order = tt; behind = λ h. refl; counted = refl }
 
 -- what one step tells of the row
-pub data Told (k limit : ℕ) (joined t : Rows) (at count i : ℕ) (m : Step) : Type 0 where
-  passes : m ≡ passedRow → at < length joined → Walk k joined t (at + 1) count i → Told k limit joined t at count i m
-  stays : m ≡ knownRow → noPlace k limit joined (take i t) (getD t i []) ≡ false → otherBody k joined (take i t) (getD t i []) ≡ false → Walk k joined t at count (i + 1) → Told k limit joined t at count i m
-  joins : m ≡ newRow → noPlace k limit joined (take i t) (getD t i []) ≡ false → otherBody k joined (take i t) (getD t i []) ≡ false → Walk k joined t at (count + 1) (i + 1) → Told k limit joined t at count i m
-  lacks : m ≡ refused 3 → noPlace k limit joined (take i t) (getD t i []) ≡ true → Told k limit joined t at count i m
-  differs : m ≡ refused 4 → noPlace k limit joined (take i t) (getD t i []) ≡ false → otherBody k joined (take i t) (getD t i []) ≡ true → Told k limit joined t at count i m
+pub data StepTold (k limit : ℕ) (joined t : Rows) (at count i : ℕ) (m : Step) : Type 0 where
+  passes : m ≡ passedRow → at < length joined → Walk k joined t (at + 1) count i → StepTold k limit joined t at count i m
+  stays : m ≡ knownRow → noPlace k limit joined (take i t) (getD t i []) ≡ false → otherBody k joined (take i t) (getD t i []) ≡ false → Walk k joined t at count (i + 1) → StepTold k limit joined t at count i m
+  joins : m ≡ newRow → noPlace k limit joined (take i t) (getD t i []) ≡ false → otherBody k joined (take i t) (getD t i []) ≡ false → Walk k joined t at (count + 1) (i + 1) → StepTold k limit joined t at count i m
+  lacks : m ≡ refusedStep 3 → noPlace k limit joined (take i t) (getD t i []) ≡ true → StepTold k limit joined t at count i m
+  differs : m ≡ refusedStep 4 → noPlace k limit joined (take i t) (getD t i []) ≡ false → otherBody k joined (take i t) (getD t i []) ≡ true → StepTold k limit joined t at count i m
 
 module _ (k limit w : ℕ) (joined t : Rows) (wide : (r : List ℕ) → Has r joined → length (take k r) ≡ w) (a : Ascending (take k) joined)
     (at count i : ℕ) (v : Walk k joined t at count i) (h : i < length t) (long : length (take k (getD t i [])) ≡ w)
@@ -92,7 +92,7 @@ module _ (k limit w : ℕ) (joined t : Rows) (wide : (r : List ℕ) → Has r jo
       (λ (n : Has r (take i t)). late-has (take k) (take i t) (take k row) o r n)
       (united-has (take k) r joined (take i t) m)
 
-  as-new : (known k row joined ≡ false) × (clashes k row joined ≡ false) → (m : Step) → m ≡ asNew (leb limit count) → Told k limit joined t at count i m
+  as-new : (known k row joined ≡ false) × (clashes k row joined ≡ false) → (m : Step) → m ≡ asNew (leb limit count) → StepTold k limit joined t at count i m
   as-new p m e =
       by (leb limit count)
       (λ (f : leb limit count ≡ true). lacks (rw f at e) (fresh-place true (p .0) f))
@@ -107,17 +107,17 @@ module _ (k limit w : ℕ) (joined t : Rows) (wide : (r : List ℕ) → Has r jo
         ∙ sym (ap length (inserted-known (take k) row (getD joined at []) so-far (ascending-united (take k) joined (take i t) a)
         (united-old (take k) (getD joined at []) joined (take i t) (has-getD joined at [] there)) (same-eq (take k row) (take k (getD joined at [])) e))))
 
-    as-known : alike k row (getD joined at []) ≡ true → (m : Step) (q : Bool) → same row (getD joined at []) ≡ q → m ≡ stepped true false false q (leb limit count) → Told k limit joined t at count i m
+    as-known : alike k row (getD joined at []) ≡ true → (m : Step) (q : Bool) → same row (getD joined at []) ≡ q → m ≡ stepped true false false q (leb limit count) → StepTold k limit joined t at count i m
     unfolding stepped
     as-known e m true f g =
-        let p = place-known k joined row at a (v .behind o) there e in
+        let p = row-place-known k joined row at a (v .behind o) there e in
         stays g (known-place (p .0)) (body-is false (p .1 ∙ rw f)) (kept-count e)
     as-known e m false f g =
-        let p = place-known k joined row at a (v .behind o) there e in
+        let p = row-place-known k joined row at a (v .behind o) there e in
         differs g (known-place (p .0)) (body-is true (p .1 ∙ rw f))
 
     at-row : (m : Step) (l u : Bool) → precedes (take k (getD joined at [])) (take k row) ≡ l → precedes (take k row) (take k (getD joined at [])) ≡ u
-        → m ≡ stepped true l u (same row (getD joined at [])) (leb limit count) → Told k limit joined t at count i m
+        → m ≡ stepped true l u (same row (getD joined at [])) (leb limit count) → StepTold k limit joined t at count i m
     unfolding stepped
     at-row m true u e f g =
         passes g there
@@ -132,7 +132,7 @@ module _ (k limit w : ℕ) (joined t : Rows) (wide : (r : List ℕ) → Has r jo
         as-known (neither-same (take k row) (take k (getD joined at [])) (long ∙ sym (wide (getD joined at []) (has-getD joined at [] there))) f e) m (same row (getD joined at [])) refl g
 
   pub told : (x : List ℕ) → (at < length joined → x ≡ getD joined at []) → (m : Step)
-      → m ≡ stepAt k (ltb at (length joined)) x row (leb limit count) → Told k limit joined t at count i m
+      → m ≡ stepAt k (ltb at (length joined)) x row (leb limit count) → StepTold k limit joined t at count i m
   unfolding stepped
   told x e m g =
       by (ltb at (length joined))

@@ -42,14 +42,14 @@ module _ (key : ℕ) where
   misplaced above row = any (λ r. not (precedes (take key r) (take key row))) above
 
 -- A kind of table: how many cells are a row's key, how many rows a record has places for, the range of a row, and the number of the grounds between 4 and 13.
-pub record Kind : Type 0 where
+pub record TableKind : Type 0 where
   pub key : ℕ
   pub limit : ℕ
   pub inRange : Row → Bool
   pub further : Row → ℕ
 
 -- the lowest number that applies to a row
-unfoldable pub rowFault : Kind → Rows → Rows → Row → ℕ
+unfoldable pub rowFault : TableKind → Rows → Rows → Row → ℕ
 rowFault K joined above row =
     2 given not (K .inRange row) orelse 3 given noPlace (K .key) (K .limit) joined above row orelse 4 given otherBody (K .key) joined above row
     orelse K .further row orelse 13 given misplaced (K .key) above row
@@ -59,5 +59,5 @@ unfoldable pub firstFault : (Rows → Row → ℕ) → Rows → Rows → ℕ
 firstFault f above [] = 0
 firstFault f above (row ∷ rest) = f above row orelse firstFault f (above ++ (row ∷ [])) rest
 
-abbrev pub tableFault : Kind → Rows → Rows → ℕ
+abbrev pub tableFault : TableKind → Rows → Rows → ℕ
 tableFault K joined t = firstFault (rowFault K joined) [] t

@@ -21,16 +21,16 @@ knownRow = record { number = 0; passed = 0; added = 0; judged = 1 }
 abbrev pub newRow : Step
 newRow = record { number = 0; passed = 0; added = 1; judged = 1 }
 
-abbrev pub refused : ℕ → Step
-refused n = record { number = n; passed = 0; added = 0; judged = 0 }
+abbrev pub refusedStep : ℕ → Step
+refusedStep n = record { number = n; passed = 0; added = 0; judged = 0 }
 
 abbrev pub asNew : Bool → Step
-asNew true = refused 3
+asNew true = refusedStep 3
 asNew false = newRow
 
 abbrev pub asKnown : Bool → Step
 asKnown true = knownRow
-asKnown false = refused 4
+asKnown false = refusedStep 4
 
 abbrev pub atRow : Bool → Bool → Bool → Bool → Step
 atRow true upper equal full = passedRow

@@ -25,7 +25,7 @@ fn goes_on(passed: usize, added: usize, judged: usize) -> Step
 }
 
 fn refused(number: u32) -> Step
-    ensures { λ r. ⌜ r ≡ walk.refused number ⌝ }
+    ensures { λ r. ⌜ r ≡ walk.refusedStep number ⌝ }
 {
     Step {
         number: number,

@@ -8,28 +8,28 @@ use native.Mathlib.Numerals.{add-one}
 use lib.ListN.{length, getD, length-map, List·getD-map}
 use Rattle.record.specs.declared.Edit.{Edit}
 use Rattle.record.specs.declared.Record as declared
-use Rattle.lists.specs.Lists.{mem, at, _among_}
+use Rattle.lists.specs.Lists.{mem, indexOf, _among_}
 use Rattle.record.specs.Record.{Record, nameOf, written}
 use Rattle.record.specs.Stored.{padded, fillerEdit, stored}
-use Rattle.lists.proofs.Lists.{by, mem-at, at-mem}
+use Rattle.lists.proofs.Lists.{by, mem-index, index-mem}
 use Rattle.lists.proofs.Logic.{all-has, has-getD}
 use Rattle.row.specs.Row.{editInRange, editRow}
 use Rattle.links.proofs.Names.{getD-place}
 use Rattle.record.proofs.Padded.{getD-padded}
 use Rattle.table.specs.Checked.{Checked}
 use Rattle.table.proofs.Marks.{edit-small}
-use Rattle.hidden.specs.Marks.{indexOf}
+use Rattle.hidden.specs.Marks.{positionOf}
 
 -- the rows and the count are those of a checked record
-pub record Holds (R : Record) (edits : List Edit) (count : ℕ) : Type 0 where
+pub record StoredRows (R : Record) (edits : List Edit) (count : ℕ) : Type 0 where
   pub rows : edits ≡ padded 127 fillerEdit (R .edits)
   pub size : count ≡ length (R .edits)
   pub checked : Checked R
 
-pub holds : (R : Record) (multilog : declared.Record) → multilog ≡ stored R → Checked R → Holds R (multilog .edits) (multilog .editcount)
-holds R multilog e k = record { rows = ap (λ (r : declared.Record). r .edits) e; size = ap (λ (r : declared.Record). r .editcount) e; checked = k }
+pub stored-rows : (R : Record) (multilog : declared.Record) → multilog ≡ stored R → Checked R → StoredRows R (multilog .edits) (multilog .editcount)
+stored-rows R multilog e k = record { rows = ap (λ (r : declared.Record). r .edits) e; size = ap (λ (r : declared.Record). r .editcount) e; checked = k }
 
-module _ (R : Record) (edits : List Edit) (count : ℕ) (h : Holds R edits count) where
+module _ (R : Record) (edits : List Edit) (count : ℕ) (h : StoredRows R edits count) where
   pub count-room : count ≤ 127
   count-room = omega (arith, h .size, h .checked .editplaces)
 
@@ -43,37 +43,37 @@ module _ (R : Record) (edits : List Edit) (count : ℕ) (h : Holds R edits count
       ap (λ (t : List Edit). getD t i fillerEdit .name) (h .rows)
       ∙ (ap nameOf (getD-padded 127 fillerEdit (R .edits) i fillerEdit (omega (arith, h .size))) ∙ sym (List·getD-map nameOf (R .edits) i fillerEdit))
 
-  pub name-small : (i : ℕ) → i < count → getD edits i fillerEdit .name < 2304
-  name-small i l =
+  pub stored-name-small : (i : ℕ) → i < count → getD edits i fillerEdit .name < 2304
+  stored-name-small i l =
       let s : i < length (R .edits) = omega (arith, h .size) in
       rw (h .rows, getD-padded 127 fillerEdit (R .edits) i fillerEdit s)
       (edit-small (getD (R .edits) i fillerEdit) (all-has (λ e. editInRange (editRow e)) (R .edits) (h .checked .editrange) _ (has-getD (R .edits) i fillerEdit s)))
 
-module _ (R : Record) (edits : List Edit) (count name : ℕ) (h : Holds R edits count) where
+module _ (R : Record) (edits : List Edit) (count name : ℕ) (h : StoredRows R edits count) where
   -- a name past 16 bits is not written
-  pub index-past : 65535 < name → 0 ≡ indexOf name (written R)
-  unfolding indexOf
+  pub index-past : 65535 < name → 0 ≡ positionOf name (written R)
+  unfolding positionOf
   index-past l = by (mem name (written R)) (λ i. absurd (small i)) (λ i. rw i)
     where
       small : name among written R → ⊥
       small i =
-          let w : at name (written R) < count = omega (arith, mem-at name (written R) i, length-written R edits count h) in
-          omega (arith, name-small R edits count h (at name (written R)) w, name-is R edits count h (at name (written R)) w, getD-place name (written R) i)
+          let w : indexOf name (written R) < count = omega (arith, mem-index name (written R) i, length-written R edits count h) in
+          omega (arith, stored-name-small R edits count h (indexOf name (written R)) w, name-is R edits count h (indexOf name (written R)) w, getD-place name (written R) i)
 
-  pub index-missing : (place : ℕ) → place ≡ at name (written R) → count ≤ place → 0 ≡ indexOf name (written R)
-  unfolding indexOf
+  pub index-missing : (place : ℕ) → place ≡ indexOf name (written R) → count ≤ place → 0 ≡ positionOf name (written R)
+  unfolding positionOf
   index-missing place e l =
-      by (mem name (written R)) (λ i. absurd (omega (arith, mem-at name (written R) i, length-written R edits count h))) (λ i. rw i)
+      by (mem name (written R)) (λ i. absurd (omega (arith, mem-index name (written R) i, length-written R edits count h))) (λ i. rw i)
 
-  pub index-found : (place : ℕ) → place ≡ at name (written R) → place < count → place + 1 ≡ indexOf name (written R)
-  unfolding indexOf
-  index-found place e l = rw (add-one place, at-mem name (written R) (omega (arith, length-written R edits count h)), e)
+  pub index-found : (place : ℕ) → place ≡ indexOf name (written R) → place < count → place + 1 ≡ positionOf name (written R)
+  unfolding positionOf
+  index-found place e l = rw (add-one place, index-mem name (written R) (omega (arith, length-written R edits count h)), e)
 
 -- an index that is not 0 is that of a written edit
-pub index-known : (x : ℕ) (l : List ℕ) → (indexOf x l ≡ 0 → ⊥) → (x among l) × (indexOf x l ≡ suc (at x l))
-unfolding indexOf
+pub index-known : (x : ℕ) (l : List ℕ) → (positionOf x l ≡ 0 → ⊥) → (x among l) × (positionOf x l ≡ suc (indexOf x l))
+unfolding positionOf
 index-known x l n = by (mem x l) (λ e. (e, rw e)) (λ e. absurd (n (rw e)))
 
-pub index-unknown : (x : ℕ) (l : List ℕ) → indexOf x l ≡ 0 → mem x l ≡ false
-unfolding indexOf
+pub index-unknown : (x : ℕ) (l : List ℕ) → positionOf x l ≡ 0 → mem x l ≡ false
+unfolding positionOf
 index-unknown x l z = by (mem x l) (λ e. let q = rw e at z in absurd (omega arith)) (λ e. e)

@@ -11,10 +11,10 @@ use lib.ListN.{length, getD, set, take, replicate, length-set, length-map}
 use lib.Seq.{take-suc, take-all, getD-set-same, getD-set-other}
 use borrow.Author.Tests.{eqb-true, eqb-false}
 use Rattle.record.specs.declared.Edit.{Edit}
-use Rattle.lists.specs.Lists.{mem, at, _among_, _within_}
+use Rattle.lists.specs.Lists.{mem, indexOf, _among_, _within_}
 use Rattle.record.specs.Record.{Record, nameOf, names, written}
 use Rattle.record.specs.Stored.{fillerEdit}
-use Rattle.lists.proofs.Lists.{by, clash, is-by, mem-append, mem-at}
+use Rattle.lists.proofs.Lists.{by, clash, is-by, mem-append, mem-index}
 use Rattle.lists.proofs.Arrays.{getD-zeros}
 use Rattle.links.specs.Marks.{nameAt, marksOf}
 use Rattle.links.proofs.Names.{getD-among, getD-place, place-same, ascending-distinct}
@@ -22,7 +22,7 @@ use Rattle.links.proofs.Marks.{values-are, marks-size, marks-at, marks-past}
 use Rattle.table.specs.Checked.{Checked}
 use Rattle.table.proofs.Records.{checked-unwritten, checked-ascending}
 use Rattle.hidden.specs.Marks.{ByName}
-use Rattle.hidden.proofs.Index.{Holds, count-room, length-written, name-is, name-small}
+use Rattle.hidden.proofs.Index.{StoredRows, count-room, length-written, name-is, stored-name-small}
 
 mem-last : (x y : ℕ) (l : List ℕ) → mem x (l ++ (y ∷ [])) ≡ (mem x l || eqb x y)
 unfolding mem
@@ -43,7 +43,7 @@ named-more l test marks y v h e k x =
     let z : x ≢ y = eqb-false x y q in
     rw (mem-last x y l, q, or-false (mem x l), getD-set-other marks y x v 0 z) (k x))
 
-module _ (R : Record) (edits : List Edit) (count : ℕ) (test : ℕ → Bool) (h : Holds R edits count) where
+module _ (R : Record) (edits : List Edit) (count : ℕ) (test : ℕ → Bool) (h : StoredRows R edits count) where
   few : length (names R) ≤ 128
   unfolding names
   few = omega (arith, length-written R edits count h, count-room R edits count h)
@@ -54,7 +54,7 @@ module _ (R : Record) (edits : List Edit) (count : ℕ) (test : ℕ → Bool) (h
   unfolding names
   named-next hidden marks i place e l size p k =
       let n = name-is R edits count h i l in
-      let s = name-small R edits count h i l in
+      let s = stored-name-small R edits count h i l in
       let q : place ≡ getD (written R) i 0 = p s ∙ n in
       let w : i < length (written R) = omega (arith, length-written R edits count h) in
       let v : getD hidden (i + 1) 0 ≡ cond (test (getD (written R) i 0)) 1 0 =
@@ -84,7 +84,7 @@ module _ (R : Record) (edits : List Edit) (count : ℕ) (test : ℕ → Bool) (h
   unfolding names
   indexed-next named marks i place l size p f k =
       let n = name-is R edits count h i l in
-      let q : place ≡ getD (written R) i 0 = p (name-small R edits count h i l) ∙ n in
+      let q : place ≡ getD (written R) i 0 = p (stored-name-small R edits count h i l) ∙ n in
       let w : i < length (written R) = omega (arith, length-written R edits count h) in
       let room : i + 1 < length marks = omega (arith, count-room R edits count h) in
       let v : getD named place 0 ≡ cond (test (getD (written R) i 0)) 1 0 = rw q (f (getD (written R) i 0) (getD-among (written R) i w)) in
@@ -115,21 +115,21 @@ carried-test R h named k w b = (
 
 -- one mark set: the test differs at the edit of the index alone
 pub mark-set : (R : Record) (p q : ℕ → Bool) (x v : ℕ) → Checked R → x among written R → ((y : ℕ) → (y ≡ x → ⊥) → q y ≡ p y) → v ≡ cond (q x) 1 0
-    → set (marksOf R p) (suc (at x (written R))) v ≡ marksOf R q
+    → set (marksOf R p) (suc (indexOf x (written R))) v ≡ marksOf R q
 unfolding marksOf names written
 mark-set R p q x v k i f e =
     let n = length-mapped (R .edits) in
     let few : length (names R) ≤ 128 = omega (arith, k .editplaces) in
-    let here : nameAt R (suc (at x (written R))) ≡ x = getD-place x (written R) i in
-    let room : suc (at x (written R)) < length (names R) = omega (arith, mem-at x (written R) i) in
+    let here : nameAt R (suc (indexOf x (written R))) ≡ x = getD-place x (written R) i in
+    let room : suc (indexOf x (written R)) < length (names R) = omega (arith, mem-index x (written R) i) in
     let size = marks-size R p few in
-    values-are R (λ x. cond (q x) 1 0) (set (marksOf R p) (suc (at x (written R))) v) few (length-set (marksOf R p) (suc (at x (written R))) v ∙ size)
-    (λ y l. is-by y (suc (at x (written R)))
-    (λ z. rw (z, getD-set-same (marksOf R p) (suc (at x (written R))) v 0 (omega arith), here) e)
-    (λ (z : y ≢ suc (at x (written R))).
-    let other : nameAt R y ≡ x → ⊥ = λ w. z (place-same (names R) y (suc (at x (written R))) (ascending-distinct (names R) (checked-ascending R k)) l room (w ∙ sym here)) in
+    values-are R (λ x. cond (q x) 1 0) (set (marksOf R p) (suc (indexOf x (written R))) v) few (length-set (marksOf R p) (suc (indexOf x (written R))) v ∙ size)
+    (λ y l. is-by y (suc (indexOf x (written R)))
+    (λ z. rw (z, getD-set-same (marksOf R p) (suc (indexOf x (written R))) v 0 (omega arith), here) e)
+    (λ (z : y ≢ suc (indexOf x (written R))).
+    let other : nameAt R y ≡ x → ⊥ = λ w. z (place-same (names R) y (suc (indexOf x (written R))) (ascending-distinct (names R) (checked-ascending R k)) l room (w ∙ sym here)) in
     rw getD-set-other (marks-at R p y l ∙ sym (rw (f (nameAt R y) other)))))
-    (λ y l. let z : y ≢ suc (at x (written R)) = λ w. omega arith in rw getD-set-other (marks-past R p y l))
+    (λ y l. let z : y ≢ suc (indexOf x (written R)) = λ w. omega arith in rw getD-set-other (marks-past R p y l))
   where
     length-mapped : (l : List Edit) → length (map nameOf l) ≡ length l
     length-mapped l = length-map l nameOf

@@ -4,11 +4,11 @@ use mathlib.Core.Bool.{Bool, _&&_, cond}
 use mathlib.Core.List.{List}
 use Prim.Native.Nat.{ℕ, suc}
 use lib.ListN.{getD}
-use Rattle.lists.specs.Lists.{mem, at}
+use Rattle.lists.specs.Lists.{mem, indexOf}
 
 -- INIT has index 0, the i-th written edit index i; 0 where the name is not written
-unfoldable pub indexOf : ℕ → List ℕ → ℕ
-indexOf x written = cond (mem x written) (suc (at x written)) 0
+unfoldable pub positionOf : ℕ → List ℕ → ℕ
+positionOf x written = cond (mem x written) (suc (indexOf x written)) 0
 
 -- 1 at each of the names of which the test holds, and else 0
 abbrev pub ByName : List ℕ → (ℕ → Bool) → List ℕ → Type 0

@@ -15,11 +15,11 @@ ghost use Rattle.record.specs.Record.{written};
 ghost use Rattle.record.specs.Stored.{stored};
 ghost use Rattle.links.specs.Marks.{marksOf};
 ghost use Rattle.table.specs.Checked.{Checked};
-ghost use Rattle.hidden.specs.Marks.{indexOf, ByName};
+ghost use Rattle.hidden.specs.Marks.{positionOf, ByName};
 
 // The index of a written edit, INIT's being 0; 0 where it is not known.
 pub fn edit_index(multilog: Record, name: u32) -> usize
-    ensures { λ r. ⌜ (r < 128) × ((R : theory.Record) → multilog ≡ stored R → Checked R → r ≡ indexOf name (written R)) ⌝ }
+    ensures { λ r. ⌜ (r < 128) × ((R : theory.Record) → multilog ≡ stored R → Checked R → r ≡ positionOf name (written R)) ⌝ }
 {
     if 65535 < name {
         return 0;

@@ -8,10 +8,10 @@ use native.Mathlib.Omega.{arith}
 use lib.ListN.{length, getD, length-map}
 use Rattle.record.specs.declared.Constraint.{Constraint}
 use Rattle.record.specs.declared.Record as declared
-use Rattle.lists.specs.Lists.{any, at, _among_}
+use Rattle.lists.specs.Lists.{any, indexOf, _among_}
 use Rattle.record.specs.Record.{Record, names, is, has, WellFormed}
 use Rattle.record.specs.Stored.{fillerConstraint, stored}
-use Rattle.lists.proofs.Lists.{clash, or-by, mem-at, getD-mapped}
+use Rattle.lists.proofs.Lists.{clash, or-by, mem-index, getD-mapped}
 use Rattle.lists.proofs.Arrays.{getD-any}
 use Rattle.record.proofs.Records as records
 use Rattle.links.specs.Marks.{nameAt, placeIn}
@@ -56,7 +56,7 @@ unfolding has any
 at-has [] d a k b h f = clash h refl
 at-has (c ∷ l) d a k b h f =
     or-by (is a k b c) (has a k b l) h
-    (λ e. records.is-by a k b c e (λ x y z. f 0 (omega arith) x y z))
+    (λ e. records.constraint-by a k b c e (λ x y z. f 0 (omega arith) x y z))
     (λ e. at-has l d a k b e (λ i u. f (suc i) (omega arith)))
 
 -- both ends of a constraint are known
@@ -85,15 +85,15 @@ module _ (R : Record) (f : Fit R) (rows : List ℕ) (j : ℕ) (q : j ≡ length 
       let s = has-at (R .constraints) i fillerConstraint u in
       let a = left-known (f .formed) _ _ _ s in
       let b = right-known (f .formed) _ _ _ s in
-      let p : c .rule * 128 + at (c .right) (names R) ≡ k * 128 + y =
+      let p : c .rule * 128 + indexOf (c .right) (names R) ≡ k * 128 + y =
       ap (λ v. c .rule * 128 + v) (sym (place-known (c .right) (names R) b)) ∙ sym (keys-at R i fillerConstraint u) ∙ e in
-      let m : at (c .right) (names R) < 128 = omega (arith, mem-at (c .right) (names R) b, names-few R f) in
+      let m : indexOf (c .right) (names R) < 128 = omega (arith, mem-index (c .right) (names R) b, names-few R f) in
       let n : y < 128 = omega (arith, names-few R f) in
       let rule-is : c .rule ≡ k = omega arith in
-      let right-is : at (c .right) (names R) ≡ y = omega arith in
-      let left-is : leftAt rows i ≡ at (c .left) (names R) = left-at i u ∙ place-known (c .left) (names R) a in
+      let right-is : indexOf (c .right) (names R) ≡ y = omega arith in
+      let left-is : leftAt rows i ≡ indexOf (c .left) (names R) = left-at i u ∙ place-known (c .left) (names R) a in
       record {
-        left = omega (arith, mem-at (c .left) (names R) a);
+        left = omega (arith, mem-index (c .left) (names R) a);
         holds = rw (left-is, getD-place (c .left) (names R) a, ← right-is, getD-place (c .right) (names R) b, ← rule-is) s;
       }
 

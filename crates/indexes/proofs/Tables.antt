@@ -11,7 +11,7 @@ use borrow.Author.Tests.{eq-eqb, ne-eqb}
 use Rattle.record.specs.declared.Edit.{Edit}
 use Rattle.record.specs.declared.Constraint.{Constraint}
 use Rattle.record.specs.declared.Record as declared
-use Rattle.lists.specs.Lists.{mem, at, _among_}
+use Rattle.lists.specs.Lists.{mem, indexOf, _among_}
 use Rattle.record.specs.Record.{Record, nameOf, written, names}
 use Rattle.record.specs.Stored.{padded, fillerEdit, fillerConstraint, stored}
 use Rattle.lists.proofs.Lists.{is-by, getD-mapped}
@@ -52,7 +52,7 @@ abbrev pub Indexing : Record → List ℕ → ℕ → Type 0
 Indexing R table k = (x : ℕ) → getD table x 0 ≡ placeIn (take k (names R)) x
 
 pub indexing-start : (R : Record) → Indexing R (replicate 2304 0) 1
-unfolding names placeIn mem at
+unfolding names placeIn mem indexOf
 indexing-start R x = is-by x 0 (λ e. rw (e, zeros-get 2304 0)) (λ e. rw (ne-eqb x 0 e, zeros-get 2304 x))
 
 pub indexing-step : (R : Record) → Fit R → (table : List ℕ) (k name : ℕ) → length table ≡ 2304 → k < length (names R) → name ≡ nameAt R k
@@ -71,8 +71,8 @@ indexing-end R table k h g x = g x ∙ ap (λ l. placeIn l x) (take-all k (names
 pub few-left : (r : declared.Record) (R : Record) → r ≡ stored R → Fit R → r .editcount ≤ 127
 few-left r R e f = omega (arith, edit-count r R e, f .edits)
 
-pub past : (l : List ℕ) (i n : ℕ) → length l ≡ n → n ≤ i → length l ≤ i
-past l i n e h = omega arith
+pub past-length : (l : List ℕ) (i n : ℕ) → length l ≡ n → n ≤ i → length l ≤ i
+past-length l i n e h = omega arith
 
 -- one turn of the loop that fills the table
 module _ (r : declared.Record) (table : List ℕ) (i : ℕ) (d : Edit) where

@@ -33,18 +33,18 @@ module _ {A : Type 0} (key : A → List ℕ) where
   after-it (y ∷ l) (suc m) d a h r i = after-it l m d (a .1) (omega arith) r i
 
   -- the elements before low precede x, those from high on do not
-  pub record Between (x : A) (l : List A) (low high : ℕ) : Type 0 where
+  pub record InsertionBetween (x : A) (l : List A) (low high : ℕ) : Type 0 where
     pub below : (r : A) → Has r (take low l) → precedes (key r) (key x) ≡ true
     pub above : (r : A) → Has r (drop high l) → precedes (key r) (key x) ≡ false
 
-  between-start : (x : A) (l : List A) (n : ℕ) → length l ≤ n → Between x l 0 n
+  between-start : (x : A) (l : List A) (n : ℕ) → length l ≤ n → InsertionBetween x l 0 n
   between-start x l n h = record { below = λ r i. absurd i; above = λ r i. absurd (subst-drop r i) }
     where
       subst-drop : (r : A) → Has r (drop n l) → ⊥
       subst-drop r i = rw (drop-of-length-le l {i = n} h) at i
 
-  module _ (x : A) (l : List A) (a : Ascending key l) (low high middle : ℕ) (d : A) (b : Between x l low high) (near : middle < length l) where
-    between-low : precedes (key (getD l middle d)) (key x) ≡ true → Between x l (middle + 1) high
+  module _ (x : A) (l : List A) (a : Ascending key l) (low high middle : ℕ) (d : A) (b : InsertionBetween x l low high) (near : middle < length l) where
+    between-low : precedes (key (getD l middle d)) (key x) ≡ true → InsertionBetween x l (middle + 1) high
     between-low h =
         let f : (r : A) → Has r (take (suc middle) l) → precedes (key r) (key x) ≡ true =
         λ r i. has-append-by r (take middle l) (getD l middle d ∷ []) (rw (take-suc l middle d near) at i)
@@ -52,7 +52,7 @@ module _ {A : Type 0} (key : A → List ℕ) where
         (λ j. ⊎-elim (λ (e : r ≡ getD l middle d). rw e h) (λ (z : ⊥). absurd z) j) in
         record { below = rw (add-one middle) f; above = b .above }
 
-    between-high : precedes (key (getD l middle d)) (key x) ≡ false → Between x l low middle
+    between-high : precedes (key (getD l middle d)) (key x) ≡ false → InsertionBetween x l low middle
     between-high h =
         record {
           below = b .below;
@@ -62,28 +62,28 @@ module _ {A : Type 0} (key : A → List ℕ) where
               (rw (drop-cons l middle d near) at i);
         }
 
-  between-place : (x : A) (l : List A) (low high : ℕ) → low ≤ length l → high ≤ low → low ≤ high → Between x l low high → Place key x l low
+  between-place : (x : A) (l : List A) (low high : ℕ) → low ≤ length l → high ≤ low → low ≤ high → InsertionBetween x l low high → Place key x l low
   between-place x l low high n p q b = let e : high ≡ low = omega arith in record { near = n; below = b .below; above = rw e at (b .above) }
 
   -- the same of the first n elements of an array
   module _ (x : A) (rows : List A) (n : ℕ) (w : n ≤ length rows) where
-    pub array-start : Between x (take n rows) 0 n
+    pub array-start : InsertionBetween x (take n rows) 0 n
     array-start = between-start x (take n rows) n (let h = length-take-le n rows w in omega arith)
 
-    module _ (a : Ascending key (take n rows)) (low high middle : ℕ) (d : A) (b : Between x (take n rows) low high) (near : middle < n) {below : Bool} (e : below ≡ precedes (key (getD rows middle d)) (key x)) where
+    module _ (a : Ascending key (take n rows)) (low high middle : ℕ) (d : A) (b : InsertionBetween x (take n rows) low high) (near : middle < n) {below : Bool} (e : below ≡ precedes (key (getD rows middle d)) (key x)) where
       there : middle < length (take n rows)
       there = let h = length-take-le n rows w in omega arith
 
       same : precedes (key (getD (take n rows) middle d)) (key x) ≡ below
       same = ap (λ (y : A). precedes (key y) (key x)) (getD-take n rows middle d near) ∙ sym e
 
-      pub array-low : below ≡ true → Between x (take n rows) (middle + 1) high
+      pub array-low : below ≡ true → InsertionBetween x (take n rows) (middle + 1) high
       array-low t = between-low x (take n rows) a low high middle d b there (same ∙ t)
 
-      pub array-high : below ≡ false → Between x (take n rows) low middle
+      pub array-high : below ≡ false → InsertionBetween x (take n rows) low middle
       array-high t = between-high x (take n rows) a low high middle d b there (same ∙ t)
 
-    pub array-place : (low high : ℕ) → low ≤ high → high ≤ n → high ≤ low → Between x (take n rows) low high → Place key x (take n rows) low
+    pub array-place : (low high : ℕ) → low ≤ high → high ≤ n → high ≤ low → InsertionBetween x (take n rows) low high → Place key x (take n rows) low
     array-place low high p q r b = between-place x (take n rows) low high (let h = length-take-le n rows w in omega arith) r p b
 
   -- insertion goes behind what precedes

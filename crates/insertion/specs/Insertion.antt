@@ -15,8 +15,8 @@ abbrev pub fullTable : Constraints
 fullTable = record { rows = replicate constraintLimit fillerConstraint; count = 0; full = true }
 
 -- how a table is held; once it would have more than 512 rows, only that
-unfoldable pub tableOf : List Constraint → Constraints
-tableOf l = cond (ltb constraintLimit (length l)) fullTable (record { rows = padded constraintLimit fillerConstraint l; count = length l; full = false })
+unfoldable pub heldTable : List Constraint → Constraints
+heldTable l = cond (ltb constraintLimit (length l)) fullTable (record { rows = padded constraintLimit fillerConstraint l; count = length l; full = false })
 
 -- p elements of the table, and no more, precede x
 pub record Place {A : Type 0} (key : A → List ℕ) (x : A) (l : List A) (p : ℕ) : Type 0 where

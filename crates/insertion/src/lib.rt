@@ -14,7 +14,7 @@ ghost use Rattle.record.specs.Record as theory;
 ghost use Rattle.record.specs.Stored.{stored, fillerConstraint, constraintLimit};
 ghost use Rattle.lists.specs.Keyed.{precedes, Ascending, inserted};
 ghost use Rattle.table.specs.Table.{constraintKey};
-ghost use Rattle.insertion.specs.Insertion.{fullTable, tableOf, Place, putAt};
+ghost use Rattle.insertion.specs.Insertion.{fullTable, heldTable, Place, putAt};
 
 // Rows past the count hold a filler. A row that had no place left has made it full, and then nothing else is kept.
 pub struct Constraints {
@@ -41,7 +41,7 @@ fn full_table() -> Constraints
 
 // The table of a record.
 pub fn table_of(multilog: Record) -> Constraints
-    ensures { λ r. ⌜ ((R : theory.Record) → multilog ≡ stored R → length (R .constraints) ≤ constraintLimit → r ≡ tableOf (R .constraints)) ⌝ }
+    ensures { λ r. ⌜ ((R : theory.Record) → multilog ≡ stored R → length (R .constraints) ≤ constraintLimit → r ≡ heldTable (R .constraints)) ⌝ }
 {
     let rows = multilog.constraints;
     Constraints {
@@ -104,7 +104,7 @@ fn put_at(
 
 // The table joined by one row.
 pub fn insert(table: Constraints, c: Constraint) -> Constraints
-    ensures { λ r. ⌜ ((l : List Constraint) → table ≡ tableOf l → Ascending constraintKey l → r ≡ tableOf (inserted constraintKey c l)) ⌝ }
+    ensures { λ r. ⌜ ((l : List Constraint) → table ≡ heldTable l → Ascending constraintKey l → r ≡ heldTable (inserted constraintKey c l)) ⌝ }
 {
     if table.full {
         return table;
@@ -131,7 +131,7 @@ pub fn insert(table: Constraints, c: Constraint) -> Constraints
 
 // The record with the constraints of a table that is not full.
 pub fn with_table(multilog: Record, table: Constraints) -> Record
-    ensures { λ r. ⌜ ((R : theory.Record) (l : List Constraint) → multilog ≡ stored R → table ≡ tableOf l → table .full ≡ false → r ≡ stored (record { edits = R .edits; constraints = l })) ⌝ }
+    ensures { λ r. ⌜ ((R : theory.Record) (l : List Constraint) → multilog ≡ stored R → table ≡ heldTable l → table .full ≡ false → r ≡ stored (record { edits = R .edits; constraints = l })) ⌝ }
 {
     let rows = table.rows;
     let mut r = multilog;

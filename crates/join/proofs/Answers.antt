@@ -18,21 +18,21 @@ use Rattle.record.specs.Stored.{padded, stored, recordOf, fillerEdit, fillerCon
 use Rattle.lists.specs.Keyed.{Ascending, inserted, united}
 use Rattle.row.specs.Row.{Row, constraintOf}
 use Rattle.ground.specs.Ground.{Rows}
-use Rattle.table.specs.Table.{editRows, constraintRows, decoded, emptyTables, joinFault, namesOf, lentFault, addConstraintFault, recordFault, editKey, constraintKey, unite}
+use Rattle.table.specs.Table.{editRows, constraintRows, decoded, emptyTables, joinFault, namesOf, lentFault, addConstraintFault, recordJoinFault, editKey, constraintKey, unite}
 use Rattle.table.specs.Checked.{Checked}
 use Rattle.table.proofs.Records.{empty-checked, joining-edits, joining-constraints, joined-editplaces, joined-constraintplaces, joining-editplaces, joining-constraintplaces, record-decoded}
 use Rattle.table.proofs.Tables.{stored-back}
 use Rattle.unite.specs.Union.{Unites}
 use Rattle.insertion.specs.declared.Constraints.{Constraints}
-use Rattle.insertion.specs.Insertion.{tableOf}
+use Rattle.insertion.specs.Insertion.{heldTable}
 use Rattle.insertion.proofs.Tables.{full-is}
 use Rattle.join.specs.declared.Joined.{Joined}
-use Rattle.join.specs.Join.{outcome}
+use Rattle.join.specs.Join.{joinedOf}
 
-pub refused-is : (n : ℕ) (R U : Record) {m : ℕ} {r : declared.Record} → m ≡ n → (m ≡ 0 → ⊥) → r ≡ stored R → record { number = m; after = r } ≡ outcome n R U
-refused-is n R U e z f = let y : n ≡ 0 → ⊥ = λ q. z (e ∙ q) in rw (e, f, ne-eqb n 0 y)
+pub join-refused-is : (n : ℕ) (R U : Record) {m : ℕ} {r : declared.Record} → m ≡ n → (m ≡ 0 → ⊥) → r ≡ stored R → record { number = m; after = r } ≡ joinedOf n R U
+join-refused-is n R U e z f = let y : n ≡ 0 → ⊥ = λ q. z (e ∙ q) in rw (e, f, ne-eqb n 0 y)
 
-pub joined-is : (n : ℕ) (R U : Record) {r : declared.Record} → n ≡ 0 → r ≡ stored U → record { number = 0; after = r } ≡ outcome n R U
+pub joined-is : (n : ℕ) (R U : Record) {r : declared.Record} → n ≡ 0 → r ≡ stored U → record { number = 0; after = r } ≡ joinedOf n R U
 joined-is n R U e f = rw (f, e)
 
 -- what the union of two records gives
@@ -43,7 +43,7 @@ Unions joined joining q =
 module _ (R : Record) (known : List ℕ) (adding : Bool) (es cs : Rows) (k : Checked R) {m : ℕ} (e : m ≡ joinFault R known adding es cs) where
   -- two tables that join a record, united with it
   pub union-is : m ≡ 0 → {joined joining q : declared.Record} → joined ≡ stored R → (length es ≤ 127 → length cs ≤ 512 → joining ≡ stored (decoded es cs)) → Unions joined joining q
-      → record { number = 0; after = q } ≡ outcome (joinFault R known adding es cs) R (unite R (decoded es cs))
+      → record { number = 0; after = q } ≡ joinedOf (joinFault R known adding es cs) R (unite R (decoded es cs))
   union-is z f g u =
       let h : joinFault R known adding es cs ≡ 0 = sym e ∙ z in
       joined-is (joinFault R known adding es cs) R (unite R (decoded es cs)) h
@@ -58,20 +58,20 @@ module _ (R : Record) (row : Row) (k : Checked R) {m : ℕ} (e : m ≡ addConstr
   inserted-places = joined-constraintplaces R (written R) true [] (row ∷ []) k (sym e ∙ z)
 
   pub inserted-is : {joined q : declared.Record} → joined ≡ stored R → {table more : Constraints} → {c : Constraint} → c ≡ constraintOf row
-      → ((S : Record) → joined ≡ stored S → length (S .constraints) ≤ 512 → table ≡ tableOf (S .constraints))
-      → ((l : List Constraint) → table ≡ tableOf l → Ascending constraintKey l → more ≡ tableOf (inserted constraintKey c l))
-      → ((S : Record) (l : List Constraint) → joined ≡ stored S → more ≡ tableOf l → more .full ≡ false → q ≡ stored (record { edits = S .edits; constraints = l }))
-      → record { number = 0; after = q } ≡ outcome (addConstraintFault R row) R (unite R (decoded [] (row ∷ [])))
+      → ((S : Record) → joined ≡ stored S → length (S .constraints) ≤ 512 → table ≡ heldTable (S .constraints))
+      → ((l : List Constraint) → table ≡ heldTable l → Ascending constraintKey l → more ≡ heldTable (inserted constraintKey c l))
+      → ((S : Record) (l : List Constraint) → joined ≡ stored S → more ≡ heldTable l → more .full ≡ false → q ≡ stored (record { edits = S .edits; constraints = l }))
+      → record { number = 0; after = q } ≡ joinedOf (addConstraintFault R row) R (unite R (decoded [] (row ∷ [])))
   unfolding united unite
   inserted-is f {more = more} o t i w =
       let l = inserted constraintKey (constraintOf row) (R .constraints) in
-      let x : more ≡ tableOf l = i (R .constraints) (t R f (k .constraintplaces)) (k .constraintorder) ∙ ap (λ (d : Constraint). tableOf (inserted constraintKey d (R .constraints))) o in
+      let x : more ≡ heldTable l = i (R .constraints) (t R f (k .constraintplaces)) (k .constraintorder) ∙ ap (λ (d : Constraint). heldTable (inserted constraintKey d (R .constraints))) o in
       let y : more .full ≡ false = ap (λ (u : Constraints). u .full) x ∙ (full-is l ∙ le-ltb 512 (length l) inserted-places) in
       joined-is (addConstraintFault R row) R (unite R (decoded [] (row ∷ []))) (sym e ∙ z) (w R l f x y)
 
 -- a lent record by itself
 pub lent-is : (es cs : Rows) {m : ℕ} → m ≡ lentFault emptyTables es cs → m ≡ 0 → {q : declared.Record} → (length es ≤ 127 → length cs ≤ 512 → q ≡ stored (decoded es cs))
-    → record { number = 0; after = q } ≡ outcome (lentFault emptyTables es cs) emptyTables (decoded es cs)
+    → record { number = 0; after = q } ≡ joinedOf (lentFault emptyTables es cs) emptyTables (decoded es cs)
 lent-is es cs e z g =
     let h : lentFault emptyTables es cs ≡ 0 = sym e ∙ z in
     joined-is (lentFault emptyTables es cs) emptyTables (decoded es cs) h
@@ -92,15 +92,15 @@ front n l e = rw sub-zero e
 
 -- the rows of a record join a record
 module _ (R S : Record) (k : Checked R) where
-  record-outcome : outcome (recordFault R S) R (unite R (decoded (editRows S) (constraintRows S))) ≡ outcome (recordFault R S) R (unite R S)
+  record-outcome : joinedOf (recordJoinFault R S) R (unite R (decoded (editRows S) (constraintRows S))) ≡ joinedOf (recordJoinFault R S) R (unite R S)
   record-outcome =
-      by (eqb (recordFault R S) 0)
-      (λ e. let d = record-decoded R S k (eqb-true (recordFault R S) 0 e) in rw (e, d))
+      by (eqb (recordJoinFault R S) 0)
+      (λ e. let d = record-decoded R S k (eqb-true (recordJoinFault R S) 0 e) in rw (e, d))
       (λ e. rw e)
 
-  pub record-is : (joining : declared.Record) → joining ≡ stored S → (es cs : Rows) → es ≡ editRows (recordOf joining) → cs ≡ constraintRows (recordOf joining) → {q : Joined} → q ≡ outcome (lentFault R es cs) R (unite R (decoded es cs))
-      → q ≡ outcome (recordFault R S) R (unite R S)
-  record-is joining f es cs g h e =
+  pub joined-record-is : (joining : declared.Record) → joining ≡ stored S → (es cs : Rows) → es ≡ editRows (recordOf joining) → cs ≡ constraintRows (recordOf joining) → {q : Joined} → q ≡ joinedOf (lentFault R es cs) R (unite R (decoded es cs))
+      → q ≡ joinedOf (recordJoinFault R S) R (unite R S)
+  joined-record-is joining f es cs g h e =
       let held : recordOf joining ≡ S = ap recordOf f ∙ stored-back S in
       let a : es ≡ editRows S = g ∙ ap editRows held in
       let b : cs ≡ constraintRows S = h ∙ ap constraintRows held in

@@ -7,5 +7,5 @@ use Rattle.record.specs.Stored.{stored}
 use Rattle.join.specs.declared.Joined.{Joined}
 
 -- number 0: the union; any other: refused, and the record that came in
-abbrev pub outcome : ℕ → Record → Record → Joined
-outcome number R union = record { number = number; after = stored (cond (eqb number 0) union R) }
+abbrev pub joinedOf : ℕ → Record → Record → Joined
+joinedOf number R union = record { number = number; after = stored (cond (eqb number 0) union R) }

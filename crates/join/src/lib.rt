@@ -14,9 +14,9 @@ ghost use lib.ListN.{take};
 ghost use Rattle.record.specs.Record as theory;
 ghost use Rattle.record.specs.Stored.{stored, editLimit, constraintLimit};
 ghost use Rattle.row.specs.Row.{editRow, constraintRow};
-ghost use Rattle.table.specs.Table.{decoded, emptyTables, lentFault, addEditFault, addConstraintFault, recordFault, unite};
+ghost use Rattle.table.specs.Table.{decoded, emptyTables, lentFault, addEditFault, addConstraintFault, recordJoinFault, unite};
 ghost use Rattle.table.specs.Checked.{Checked};
-ghost use Rattle.join.specs.Join.{outcome};
+ghost use Rattle.join.specs.Join.{joinedOf};
 
 // number: 0, or that of the refusal; after: the record afterwards.
 pub struct Joined {
@@ -26,7 +26,7 @@ pub struct Joined {
 
 // A lent record by itself.
 pub fn lent(edits: &[[u32; EDIT_CELLS]], constraints: &[[u32; CONSTRAINT_CELLS]]) -> Joined
-    ensures { λ r. ⌜ r ≡ outcome (lentFault emptyTables (now (edits .entry)) (now (constraints .entry))) emptyTables (decoded (now (edits .entry)) (now (constraints .entry))) ⌝ }
+    ensures { λ r. ⌜ r ≡ joinedOf (lentFault emptyTables (now (edits .entry)) (now (constraints .entry))) emptyTables (decoded (now (edits .entry)) (now (constraints .entry))) ⌝ }
 {
     let number = refusal::lent_fault(edits, constraints);
     if number != 0 {
@@ -47,7 +47,7 @@ pub fn merge(
     edits: &[[u32; EDIT_CELLS]],
     constraints: &[[u32; CONSTRAINT_CELLS]],
 ) -> Joined
-    ensures { λ r. ⌜ ((R : theory.Record) → joined ≡ stored R → Checked R → r ≡ outcome (lentFault R (now (edits .entry)) (now (constraints .entry))) R (unite R (decoded (now (edits .entry)) (now (constraints .entry))))) ⌝ }
+    ensures { λ r. ⌜ ((R : theory.Record) → joined ≡ stored R → Checked R → r ≡ joinedOf (lentFault R (now (edits .entry)) (now (constraints .entry))) R (unite R (decoded (now (edits .entry)) (now (constraints .entry))))) ⌝ }
 {
     let number = refusal::fault(joined, edits, constraints);
     if number != 0 {
@@ -65,7 +65,7 @@ pub fn merge(
 
 // One edit is added.
 pub fn add_edit(joined: Record, row: [u32; EDIT_CELLS]) -> Joined
-    ensures { λ r. ⌜ ((R : theory.Record) → joined ≡ stored R → Checked R → r ≡ outcome (addEditFault R row) R (unite R (decoded (row ∷ []) []))) ⌝ }
+    ensures { λ r. ⌜ ((R : theory.Record) → joined ≡ stored R → Checked R → r ≡ joinedOf (addEditFault R row) R (unite R (decoded (row ∷ []) []))) ⌝ }
 {
     let number = refusal::edit_add_fault(joined, row);
     if number != 0 {
@@ -83,7 +83,7 @@ pub fn add_edit(joined: Record, row: [u32; EDIT_CELLS]) -> Joined
 
 // One constraint is added: its place is found by halving, where a union walks through the whole table.
 pub fn add_constraint(joined: Record, row: [u32; CONSTRAINT_CELLS]) -> Joined
-    ensures { λ r. ⌜ ((R : theory.Record) → joined ≡ stored R → Checked R → r ≡ outcome (addConstraintFault R row) R (unite R (decoded [] (row ∷ [])))) ⌝ }
+    ensures { λ r. ⌜ ((R : theory.Record) → joined ≡ stored R → Checked R → r ≡ joinedOf (addConstraintFault R row) R (unite R (decoded [] (row ∷ [])))) ⌝ }
 {
     let number = refusal::constraint_add_fault(joined, row);
     if number != 0 {
@@ -132,7 +132,7 @@ fn constraint_rows(a: [Constraint; CONSTRAINTS], n: usize) -> [[u32; CONSTRAINT_
 
 // A record joins a record: its rows do.
 pub fn merge_record(joined: Record, joining: Record) -> Joined
-    ensures { λ r. ⌜ ((R S : theory.Record) → joined ≡ stored R → Checked R → joining ≡ stored S → r ≡ outcome (recordFault R S) R (unite R S)) ⌝ }
+    ensures { λ r. ⌜ ((R S : theory.Record) → joined ≡ stored R → Checked R → joining ≡ stored S → r ≡ joinedOf (recordJoinFault R S) R (unite R S)) ⌝ }
 {
     let n = joining.editcount;
     let m = joining.constraintcount;

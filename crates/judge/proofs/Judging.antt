@@ -5,11 +5,11 @@ use mathlib.Core.List.{List, []}
 use Prim.Native.Nat.{ℕ, _≤_}
 use lib.Dec.{eqb}
 use lib.ListN.{length, getD, replicate, List·getD-eq-default}
-use Rattle.lists.specs.Lists.{mem, at, _among_}
+use Rattle.lists.specs.Lists.{mem, indexOf, _among_}
 use Rattle.record.specs.Record.{Record, names}
 use Rattle.record.specs.Schedule.{musts, ring, schedule}
 use Rattle.record.specs.Judgement.{sound, must, never, settled}
-use Rattle.lists.proofs.Lists.{same-by, sift-mem, mem-sift}
+use Rattle.lists.proofs.Lists.{same-by, filter-mem, mem-filter}
 use Rattle.links.specs.Marks.{nameAt, valuesOf, marksOf, placeIn}
 use Rattle.links.proofs.Names.{getD-among, place-getD, ascending-distinct}
 use Rattle.links.proofs.Marks.{zeros-get}
@@ -26,10 +26,10 @@ pub marked-hides : (R : Record) → Fit R → (marks : List ℕ) → Hides R mar
 unfolding markedEdits
 marked-hides R f marks y l =
     let p = place-getD (names R) y (ascending-distinct (names R) (f .ascends)) l in
-    let test : ℕ → Bool = λ x. eqb (getD marks (at x (names R)) 0) 1 in
+    let test : ℕ → Bool = λ x. eqb (getD marks (indexOf x (names R)) 0) 1 in
     same-by _ _
-    (λ h. mem-sift test (names R) (nameAt R y) (getD-among (names R) y l) (rw p h))
-    (λ h. rw p at (sift-mem test (names R) (nameAt R y) h .1))
+    (λ h. mem-filter test (names R) (nameAt R y) (getD-among (names R) y l) (rw p h))
+    (λ h. rw p at (filter-mem test (names R) (nameAt R y) h .1))
 
 pub none-hides : (R : Record) → Hides R (replicate 128 0) []
 unfolding mem

@@ -26,7 +26,7 @@ use Rattle.schedules.specs.Rows.{RowIs}
 use Rattle.schedules.proofs.Paging.{list-length, list-at}
 use Rattle.indexes.specs.Fit.{Fit}
 use Rattle.indexes.proofs.Tables.{length-names, names-few, edit-at, name-at}
-use Rattle.judge.specs.Judged.{pageEdits, scheduleOf}
+use Rattle.judge.specs.Judged.{scheduledEdits, storedSchedule}
 
 pub edit-named : (l : List Edit) (i : ℕ) (d : Edit) → distinct (map nameOf l) ≡ true → i < length l → editNamed l (getD l i d .name) ≡ getD l i d
 unfolding editNamed distinct
@@ -112,8 +112,8 @@ module _ (R : Record) (f : Fit R) (r : declared.Record) (e : r ≡ stored R) (ro
       rw (k, more) (ap (λ c. set (padded 127 fillerEdit done) c x) (sym (taken-length q a (omega arith))) ∙ padded-more 127 fillerEdit done x (omega (arith, taken-length q a (omega arith))))
 
   pub listing-end : (edits : List Edit) (q : ℕ) → q - 1 ≡ row .count - 1 → Listing R (schedule R hidden) edits q
-      → _≡_ {A = Schedule} (record { edits = edits; count = q - 1 }) (scheduleOf R hidden)
-  unfolding scheduleOf pageEdits
+      → _≡_ {A = Schedule} (record { edits = edits; count = q - 1 }) (storedSchedule R hidden)
+  unfolding storedSchedule scheduledEdits
   listing-end edits q c k =
       let l : length (drop 1 (schedule R hidden)) ≤ q - 1 = omega (arith, length-drop 1 (schedule R hidden), count-is) in
       let p : edits ≡ padded 127 fillerEdit (map (editNamed (R .edits)) (drop 1 (schedule R hidden))) =

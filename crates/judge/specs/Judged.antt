@@ -5,7 +5,7 @@ use lib.Dec.{eqb}
 use lib.ListN.{length, getD, drop}
 use Rattle.record.specs.declared.Edit.{Edit}
 use Rattle.record.specs.declared.Schedule.{Schedule}
-use Rattle.lists.specs.Lists.{sift, at}
+use Rattle.lists.specs.Lists.{filter, indexOf}
 use Rattle.record.specs.Record.{Record, names}
 use Rattle.record.specs.Stored.{padded, fillerEdit, editNamed}
 use Rattle.record.specs.Schedule.{schedule}
@@ -15,15 +15,15 @@ use Rattle.judge.specs.declared.Judged.{Judged}
 
 -- the edits whose mark is 1
 unfoldable pub markedEdits : Record → List ℕ → List ℕ
-markedEdits R marks = sift (λ x. eqb (getD marks (at x (names R)) 0) 1) (names R)
+markedEdits R marks = filter (λ x. eqb (getD marks (indexOf x (names R)) 0) 1) (names R)
 
 -- the edits of the schedule after INIT, one to a page
-unfoldable pub pageEdits : Record → List ℕ → List Edit
-pageEdits R hidden = map (editNamed (R .edits)) (drop 1 (schedule R hidden))
+unfoldable pub scheduledEdits : Record → List ℕ → List Edit
+scheduledEdits R hidden = map (editNamed (R .edits)) (drop 1 (schedule R hidden))
 
 -- the bench schedule as it is stored
-unfoldable pub scheduleOf : Record → List ℕ → Schedule
-scheduleOf R hidden = record { edits = padded 127 fillerEdit (pageEdits R hidden); count = length (pageEdits R hidden) }
+unfoldable pub storedSchedule : Record → List ℕ → Schedule
+storedSchedule R hidden = record { edits = padded 127 fillerEdit (scheduledEdits R hidden); count = length (scheduledEdits R hidden) }
 
 -- must, never and settled of each edit, and its page with nothing hidden (0: not in it)
 unfoldable pub judgedOf : Record → Judged

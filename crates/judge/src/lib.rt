@@ -17,7 +17,7 @@ ghost use Rattle.record.specs.Judgement as judgement;
 ghost use Rattle.links.specs.Marks.{nameAt, marksOf};
 ghost use Rattle.schedules.specs.Rows.{RowIs};
 ghost use Rattle.indexes.specs.Fit.{Fit};
-ghost use Rattle.judge.specs.Judged.{markedEdits, scheduleOf, judgedOf};
+ghost use Rattle.judge.specs.Judged.{markedEdits, storedSchedule, judgedOf};
 
 // Marks by index, 0 for INIT and i for the i-th edit; the page of each edit with nothing hidden, 0 where it is not in the schedule.
 pub struct Judged {
@@ -91,7 +91,7 @@ fn filler() -> Edit
 // A row of indexes as edits, without INIT, which comes first in every schedule.
 fn edits_of(multilog: Record, row: schedules::Row) -> Schedule
     requires { ⌜ (length (row .indexes) ≡ 128) × (row .count ≤ 128) × ((q : ℕ) → getD (row .indexes) q 0 < 128) ⌝ }
-    ensures { λ r. ⌜ ((R : theory.Record) (hidden : List ℕ) → multilog ≡ stored R → Fit R → RowIs R row (theory_schedule.schedule R hidden) → r ≡ scheduleOf R hidden) ⌝ }
+    ensures { λ r. ⌜ ((R : theory.Record) (hidden : List ℕ) → multilog ≡ stored R → Fit R → RowIs R row (theory_schedule.schedule R hidden) → r ≡ storedSchedule R hidden) ⌝ }
 {
     let edit = filler();
     let mut edits = [edit; 127];
@@ -116,7 +116,7 @@ fn edits_of(multilog: Record, row: schedules::Row) -> Schedule
 
 // The bench schedule with these edits hidden.
 pub fn schedule(multilog: Record, hidden: [u8; MARKS]) -> Schedule
-    ensures { λ r. ⌜ ((R : theory.Record) → multilog ≡ stored R → Fit R → r ≡ scheduleOf R (markedEdits R hidden)) ⌝ }
+    ensures { λ r. ⌜ ((R : theory.Record) → multilog ≡ stored R → Fit R → r ≡ storedSchedule R (markedEdits R hidden)) ⌝ }
 {
     let n = indexes::name_count(multilog);
     let rows = indexes::resolved(multilog);
@@ -135,7 +135,7 @@ pub struct Planned {
 // All from the same linked rows, for a record that is about to be a bench's.
 pub fn plan(multilog: Record, hidden: [u8; MARKS]) -> Planned
     ensures { λ r. ⌜ ((R : theory.Record) → multilog ≡ stored R → Fit R
-        → (r .sound ≡ judgement.sound R) × (r .must ≡ marksOf R (judgement.must R)) × (r .schedule ≡ scheduleOf R (markedEdits R hidden))) ⌝ }
+        → (r .sound ≡ judgement.sound R) × (r .must ≡ marksOf R (judgement.must R)) × (r .schedule ≡ storedSchedule R (markedEdits R hidden))) ⌝ }
 {
     let n = indexes::name_count(multilog);
     let rows = indexes::resolved(multilog);

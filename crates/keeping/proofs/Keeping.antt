@@ -52,27 +52,27 @@ module _ (r : declared.Record) (Q : Record) (e : r ≡ stored Q) (i : ℕ) (d : 
   few : i < length (Q .edits)
   few = let n = edit-count r Q e in omega arith
 
-  pub name-low : i < length (written Q)
+  pub kept-name-low : i < length (written Q)
   unfolding written
-  name-low = let n = length-map (Q .edits) nameOf in let f = few in omega arith
+  kept-name-low = let n = length-map (Q .edits) nameOf in let f = few in omega arith
 
-  pub name-is : getD (r .edits) i d .name ≡ getD (written Q) i 0
+  pub kept-name-is : getD (r .edits) i d .name ≡ getD (written Q) i 0
   unfolding names
-  name-is = name-at r Q e i d few ∙ ap (λ (j : ℕ). getD (names Q) j 0) (add-one i)
+  kept-name-is = name-at r Q e i d few ∙ ap (λ (j : ℕ). getD (names Q) j 0) (add-one i)
 
   pub name-known : getD (r .edits) i d .name among written Q
-  name-known = rw name-is (getD-among (written Q) i name-low)
+  name-known = rw kept-name-is (getD-among (written Q) i kept-name-low)
 
 module _ (r : declared.Record) (Q P : Record) (e : r ≡ stored Q) (i : ℕ) (d : Edit) (h : i < r .editcount) {b : Bool} (f : b ≡ isKept Q P (getD (r .edits) i d .name)) where
   test-is : isKept Q P (getD (written Q) i 0) ≡ b
-  test-is = ap (isKept Q P) (sym (name-is r Q e i d h)) ∙ sym f
+  test-is = ap (isKept Q P) (sym (kept-name-is r Q e i d h)) ∙ sym f
 
   pub keeps-stop : b ≡ false → false ≡ keeps Q P
   unfolding keeps
-  keeps-stop g = all-stop (isKept Q P) (written Q) i (name-low r Q e i d h) (test-is ∙ g)
+  keeps-stop g = all-stop (isKept Q P) (written Q) i (kept-name-low r Q e i d h) (test-is ∙ g)
 
   pub keeps-next : b ≡ true → all (isKept Q P) (take i (written Q)) ≡ true → all (isKept Q P) (take (i + 1) (written Q)) ≡ true
-  keeps-next g t = all-more (isKept Q P) (written Q) i 0 (name-low r Q e i d h) t (test-is ∙ g)
+  keeps-next g t = all-more (isKept Q P) (written Q) i 0 (kept-name-low r Q e i d h) t (test-is ∙ g)
 
 pub keeps-start : (Q P : Record) → all (isKept Q P) (take 0 (written Q)) ≡ true
 unfolding all

@@ -11,7 +11,7 @@ use lib.IntN.{ℤ, pos, _+ℤ_, +ℤ-assoc, +ℤ-idr}
 use lib.ListN.{length, drop}
 use borrow.Author.Tests.{eqb-true, eq-eqb, ne-eqb, le-leb}
 use Rattle.record.specs.declared.Edit.{Edit}
-use Rattle.lists.specs.Lists.{sift, mem, at, _among_, _within_, Has}
+use Rattle.lists.specs.Lists.{filter, mem, indexOf, _among_, _within_, Has}
 use Rattle.record.specs.Record.{Record, written, notafter, enables}
 use Rattle.record.specs.Schedule.{schedule}
 use Rattle.record.specs.Judgement.{must}
@@ -28,16 +28,16 @@ use Rattle.vote.specs.Tally.{winner}
 use Rattle.election.specs.Election.{cast, counted}
 use Rattle.turner.specs.declared.Turned.{Turned}
 use Rattle.turner.specs.declared.Turned.the-variants.{To, Refused}
-use Rattle.turner.specs.Turn.{landed, turned, answerOf}
+use Rattle.turner.specs.Turn.{landed, turned, turnedAnswer}
 use Rattle.turner.proofs.Landed.{turned-lands}
 use Rattle.pages.specs.Pages.{run, emptyCatalogue}
 use Rattle.pages.proofs.Pages.{catalogue-of}
-use Rattle.catalogue.specs.Chips.{chips, places, rows, viewOf}
+use Rattle.catalogue.specs.Chips.{chips, places, rows, chipsView}
 use Rattle.ledger.specs.declared.Bench.{Bench}
 use Rattle.ledger.specs.declared.Outcome.{Outcome}
 use Rattle.ledger.specs.Ledger.{Ledger, Call, addEdit, addConstraint, merge, hide, show, turn, adopt, Reply, start, pages, last, judge, change, shown, adopted, act, refusal, step, fed}
 use Rattle.ledger.specs.Bench.{openEdits, benchOf, outcome, Answers, Linked, none, more, answersOf, told, Undo}
-use Rattle.ledger.proofs.Valid.{Valid, well-formed, start-valid, fed-valid}
+use Rattle.ledger.proofs.Valid.{Valid, ledger-well-formed, start-valid, fed-valid}
 
 -- what is shown of every valid ledger is promised of every list of calls
 pub from-valid : (bench : Bench) (call : Call) (r : Outcome) → ((L : Ledger) → Valid L → bench ≡ benchOf L → r ≡ outcome (step L call)) → Answers bench call r
@@ -66,7 +66,7 @@ kept before (more {call = k} {r = r} a l) e =
 
 -- the catalogue of a ledger's bench is the fold of its open edits
 ran : (L : Ledger) → benchOf L .view .catalogue .entries ≡ run chips (emptyCatalogue chips places) (openEdits L)
-unfolding benchOf viewOf
+unfolding benchOf chipsView
 ran L = catalogue-of chips places rows (openEdits L)
 
 -- THE UNDO RULE
@@ -132,14 +132,14 @@ turned-back opened last page n k o l h =
 unfoldable pub at-page : Ledger → ℕ → Ledger
 at-page L page = record { multilog = L .multilog; hidden = L .hidden; schedule = L .schedule; opened = page }
 
-turn-judged : (L : Ledger) (n : ℤ) (t : Turned) → turned (L .opened) (last L) n ≡ t → judge L (turn n) ≡ answerOf (L .opened) t .number
+turn-judged : (L : Ledger) (n : ℤ) (t : Turned) → turned (L .opened) (last L) n ≡ t → judge L (turn n) ≡ turnedAnswer (L .opened) t .number
 unfolding judge
-turn-judged L n t e = ap (λ (u : Turned). answerOf (L .opened) u .number) e
+turn-judged L n t e = ap (λ (u : Turned). turnedAnswer (L .opened) u .number) e
 
 turn-after : (L : Ledger) (n : ℤ) (page : ℕ) → turned (L .opened) (last L) n ≡ To page → step L (turn n) .after ≡ at-page L page
 unfolding act at-page
 turn-after L n page t =
-    ap (λ (r : Reply). r .after) (step-accepted L (turn n) (turn-judged L n (To page) t)) ∙ ap (λ (u : Turned). at-page L (answerOf (L .opened) u .opened)) t
+    ap (λ (r : Reply). r .after) (step-accepted L (turn n) (turn-judged L n (To page) t)) ∙ ap (λ (u : Turned). at-page L (turnedAnswer (L .opened) u .opened)) t
 
 -- an accepted turn lands on a page
 turn-by {ℓ} : {P : Type ℓ} (L : Ledger) (n : ℤ) → judge L (turn n) ≡ 0 → ((page : ℕ) → turned (L .opened) (last L) n ≡ To page → P) → P
@@ -168,15 +168,15 @@ opposite-turns calls n k b r s e o a z c =
     ))
 
 -- HIDING AND THEN SHOWING gives the bench of before with its last page open.
-sift-all : (p : ℕ → Bool) (l : List ℕ) → ((y : ℕ) → y among l → p y ≡ true) → sift p l ≡ l
-unfolding sift
-sift-all p [] f = refl
-sift-all p (y ∷ l) f = rw (f y (mem-head y l)) (ap (λ (t : List ℕ). y ∷ t) (sift-all p l (λ z i. f z (mem-tail z y l i))))
+filter-all : (p : ℕ → Bool) (l : List ℕ) → ((y : ℕ) → y among l → p y ≡ true) → filter p l ≡ l
+unfolding filter
+filter-all p [] f = refl
+filter-all p (y ∷ l) f = rw (f y (mem-head y l)) (ap (λ (t : List ℕ). y ∷ t) (filter-all p l (λ z i. f z (mem-tail z y l i))))
 
 shown-hidden : (x : ℕ) (hidden : List ℕ) → mem x hidden ≡ false → shown x (x ∷ hidden) ≡ hidden
-unfolding shown sift
+unfolding shown filter
 shown-hidden x hidden n =
-    rw (eq-eqb x x refl) (sift-all (λ y. not (eqb y x)) hidden (λ y i. by (eqb y x) (λ e. clash (rw (eqb-true y x e) at i) n) (λ e. rw e)))
+    rw (eq-eqb x x refl) (filter-all (λ y. not (eqb y x)) hidden (λ y i. by (eqb y x) (λ e. clash (rw (eqb-true y x e) at i) n) (λ e. rw e)))
 
 fresh : (L : Ledger) (x : ℕ) → judge L (hide x) ≡ 0 → mem x (L .hidden) ≡ false
 unfolding judge
@@ -213,7 +213,7 @@ hidden-shown calls x b r s e a z c w =
 pub never-alone : (calls : List Call) (a b : ℕ) → enables (fed start calls .multilog) a b ≡ true → b among fed start calls .schedule → a among fed start calls .schedule
 never-alone calls a b e i =
     let v = fed-valid start calls start-valid in
-    let s = schedule-sound (fed start calls .multilog) (well-formed v) (v .sound-now) (fed start calls .hidden) in
+    let s = schedule-sound (fed start calls .multilog) (ledger-well-formed v) (v .sound-now) (fed start calls .hidden) in
     rw (v .made) (s .complete a b e (rw (v .made) at i))
 
 -- Two edits that are each notafter the other never both stand.
@@ -221,7 +221,7 @@ pub never-both : (calls : List Call) (a b : ℕ) → notafter (fed start calls .
     → a among fed start calls .schedule → b among fed start calls .schedule → ⊥
 never-both calls a b e f i j =
     let v = fed-valid start calls start-valid in
-    let s = schedule-sound (fed start calls .multilog) (well-formed v) (v .sound-now) (fed start calls .hidden) in
+    let s = schedule-sound (fed start calls .multilog) (ledger-well-formed v) (v .sound-now) (fed start calls .hidden) in
     let p = s .orders a b e (rw (v .made) at i) (rw (v .made) at j) in
     let q = s .orders b a f (rw (v .made) at j) (rw (v .made) at i) in
     omega arith

@@ -9,16 +9,16 @@ use lib.Dec.{eqb}
 use lib.IntN.{ℤ}
 use lib.ListN.{length, take, drop, length-map}
 use borrow.Author.Tests.{eqb-true, eqb-false, eq-eqb, not-true, not-false}
-use Rattle.lists.specs.Lists.{any, mem, _among_, _within_, first, grown, closure}
+use Rattle.lists.specs.Lists.{any, mem, _among_, _within_, find, grown, closure}
 use Rattle.record.specs.Record.{Record, names, written, has, WellFormed}
 use Rattle.record.specs.Schedule.{needs, musts, ready, order, admits, scheduled, schedule}
 use Rattle.record.specs.Judgement.{sound, must}
-use Rattle.lists.proofs.Lists.{by, clash, and-l, and-r, or-by, or-no-l, cons-by, nil-no, cons-within, sift-mem}
+use Rattle.lists.proofs.Lists.{by, clash, and-l, and-r, or-by, or-no-l, cons-by, nil-no, cons-within, filter-mem}
 use Rattle.ground.proofs.Grounds.{orelse-none, given-none}
 use Rattle.record.proofs.Scheduled.{schedule-length, schedule-pages}
 use Rattle.row.specs.Row.{Row, isName}
 use Rattle.ground.specs.Ground.{Rows, _given_, _orelse_}
-use Rattle.table.specs.Table.{emptyTables, decoded, lentFault, addEditFault, addConstraintFault, recordFault, unite}
+use Rattle.table.specs.Table.{emptyTables, decoded, lentFault, addEditFault, addConstraintFault, recordJoinFault, unite}
 use Rattle.table.specs.Checked.{Checked}
 use Rattle.table.proofs.Unions.{united-extends}
 use Rattle.table.proofs.Records.{empty-checked, empty-sound, joined-checked, added-edit-checked, added-constraint-checked, record-checked, checked-wellformed}
@@ -28,7 +28,7 @@ use Rattle.vote.specs.Tally.{winner}
 use Rattle.election.specs.Election.{Proposals, electionFault, cast, counted}
 use Rattle.turner.specs.declared.Turned.{Turned}
 use Rattle.turner.specs.declared.Turned.the-variants.{To, Refused}
-use Rattle.turner.specs.Turn.{turned, answerOf}
+use Rattle.turner.specs.Turn.{turned, turnedAnswer}
 use Rattle.turner.proofs.Landed.{turned-lands}
 use Rattle.ledger.specs.Ledger.{Ledger, Call, addEdit, addConstraint, merge, hide, show, turn, adopt, Reply, start, pages, last, bundleFault, judge, noElection, change, shown, adopted, act, refusal, step, fed}
 
@@ -42,7 +42,7 @@ pub record Valid (L : Ledger) : Type 0 where
 
 -- the schedule of the empty record is INIT alone
 empty-schedule : schedule emptyTables [] ≡ 0 ∷ []
-unfolding schedule scheduled admits musts order ready needs names written has closure grown first any mem
+unfolding schedule scheduled admits musts order ready needs names written has closure grown find any mem
 empty-schedule = refl
 
 pub start-valid : Valid start
@@ -51,8 +51,8 @@ start-valid =
     record { checked = empty-checked; sound-now = empty-sound; hidden-written = λ x i. nil-no x i; made = sym empty-schedule; opened-within = omega arith }
 
 module _ {L : Ledger} (v : Valid L) where
-  pub well-formed : WellFormed (L .multilog)
-  well-formed = checked-wellformed (L .multilog) (v .checked)
+  pub ledger-well-formed : WellFormed (L .multilog)
+  ledger-well-formed = checked-wellformed (L .multilog) (v .checked)
 
 change-valid : (L : Ledger) (R : Record) (hidden : List ℕ) (E : Election) → Checked R → sound R ≡ true → hidden within written R
     → Valid (change L R hidden E .after)
@@ -68,15 +68,15 @@ union-valid L S E v k h =
 adopted-valid : (L : Ledger) (E : Election) (o : Option Record) → Valid L → bundleFault (L .multilog) o ≡ 0 → Valid (adopted L E o .after)
 adopted-valid L E none v h = v
 adopted-valid L E (some B) v h =
-    union-valid L B E v (record-checked (L .multilog) B (v .checked) (orelse-none _ _ h .0)) (not-false _ (given-none 7 _ (orelse-none (recordFault (L .multilog) B) _ h .1)))
+    union-valid L B E v (record-checked (L .multilog) B (v .checked) (orelse-none _ _ h .0)) (not-false _ (given-none 7 _ (orelse-none (recordJoinFault (L .multilog) B) _ h .1)))
 
-landing-within : (opened last : ℕ) (n : ℤ) (t : Turned) → turned opened last n ≡ t → opened ≤ last → answerOf opened t .opened ≤ last
+landing-within : (opened last : ℕ) (n : ℤ) (t : Turned) → turned opened last n ≡ t → opened ≤ last → turnedAnswer opened t .opened ≤ last
 landing-within opened last n (To page) e h = turned-lands last page opened n e .within
 landing-within opened last n Refused e h = h
 
 pub shown-within : (x : ℕ) (hidden : List ℕ) → shown x hidden within hidden
 unfolding shown
-shown-within x hidden y i = sift-mem (λ y. not (eqb y x)) hidden y i .0
+shown-within x hidden y i = filter-mem (λ y. not (eqb y x)) hidden y i .0
 
 act-valid : (L : Ledger) (call : Call) → Valid L → judge L call ≡ 0 → Valid (act L call .after)
 unfolding act judge last pages

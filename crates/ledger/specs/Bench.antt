@@ -9,7 +9,7 @@ use Rattle.record.specs.Record.{Record}
 use Rattle.record.specs.Stored.{stored, editNamed}
 use Rattle.links.specs.Marks.{marksOf}
 use Rattle.pages.specs.Pages.{run, emptyCatalogue}
-use Rattle.catalogue.specs.Chips.{chips, places, viewOf, scheduleOf}
+use Rattle.catalogue.specs.Chips.{chips, places, chipsView, scheduleOf}
 use Rattle.ledger.specs.declared.Answer.{Answer}
 use Rattle.ledger.specs.declared.Bench.{Bench}
 use Rattle.ledger.specs.declared.Outcome.{Outcome}
@@ -30,7 +30,7 @@ benchOf L = record {
   hidden = marksOf (L .multilog) (λ x. mem x (L .hidden));
   schedule = scheduleOf (pageEdits L);
   turner = record { opened = L .opened; last = last L };
-  view = viewOf (openEdits L);
+  view = chipsView (openEdits L);
 }
 
 unfoldable pub outcome : Reply → Outcome

@@ -6,18 +6,18 @@ use Prim.Native.Nat.{ℕ, _-_}
 use lib.Dec.{eqb}
 use lib.IntN.{ℤ}
 use lib.ListN.{length, take, drop}
-use Rattle.lists.specs.Lists.{sift, mem}
+use Rattle.lists.specs.Lists.{filter, mem}
 use Rattle.record.specs.Record.{Record, written}
 use Rattle.record.specs.Schedule.{schedule}
 use Rattle.record.specs.Judgement.{sound, must}
 use Rattle.row.specs.Row.{Row, isName}
 use Rattle.ground.specs.Ground.{Rows, _given_, _orelse_}
-use Rattle.table.specs.Table.{emptyTables, decoded, lentFault, addEditFault, addConstraintFault, recordFault, unite}
+use Rattle.table.specs.Table.{emptyTables, decoded, lentFault, addEditFault, addConstraintFault, recordJoinFault, unite}
 use Rattle.vote.specs.declared.RollRow.{RollRow}
 use Rattle.vote.specs.declared.Election.{Election}
 use Rattle.vote.specs.Tally.{winner}
 use Rattle.election.specs.Election.{Proposals, electionFault, cast, counted, refusedElection}
-use Rattle.turner.specs.Turn.{turned, answerOf}
+use Rattle.turner.specs.Turn.{turned, turnedAnswer}
 use Rattle.pages.specs.Steps.{commonBeginning}
 use Rattle.ledger.specs.declared.Answer.{Answer}
 
@@ -52,7 +52,7 @@ last L = length (pages L)
 -- a won bundle's rows, judged last; an open election brings none
 abbrev pub bundleFault : Record → Option Record → ℕ
 bundleFault R none = 0
-bundleFault R (some B) = recordFault R B orelse 8 given not (sound (unite R B))
+bundleFault R (some B) = recordJoinFault R B orelse 8 given not (sound (unite R B))
 
 -- THE JUDGEMENT of a call: the number of its ground, 0 for none. Rows first, then the faults of the whole call, lowest first.
 unfoldable pub judge : Ledger → Call → ℕ
@@ -64,7 +64,7 @@ judge L (merge edits constraints) =
 judge L (hide x) =
     2 given not (isName x) orelse 5 given not (mem x (written (L .multilog))) orelse 9 given (must (L .multilog) x || mem x (L .hidden))
 judge L (show x) = 2 given not (isName x) orelse 5 given not (mem x (written (L .multilog))) orelse 9 given not (mem x (L .hidden))
-judge L (turn n) = answerOf (L .opened) (turned (L .opened) (last L) n) .number
+judge L (turn n) = turnedAnswer (L .opened) (turned (L .opened) (last L) n) .number
 judge L (adopt e P roll) = electionFault e P roll orelse bundleFault (L .multilog) (winner (cast e P roll))
 
 -- an answer and the ledger after it
@@ -92,7 +92,7 @@ change L R hidden E =
     }
 
 unfoldable pub shown : ℕ → List ℕ → List ℕ
-shown x hidden = sift (λ y. not (eqb y x)) hidden
+shown x hidden = filter (λ y. not (eqb y x)) hidden
 
 -- adoption of a won bundle is a change; with an open election nothing changes
 abbrev pub adopted : Ledger → Election → Option Record → Reply
@@ -112,7 +112,7 @@ act L (turn n) = record {
     multilog = L .multilog;
     hidden = L .hidden;
     schedule = L .schedule;
-    opened = answerOf (L .opened) (turned (L .opened) (last L) n) .opened;
+    opened = turnedAnswer (L .opened) (turned (L .opened) (last L) n) .opened;
   };
 }
 act L (adopt e P roll) = adopted L (counted (cast e P roll)) (winner (cast e P roll))

@@ -36,28 +36,28 @@ module _ {places : ℕ} {tables : ℕ → Rows} {counts : List ℕ} {kept : Rows
         let b : suc k * places ≡ k * places + places = omega arith in
         rw (T .size) (rw b at a)
 
-    pub table-length : length (tables k) ≡ getD counts k 0
-    table-length =
+    pub lent-table-length : length (tables k) ≡ getD counts k 0
+    lent-table-length =
         rw (sym (T .rows k h))
         (length-take-le (getD counts k 0) (drop (k * places) kept)
         (rw (length-drop (k * places) kept) (let a = within in let b = T .few k in omega arith)))
 
-    pub outside {ℓ} : {P : Type ℓ} → getD counts k 0 < places → length kept ≤ k * places + getD counts k 0 → P
-    outside g l = let a = within in absurd (omega arith)
+    pub outside-lent {ℓ} : {P : Type ℓ} → getD counts k 0 < places → length kept ≤ k * places + getD counts k 0 → P
+    outside-lent g l = let a = within in absurd (omega arith)
 
     pub has-place : getD counts k 0 < places → 0 ≡ rowsFault places tables k
     unfolding rowsFault
     has-place g =
         let e : ltb k 9 ≡ true = lt-ltb k 9 h in
-        let f : leb places (length (tables k)) ≡ false = rw table-length (lt-leb places (getD counts k 0) g) in
+        let f : leb places (length (tables k)) ≡ false = rw lent-table-length (lt-leb places (getD counts k 0) g) in
         rw (e, f) refl
 
     module _ (row : Row) where
-      pub no-place : places ≤ getD counts k 0 → (3 ≡ rowsFault places tables k) × Tables places (added places tables k row) counts kept
+      pub no-lent-place : places ≤ getD counts k 0 → (3 ≡ rowsFault places tables k) × Tables places (added places tables k row) counts kept
       unfolding rowsFault added
-      no-place g =
+      no-lent-place g =
           let e : ltb k 9 ≡ true = lt-ltb k 9 h in
-          let f : leb places (length (tables k)) ≡ true = rw table-length (le-leb places (getD counts k 0) g) in
+          let f : leb places (length (tables k)) ≡ true = rw lent-table-length (le-leb places (getD counts k 0) g) in
           rw (e, f) (refl, T)
 
       module _ (g : getD counts k 0 < places) where
@@ -83,9 +83,9 @@ module _ {places : ℕ} {tables : ℕ → Rows} {counts : List ℕ} {kept : Rows
             (rw (take-suc-set (drop (k * places) kept) (getD counts k 0) row (rw (length-drop (k * places) kept) (let a = within in omega arith)))
             (rw (T .rows k h) refl))
 
-        pub one-more : Tables places (added places tables k row) (set counts k (getD counts k 0 + 1)) (set kept (k * places + getD counts k 0) row)
+        pub one-more-row : Tables places (added places tables k row) (set counts k (getD counts k 0 + 1)) (set kept (k * places + getD counts k 0) row)
         unfolding added
-        one-more = record {
+        one-more-row = record {
           size = length-set kept (k * places + getD counts k 0) row ∙ T .size;
           nine = length-set counts k (getD counts k 0 + 1) ∙ T .nine;
           few = λ j. is-by j k
@@ -139,14 +139,14 @@ module _ {places : ℕ} {tables : ℕ → Rows} {counts : List ℕ} {kept : Rows
 
 -- the rows of a list join an empty table one after the other
 module _ {A : Type 0} (f : A → Row) (l : List A) {places : ℕ} (tables : ℕ → Rows) (k : ℕ) (h : k < 9) where
-  pub rows-none : tables k ≡ [] → {counts : List ℕ} {kept : Rows} → Tables places tables counts kept → Tables places (with k (map f (take 0 l)) tables) counts kept
-  rows-none e T = tables-same (λ j n. is-by j k (λ m. rw (m, with-same k [] tables) e) (λ m. rw (with-other k j [] tables m) refl)) T
+  pub lent-rows-none : tables k ≡ [] → {counts : List ℕ} {kept : Rows} → Tables places tables counts kept → Tables places (with k (map f (take 0 l)) tables) counts kept
+  lent-rows-none e T = tables-same (λ j n. is-by j k (λ m. rw (m, with-same k [] tables) e) (λ m. rw (with-other k j [] tables m) refl)) T
 
-  pub rows-next : (i : ℕ) (d : A) → i < length l → i < places → {row : Row} → row ≡ f (getD l i d) → {counts : List ℕ} {kept : Rows}
+  pub lent-rows-next : (i : ℕ) (d : A) → i < length l → i < places → {row : Row} → row ≡ f (getD l i d) → {counts : List ℕ} {kept : Rows}
       → Tables places (added places (with k (map f (take i l)) tables) k row) counts kept
       → Tables places (with k (map f (take (i + 1) l)) tables) counts kept
   unfolding added rowsFault
-  rows-next i d a b {row} e {counts} {kept} T = tables-same each (rw free at T)
+  lent-rows-next i d a b {row} e {counts} {kept} T = tables-same each (rw free at T)
     where
       sized : length (with k (map f (take i l)) tables k) ≡ i
       sized = ap length (with-same k (map f (take i l)) tables) ∙ length-map (take i l) f ∙ length-take-le i l (omega arith)

@@ -9,7 +9,7 @@ use lib.ListN.{length, getD, replicate}
 use borrow.Author.Tests.{ne-eqb, eq-eqb}
 use Rattle.record.specs.declared.Record as declared
 use Rattle.record.specs.declared.Schedule.{Schedule}
-use Rattle.lists.specs.Lists.{sift, at, mem, _among_}
+use Rattle.lists.specs.Lists.{filter, indexOf, mem, _among_}
 use Rattle.record.specs.Record.{Record, names}
 use Rattle.record.specs.Stored.{stored}
 use Rattle.record.specs.Judgement.{sound, soundRow}
@@ -20,17 +20,17 @@ use Rattle.table.specs.Table.{emptyTables, decoded, lentFault}
 use Rattle.table.specs.Checked.{Checked}
 use Rattle.table.proofs.Records.{lent-checked}
 use Rattle.join.specs.declared.Joined.{Joined}
-use Rattle.join.specs.Join.{outcome}
+use Rattle.join.specs.Join.{joinedOf}
 use Rattle.indexes.specs.Fit.{Fit}
 use Rattle.fit.proofs.Fit.{checked-fit}
 use Rattle.judge.specs.declared.Judged.{Judged}
-use Rattle.judge.specs.Judged.{judgedOf, scheduleOf, markedEdits}
+use Rattle.judge.specs.Judged.{judgedOf, storedSchedule, markedEdits}
 use Rattle.lent.specs.declared.Judgement.{Judgement}
 use Rattle.lent.specs.declared.RowAnswer.{RowAnswer}
 use Rattle.lent.specs.declared.ScheduleAnswer.{ScheduleAnswer}
 use Rattle.lent.specs.Lent.{recordFault, Taking, refusedJudgement, judgementIs, judgementOf, rowAnswerOf, emptySchedule, scheduleAnswerOf}
 
-module _ (es cs : Rows) (j : Joined) (e : j ≡ outcome (lentFault emptyTables es cs) emptyTables (decoded es cs)) where
+module _ (es cs : Rows) (j : Joined) (e : j ≡ joinedOf (lentFault emptyTables es cs) emptyTables (decoded es cs)) where
   pub lent-refused : (j .number ≡ 0 → ⊥) → (j .number ≡ recordFault es cs) × (j .number ≡ 0 → Taking es cs (j .after))
   unfolding recordFault
   lent-refused n =
@@ -45,32 +45,32 @@ module _ (es cs : Rows) (j : Joined) (e : j ≡ outcome (lentFault emptyTables e
     pub lent-checks : Checked (decoded es cs)
     lent-checks = lent-checked es cs none
 
-    pub lent-is : j .after ≡ stored (decoded es cs)
-    lent-is = ap (λ (x : Joined). x .after) e ∙ rw none
+    pub lent-record-is : j .after ≡ stored (decoded es cs)
+    lent-record-is = ap (λ (x : Joined). x .after) e ∙ rw none
 
     module _ (s : Bool) (f : (R : Record) → j .after ≡ stored R → Fit R → s ≡ sound R) where
       is-sound : s ≡ sound (decoded es cs)
-      is-sound = f (decoded es cs) lent-is (checked-fit (decoded es cs) lent-checks)
+      is-sound = f (decoded es cs) lent-record-is (checked-fit (decoded es cs) lent-checks)
 
       pub lent-sound : s ≡ true → (0 ≡ recordFault es cs) × (_≡_ {A = ℕ} 0 0 → Taking es cs (j .after))
       unfolding recordFault
       lent-sound t =
           let u : sound (decoded es cs) ≡ true = sym is-sound ∙ t in
-          (rw (none, u), λ q. record { is = lent-is; checked = lent-checks; sound-now = u })
+          (rw (none, u), λ q. record { is = lent-record-is; checked = lent-checks; sound-now = u })
 
       pub lent-unsound : s ≡ false → (8 ≡ recordFault es cs) × (_≡_ {A = ℕ} 8 0 → Taking es cs (j .after))
       unfolding recordFault
       lent-unsound t = let u : sound (decoded es cs) ≡ false = sym is-sound ∙ t in (rw (none, u), λ q. absurd (omega arith))
 
 -- no mark is set
-sift-none : (p : ℕ → Bool) (l : List ℕ) → ((x : ℕ) → p x ≡ false) → sift p l ≡ []
-unfolding sift
-sift-none p [] f = refl
-sift-none p (x ∷ l) f = rw (f x) (sift-none p l f)
+filter-none : (p : ℕ → Bool) (l : List ℕ) → ((x : ℕ) → p x ≡ false) → filter p l ≡ []
+unfolding filter
+filter-none p [] f = refl
+filter-none p (x ∷ l) f = rw (f x) (filter-none p l f)
 
 none-marked : (R : Record) → markedEdits R (replicate 128 0) ≡ []
 unfolding markedEdits
-none-marked R = sift-none (λ x. eqb (getD (replicate 128 0) (at x (names R)) 0) 1) (names R) (λ x. rw (getD-zeros 128 (at x (names R))))
+none-marked R = filter-none (λ x. eqb (getD (replicate 128 0) (indexOf x (names R)) 0) 1) (names R) (λ x. rw (getD-zeros 128 (indexOf x (names R))))
 
 -- the answers
 module _ (es cs : Rows) (n : ℕ) (h : n ≡ recordFault es cs) where
@@ -99,12 +99,12 @@ module _ (es cs : Rows) (n : ℕ) (h : n ≡ recordFault es cs) where
         let c : r .editcount ≡ length (decoded es cs .edits) = ap (λ (x : declared.Record). x .editcount) (t .is) in
         rw q (λ i. record { number = 0; count = c i; must = e i .must; never = e i .never; settled = e i .settled; place = e i .place })
 
-    pub schedule-told : (s : Schedule) → ((R : Record) → r ≡ stored R → Fit R → s ≡ scheduleOf R (markedEdits R (replicate 128 0)))
+    pub schedule-told : (s : Schedule) → ((R : Record) → r ≡ stored R → Fit R → s ≡ storedSchedule R (markedEdits R (replicate 128 0)))
         → _≡_ {A = ScheduleAnswer} (record { number = 0; schedule = s }) (scheduleAnswerOf es cs)
     unfolding scheduleAnswerOf
     schedule-told s f =
         let q : eqb (recordFault es cs) 0 ≡ true = eq-eqb _ 0 (sym h ∙ z) in
-        let e = f (decoded es cs) (t .is) fit ∙ ap (scheduleOf (decoded es cs)) (none-marked (decoded es cs)) in
+        let e = f (decoded es cs) (t .is) fit ∙ ap (storedSchedule (decoded es cs)) (none-marked (decoded es cs)) in
         rw q (λ i. record { number = 0; schedule = e i })
 
     pub row-told : (row : List ℕ) (b : Bool) → ((R : Record) → r ≡ stored R → Fit R → b ≡ soundRow R row)

@@ -13,7 +13,7 @@ use Rattle.record.specs.Judgement.{sound, soundRow}
 use Rattle.ground.specs.Ground.{Rows, _given_, _orelse_}
 use Rattle.table.specs.Table.{emptyTables, decoded, lentFault}
 use Rattle.table.specs.Checked.{Checked}
-use Rattle.judge.specs.Judged.{judgedOf, scheduleOf}
+use Rattle.judge.specs.Judged.{judgedOf, storedSchedule}
 use Rattle.lent.specs.declared.Judgement.{Judgement}
 use Rattle.lent.specs.declared.RowAnswer.{RowAnswer}
 use Rattle.lent.specs.declared.ScheduleAnswer.{ScheduleAnswer}
@@ -55,4 +55,4 @@ emptySchedule = record { edits = replicate 127 fillerEdit; count = 0 }
 unfoldable pub scheduleAnswerOf : Rows → Rows → ScheduleAnswer
 scheduleAnswerOf edits constraints =
     let n = recordFault edits constraints in
-    cond (eqb n 0) (record { number = 0; schedule = scheduleOf (decoded edits constraints) [] }) (record { number = n; schedule = emptySchedule })
+    cond (eqb n 0) (record { number = 0; schedule = storedSchedule (decoded edits constraints) [] }) (record { number = n; schedule = emptySchedule })

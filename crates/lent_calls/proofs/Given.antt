@@ -28,9 +28,9 @@ pub merge-given : (bench : Bench) {E C : Rows} (r : Outcome) → Answers bench (
 merge-given bench r a e f = rw (e, f) at a
 
 -- eight tables, each the one that is lent
-pub eight : {A : Type 0} (f : ℕ → A) {a b c d e g h i : A} → a ≡ f 1 → b ≡ f 2 → c ≡ f 3 → d ≡ f 4 → e ≡ f 5 → g ≡ f 6 → h ≡ f 7 → i ≡ f 8
+pub eight-lent : {A : Type 0} (f : ℕ → A) {a b c d e g h i : A} → a ≡ f 1 → b ≡ f 2 → c ≡ f 3 → d ≡ f 4 → e ≡ f 5 → g ≡ f 6 → h ≡ f 7 → i ≡ f 8
     → a ∷ b ∷ c ∷ d ∷ e ∷ g ∷ h ∷ i ∷ [] ≡ map f benches
-eight f p q r s t u v w = rw (p, q, r, s, t, u, v, w) refl
+eight-lent f p q r s t u v w = rw (p, q, r, s, t, u, v, w) refl
 
 module _ (L : Lent) where
   pub election-given : {r : Election} (x : ℕ) {E C : List Rows} → E ≡ map (L .edits) benches → C ≡ map (L .constraints) benches

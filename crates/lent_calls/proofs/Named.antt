@@ -9,10 +9,10 @@ use lib.ListN.{length, getD, replicate, length-map, List·getD-append}
 use borrow.Author.Tests.{lt-ltb, le-ltb}
 use Rattle.record.specs.declared.Edit.{Edit}
 use Rattle.record.specs.declared.Record as declared
-use Rattle.lists.specs.Lists.{mem, at, _among_}
+use Rattle.lists.specs.Lists.{mem, indexOf, _among_}
 use Rattle.record.specs.Record.{Record, nameOf, written}
 use Rattle.record.specs.Stored.{stored, padded, fillerEdit, editNamed}
-use Rattle.lists.proofs.Lists.{by, mem-at}
+use Rattle.lists.proofs.Lists.{by, mem-index}
 use Rattle.row.specs.Row.{Row, isName, editRow}
 use Rattle.ground.specs.Ground.{_given_, _orelse_}
 use Rattle.table.specs.Checked.{Checked}
@@ -20,15 +20,15 @@ use Rattle.suggest.specs.declared.Suggested.{Suggested}
 use Rattle.suggest.specs.Suggest.{suggested, noRow}
 use Rattle.lent_calls.specs.Calls.{suggestFault, suggestedIn}
 
-pub at-named : (l : List Edit) (x : ℕ) → x among map nameOf l → getD l (at x (map nameOf l)) fillerEdit ≡ editNamed l x
-unfolding at mem editNamed
+pub at-named : (l : List Edit) (x : ℕ) → x among map nameOf l → getD l (indexOf x (map nameOf l)) fillerEdit ≡ editNamed l x
+unfolding indexOf mem editNamed
 at-named [] x m = absurd (let z : _≡_ {A = ℕ} 0 1 = cc in omega arith)
 at-named (e ∷ l) x m = by (eqb x (e .name)) (λ (q : eqb x (e .name) ≡ true). rw q refl) (λ (q : eqb x (e .name) ≡ false). rw q (at-named l x (rw q at m)))
 
-module _ (R : Record) (multilog : declared.Record) (q : multilog ≡ stored R) (v : Checked R) (x : ℕ) (m : x among written R) {place : ℕ} (p : place ≡ at x (written R)) where
+module _ (R : Record) (multilog : declared.Record) (q : multilog ≡ stored R) (v : Checked R) (x : ℕ) (m : x among written R) {place : ℕ} (p : place ≡ indexOf x (written R)) where
   below : place < length (R .edits)
   unfolding written
-  below = let a : at x (written R) < length (map nameOf (R .edits)) = mem-at x (written R) m in let b : length (map nameOf (R .edits)) ≡ length (R .edits) = length-map (R .edits) nameOf in omega arith
+  below = let a : indexOf x (written R) < length (map nameOf (R .edits)) = mem-index x (written R) m in let b : length (map nameOf (R .edits)) ≡ length (R .edits) = length-map (R .edits) nameOf in omega arith
 
   pub named-row : {row : Row} → row ≡ editRow (getD (multilog .edits) place fillerEdit) → row ≡ editRow (editNamed (R .edits) x)
   unfolding written padded

@@ -13,17 +13,17 @@ use Rattle.ground.specs.Ground.{Rows, _given_, _orelse_}
 use Rattle.ground.proofs.Grounds.{orelse-first, orelse-second}
 use Rattle.table.specs.Table.{emptyTables}
 use Rattle.join.specs.declared.Joined.{Joined}
-use Rattle.join.specs.Join.{outcome}
+use Rattle.join.specs.Join.{joinedOf}
 use Rattle.propose.specs.Propose as proposal
-use Rattle.propose.specs.Propose.{proposalFault, newProposal, newOutcome, tooShort}
-use Rattle.propose.proofs.Answers.{fault, new, short, fault-is, number-is, none-new, new-held, editcount-is, constraintcount-is, accepted, given-new}
+use Rattle.propose.specs.Propose.{proposeFault, newProposal, newOutcome, tooShort}
+use Rattle.propose.proofs.Answers.{fault, new, short, fault-is, number-is, none-new, new-held, editcount-is, constraintcount-is, proposal-accepted, given-new}
 use Rattle.lending.specs.Lent.{Lent}
 use Rattle.lent_proposals.specs.Made.{tablesOf, proposalOf, proposalIn}
 
-module _ (t : proposal.Lent) where
-  stopped-as : (n : ℕ) → proposalFault t ≡ n → (n ≡ 0 → ⊥) → record { number = n; after = stored emptyTables } ≡ proposalOf t
+module _ (t : proposal.LentToPropose) where
+  stopped-as : (n : ℕ) → proposeFault t ≡ n → (n ≡ 0 → ⊥) → record { number = n; after = stored emptyTables } ≡ proposalOf t
   unfolding proposalOf newProposal
-  stopped-as n e z = let b : eqb (proposalFault t) 0 ≡ false = ap (λ (m : ℕ). eqb m 0) e ∙ ne-eqb n 0 z in rw (b, e) refl
+  stopped-as n e z = let b : eqb (proposeFault t) 0 ≡ false = ap (λ (m : ℕ). eqb m 0) e ∙ ne-eqb n 0 z in rw (b, e) refl
 
   module _ (made : Joined) (e : made ≡ newOutcome (t .edits) (t .constraints) (t .oldedits) (t .oldconstraints)) where
     pub tables-stop : (made .number ≡ 0 → ⊥) → made ≡ proposalOf t
@@ -50,7 +50,7 @@ module _ (t : proposal.Lent) where
         pub made-whole : made .after .constraintcount ≤ length (t .newconstraints) → made ≡ proposalOf t
         unfolding proposalOf
         made-whole i =
-            let a : made .number ≡ proposalFault t = z ∙ sym (accepted t made e z h i) in
+            let a : made .number ≡ proposeFault t = z ∙ sym (proposal-accepted t made e z h i) in
             let b : made .after ≡ stored (newProposal t) = new-held t made e z ∙ ap stored (sym (given-new t made e z h i)) in
             λ j. record { number = a j; after = b j }
 
@@ -82,12 +82,12 @@ module _ (L : Lent) (k old n m : ℕ) where
       constraint-room = length-replicate m []
 
       module _ (z : made .number ≡ 0) where
-        pub few-edits : n < made .after .editcount → {r : Joined} → r ≡ record { number = 12; after = stored emptyTables } → r ≡ proposalIn L k old n m
-        few-edits l p = inside (edits-short (tablesOf L k old n m) made lent z (rw edit-room l) p)
+        pub lent-few-edits : n < made .after .editcount → {r : Joined} → r ≡ record { number = 12; after = stored emptyTables } → r ≡ proposalIn L k old n m
+        lent-few-edits l p = inside (edits-short (tablesOf L k old n m) made lent z (rw edit-room l) p)
 
         module _ (l : made .after .editcount ≤ n) where
-          pub few-constraints : m < made .after .constraintcount → {r : Joined} → r ≡ record { number = 12; after = stored emptyTables } → r ≡ proposalIn L k old n m
-          few-constraints g p = inside (constraints-short (tablesOf L k old n m) made lent z (rw edit-room l) (rw constraint-room g) p)
+          pub lent-few-constraints : m < made .after .constraintcount → {r : Joined} → r ≡ record { number = 12; after = stored emptyTables } → r ≡ proposalIn L k old n m
+          lent-few-constraints g p = inside (constraints-short (tablesOf L k old n m) made lent z (rw edit-room l) (rw constraint-room g) p)
 
-          pub whole : made .after .constraintcount ≤ m → made ≡ proposalIn L k old n m
-          whole g = inside (made-whole (tablesOf L k old n m) made lent z (rw edit-room l) (rw constraint-room g))
+          pub proposal-whole : made .after .constraintcount ≤ m → made ≡ proposalIn L k old n m
+          proposal-whole g = inside (made-whole (tablesOf L k old n m) made lent z (rw edit-room l) (rw constraint-room g))

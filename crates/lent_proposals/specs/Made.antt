@@ -7,11 +7,11 @@ use Rattle.record.specs.Stored.{stored}
 use Rattle.table.specs.Table.{emptyTables}
 use Rattle.join.specs.declared.Joined.{Joined}
 use Rattle.propose.specs.Propose as proposal
-use Rattle.propose.specs.Propose.{proposalFault, newProposal}
+use Rattle.propose.specs.Propose.{proposeFault, newProposal}
 use Rattle.lending.specs.Lent.{Lent, isLent}
 
 -- from record k and the old proposal, into tables of n and m places
-abbrev pub tablesOf : Lent → ℕ → ℕ → ℕ → ℕ → proposal.Lent
+abbrev pub tablesOf : Lent → ℕ → ℕ → ℕ → ℕ → proposal.LentToPropose
 tablesOf L k old n m = record {
   edits = L .edits k;
   constraints = L .constraints k;
@@ -22,8 +22,8 @@ tablesOf L k old n m = record {
 }
 
 -- the number, and the new proposal; the empty record where it is refused
-unfoldable pub proposalOf : proposal.Lent → Joined
-proposalOf t = record { number = proposalFault t; after = stored (newProposal t) }
+unfoldable pub proposalOf : proposal.LentToPropose → Joined
+proposalOf t = record { number = proposeFault t; after = stored (newProposal t) }
 
 unfoldable pub proposalIn : Lent → ℕ → ℕ → ℕ → ℕ → Joined
 proposalIn L k old n m = cond (isLent k && isLent old) (proposalOf (tablesOf L k old n m)) (record { number = 2; after = stored emptyTables })

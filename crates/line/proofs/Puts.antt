@@ -15,14 +15,14 @@ use Rattle.line.specs.Line.{setForm, editForm, ruleForm, editLine, const
 
 -- what is said of one text, said of an equal one
 module _ (v w : List ℕ) (e : v ≡ w) where
-  pub length-as : {r : ℕ} → r ≡ length w → r ≡ length v
-  length-as p = rw e p
+  pub line-length-as : {r : ℕ} → r ≡ length w → r ≡ length v
+  line-length-as p = rw e p
 
-  pub fits-as : (out : List ℕ) → length v ≤ length out → length w ≤ length out
-  fits-as out h = rw e at h
+  pub line-fits-as : (out : List ℕ) → length v ≤ length out → length w ≤ length out
+  line-fits-as out h = rw e at h
 
-  pub written-as : (out : List ℕ) {r : ℕ} {after : List ℕ} → Written w out r after → Written v out r after
-  written-as out p = rw e p
+  pub line-written-as : (out : List ℕ) {r : ℕ} {after : List ℕ} → Written w out r after → Written v out r after
+  line-written-as out p = rw e p
 
 pub fill-as : (f g ns : List ℕ) → f ≡ g → fill f ns ≡ fill g ns
 fill-as f g ns e = rw e

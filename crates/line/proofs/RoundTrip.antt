@@ -14,7 +14,7 @@ use Rattle.lists.specs.Lists.{all, mem}
 use Rattle.lists.proofs.Lists.{by, clash, and-l, and-r}
 use Rattle.form.specs.Spelling.{bytes, numberSpelling, nameSpelling, answerSpelling}
 use Rattle.form.specs.Form.{isMark, spelling, fill, taken}
-use Rattle.form.proofs.Forms.{slots, spelled-all, separate, differ, taken-fill, fill-taken, taken-other, room, Small, fill-room, oneLine, Ended, fill-ended}
+use Rattle.form.proofs.Forms.{slots, spelled-all, separate, differ, taken-fill, fill-taken, taken-other, room, AllSmall, fill-room, oneLine, Ended, fill-ended}
 use Rattle.line.specs.Line.{setForm, editForm, ruleForm, editLine, constraintLine, editSaid, constraintSaid, faulty, Shape, editShape, ruleShape, setShapes, ruleShapes, shapes, fitsWord, said, readAs, readBy, lineRead, lineLimit}
 use Rattle.line.specs.Row.{isEditRow, isConstraintRow}
 use Rattle.line.specs.Lines.{lines}
@@ -79,7 +79,7 @@ edit-line-first row rest = line-of-ended (editLine row) rest (edit-line-ended ro
 pub constraint-line-first : (row rest : List ℕ) → lines (constraintLine row ++ rest) ≡ constraintLine row ∷ lines rest
 constraint-line-first row rest = line-of-ended (constraintLine row) rest (constraint-line-ended row)
 
-short : (f ns : List ℕ) → fine f ≡ true → Small ns → length (fill f ns) ≤ lineLimit
+short : (f ns : List ℕ) → fine f ≡ true → AllSmall ns → length (fill f ns) ≤ lineLimit
 short f ns h s = omega (arith, fill-room f ns s, ltb-true (room f) 102 (and-r (oneLine f) (ltb (room f) 102) h))
 
 cell-small : (row : List ℕ) (i : ℕ) → all fitsWord row ≡ true → getD row i 0 < 4294967296

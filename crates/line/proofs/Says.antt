@@ -13,12 +13,12 @@ use Rattle.lists.proofs.Lists.{by, clash, and-l, and-r}
 use Rattle.decimal.specs.Decimal.{saturated, numeralSize}
 use Rattle.decimal.proofs.RoundTrip.{saturated-same}
 use Rattle.form.specs.Spelling.{bytes, nameSpelling, numberSpelling}
-use Rattle.form.specs.Form.{isMark, spelling, taken, told}
+use Rattle.form.specs.Form.{isMark, spelling, taken, filledOf}
 use Rattle.form.specs.declared.Filled.{Filled}
 use Rattle.form.proofs.Forms.{slots, fill-taken}
 use Rattle.line.specs.Line.{setForm, editForm, ruleForm, editSaid, constraintSaid, faulty, Shape, editShape, ruleShape, setShapes, ruleShapes, shapes, fitsWord, said, readAs, orElse, readBy, lineRead, lineLimit}
 use Rattle.line.specs.declared.Line.{Line}
-use Rattle.line.proofs.Signs.{ends, ends-run, ends-number, otherwise, Sign, sign, Shows, ruledOut, ruled-out, allBut, third-sign, letter}
+use Rattle.line.proofs.Signs.{line-ends, ends-run, ends-number, otherwise, Sign, sign, Shows, ruledOut, ruled-out, allBut, third-sign, letter}
 
 -- the last arm of a match stands for all numbers from there on
 pub set-rest : (n : ℕ) → n ≢ 0 → n ≢ 1 → n ≢ 2 → setForm n ≡ setForm 3
@@ -40,7 +40,7 @@ rule-rest zero a b = absurd (a refl)
 rule-rest (suc zero) a b = absurd (b refl)
 rule-rest (suc (suc n)) a b = refl
 
-pub filled-as : (f g s : List ℕ) {r : Filled} → f ≡ g → r ≡ told (taken g s) → r ≡ told (taken f s)
+pub filled-as : (f g s : List ℕ) {r : Filled} → f ≡ g → r ≡ filledOf (taken g s) → r ≡ filledOf (taken f s)
 filled-as f g s e p = rw e p
 
 -- how many numbers the forms take
@@ -94,11 +94,11 @@ third-none (a ∷ b ∷ []) h = refl
 third-none (a ∷ b ∷ c ∷ ns) h = absurd (omega arith)
 
 -- What the code's answer says of a form with at most three numbers.
-pub no-fit : (o : Option (List ℕ)) → (told o) .fits ≡ false → o ≡ none
+pub no-fit : (o : Option (List ℕ)) → (filledOf o) .fits ≡ false → o ≡ none
 no-fit none e = refl
 no-fit (some ns) e = clash refl e
 
-pub fit : {P : Type 0} (o : Option (List ℕ)) → (told o) .fits ≡ true → ((ns : List ℕ) → o ≡ some ns → P) → P
+pub fit : {P : Type 0} (o : Option (List ℕ)) → (filledOf o) .fits ≡ true → ((ns : List ℕ) → o ≡ some ns → P) → P
 fit none e k = clash e refl
 fit (some ns) e k = k ns refl
 
@@ -108,7 +108,7 @@ kept-small n m e h = let l : n < 4294967296 = omega arith in (lt-ltb n 429496729
 kept-large : (n m : ℕ) → m ≡ saturated n → 4294967295 < m → fitsWord n ≡ false
 kept-large n m e h = le-ltb n 4294967296 (omega arith)
 
-module _ (shape : Shape) (s : List ℕ) {t : Filled} (e : t ≡ told (taken (shape .form) s)) where
+module _ (shape : Shape) (s : List ℕ) {t : Filled} (e : t ≡ filledOf (taken (shape .form) s)) where
   pub not-said : t .fits ≡ false → faulty 1 ≡ readAs shape s
   unfolding readAs
   not-said h = rw (no-fit (taken (shape .form) s) (sym (ap (λ (x : Filled). x .fits) e) ∙ h))
@@ -118,7 +118,7 @@ module _ (shape : Shape) (s : List ℕ) {t : Filled} (e : t ≡ told (taken (sha
         → getD (t .numbers) 0 0 ≡ saturated (getD ns 0 0) → getD (t .numbers) 1 0 ≡ saturated (getD ns 1 0) → getD (t .numbers) 2 0 ≡ saturated (getD ns 2 0) → P) → P
     taken-by k =
         fit (taken (shape .form) s) (sym (ap (λ (x : Filled). x .fits) e) ∙ h)
-        (λ ns q. let r : t .numbers ≡ take 8 (map saturated ns ++ replicate 8 0) = ap (λ (x : Filled). x .numbers) (e ∙ ap told q) in
+        (λ ns q. let r : t .numbers ≡ take 8 (map saturated ns ++ replicate 8 0) = ap (λ (x : Filled). x .numbers) (e ∙ ap filledOf q) in
         let m : length ns ≡ slots (shape .form) = fill-taken (shape .form) s ns q .0 in
         k ns q (omega arith) (rw r (kept-first ns)) (rw r (kept-second ns)) (rw r (kept-third ns)))
 
@@ -149,13 +149,13 @@ module _ (shape : Shape) (s : List ℕ) {t : Filled} (e : t ≡ told (taken (sha
         k ns (u .1) (v .1) (w .1) (rw (q, all-three ns m, u .0, v .0, w .0)))
 
 -- one form
-pub edit-said : (kind field : ℕ) (s : List ℕ) {t : Filled} → t ≡ told (taken (editForm kind field) s) → t .fits ≡ true
+pub edit-said : (kind field : ℕ) (s : List ℕ) {t : Filled} → t ≡ filledOf (taken (editForm kind field) s) → t .fits ≡ true
     → getD (t .numbers) 0 0 ≤ 4294967295 → getD (t .numbers) 1 0 ≤ 4294967295 → getD (t .numbers) 2 0 ≤ 4294967295
     → editSaid (getD (t .numbers) 0 0 ∷ kind ∷ getD (t .numbers) 1 0 ∷ field ∷ getD (t .numbers) 2 0 ∷ []) ≡ readAs (editShape kind field) s
 edit-said kind field s e h x y z =
     all-small (editShape kind field) s e (edit-slots kind field) h x y z (λ ns a b c q. rw (a, b, c) q)
 
-pub rule-said : (rule : ℕ) (s : List ℕ) {t : Filled} → t ≡ told (taken (ruleForm rule) s) → t .fits ≡ true
+pub rule-said : (rule : ℕ) (s : List ℕ) {t : Filled} → t ≡ filledOf (taken (ruleForm rule) s) → t .fits ≡ true
     → getD (t .numbers) 0 0 ≤ 4294967295 → getD (t .numbers) 1 0 ≤ 4294967295
     → constraintSaid (getD (t .numbers) 0 0 ∷ rule ∷ getD (t .numbers) 1 0 ∷ []) ≡ readAs (ruleShape rule) s
 rule-said rule s {t} e h x y =
@@ -204,15 +204,15 @@ module _ (signs : List Sign) (s : List ℕ) (w : Shows signs s) {r : Line} where
 -- the places that the code computes
 module _ (s : List ℕ) where
   module _ (name : ℕ) (p : name ≡ 5 + numeralSize (drop 5 s)) where
-    edit-place : name + 4 ≡ ends (bytes "edit=@ do=") 0 s
+    edit-place : name + 4 ≡ line-ends (bytes "edit=@ do=") 0 s
     unfolding bytes all isMark spelling nameSpelling numberSpelling
     edit-place = sym (ends-number (bytes "edit=") 64 (bytes " do=") 0 s refl refl p ∙ ends-run (bytes " do=") name s refl)
 
-    rule-place : name + 8 ≡ ends (bytes "left=@ rule=..") 0 s
+    rule-place : name + 8 ≡ line-ends (bytes "left=@ rule=..") 0 s
     unfolding bytes all isMark spelling nameSpelling numberSpelling
     rule-place = sym (ends-number (bytes "left=") 64 (bytes " rule=..") 0 s refl refl p ∙ ends-run (bytes " rule=..") name s refl)
 
-    set-place : {chip : ℕ} → chip ≡ name + 13 + numeralSize (drop (name + 13) s) → chip + 7 ≡ ends (bytes "edit=@ do=set chip=# field=") 0 s
+    set-place : {chip : ℕ} → chip ≡ name + 13 + numeralSize (drop (name + 13) s) → chip + 7 ≡ line-ends (bytes "edit=@ do=set chip=# field=") 0 s
     unfolding bytes all isMark spelling nameSpelling numberSpelling
     set-place {chip} q =
         sym (ends-number (bytes "edit=") 64 (bytes " do=set chip=# field=") 0 s refl refl p ∙ ends-number (bytes " do=set chip=") 35 (bytes " field=") name s refl refl q

@@ -20,14 +20,14 @@ use Rattle.decimal.proofs.Laws.{number-short}
 use Rattle.decimal.proofs.RoundTrip.{size-nothing}
 use Rattle.form.specs.Spelling.{bytes}
 use Rattle.line.specs.Line.{lineLimit}
-use Rattle.form.specs.Form.{isMark, spelling, more, starts, taken}
+use Rattle.form.specs.Form.{isMark, spelling, more, beginsWith, taken}
 use Rattle.form.proofs.Lawful.{lawful}
 use Rattle.form.proofs.Forms.{mark-taken, mark-missing, byte-taken, byte-missing, plain}
 
 -- where the beginning of a form ends in a text, if it starts at a place
-unfoldable pub ends : List ℕ → ℕ → List ℕ → ℕ
-ends [] at s = at
-ends (c ∷ beginning) at s = cond (isMark c) (ends beginning (at + (spelling c) .size (drop at s)) s) (ends beginning (at + 1) s)
+unfoldable pub line-ends : List ℕ → ℕ → List ℕ → ℕ
+line-ends [] at s = at
+line-ends (c ∷ beginning) at s = cond (isMark c) (line-ends beginning (at + (spelling c) .size (drop at s)) s) (line-ends beginning (at + 1) s)
 
 -- the byte of a form is another, or a mark that does not begin so
 abbrev refuses : ℕ → ℕ → Bool
@@ -47,7 +47,7 @@ mark-refuses : (x : ℕ) (s : List ℕ) → not ((spelling x) .begins (getD s 0 
 mark-refuses x [] h = lawful x .nothing
 mark-refuses x (d ∷ s) h = lawful x .other d s (not-true ((spelling x) .begins d) h)
 
-byte-refuses : (x : ℕ) (s : List ℕ) → not (eqb (getD s 0 0) x) ≡ true → starts x s ≡ false
+byte-refuses : (x : ℕ) (s : List ℕ) → not (eqb (getD s 0 0) x) ≡ true → beginsWith x s ≡ false
 byte-refuses x [] h = refl
 byte-refuses x (d ∷ s) h = ne-eqb x d (λ e. eqb-false d x (not-true (eqb d x) h) (sym e))
 
@@ -69,18 +69,18 @@ module _ (x : ℕ) (form : List ℕ) (at : ℕ) (s : List ℕ) where
 
   byte-passed : isMark x ≡ false → taken form (drop (at + 1) s) ≡ none → taken (x ∷ form) (drop at s) ≡ none
   byte-passed m q =
-      by (starts x (drop at s))
-      (λ (b : starts x (drop at s) ≡ true).
+      by (beginsWith x (drop at s))
+      (λ (b : beginsWith x (drop at s) ≡ true).
       let e : taken form (drop 1 (drop at s)) ≡ none = rw (drop-drop 1 at s) q in
       byte-taken x form m (drop at s) b ∙ e)
-      (λ (b : starts x (drop at s) ≡ false). byte-missing x form m (drop at s) b)
+      (λ (b : beginsWith x (drop at s) ≡ false). byte-missing x form m (drop at s) b)
 
 here : (at : ℕ) (s : List ℕ) → getD s at 0 ≡ getD (drop at s) 0 0
 here at s = let e : at + 0 ≡ at = omega arith in sym (getD-drop at s 0 0 ∙ ap (λ (n : ℕ). getD s n 0) e)
 
 -- the law: a form with another byte after the beginning does not take the text
-otherwise-none : (beginning form : List ℕ) (at : ℕ) (s : List ℕ) → otherwise beginning (getD s (ends beginning at s) 0) form ≡ true → taken form (drop at s) ≡ none
-unfolding otherwise ends
+otherwise-none : (beginning form : List ℕ) (at : ℕ) (s : List ℕ) → otherwise beginning (getD s (line-ends beginning at s) 0) form ≡ true → taken form (drop at s) ≡ none
+unfolding otherwise line-ends
 otherwise-none [] [] at s h = clash h refl
 otherwise-none [] (x ∷ form) at s h = refused x form (drop at s) (rw (here at s) at h)
 otherwise-none (y ∷ beginning) [] at s h = clash h refl
@@ -88,31 +88,31 @@ otherwise-none (y ∷ beginning) (x ∷ form) at s h =
     by (isMark y)
     (λ (m : isMark y ≡ true).
     let n = at + (spelling y) .size (drop at s) in
-    let g : (eqb y x && otherwise beginning (getD s (ends beginning n s) 0) form) ≡ true = rw m at h in
-    let e : y ≡ x = eqb-true y x (and-l (eqb y x) (otherwise beginning (getD s (ends beginning n s) 0) form) g) in
-    rw (← e) (mark-passed y form at s m (otherwise-none beginning form n s (and-r (eqb y x) (otherwise beginning (getD s (ends beginning n s) 0) form) g))))
+    let g : (eqb y x && otherwise beginning (getD s (line-ends beginning n s) 0) form) ≡ true = rw m at h in
+    let e : y ≡ x = eqb-true y x (and-l (eqb y x) (otherwise beginning (getD s (line-ends beginning n s) 0) form) g) in
+    rw (← e) (mark-passed y form at s m (otherwise-none beginning form n s (and-r (eqb y x) (otherwise beginning (getD s (line-ends beginning n s) 0) form) g))))
     (λ (m : isMark y ≡ false).
-    let g : (not (isMark x) && otherwise beginning (getD s (ends beginning (at + 1) s) 0) form) ≡ true = rw m at h in
-    byte-passed x form at s (not-true (isMark x) (and-l (not (isMark x)) (otherwise beginning (getD s (ends beginning (at + 1) s) 0) form) g))
-    (otherwise-none beginning form (at + 1) s (and-r (not (isMark x)) (otherwise beginning (getD s (ends beginning (at + 1) s) 0) form) g)))
+    let g : (not (isMark x) && otherwise beginning (getD s (line-ends beginning (at + 1) s) 0) form) ≡ true = rw m at h in
+    byte-passed x form at s (not-true (isMark x) (and-l (not (isMark x)) (otherwise beginning (getD s (line-ends beginning (at + 1) s) 0) form) g))
+    (otherwise-none beginning form (at + 1) s (and-r (not (isMark x)) (otherwise beginning (getD s (line-ends beginning (at + 1) s) 0) form) g)))
 
 -- a run of bytes without a mark
-ends-plain : (run beginning : List ℕ) (at : ℕ) (s : List ℕ) → plain run ≡ true → ends (run ++ beginning) at s ≡ ends beginning (at + length run) s
-unfolding ends all
-ends-plain [] beginning at s h = let e : at ≡ at + 0 = omega arith in ap (λ (n : ℕ). ends beginning n s) e
+ends-plain : (run beginning : List ℕ) (at : ℕ) (s : List ℕ) → plain run ≡ true → line-ends (run ++ beginning) at s ≡ line-ends beginning (at + length run) s
+unfolding line-ends all
+ends-plain [] beginning at s h = let e : at ≡ at + 0 = omega arith in ap (λ (n : ℕ). line-ends beginning n s) e
 ends-plain (c ∷ run) beginning at s h =
     let m : isMark c ≡ false = not-true (isMark c) (and-l (not (isMark c)) (plain run) h) in
     let e : at + 1 + length run ≡ at + length (c ∷ run) = omega arith in
-    rw m (ends-plain run beginning (at + 1) s (and-r (not (isMark c)) (plain run) h) ∙ ap (λ (n : ℕ). ends beginning n s) e)
+    rw m (ends-plain run beginning (at + 1) s (and-r (not (isMark c)) (plain run) h) ∙ ap (λ (n : ℕ). line-ends beginning n s) e)
 
-pub ends-run : (run : List ℕ) (at : ℕ) (s : List ℕ) → plain run ≡ true → ends run at s ≡ at + length run
-unfolding ends
-ends-run run at s h = ap (λ (l : List ℕ). ends l at s) (sym (append-nil run)) ∙ ends-plain run [] at s h
+pub ends-run : (run : List ℕ) (at : ℕ) (s : List ℕ) → plain run ≡ true → line-ends run at s ≡ at + length run
+unfolding line-ends
+ends-run run at s h = ap (λ (l : List ℕ). line-ends l at s) (sym (append-nil run)) ∙ ends-plain run [] at s h
 
 -- a run and the number after it
 pub ends-number : (run : List ℕ) (mark : ℕ) (beginning : List ℕ) (at : ℕ) (s : List ℕ) {end : ℕ} → plain run ≡ true → isMark mark ≡ true
-    → end ≡ at + length run + (spelling mark) .size (drop (at + length run) s) → ends (run ++ (mark ∷ beginning)) at s ≡ ends beginning end s
-unfolding ends
+    → end ≡ at + length run + (spelling mark) .size (drop (at + length run) s) → line-ends (run ++ (mark ∷ beginning)) at s ≡ line-ends beginning end s
+unfolding line-ends
 ends-number run mark beginning at s h m e = ends-plain run (mark ∷ beginning) at s h ∙ rw (m, e)
 
 pub record Sign : Type 0 where
@@ -125,7 +125,7 @@ sign beginning byte = record { after = bytes beginning; byte = byte }
 -- the text shows these signs
 abbrev pub Shows : List Sign → List ℕ → Type 0
 Shows [] s = Unit
-Shows (sign ∷ signs) s = (getD s (ends (sign .after) 0 s) 0 ≡ sign .byte) × Shows signs s
+Shows (sign ∷ signs) s = (getD s (line-ends (sign .after) 0 s) 0 ≡ sign .byte) × Shows signs s
 
 -- a form that one of them rules out
 unfoldable pub ruledOut : List Sign → List ℕ → Bool
@@ -142,8 +142,8 @@ ruled-out (sign ∷ signs) form s w h =
 
 -- the third letter, and one at a place that the code computes
 module _ (s : List ℕ) where
-  pub third-sign : (c : ℕ) → getD s 2 0 ≡ c → getD s (ends (bytes "..") 0 s) 0 ≡ c
-  unfolding bytes ends isMark
+  pub third-sign : (c : ℕ) → getD s 2 0 ≡ c → getD s (line-ends (bytes "..") 0 s) 0 ≡ c
+  unfolding bytes line-ends isMark
   third-sign c e = e
 
   pub letter : {n m x c : ℕ} → n ≡ m → x ≡ getD s n 0 → x ≡ c → getD s m 0 ≡ c

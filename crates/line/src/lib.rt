@@ -6,7 +6,7 @@ ghost use Prim.Native.Nat.{_+_, _≤_};
 ghost use lib.ListN.{length, drop, getD};
 ghost use Rattle.decimal.specs.Decimal.{decimal, numeralSize};
 ghost use Rattle.decimal.specs.Written.{Written};
-ghost use Rattle.form.specs.Form.{fill, taken, told};
+ghost use Rattle.form.specs.Form.{fill, taken, filledOf};
 ghost use Rattle.line.specs.Line.{setForm, editForm, ruleForm, editLine, constraintLine, faulty, editShape, ruleShape, shapes, readAs, readBy, lineLimit, lineRead};
 ghost use Rattle.line.specs.Lines.{firstLine};
 use form::Filled;
@@ -37,7 +37,7 @@ fn fault(number: u32) -> Line
 }
 
 fn fill_set(field: u32, bytes: &[u8]) -> Filled
-    ensures { λ r. ⌜ r ≡ told (taken (setForm field) (now (bytes .entry))) ⌝ }
+    ensures { λ r. ⌜ r ≡ filledOf (taken (setForm field) (now (bytes .entry))) ⌝ }
 {
     match field {
         0 => form::read_form(b"edit=@ do=set chip=# field=id value=#\n", bytes),
@@ -48,7 +48,7 @@ fn fill_set(field: u32, bytes: &[u8]) -> Filled
 }
 
 fn fill_edit(kind: u32, field: u32, bytes: &[u8]) -> Filled
-    ensures { λ r. ⌜ r ≡ told (taken (editForm kind field) (now (bytes .entry))) ⌝ }
+    ensures { λ r. ⌜ r ≡ filledOf (taken (editForm kind field) (now (bytes .entry))) ⌝ }
 {
     match kind {
         0 => form::read_form(b"edit=@ do=insert chip=#\n", bytes),
@@ -58,7 +58,7 @@ fn fill_edit(kind: u32, field: u32, bytes: &[u8]) -> Filled
 }
 
 fn fill_rule(rule: u32, bytes: &[u8]) -> Filled
-    ensures { λ r. ⌜ r ≡ told (taken (ruleForm rule) (now (bytes .entry))) ⌝ }
+    ensures { λ r. ⌜ r ≡ filledOf (taken (ruleForm rule) (now (bytes .entry))) ⌝ }
 {
     match rule {
         0 => form::read_form(b"left=@ rule=notafter right=@\n", bytes),

@@ -5,10 +5,10 @@ use Prim.Native.Nat.{ℕ, zero, suc, max, _+_, _-_, _≤_, _<_}
 use native.Mathlib.Omega.{arith}
 use lib.ListN.{length, getD, take, set, replicate, length-set}
 use lib.Seq.{getD-set-same, getD-set-other, getD-take, length-take-le}
-use Rattle.lists.proofs.Lists.{is-by, le-by, mem-at}
-use Rattle.lists.specs.Lists.{at}
+use Rattle.lists.proofs.Lists.{is-by, le-by, mem-index}
+use Rattle.lists.specs.Lists.{indexOf}
 use Rattle.record.specs.Record.{Record, names, notafter}
-use Rattle.links.specs.Links.{headAt, leftAt, withRow, First, Next, LeftEnd, Linked, Leads}
+use Rattle.links.specs.Links.{headAt, leftAt, withRow, FirstRow, NextRow, LeftEnd, LinkedByKey, Leads}
 use Rattle.links.specs.Reversed.{Reversed, Noted, Noting}
 use Rattle.links.proofs.Links.{along-start, Looking, looking-start, looking-step, Linking, linking-step, linking-end}
 use Rattle.links.proofs.Marks.{set-below}
@@ -20,10 +20,10 @@ pub record Noter (rows : List ℕ) (b : ℕ) (lefts rights : List ℕ) (j : ℕ)
   pub left-low : ((i : ℕ) → getD lefts i 0 < 384) → (i : ℕ) → getD lefts′ i 0 < 384
   pub right-low : ((i : ℕ) → getD rights i 0 < 128) → (i : ℕ) → getD rights′ i 0 < 128
   pub along : Looking rows b (λ i. Noted rows lefts′ rights′ i b) j
-  pub kept : (keys : List ℕ) → Linked keys rows → (i y : ℕ) → i < length keys → (getD keys i 0 ≡ b → ⊥) → Noted rows lefts rights i y → Noted rows lefts′ rights′ i y
+  pub kept : (keys : List ℕ) → LinkedByKey keys rows → (i y : ℕ) → i < length keys → (getD keys i 0 ≡ b → ⊥) → Noted rows lefts rights i y → Noted rows lefts′ rights′ i y
 
 module _ (rows : List ℕ) (b : ℕ) (l : b < 128) (lefts rights : List ℕ) where
-  pub noter-start : (j : ℕ) → First rows b j → Noter rows b lefts rights j lefts rights
+  pub noter-start : (j : ℕ) → FirstRow rows b j → Noter rows b lefts rights j lefts rights
   noter-start j e = record {
     left-size = refl;
     right-size = refl;
@@ -39,7 +39,7 @@ module _ (rows : List ℕ) (b : ℕ) (l : b < 128) (lefts rights : List ℕ) whe
   noted-other : (ls rs : List ℕ) (i j v y : ℕ) → (i ≡ j → ⊥) → Noted rows ls rs i y → Noted rows (set ls j v) (set rs j b) i y
   noted-other ls rs i j v y n w = (getD-set-other ls j i v 0 n ∙ w .0, getD-set-other rs j i b 0 n ∙ w .1)
 
-  pub noter-step : (ls rs : List ℕ) (j j′ v : ℕ) → length lefts ≡ 1024 → length rights ≡ 1024 → 0 < j → j ≤ 1024 → Next rows j j′ → LeftEnd rows j v
+  pub noter-step : (ls rs : List ℕ) (j j′ v : ℕ) → length lefts ≡ 1024 → length rights ≡ 1024 → 0 < j → j ≤ 1024 → NextRow rows j j′ → LeftEnd rows j v
       → Noter rows b lefts rights j ls rs → Noter rows b lefts rights j′ (set ls (j - 1) v) (set rs (j - 1) b)
   noter-step ls rs j j′ v a c h k e q w =
       let u : j - 1 < length ls = omega (arith, w .left-size) in
@@ -72,7 +72,7 @@ pub record Reversing (rows : List ℕ) (b count : ℕ) (lefts rights : List ℕ)
   pub right-low : (i : ℕ) → getD rights i 0 < 128
   pub few : count ≤ 1024
   pub below : (y : ℕ) → y < b → headAt rows y ≤ count
-  pub noted : (keys : List ℕ) → Linked keys rows → (i : ℕ) → i < length keys → getD keys i 0 < b → Noted rows lefts rights i (getD keys i 0)
+  pub noted : (keys : List ℕ) → LinkedByKey keys rows → (i : ℕ) → i < length keys → getD keys i 0 < b → Noted rows lefts rights i (getD keys i 0)
 
 fill-below : (c v b i : ℕ) → v < b → getD (replicate c v) i 0 < b
 fill-below zero v b i h = omega arith
@@ -91,7 +91,7 @@ module _ (rows : List ℕ) where
     noted = λ keys g i u h. absurd (omega arith);
   }
 
-  pub reversing-step : (b head count count′ : ℕ) (lefts rights lefts′ rights′ : List ℕ) → First rows b head → count′ ≡ max count head
+  pub reversing-step : (b head count count′ : ℕ) (lefts rights lefts′ rights′ : List ℕ) → FirstRow rows b head → count′ ≡ max count head
       → Reversing rows b count lefts rights → Noting rows b lefts rights lefts′ rights′ → Reversing rows (b + 1) count′ lefts′ rights′
   reversing-step b head count count′ lefts rights lefts′ rights′ h e w t = record {
     left-size = t .left-size ∙ w .left-size;
@@ -105,17 +105,17 @@ module _ (rows : List ℕ) where
 
   -- each row of notafter stands among the first `count` rows
   pub reversing-end : (R : Record) (n count : ℕ) (lefts rights reversed : List ℕ) → Leads (notafter R) R 0 rows → n ≡ length (names R)
-      → Reversing rows n count lefts rights → Linked (take count lefts) reversed → ((i : ℕ) → i < count → leftAt reversed i ≡ getD rights i 0) → Reversed R reversed
+      → Reversing rows n count lefts rights → LinkedByKey (take count lefts) reversed → ((i : ℕ) → i < count → leftAt reversed i ≡ getD rights i 0) → Reversed R reversed
   reversing-end R n count lefts rights reversed g q w k e = record {
     keys = take count lefts;
     linked = k;
     row-of = λ a b h. let r = g .row-of a b h in
-        let d = mem-at b (names R) (r .right-known) in
-        let z : getD (g .keys) (r .row) 0 ≡ at b (names R) = omega (arith, r .key) in
+        let d = mem-index b (names R) (r .right-known) in
+        let z : getD (g .keys) (r .row) 0 ≡ indexOf b (names R) = omega (arith, r .key) in
         let u = w .noted (g .keys) (g .linked) (r .row) (r .low) (omega arith) in
-        let f = w .below (at b (names R)) (omega arith) in
-        let v : r .row < count = le-by (headAt rows (at b (names R))) (r .row)
-        (λ p. absurd (along-start (g .keys) rows (g .linked) (at b (names R)) (headAt rows (at b (names R))) (λ i. ⊥) (omega (arith, g .few)) (refl, omega (arith, w .few)) .passed (r .row) p (r .low) z))
+        let f = w .below (indexOf b (names R)) (omega arith) in
+        let v : r .row < count = le-by (headAt rows (indexOf b (names R))) (r .row)
+        (λ p. absurd (along-start (g .keys) rows (g .linked) (indexOf b (names R)) (headAt rows (indexOf b (names R))) (λ i. ⊥) (omega (arith, g .few)) (refl, omega (arith, w .few)) .passed (r .row) p (r .low) z))
         (λ p. omega arith) in
         record {
           row = r .row;
@@ -123,7 +123,7 @@ module _ (rows : List ℕ) where
           left-known = r .right-known;
           right-known = r .left-known;
           left = e (r .row) v ∙ u .1 ∙ z;
-          key = let p : getD (take count lefts) (r .row) 0 ≡ at a (names R) = getD-take count lefts (r .row) 0 v ∙ u .0 ∙ r .left in omega arith;
+          key = let p : getD (take count lefts) (r .row) 0 ≡ indexOf a (names R) = getD-take count lefts (r .row) 0 v ∙ u .0 ∙ r .left in omega arith;
         };
   }
 
@@ -133,5 +133,5 @@ pub linking-more : (count : ℕ) (keys lefts rows : List ℕ) (j : ℕ) → coun
 linking-more count keys lefts rows j f l u size =
     linking-step (take count keys) lefts rows j (getD keys j 0) (getD lefts j 0) size (omega arith) u (getD-take count keys j 0 l) refl
 
-pub linking-all : (count : ℕ) (keys lefts rows : List ℕ) (j : ℕ) → count ≤ 1024 → length keys ≡ 1024 → j ≡ count → Linking (take count keys) lefts rows j → Linked (take count keys) rows
+pub linking-all : (count : ℕ) (keys lefts rows : List ℕ) (j : ℕ) → count ≤ 1024 → length keys ≡ 1024 → j ≡ count → Linking (take count keys) lefts rows j → LinkedByKey (take count keys) rows
 linking-all count keys lefts rows j f size e = linking-end (take count keys) lefts rows j (e ∙ sym (length-take-le count keys (omega arith)))

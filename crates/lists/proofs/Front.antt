@@ -1,4 +1,4 @@
--- The first elements of an array, one after the other: tests of some or every element, and what is sifted. Assumes nothing.
+-- The first elements of an array, one after the other: tests of some or every element, and what is filtered. Assumes nothing.
 use mathlib.Core.Path.{_≡_, refl, ap}
 use mathlib.Core.Bool.{Bool, true, false, _&&_}
 use mathlib.Core.List.{List, [], _∷_, _++_, append-nil}
@@ -7,7 +7,7 @@ use native.Mathlib.Omega.{arith}
 use native.Mathlib.Numerals.{add-one}
 use lib.ListN.{length, take, getD}
 use lib.Seq.{take-suc, length-take-le, getD-take}
-use Rattle.lists.specs.Lists.{any, all, sift}
+use Rattle.lists.specs.Lists.{any, all, filter}
 use Rattle.lists.proofs.Tests.{by, clash}
 use Rattle.lists.proofs.Logic.{any-append, any-has, all-has, has-getD}
 
@@ -20,15 +20,15 @@ module _ {A : Type 0} (f : A → Bool) where
   all-append [] t = refl
   all-append (x ∷ s) t = by (f x) (λ e. rw e (all-append s t)) (λ e. rw e)
 
-  pub sift-append : (s t : List A) → sift f (s ++ t) ≡ sift f s ++ sift f t
-  unfolding sift
-  sift-append [] t = refl
-  sift-append (x ∷ s) t = by (f x) (λ e. rw e (ap (λ r. x ∷ r) (sift-append s t))) (λ e. rw e (sift-append s t))
+  pub filter-append : (s t : List A) → filter f (s ++ t) ≡ filter f s ++ filter f t
+  unfolding filter
+  filter-append [] t = refl
+  filter-append (x ∷ s) t = by (f x) (λ e. rw e (ap (λ r. x ∷ r) (filter-append s t))) (λ e. rw e (filter-append s t))
 
-  pub sift-length : (l : List A) → length (sift f l) ≤ length l
-  unfolding sift
-  sift-length [] = omega arith
-  sift-length (x ∷ l) = let h = sift-length l in by (f x) (λ e. rw e (omega arith)) (λ e. rw e (omega arith))
+  pub filter-length : (l : List A) → length (filter f l) ≤ length l
+  unfolding filter
+  filter-length [] = omega arith
+  filter-length (x ∷ l) = let h = filter-length l in by (f x) (λ e. rw e (omega arith)) (λ e. rw e (omega arith))
 
   module _ (a : List A) (i : ℕ) (d : A) (h : i < length a) where
     pub some-more : any f (take i a) ≡ false → f (getD a i d) ≡ false → any f (take (i + 1) a) ≡ false
@@ -39,13 +39,13 @@ module _ {A : Type 0} (f : A → Bool) where
     unfolding all
     all-more n e = rw (take-more a i d h, all-append, n, e)
 
-    pub sift-passed : f (getD a i d) ≡ true → sift f (take (i + 1) a) ≡ sift f (take i a) ++ (getD a i d ∷ [])
-    unfolding sift
-    sift-passed e = rw (take-more a i d h, sift-append, e)
+    pub filter-passed : f (getD a i d) ≡ true → filter f (take (i + 1) a) ≡ filter f (take i a) ++ (getD a i d ∷ [])
+    unfolding filter
+    filter-passed e = rw (take-more a i d h, filter-append, e)
 
-    pub sift-left : f (getD a i d) ≡ false → sift f (take (i + 1) a) ≡ sift f (take i a)
-    unfolding sift
-    sift-left e = rw (take-more a i d h, sift-append, e) (append-nil (sift f (take i a)))
+    pub filter-left : f (getD a i d) ≡ false → filter f (take (i + 1) a) ≡ filter f (take i a)
+    unfolding filter
+    filter-left e = rw (take-more a i d h, filter-append, e) (append-nil (filter f (take i a)))
 
   pub some-found : (a : List A) (n i : ℕ) (d : A) → i < n → n ≤ length a → f (getD a i d) ≡ true → any f (take n a) ≡ true
   some-found a n i d h l e =

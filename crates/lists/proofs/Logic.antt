@@ -6,7 +6,7 @@ use mathlib.Core.List.{List, [], _∷_, _++_, map}
 use Prim.Native.Nat.{ℕ, zero, suc, _<_}
 use native.Mathlib.Omega.{arith}
 use lib.ListN.{length, getD}
-use Rattle.lists.specs.Lists.{any, all, sift, Has}
+use Rattle.lists.specs.Lists.{any, all, filter, Has}
 use Rattle.lists.proofs.Tests.{by, clash, or-no-l, or-no-r, and-l, and-r}
 
 pub has-getD : {A : Type 0} (l : List A) (i : ℕ) (d : A) → i < length l → Has (getD l i d) l
@@ -69,17 +69,17 @@ module _ {A : Type 0} (f : A → Bool) where
   all-by [] h = refl
   all-by (x ∷ s) h = rw (h x (inl refl)) (all-by s (λ r m. h r (inr m)))
 
-  -- what is sifted
-  pub sift-from : (l : List A) (x : A) → Has x (sift f l) → Has x l × (f x ≡ true)
-  unfolding sift
-  sift-from [] x h = absurd h
-  sift-from (y ∷ l) x h =
+  -- what is filtered
+  pub filter-from : (l : List A) (x : A) → Has x (filter f l) → Has x l × (f x ≡ true)
+  unfolding filter
+  filter-from [] x h = absurd h
+  filter-from (y ∷ l) x h =
       by (f y)
-      (λ e. ⊎-elim (λ (q : x ≡ y). (inl q, rw q e)) (λ (q : Has x (sift f l)). let r = sift-from l x q in (inr (r .0), r .1)) (rw e at h))
-      (λ e. let r = sift-from l x (rw e at h) in (inr (r .0), r .1))
+      (λ e. ⊎-elim (λ (q : x ≡ y). (inl q, rw q e)) (λ (q : Has x (filter f l)). let r = filter-from l x q in (inr (r .0), r .1)) (rw e at h))
+      (λ e. let r = filter-from l x (rw e at h) in (inr (r .0), r .1))
 
-  pub sift-into : (l : List A) (x : A) → Has x l → f x ≡ true → Has x (sift f l)
-  unfolding sift
-  sift-into [] x h e = absurd h
-  sift-into (y ∷ l) x (inl q) e = let g : f y ≡ true = rw q at e in rw g (inl q)
-  sift-into (y ∷ l) x (inr h) e = let r = sift-into l x h e in by (f y) (λ g. rw g (inr r)) (λ g. rw g r)
+  pub filter-into : (l : List A) (x : A) → Has x l → f x ≡ true → Has x (filter f l)
+  unfolding filter
+  filter-into [] x h e = absurd h
+  filter-into (y ∷ l) x (inl q) e = let g : f y ≡ true = rw q at e in rw g (inl q)
+  filter-into (y ∷ l) x (inr h) e = let r = filter-into l x h e in by (f y) (λ g. rw g (inr r)) (λ g. rw g r)

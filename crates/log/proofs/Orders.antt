@@ -137,22 +137,22 @@ module _ (D : Desk) (order : Order) where
       (λ z. absurd (omega (arith, refused-place order z)))
 
 -- an effect, in memory and printed
-abbrev pub Done : ℕ → Bench → Lending → Rows → Rows → List ℕ → ℕ → List ℕ → ℕ → Effect → Type 0
-Done line bench lending edits constraints before at after end E = Holds (E .after) bench lending edits constraints × Printed (printedOf E line) before at after end
+abbrev pub Performed : ℕ → Bench → Lending → Rows → Rows → List ℕ → ℕ → List ℕ → ℕ → Effect → Type 0
+Performed line bench lending edits constraints before at after end E = Holds (E .after) bench lending edits constraints × Printed (printedOf E line) before at after end
 
 module _ (line : ℕ) {bench : Bench} {lending : Lending} {edits constraints : Rows} {before after : List ℕ} {at end : ℕ} where
-  pub done-as : {E F : Effect} → E ≡ F → Done line bench lending edits constraints before at after end F → Done line bench lending edits constraints before at after end E
+  pub done-as : {E F : Effect} → E ≡ F → Performed line bench lending edits constraints before at after end F → Performed line bench lending edits constraints before at after end E
   done-as q d = rw q d
 
   -- nothing changes, and the refusal is printed
   pub refused-done : (D : Desk) (number : ℕ) → (number ≡ 0 → ⊥) → Holds D bench lending edits constraints → Printed (answerLine 0 (number ∷ line ∷ [])) before at after end
-      → Done line bench lending edits constraints before at after end (tells D number [])
+      → Performed line bench lending edits constraints before at after end (tells D number [])
   unfolding printedOf
   refused-done D number z h p = let e : eqb number 0 ≡ false = ne-eqb number 0 z in (h, rw e p)
 
   -- a question
   pub asked-done : (D : Desk) (which : ℕ) (c : Cells) → Holds D bench lending edits constraints → Printed (askText which D) before at after end
-      → Done line bench lending edits constraints before at after end (askOf which D c)
+      → Performed line bench lending edits constraints before at after end (askOf which D c)
   unfolding askOf printedOf
   asked-done D which c h p = (h, p)
 
@@ -160,7 +160,7 @@ module _ (line : ℕ) {bench : Bench} {lending : Lending} {edits constraints : R
 module _ (D : Desk) (which : ℕ) (c : Cells) where
   pub vote-made : (line : ℕ) → which ≡ 2 → {bench : Bench} {lending : Lending} {edits constraints : Rows} {before after : List ℕ} {at end : ℕ} → bench ≡ benchIn D
       → Kept (voteOf 2 D c .after .lent) lending edits constraints × Printed (printedOf (voteOf 2 D c) line) before at after end
-      → Done line bench lending edits constraints before at after end (voteOf which D c)
+      → Performed line bench lending edits constraints before at after end (voteOf which D c)
   unfolding voteOf votes makeProposal benchIn ledgerOf
   vote-made line e b p = rw e (record { benched = b; kept = p .0 }, p .1)
 
@@ -177,7 +177,7 @@ module _ (D : Desk) (which : ℕ) (c : Cells) where
 
   pub vote-told : (line : ℕ) → which < 5 → (which ≡ 2 → ⊥) → {bench : Bench} {lending : Lending} {edits constraints : Rows} {before after : List ℕ} {at end : ℕ}
       → Holds D bench lending edits constraints → Printed (printedOf (voteOf which D c) line) before at after end
-      → Done line bench lending edits constraints before at after end (voteOf which D c)
+      → Performed line bench lending edits constraints before at after end (voteOf which D c)
   vote-told line h n k p = (rw (same-desk h n) k, p)
 
 -- a call: its answer is printed with the open and last page of the bench after it
@@ -185,13 +185,13 @@ pub call-done : (D : Desk) (line : ℕ) (order : Order) {which : ℕ} → which 
     → {bench : Bench} {lending : Lending} {edits constraints : Rows} {before after : List ℕ} {at end : ℕ} (r : Outcome)
     → r ≡ replied D (requestOf which D (order .cells))
     → Printed (outcomeText which (r .answer) (r .bench .turner) line) before at after end → Holds D bench lending edits constraints
-    → Done line (r .bench) lending edits constraints before at after end (orderEffect D order)
+    → Performed line (r .bench) lending edits constraints before at after end (orderEffect D order)
 call-done D line order {which} w l r q p h =
     let e : orderEffect D order ≡ callOf which D (order .cells) = request-effect D order (omega arith) ∙ ap (λ (k : ℕ). callOf k D (order .cells)) (sym w) in
     done-as line e (call-held D which (order .cells) line r q (h .kept), call-printed D which (order .cells) line r q p)
 
 pub line-done : (D : Desk) (line : ℕ) (other : Order) {order : Order} → order ≡ other → {bench : Bench} {lending : Lending} {edits constraints : Rows} {before after : List ℕ} {at end : ℕ}
-    → Done line bench lending edits constraints before at after end (orderEffect D order) → Done line bench lending edits constraints before at after end (orderEffect D other)
+    → Performed line bench lending edits constraints before at after end (orderEffect D order) → Performed line bench lending edits constraints before at after end (orderEffect D other)
 line-done D line other e d = rw e at d
 
 -- which lines the turner alone tells, and after which something else may be lent

@@ -24,13 +24,13 @@ use Rattle.orders.specs.Orders.{orderRead}
 use Rattle.asks.specs.Asks.{pageText}
 use Rattle.lending.specs.declared.Lending.{Lending}
 use Rattle.desk.specs.Desk.{Desk, Cells, ledgerOf, benchIn, replied}
-use Rattle.desk.specs.Requests.{isTurn, turnOf}
+use Rattle.desk.specs.Requests.{isTurn, turnRequest}
 use Rattle.desk.proofs.Cases.{ledger-valid, turn-reply}
 use Rattle.desk_calls.specs.Lines.{Holds, outcomeText}
 use Rattle.desk_asks.proofs.Answered.{page-asked}
 use Rattle.log.specs.Effects.{orderEffect, requestPlace, paging}
 use Rattle.log.specs.Running.{Running}
-use Rattle.log.proofs.Orders.{Done, done-as, asked-done, ask-effect, call-done, line-done, call-place, paging-in-form, paging-turns, turn-paging}
+use Rattle.log.proofs.Orders.{Performed, done-as, asked-done, ask-effect, call-done, line-done, call-place, paging-in-form, paging-turns, turn-paging}
 use Rattle.log.proofs.Running.{running-next}
 
 -- the open page opened
@@ -45,7 +45,7 @@ turning k e = ⊎-elim (λ q. rw q refl) (λ q. rw q refl) e
 module _ (D : Desk) (line : ℕ) (order : Order) (p : paging order ≡ true) {bench : Bench} {lending : Lending} {edits constraints : Rows} (H : Holds D bench lending edits constraints)
     {turner : Turner} (t : bench .turner ≡ turner) {before after : List ℕ} {at end : ℕ} where
   pub page-done : order .kind ≡ 25 → Printed (pageText (turner .opened) (turner .last)) before at after end
-      → Done line (openAt bench (turner .opened)) lending edits constraints before at after end (orderEffect D order)
+      → Performed line (openAt bench (turner .opened)) lending edits constraints before at after end (orderEffect D order)
   page-done k q =
       let x = ap (λ (u : Turner). pageText (u .opened) (u .last)) (sym t) in
       let w : order .kind - 19 ≡ 6 = omega arith in
@@ -53,9 +53,9 @@ module _ (D : Desk) (line : ℕ) (order : Order) (p : paging order ≡ true) {be
       rw (sym (open-again D (H .benched) t)) (done-as line (ask-effect D order (paging-in-form order p) (omega arith) (omega arith)) d)
 
   pub turn-done : (order .kind ≡ 25 → ⊥) → (r : Turning)
-      → (r .turner .last ≡ turner .last) × ((E : Desk) (b : Bench) (c : Cells) → b ≡ benchIn E → b .turner ≡ turner → cell c 0 ≡ cell (order .cells) 0 → turnReply b r ≡ replied E (turnOf (order .kind - 8) E c))
+      → (r .turner .last ≡ turner .last) × ((E : Desk) (b : Bench) (c : Cells) → b ≡ benchIn E → b .turner ≡ turner → cell c 0 ≡ cell (order .cells) 0 → turnReply b r ≡ replied E (turnRequest (order .kind - 8) E c))
       → (a : Answer) → a ≡ plainAnswer (r .number) → Printed (outcomeText (order .kind - 8) a (r .turner) line) before at after end
-      → Done line (openAt bench (r .turner .opened)) lending edits constraints before at after end (orderEffect D order)
+      → Performed line (openAt bench (r .turner .opened)) lending edits constraints before at after end (orderEffect D order)
   unfolding turnReply openAt
   turn-done n r f a q w =
       let k = paging-turns order p n in
@@ -113,7 +113,7 @@ module _ (log : List ℕ) (D : Desk) (count : ℕ) (before : List ℕ) (start : 
   pub paged-next : (h : from < length log) {end : ℕ} → end ≡ from + length (firstLine (drop from log)) → {m : ℕ} → m ≡ suc n → {order : Order} → order ≡ orderRead (take (end - from) (drop from log))
       → {after : List ℕ} {place : ℕ} (page : ℕ)
       → ((E : Desk) (b : Bench) (lending : Lending) (edits constraints : Rows) → Holds E b lending edits constraints → b .turner ≡ held
-      → Done m (openAt b page) lending edits constraints out at after place (orderEffect E order))
+      → Performed m (openAt b page) lending edits constraints out at after place (orderEffect E order))
       → Running log D count before start end (openAt bench page) lending edits constraints m after place
   unfolding openAt
   paged-next h e {m} q o page f =

@@ -13,7 +13,7 @@ use lib.Seq.{take-suc, take-suc-set}
 use Rattle.lists.proofs.Lists.{by, and-l, and-r, ascending-head, ascending-tail, has-among}
 use Rattle.record.specs.declared.Edit.{Edit}
 use Rattle.record.specs.declared.Record as declared
-use Rattle.lists.specs.Lists.{at, mem, ascending}
+use Rattle.lists.specs.Lists.{indexOf, mem, ascending}
 use Rattle.lists.proofs.Logic.{has-getD}
 use Rattle.record.specs.Record.{Record, nameOf, written, names}
 use Rattle.record.specs.Stored.{recordOf, stored}
@@ -28,16 +28,16 @@ ascends (x ∷ l) zero (suc k) h p q = ascending-head x l h (getD l k 0) (has-am
 ascends (x ∷ l) (suc j) (suc k) h p q = ascends l j k (ascending-tail x l h) (omega arith) (omega arith)
 
 -- the place, from what stands before it
-at-here : (x : ℕ) (l : List ℕ) (i : ℕ) → i < length l → getD l i 0 ≡ x → ((k : ℕ) → k < i → getD l k 0 < x) → i ≡ at x l
-unfolding at
+at-here : (x : ℕ) (l : List ℕ) (i : ℕ) → i < length l → getD l i 0 ≡ x → ((k : ℕ) → k < i → getD l k 0 < x) → i ≡ indexOf x l
+unfolding indexOf
 at-here x [] i h e f = absurd (omega arith)
 at-here x (y ∷ l) zero h e f = let q : x ≡ y = sym e in rw (eq-eqb x y q)
 at-here x (y ∷ l) (suc i) h e f =
     let n : x ≡ y → ⊥ = λ q. let b : y < x = f 0 (omega arith) in omega arith in
     rw (ne-eqb x y n) (ap suc (at-here x l i (omega arith) e (λ k p. f (suc k) (omega arith))))
 
-at-none : (x : ℕ) (l : List ℕ) → ((k : ℕ) → k < length l → getD l k 0 ≡ x → ⊥) → length l ≡ at x l
-unfolding at
+at-none : (x : ℕ) (l : List ℕ) → ((k : ℕ) → k < length l → getD l k 0 ≡ x → ⊥) → length l ≡ indexOf x l
+unfolding indexOf
 at-none x [] f = refl
 at-none x (y ∷ l) f =
     let n : x ≡ y → ⊥ = λ q. f 0 (omega arith) (sym q) in
@@ -73,10 +73,10 @@ module _ (x : ℕ) (l : List ℕ) (a : ascending l ≡ true) (low high middle : 
 
 -- where low and high meet
 module _ (x : ℕ) (l : List ℕ) (a : ascending l ≡ true) (low : ℕ) (b : Between x l low low) where
-  pub found-none : length l ≤ low → length l ≡ at x l
+  pub found-none : length l ≤ low → length l ≡ indexOf x l
   found-none h = at-none x l (λ k p e. let q : getD l k 0 < x = b .below k (omega arith) in omega arith)
 
-  pub found-other : low < length l → (getD l low 0 ≡ x → ⊥) → length l ≡ at x l
+  pub found-other : low < length l → (getD l low 0 ≡ x → ⊥) → length l ≡ indexOf x l
   found-other h n =
       at-none x l
       (λ k p e. by (ltb k low)
@@ -85,14 +85,14 @@ module _ (x : ℕ) (l : List ℕ) (a : ascending l ≡ true) (low : ℕ) (b : Be
       (λ r. let s : x ≤ getD l low 0 = b .above low (omega arith) h in omega (arith, ascends l low k a (ltb-true low k r) p))
       (λ r. let s : low ≡ k = omega (arith, ltb-false k low q, ltb-false low k r) in n (rw s e))))
 
-  pub found-here : low < length l → getD l low 0 ≡ x → low ≡ at x l
+  pub found-here : low < length l → getD l low 0 ≡ x → low ≡ indexOf x l
   found-here h e = at-here x l low h e (b .below)
 
 -- a name that is there has a place below the length
-mem-at : (x : ℕ) (l : List ℕ) → ltb (at x l) (length l) ≡ mem x l
-unfolding at mem
-mem-at x [] = refl
-mem-at x (y ∷ l) = by (eqb x y) (λ e. rw (e, lt-ltb 0 (suc (length l)) (omega arith))) (λ e. rw e (shift (at x l) (length l) ∙ mem-at x l))
+mem-index : (x : ℕ) (l : List ℕ) → ltb (indexOf x l) (length l) ≡ mem x l
+unfolding indexOf mem
+mem-index x [] = refl
+mem-index x (y ∷ l) = by (eqb x y) (λ e. rw (e, lt-ltb 0 (suc (length l)) (omega arith))) (λ e. rw e (shift (indexOf x l) (length l) ∙ mem-index x l))
   where
     shift : (m n : ℕ) → ltb (suc m) (suc n) ≡ ltb m n
     shift m n = by (ltb m n) (λ e. rw (e, lt-ltb (suc m) (suc n) (let h : m < n = ltb-true m n e in omega arith))) (λ e. rw (e, le-ltb (suc m) (suc n) (let h : n ≤ m = ltb-false m n e in omega arith)))
@@ -115,13 +115,13 @@ module _ (r : declared.Record) (R : Record) (e : r ≡ stored R) (k : Checked R)
   unfolding names
   written-ascends = ascending-tail 0 (written R) (checked-ascending R k)
 
-  pub place-is : (x : ℕ) (l : List ℕ) → take (r .editcount) l ≡ map nameOf (recordOf r .edits) → {p : ℕ} → (ascending (take (r .editcount - 0) l) ≡ true → p ≡ at x (take (r .editcount - 0) l)) → p ≡ at x (written R)
+  pub place-is : (x : ℕ) (l : List ℕ) → take (r .editcount) l ≡ map nameOf (recordOf r .edits) → {p : ℕ} → (ascending (take (r .editcount - 0) l) ≡ true → p ≡ indexOf x (take (r .editcount - 0) l)) → p ≡ indexOf x (written R)
   place-is x l h f =
       let t : take (r .editcount - 0) l ≡ written R = rw sub-zero (h ∙ held-names) in
       (rw t at f) written-ascends
 
-  pub knows-is : (x : ℕ) {p : ℕ} → p ≡ at x (written R) → ltb p (r .editcount) ≡ mem x (written R)
+  pub knows-is : (x : ℕ) {p : ℕ} → p ≡ indexOf x (written R) → ltb p (r .editcount) ≡ mem x (written R)
   unfolding written
   knows-is x h =
       let n : r .editcount ≡ length (written R) = ap (λ (y : declared.Record). y .editcount) e ∙ sym (length-map (R .edits) nameOf) in
-      rw (h, n) (mem-at x (written R))
+      rw (h, n) (mem-index x (written R))

@@ -7,7 +7,7 @@ ghost use mathlib.Core.Bool.{true};
 ghost use mathlib.Core.List.{map};
 ghost use Prim.Native.Nat.{ℕ, _≤_};
 ghost use lib.ListN.{take};
-ghost use Rattle.lists.specs.Lists.{at, mem, ascending};
+ghost use Rattle.lists.specs.Lists.{indexOf, mem, ascending};
 ghost use Rattle.record.specs.Record as theory;
 ghost use Rattle.record.specs.Record.{nameOf, written};
 ghost use Rattle.record.specs.Stored.{stored, editLimit};
@@ -30,7 +30,7 @@ fn names_of(edits: [Edit; EDITS], n: usize) -> [u16; EDITS]
 
 // The place of a name among ascending names, counted from 0; their number where it does not stand.
 fn place(names: &[u16], name: u16) -> usize
-    ensures { λ r. ⌜ (ascending (now (names .entry)) ≡ true → r ≡ at name (now (names .entry))) ⌝ }
+    ensures { λ r. ⌜ (ascending (now (names .entry)) ≡ true → r ≡ indexOf name (now (names .entry))) ⌝ }
 {
     let n = names.len();
     let mut low = 0;
@@ -54,7 +54,7 @@ fn place(names: &[u16], name: u16) -> usize
 
 // The place of an edit in a record, counted from 0; the number of edits where it is not known.
 pub fn place_of(joined: Record, name: u16) -> usize
-    ensures { λ r. ⌜ ((R : theory.Record) → joined ≡ stored R → Checked R → r ≡ at name (written R)) ⌝ }
+    ensures { λ r. ⌜ ((R : theory.Record) → joined ≡ stored R → Checked R → r ≡ indexOf name (written R)) ⌝ }
 {
     let n = joined.editcount;
     if EDITS < n {

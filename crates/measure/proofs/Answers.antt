@@ -38,7 +38,7 @@ pub all-seated : (k : ℕ) → 8 ≤ k → k ≤ 8 → take k equalSeats ≡ equ
 unfolding equalSeats
 all-seated k h l = let e : k ≡ 8 = omega arith in rw e
 
-pub elected : (x : ℕ) (E C F D : Rows) (a : Election) → a ≡ electionOf x (lentProposals (halves E F) (halves C D)) equalSeats → (won : ℕ) → won ≡ cond (a .won) 1 0
+pub measured-election : (x : ℕ) (E C F D : Rows) (a : Election) → a ≡ electionOf x (lentProposals (halves E F) (halves C D)) equalSeats → (won : ℕ) → won ≡ cond (a .won) 1 0
     → _≡_ {A = Elected} (record { number = a .number; won = won; greatest = a .greatest; silent = a .silent; total = a .total }) (electedOf x E C F D)
 unfolding electedOf
-elected x E C F D a e won w = rw (w, e) refl
+measured-election x E C F D a e won w = rw (w, e) refl

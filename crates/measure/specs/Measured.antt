@@ -14,8 +14,8 @@ use Rattle.measure.specs.declared.Scheduled.{Scheduled}
 use Rattle.measure.specs.declared.Merged.{Merged}
 use Rattle.measure.specs.declared.Elected.{Elected}
 
-abbrev pub judgedOf : Judgement → Judged
-judgedOf j = record { number = j .number; must = j .must; never = j .never; settled = j .settled; place = j .place }
+abbrev pub judgementNumbers : Judgement → Judged
+judgementNumbers j = record { number = j .number; must = j .must; never = j .never; settled = j .settled; place = j .place }
 
 abbrev pub scheduledOf : ScheduleAnswer → Scheduled
 scheduledOf a = record { number = a .number; count = a .schedule .count }

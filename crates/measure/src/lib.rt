@@ -5,7 +5,7 @@ use vote::RollRow;
 ghost use mathlib.Core.Path.{_≡_};
 ghost use Rattle.roll.specs.Roll.{rollOf};
 ghost use Rattle.lent.specs.Lent.{judgementOf, scheduleAnswerOf};
-ghost use Rattle.measure.specs.Measured.{judgedOf, scheduledOf, mergedOf, equalSeats, electedOf};
+ghost use Rattle.measure.specs.Measured.{judgementNumbers, scheduledOf, mergedOf, equalSeats, electedOf};
 
 #[repr(C)]
 pub struct Judged {
@@ -43,7 +43,7 @@ pub struct Elected {
 
 #[no_mangle]
 pub extern "C" fn measure_judgement(edits: &[[u32; 5]], constraints: &[[u32; 3]]) -> Judged
-    ensures { λ r. ⌜ r ≡ judgedOf (judgementOf (now (edits .entry)) (now (constraints .entry))) ⌝ }
+    ensures { λ r. ⌜ r ≡ judgementNumbers (judgementOf (now (edits .entry)) (now (constraints .entry))) ⌝ }
 {
     let judgement = lent::judge_lent(edits, constraints);
     let must = judgement.must;

@@ -8,11 +8,11 @@ use lib.Dec.{eqb}
 use lib.ListN.{length, getD}
 use borrow.Author.Tests.{eqb-true, eqb-false, eq-eqb, not-true}
 use Rattle.record.specs.declared.Constraint.{Constraint}
-use Rattle.lists.specs.Lists.{mem, at, _among_, closure}
+use Rattle.lists.specs.Lists.{mem, indexOf, _among_, closure}
 use Rattle.record.specs.Record.{Record, names, written, has, notafter, noncommuting, WellFormed}
 use Rattle.record.specs.declared.Record as declared
 use Rattle.record.specs.Stored.{stored, fillerConstraint}
-use Rattle.lists.proofs.Lists.{by, clash, and-l, and-r, mem-at, cons-by, nil-no, closure-holds, closure-least, closure-closed, closure-unique}
+use Rattle.lists.proofs.Lists.{by, clash, and-l, and-r, mem-index, cons-by, nil-no, closure-holds, closure-least, closure-closed, closure-unique}
 use Rattle.lists.proofs.Arrays.{getD-any}
 use Rattle.record.proofs.Records.{written-names, not-init, right-written, pair-by}
 use Rattle.links.specs.Marks.{nameAt, placeIn, marksOf}
@@ -30,8 +30,8 @@ use Rattle.indexes.proofs.Resolving.{has-at, at-has, left-known, right-known}
 abbrev pub indexIn : Record → ℕ → ℕ
 indexIn R x = placeIn (names R) x
 
-abbrev pub forwardOf : Record → Constraint → ℕ
-forwardOf R c = forwardKey R (indexIn R (c .left)) (c .rule) (indexIn R (c .right))
+abbrev pub forwardKeyOf : Record → Constraint → ℕ
+forwardKeyOf R c = forwardKey R (indexIn R (c .left)) (c .rule) (indexIn R (c .right))
 
 abbrev pub backwardOf : Record → Constraint → ℕ
 backwardOf R c = backwardKey R (indexIn R (c .left)) (c .rule) (indexIn R (c .right))
@@ -60,11 +60,11 @@ module _ (f g : Constraint → ℕ) where
   both-second (c ∷ l) (suc i) d h = let e : 2 * suc i + 1 ≡ suc (suc (2 * i + 1)) = omega arith in rw e (both-second l i d (omega arith))
 
 -- their keys and left ends
-abbrev pub keysOf : Record → List ℕ
-keysOf R = bothOf (forwardOf R) (backwardOf R) (R .constraints)
+abbrev pub memberKeysOf : Record → List ℕ
+memberKeysOf R = bothOf (forwardKeyOf R) (backwardOf R) (R .constraints)
 
-abbrev pub leftsOf : Record → List ℕ
-leftsOf R = bothOf (λ c. indexIn R (c .left)) (λ c. indexIn R (c .right)) (R .constraints)
+abbrev pub memberLeftsOf : Record → List ℕ
+memberLeftsOf R = bothOf (λ c. indexIn R (c .left)) (λ c. indexIn R (c .right)) (R .constraints)
 
 -- a row is one of the two of some constraint
 halves-by {ℓ} : {P : Type ℓ} (n : ℕ) → ((k : ℕ) → n ≡ 2 * k → P) → ((k : ℕ) → n ≡ 2 * k + 1 → P) → P
@@ -73,7 +73,7 @@ halves-by (suc n) f g = halves-by n (λ k e. g k (omega arith)) (λ k e. f (suc 
 
 -- the rows of the constraints below j are linked
 abbrev pub Rowing : Record → List ℕ → ℕ → Type 0
-Rowing R rows j = Linking (keysOf R) (leftsOf R) rows (2 * j)
+Rowing R rows j = Linking (memberKeysOf R) (memberLeftsOf R) rows (2 * j)
 
 -- the rows of one constraint more
 abbrev pub withBoth : List ℕ → ℕ → ℕ → ℕ → ℕ → ℕ → List ℕ
@@ -88,13 +88,13 @@ growing-both rows j a b f g h ka kb kf kg w =
 
 module _ (R : Record) (rows : List ℕ) (j a b f g : ℕ) (size : length rows ≡ 2432) (h : j < 512) (u : j < length (R .constraints))
     (ea : a ≡ indexIn R (getD (R .constraints) j fillerConstraint .left)) (eb : b ≡ indexIn R (getD (R .constraints) j fillerConstraint .right))
-    (ef : f ≡ forwardOf R (getD (R .constraints) j fillerConstraint)) (eg : g ≡ backwardOf R (getD (R .constraints) j fillerConstraint)) (kf : f ≤ 128) (kg : g ≤ 128) where
+    (ef : f ≡ forwardKeyOf R (getD (R .constraints) j fillerConstraint)) (eg : g ≡ backwardOf R (getD (R .constraints) j fillerConstraint)) (kf : f ≤ 128) (kg : g ≤ 128) where
   pub rowing-step : Rowing R rows j → Rowing R (withBoth rows j a b f g) (j + 1)
   rowing-step w =
-      let one = linking-step (keysOf R) (leftsOf R) rows (2 * j) f a size (omega arith) (omega arith)
-      (both-first (forwardOf R) (backwardOf R) (R .constraints) j fillerConstraint u ∙ sym ef) (both-first (λ c. indexIn R (c .left)) (λ c. indexIn R (c .right)) (R .constraints) j fillerConstraint u ∙ sym ea) w in
-      let two = linking-step (keysOf R) (leftsOf R) (withRow rows (2 * j) f a) (2 * j + 1) g b (with-row-size rows (2 * j) f a ∙ size) (omega arith) (omega arith)
-      (both-second (forwardOf R) (backwardOf R) (R .constraints) j fillerConstraint u ∙ sym eg) (both-second (λ c. indexIn R (c .left)) (λ c. indexIn R (c .right)) (R .constraints) j fillerConstraint u ∙ sym eb) one in
+      let one = linking-step (memberKeysOf R) (memberLeftsOf R) rows (2 * j) f a size (omega arith) (omega arith)
+      (both-first (forwardKeyOf R) (backwardOf R) (R .constraints) j fillerConstraint u ∙ sym ef) (both-first (λ c. indexIn R (c .left)) (λ c. indexIn R (c .right)) (R .constraints) j fillerConstraint u ∙ sym ea) w in
+      let two = linking-step (memberKeysOf R) (memberLeftsOf R) (withRow rows (2 * j) f a) (2 * j + 1) g b (with-row-size rows (2 * j) f a ∙ size) (omega arith) (omega arith)
+      (both-second (forwardKeyOf R) (backwardOf R) (R .constraints) j fillerConstraint u ∙ sym eg) (both-second (λ c. indexIn R (c .left)) (λ c. indexIn R (c .right)) (R .constraints) j fillerConstraint u ∙ sym eb) one in
       let e : 2 * (j + 1) ≡ 2 * j + 1 + 1 = omega arith in
       rw e two
 
@@ -103,10 +103,10 @@ at-index : (R : Record) (x : ℕ) → x among names R → nameAt R (indexIn R x)
 at-index R x i = rw (place-known x (names R) i) (getD-place x (names R) i)
 
 index-low : (R : Record) (x : ℕ) → x among names R → indexIn R x < length (names R)
-index-low R x i = rw (place-known x (names R) i) (mem-at x (names R) i)
+index-low R x i = rw (place-known x (names R) i) (mem-index x (names R) i)
 
 init-index : (R : Record) → indexIn R 0 ≡ 0
-unfolding placeIn names mem at
+unfolding placeIn names mem indexOf
 init-index R = refl
 
 leads-in : (R : Record) (a b : ℕ) → leads R a b ≡ true → eqb b 0 ≡ false → leadsIn R a b ≡ true
@@ -181,26 +181,26 @@ module _ (R : Record) (f : Fit R) where
       holds = rw (el, at-index R a ka, ← er, at-index R b kb) h;
     }
 
-    row-at : (i y : ℕ) → i < length (keysOf R) → y < length (names R) → getD (keysOf R) i 0 ≡ y → Row i y
+    row-at : (i y : ℕ) → i < length (memberKeysOf R) → y < length (names R) → getD (memberKeysOf R) i 0 ≡ y → Row i y
     row-at i y h l q =
-        let n = both-length (forwardOf R) (backwardOf R) (R .constraints) in
+        let n = both-length (forwardKeyOf R) (backwardOf R) (R .constraints) in
         let m = names-few R f in
         halves-by i
         (λ k z.
         let u : k < length (R .constraints) = omega arith in
         let c = getD (R .constraints) k fillerConstraint in
         let s = has-at (R .constraints) k fillerConstraint u in
-        let r = forward-leads (c .left) (c .rule) (c .right) y s (omega arith) (sym (both-first (forwardOf R) (backwardOf R) (R .constraints) k fillerConstraint u) ∙ rw z at q) in
+        let r = forward-leads (c .left) (c .rule) (c .right) y s (omega arith) (sym (both-first (forwardKeyOf R) (backwardOf R) (R .constraints) k fillerConstraint u) ∙ rw z at q) in
         row-from i y (c .left) (c .right) (left-known (f .formed) _ _ _ s) (right-known (f .formed) _ _ _ s) (rw z (forward-left k u)) (r .0) (r .1))
         (λ k z.
         let u : k < length (R .constraints) = omega arith in
         let c = getD (R .constraints) k fillerConstraint in
         let s = has-at (R .constraints) k fillerConstraint u in
-        let r = backward-leads (c .left) (c .rule) (c .right) y s (omega arith) (sym (both-second (forwardOf R) (backwardOf R) (R .constraints) k fillerConstraint u) ∙ rw z at q) in
+        let r = backward-leads (c .left) (c .rule) (c .right) y s (omega arith) (sym (both-second (forwardKeyOf R) (backwardOf R) (R .constraints) k fillerConstraint u) ∙ rw z at q) in
         row-from i y (c .right) (c .left) (right-known (f .formed) _ _ _ s) (left-known (f .formed) _ _ _ s) (rw z (backward-left k u)) (r .0) (r .1))
 
     abbrev Wanted : ℕ → ℕ → Type 0
-    Wanted a b = RowOf R 0 (keysOf R) rows a b
+    Wanted a b = RowOf R 0 (memberKeysOf R) rows a b
 
     -- the row of what leads: a constraint's forward one, or its backward one
     forward-row : (a k b : ℕ) → has a k b (R .constraints) ≡ true → forwardKey R (indexIn R a) k (indexIn R b) ≡ indexIn R b → Wanted a b
@@ -209,11 +209,11 @@ module _ (R : Record) (f : Fit R) where
         let kb = right-known (f .formed) a k b h in
         at-has (R .constraints) fillerConstraint a k b h (λ i u x y z. record {
           row = 2 * i;
-          low = omega (arith, both-length (forwardOf R) (backwardOf R) (R .constraints));
+          low = omega (arith, both-length (forwardKeyOf R) (backwardOf R) (R .constraints));
           left-known = ka;
           right-known = kb;
           left = forward-left i u ∙ (ap (indexIn R) x ∙ place-known a (names R) ka);
-          key = both-first (forwardOf R) (backwardOf R) (R .constraints) i fillerConstraint u ∙ (rw (x, y, z) q ∙ (place-known b (names R) kb ∙ omega arith));
+          key = both-first (forwardKeyOf R) (backwardOf R) (R .constraints) i fillerConstraint u ∙ (rw (x, y, z) q ∙ (place-known b (names R) kb ∙ omega arith));
         })
 
     backward-row : (a k b : ℕ) → has b k a (R .constraints) ≡ true → backwardKey R (indexIn R b) k (indexIn R a) ≡ indexIn R b → Wanted a b
@@ -222,11 +222,11 @@ module _ (R : Record) (f : Fit R) where
         let kb = left-known (f .formed) b k a h in
         at-has (R .constraints) fillerConstraint b k a h (λ i u x y z. record {
           row = 2 * i + 1;
-          low = omega (arith, both-length (forwardOf R) (backwardOf R) (R .constraints));
+          low = omega (arith, both-length (forwardKeyOf R) (backwardOf R) (R .constraints));
           left-known = ka;
           right-known = kb;
           left = backward-left i u ∙ (ap (indexIn R) z ∙ place-known a (names R) ka);
-          key = both-second (forwardOf R) (backwardOf R) (R .constraints) i fillerConstraint u ∙ (rw (x, y, z) q ∙ (place-known b (names R) kb ∙ omega arith));
+          key = both-second (forwardKeyOf R) (backwardOf R) (R .constraints) i fillerConstraint u ∙ (rw (x, y, z) q ∙ (place-known b (names R) kb ∙ omega arith));
         })
 
     enabled-index : (b : ℕ) → b among names R → eqb b 0 ≡ false → enabledKey (indexIn R b) ≡ indexIn R b
@@ -252,8 +252,8 @@ module _ (R : Record) (f : Fit R) where
     rowing-end = record {
       apart = ascending-distinct (names R) (f .ascends);
       few = names-few R f;
-      keys = keysOf R;
-      linked = linking-end (keysOf R) (leftsOf R) rows (2 * j) (omega (arith, both-length (forwardOf R) (backwardOf R) (R .constraints))) w;
+      keys = memberKeysOf R;
+      linked = linking-end (memberKeysOf R) (memberLeftsOf R) rows (2 * j) (omega (arith, both-length (forwardKeyOf R) (backwardOf R) (R .constraints))) w;
       known = λ i y h l q. row-at i y h l (q ∙ omega arith) .left;
       holds = λ i y h l q. row-at i y h l (q ∙ omega arith) .holds;
       row-of = row-of;
@@ -297,7 +297,7 @@ module _ (r : declared.Record) (table rows : List ℕ) (j : ℕ) (d : Constraint
       let pb : b ≡ indexIn R (getD (R .constraints) j fillerConstraint .right) = eb ∙ (t _ ∙ ap (λ c. indexIn R (c .right)) same) in
       let la : a < length (names R) = rw pa (index-low R _ (left-known (fit .formed) _ _ _ s)) in
       let lb : b < length (names R) = rw pb (index-low R _ (right-known (fit .formed) _ _ _ s)) in
-      let pf : f ≡ forwardOf R (getD (R .constraints) j fillerConstraint) = ef la lb ∙ (λ i. forwardKey R (pa i) (same i .rule) (pb i)) in
+      let pf : f ≡ forwardKeyOf R (getD (R .constraints) j fillerConstraint) = ef la lb ∙ (λ i. forwardKey R (pa i) (same i .rule) (pb i)) in
       let pg : g ≡ backwardOf R (getD (R .constraints) j fillerConstraint) = eg la lb ∙ (λ i. backwardKey R (pa i) (same i .rule) (pb i)) in
       rowing-step R rows j a b f g size h u pa pb pf pg kf kg
 
@@ -311,5 +311,5 @@ module _ (R : Record) (f : Fit R) (e : ℕ) (i : e among written R) (x : ℕ) (q
       let n : nameAt R x ≡ e = ap (nameAt R) q ∙ at-index R e (written-names R e i) in
       rw n (marks-same R _ _ (names-few R f) (λ y k. members-same R (f .formed) e i y))
 
-pub none-closed : (R : Record) (a b : ℕ) → leadsIn R a b ≡ true → b among [] → a among []
-none-closed R a b h k = nil-no b k
+pub none-leading : (R : Record) (a b : ℕ) → leadsIn R a b ≡ true → b among [] → a among []
+none-leading R a b h k = nil-no b k

@@ -1,11 +1,11 @@
 // The members of the bundle of an edit (document 01, "Proposals and votes"), by index: a closure over rows made from the constraints. Functions
 // are pub for the crates that make bundles; they are safe for any record.
-use record::CONSTRAINTS;
-use row::NAMES;
 use links::MARKS;
 use links::NOTAFTER;
 use links::ROWS;
+use record::CONSTRAINTS;
 use record::Record;
+use row::NAMES;
 ghost use mathlib.Core.Path.{_≡_};
 ghost use Prim.Native.Nat.{ℕ, _+_, _*_, _<_, _≤_};
 ghost use lib.ListN.{length, getD};

@@ -27,7 +27,7 @@ use Rattle.ledger.specs.Ledger.{Ledger, Call, addEdit, addConstraint, merge, st
 use Rattle.ledger.specs.Bench.{benchOf, outcome, Answers}
 use Rattle.ledger.proofs.Valid.{Valid, start-valid, fed-valid}
 use Rattle.ledger.proofs.Undone.{step-refused, step-accepted}
-use Rattle.bench.specs.Changes.{refusedWith, Keeps, Changes}
+use Rattle.bench.specs.Changes.{refusedWith, KeepsEdits, Changes}
 use Rattle.bench.proofs.Pages.{named-name}
 use Rattle.merge.specs.Joins.{joinReply, Joins}
 use Rattle.merge.proofs.United.{named-known, union-keeps, union-judged}
@@ -48,7 +48,7 @@ unfolding outcome refusal
 refusal-is L bench n e = ap (λ (b : Bench). refusedWith b n) e
 
 -- hidden edits are of the union
-pub keeps-within : (L : Ledger) → Valid L → (U : Record) → Keeps (L .multilog) U → L .hidden within written U
+pub keeps-within : (L : Ledger) → Valid L → (U : Record) → KeepsEdits (L .multilog) U → L .hidden within written U
 unfolding written
 keeps-within L v U keeps x i =
     let w = v .hidden-written x i in
@@ -56,29 +56,29 @@ keeps-within L v U keeps x i =
 
 -- what the code does with the rows' number and the union, of a bench that the calls left
 module _ (calls : List Call) (bench : Bench) (joined : Joined) (E : Election) (n : ℕ) (U : Record) (e : bench ≡ benchOf (fed start calls))
-    (j : joined ≡ join.outcome n (fed start calls .multilog) U) where
+    (j : joined ≡ join.joinedOf n (fed start calls .multilog) U) where
   number-is : joined .number ≡ n
   number-is = ap (λ (r : Joined). r .number) j
 
-  pub rows-refused : (joined .number ≡ 0 → ⊥) → refusedWith bench (joined .number) ≡ outcome (joinReply (fed start calls) n U E)
+  pub merge-rows-refused : (joined .number ≡ 0 → ⊥) → refusedWith bench (joined .number) ≡ outcome (joinReply (fed start calls) n U E)
   unfolding joinReply
-  rows-refused z = rw (number-is, ne-eqb n 0 (λ q. z (number-is ∙ q))) (refusal-is (fed start calls) bench n e)
+  merge-rows-refused z = rw (number-is, ne-eqb n 0 (λ q. z (number-is ∙ q))) (refusal-is (fed start calls) bench n e)
 
   module _ (z : joined .number ≡ 0) where
     pub none : n ≡ 0
     none = sym number-is ∙ z
 
-    pub union-is : joined .after ≡ stored U
-    union-is = ap (λ (r : Joined). r .after) j ∙ rw none
+    pub merge-union-is : joined .after ≡ stored U
+    merge-union-is = ap (λ (r : Joined). r .after) j ∙ rw none
 
-    pub unsound-refused : sound U ≡ false → refusedWith bench 8 ≡ outcome (joinReply (fed start calls) n U E)
+    pub merge-unsound-refused : sound U ≡ false → refusedWith bench 8 ≡ outcome (joinReply (fed start calls) n U E)
     unfolding joinReply
-    unsound-refused s = rw (none, s) (refusal-is (fed start calls) bench 8 e)
+    merge-unsound-refused s = rw (none, s) (refusal-is (fed start calls) bench 8 e)
 
-    pub joined-changes : (hidden : List ℕ) (r : Outcome) → sound U ≡ true → Checked U → Keeps (fed start calls .multilog) U
+    pub joined-changes : (hidden : List ℕ) (r : Outcome) → sound U ≡ true → Checked U → KeepsEdits (fed start calls .multilog) U
         → fed start calls .hidden within written U → hidden ≡ marksOf U (λ x. mem x (fed start calls .hidden)) → Changes bench (joined .after) hidden E r → r ≡ outcome (joinReply (fed start calls) n U E)
     unfolding joinReply Changes
-    joined-changes hidden r s k keeps w h c = rw (none, s) (c calls U (fed start calls .hidden) e union-is w h k s keeps)
+    joined-changes hidden r s k keeps w h c = rw (none, s) (c calls U (fed start calls .hidden) e merge-union-is w h k s keeps)
 
 -- the three calls
 module _ (bench : Bench) (joined : Joined) (E : Election) (o : E ≡ noElection) (r : Outcome) (f : Joins bench joined E r) where
@@ -86,7 +86,7 @@ module _ (bench : Bench) (joined : Joined) (E : Election) (o : E ≡ noElection)
   joins-call : (call : Call) (number : Record → ℕ) (S : Record) → ((R : Record) → Checked R → number R ≡ 0 → Checked (unite R S))
       → ((L : Ledger) → Checked (L .multilog) → judge L call ≡ (number (L .multilog) orelse 8 given not (sound (unite (L .multilog) S))))
       → ((L : Ledger) → act L call ≡ change L (unite (L .multilog) S) (L .hidden) noElection)
-      → ((R : Record) → bench .multilog ≡ stored R → Checked R → joined ≡ join.outcome (number R) R (unite R S)) → Answers bench call r
+      → ((R : Record) → bench .multilog ≡ stored R → Checked R → joined ≡ join.joinedOf (number R) R (unite R S)) → Answers bench call r
   unfolding Answers Joins
   joins-call call number S checked judges acts g calls e =
       let L = fed start calls in
@@ -97,19 +97,19 @@ module _ (bench : Bench) (joined : Joined) (E : Election) (o : E ≡ noElection)
       ∙ (ap (λ (E : Election). outcome (joinReply L (number R) U E)) o ∙ ap outcome (sym (step-joined L call (number R) U noElection (judges L k) (acts L))))
 
   pub added-edit : (row : Row)
-      → ((R : Record) → bench .multilog ≡ stored R → Checked R → joined ≡ join.outcome (addEditFault R row) R (unite R (decoded (row ∷ []) [])))
+      → ((R : Record) → bench .multilog ≡ stored R → Checked R → joined ≡ join.joinedOf (addEditFault R row) R (unite R (decoded (row ∷ []) [])))
       → Answers bench (addEdit row) r
   unfolding judge act
   added-edit row = joins-call (addEdit row) (λ R. addEditFault R row) (decoded (row ∷ []) []) (λ R. added-edit-checked R row) (λ L k. refl) (λ L. refl)
 
   pub added-constraint : (row : Row)
-      → ((R : Record) → bench .multilog ≡ stored R → Checked R → joined ≡ join.outcome (addConstraintFault R row) R (unite R (decoded [] (row ∷ []))))
+      → ((R : Record) → bench .multilog ≡ stored R → Checked R → joined ≡ join.joinedOf (addConstraintFault R row) R (unite R (decoded [] (row ∷ []))))
       → Answers bench (addConstraint row) r
   unfolding judge act
   added-constraint row = joins-call (addConstraint row) (λ R. addConstraintFault R row) (decoded [] (row ∷ [])) (λ R. added-constraint-checked R row) (λ L k. refl) (λ L. refl)
 
   pub merged : (es cs : Rows)
-      → ((R : Record) → bench .multilog ≡ stored R → Checked R → joined ≡ join.outcome (lentFault R es cs) R (unite R (decoded es cs)))
+      → ((R : Record) → bench .multilog ≡ stored R → Checked R → joined ≡ join.joinedOf (lentFault R es cs) R (unite R (decoded es cs)))
       → Answers bench (merge es cs) r
   unfolding judge act
   merged es cs =

@@ -22,7 +22,7 @@ use Rattle.table.specs.Checked.{Checked}
 use Rattle.table.proofs.Unions.{mem-by, joining-extends}
 use Rattle.table.proofs.Records.{joined-checked, joining-checked, checked-wellformed}
 use Rattle.record.specs.Stored.{editNamed}
-use Rattle.bench.specs.Changes.{Keeps}
+use Rattle.bench.specs.Changes.{KeepsEdits}
 
 -- in an ascending table the edit of a name is found
 named-has : (l : List Edit) (e : Edit) → Ascending editKey l → Has e l → editNamed l (e .name) ≡ e
@@ -39,7 +39,7 @@ unfolding editNamed mem
 named-known [] x e n = absurd (n (sym e))
 named-known (y ∷ l) x e n = by (eqb x (y .name)) (λ q. rw q) (λ q. rw q (named-known l x (rw q at e) n))
 
-pub union-keeps : (R S : Record) → Checked R → Checked (unite R S) → Keeps R (unite R S)
+pub union-keeps : (R S : Record) → Checked R → Checked (unite R S) → KeepsEdits R (unite R S)
 unfolding written unite
 union-keeps R S k u x i =
     mem-by x (R .edits) i (λ e m p.

@@ -15,7 +15,7 @@ use Rattle.ledger.specs.declared.Bench.{Bench}
 use Rattle.ledger.specs.declared.Outcome.{Outcome}
 use Rattle.ledger.specs.Ledger.{Ledger, Call, Reply, start, change, refusal, fed}
 use Rattle.ledger.specs.Bench.{benchOf, outcome}
-use Rattle.bench.specs.Changes.{Keeps}
+use Rattle.bench.specs.Changes.{KeepsEdits}
 
 -- n: the number of the rows; U: the union, if it is 0
 unfoldable pub joinReply : Ledger → ℕ → Record → Election → Reply
@@ -24,5 +24,5 @@ joinReply L n U E = cond (eqb n 0) (cond (sound U) (change L U (L .hidden) E) (r
 -- the promise of such a call, of a bench that calls left, for rows whose union, if they have no fault, is a checked record that keeps the bench's edits
 unfoldable pub Joins : Bench → Joined → Election → Outcome → Type 0
 Joins bench joined E r = (calls : List Call) (n : ℕ) (U : Record) → bench ≡ benchOf (fed start calls)
-    → joined ≡ join.outcome n (fed start calls .multilog) U → (n ≡ 0 → Checked U) → (n ≡ 0 → Keeps (fed start calls .multilog) U)
+    → joined ≡ join.joinedOf n (fed start calls .multilog) U → (n ≡ 0 → Checked U) → (n ≡ 0 → KeepsEdits (fed start calls .multilog) U)
     → r ≡ outcome (joinReply (fed start calls) n U E)

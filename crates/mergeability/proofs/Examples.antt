@@ -9,7 +9,7 @@ use lib.Dec.{eqb}
 use Rattle.record.specs.declared.Body.{Body}
 use Rattle.record.specs.declared.Body.the-variants.{Insert}
 use Rattle.record.specs.declared.Edit.{Edit}
-use Rattle.lists.specs.Lists.{any, all, sift, mem, first, grown, closure, Has}
+use Rattle.lists.specs.Lists.{any, all, filter, mem, find, grown, closure, Has}
 use Rattle.record.specs.Record.{Record, names, written, is, has}
 use Rattle.record.specs.Sound.{Must, Never}
 use Rattle.record.specs.Schedule.{needs, musts, ready, order, ring}
@@ -27,7 +27,7 @@ use Rattle.vote.specs.Tally.{sameEdit, sameConstraint, sameList, sameBundle, ba
 use Rattle.proposal.specs.Proposal.{keeps}
 use Rattle.proposal.proofs.Proposed.{keeps-is}
 use Rattle.mergeability.specs.Mergeability.{Voter, SoundTables, OneBody, EachSound, EachOneBody, Sending, HeldElection, Chosen, EachChosen, wonBy, wonIn, uniteAll, Mergeable}
-use Rattle.mergeability.specs.Examples.{old, new, bad, roll, sent, holding, elections, Results, Example, WithoutKeeping, halfWinnerOf, halfWonBundle, WithHalf, WithTwoRolls, aborted, Rivals}
+use Rattle.mergeability.specs.Examples.{old, new, bad, exampleRoll, sent, holding, elections, Results, Example, WithoutKeeping, halfWinnerOf, halfWonBundle, WithHalf, WithTwoRolls, aborted, Rivals}
 use Rattle.mergeability.proofs.Mergeability.{tables-sound, mergeability}
 
 -- those of the proposals that are sound, with one body to a name
@@ -77,7 +77,7 @@ record Computed : Type 0 where
   two-rolls-won : (wonIn (weights 2 1) rivalElections ++ wonIn (weights 1 2) rivalElections) ≡ old ∷ aborted ∷ []
 
 computed : Computed
-unfolding keeps sound must never settled serialised ordered wellFormed ring order ready musts needs names written is has closure grown first any all sift mem ballots vote eligible bundle between members leads sameBundle sameList sameEdit sameConstraint editRow constraintRow same won greatest greatestOf silent weigh total winner winnerOf halfWinnerOf wonBy uniteAll unite united inserted precedes
+unfolding keeps sound must never settled serialised ordered wellFormed ring order ready musts needs names written is has closure grown find any all filter mem ballots vote eligible bundle between members leads sameBundle sameList sameEdit sameConstraint editRow constraintRow same won greatest greatestOf silent weigh total winner winnerOf halfWinnerOf wonBy uniteAll unite united inserted precedes
 computed = record {
   results = record { first = refl; second = refl; third = refl; won-bundles = refl; union-is = refl };
   sound-all = refl;
@@ -144,42 +144,42 @@ sample-bodies P Q h i d e m n q = body-is d (sample-edits P h d m) ∙ (ap sampl
 
 -- what is asked of the rows where every proposal is one of these
 abbrev AllSamples : List RollRow → (ℕ → List Record) → Type 0
-AllSamples roll sent = (k : ℕ) → Voter roll k → (P : Record) → Has P (sent k) → Has P samples
+AllSamples exampleRoll sent = (k : ℕ) → Voter exampleRoll k → (P : Record) → Has P (sent k) → Has P samples
 
-module _ (roll : List RollRow) (sent : ℕ → List Record) (f : AllSamples roll sent) where
-  samples-sound : EachSound roll sent
+module _ (exampleRoll : List RollRow) (sent : ℕ → List Record) (f : AllSamples exampleRoll sent) where
+  samples-sound : EachSound exampleRoll sent
   samples-sound k v P h = sample-sound P (f k v P h)
 
-  samples-one-body : EachOneBody roll sent
+  samples-one-body : EachOneBody exampleRoll sent
   samples-one-body j k v w P Q h i = sample-bodies P Q (f j v P h) (f k w Q i)
 
 -- the benches of the example that are voters
-voters {ℓ} : {Z : Type ℓ} (k : ℕ) → Voter roll k → (k ≡ 1 → Z) → (k ≡ 2 → Z) → (k ≡ 3 → Z) → Z
+voters {ℓ} : {Z : Type ℓ} (k : ℕ) → Voter exampleRoll k → (k ≡ 1 → Z) → (k ≡ 2 → Z) → (k ≡ 3 → Z) → Z
 voters {Z} k v f g h = go (v .row) (v .listed) (v .own) (v .weighs)
   where
-    go : (r : RollRow) → Has r roll → r .bench ≡ k → 0 < r .weight → Z
+    go : (r : RollRow) → Has r exampleRoll → r .bench ≡ k → 0 < r .weight → Z
     go r (inl q) o w = f (sym o ∙ ap (λ x. x .bench) q)
     go r (inr (inl q)) o w = g (sym o ∙ ap (λ x. x .bench) q)
     go r (inr (inr (inl q))) o w = h (sym o ∙ ap (λ x. x .bench) q)
     go r (inr (inr (inr (inl q)))) o w = absurd (let z = ap (λ x. x .weight) q in omega arith)
     go r (inr (inr (inr (inr z)))) o w = absurd z
 
-sent-samples : AllSamples roll sent
+sent-samples : AllSamples exampleRoll sent
 sent-samples k v P h =
     voters k v (λ e. two-samples old-sample new-sample P (rw e at h)) (λ e. one-sample bad-sample P (rw e at h)) (λ e. one-sample new-sample P (rw e at h))
 
-premises : Sending roll sent
+premises : Sending exampleRoll sent
 premises = record {
-  each-sound = samples-sound roll sent sent-samples;
+  each-sound = samples-sound exampleRoll sent sent-samples;
   each-kept = λ k v. voters k v (λ e. rw e (keeps-is old new .0 (computed .kept-there), tt)) (λ e. rw e tt) (λ e. rw e tt);
-  each-one-body = samples-one-body roll sent sent-samples;
+  each-one-body = samples-one-body exampleRoll sent sent-samples;
 }
 
-held-chosen : (P : Record) → Has P (old ∷ new ∷ []) → Chosen roll sent (holding P)
+held-chosen : (P : Record) → Has P (old ∷ new ∷ []) → Chosen exampleRoll sent (holding P)
 unfolding Chosen
 held-chosen P h k v = voters k v (λ e. rw e (inr h)) (λ e. rw e (inr (inl refl))) (λ e. rw e (inr (inl refl)))
 
-choices : EachChosen roll sent elections
+choices : EachChosen exampleRoll sent elections
 choices x (inl q) = rw q (held-chosen old (inl refl))
 choices x (inr (inl q)) = rw q (held-chosen old (inl refl))
 choices x (inr (inr (inl q))) = rw q (held-chosen new (inr (inl refl)))
@@ -213,8 +213,8 @@ rivals = record {
   not-mergeable = not-mergeable;
 }
 
-turned-samples : (roll : List RollRow) → AllSamples roll turnedSent
-turned-samples roll k v = two-samples old-sample aborted-sample
+turned-samples : (exampleRoll : List RollRow) → AllSamples exampleRoll turnedSent
+turned-samples exampleRoll k v = two-samples old-sample aborted-sample
 
 pub keeping-needed : WithoutKeeping → ⊥
 unfolding Chosen
@@ -228,14 +228,14 @@ keeping-needed f =
     chosen x (inr (inl q)) = rw q (λ k v. inr (inr (inl refl)))
     chosen x (inr (inr z)) = absurd z
 
-rival-samples : (roll : List RollRow) → AllSamples roll rivalSent
-rival-samples roll k v P h = by (eqb k 1) (λ e. one-sample old-sample P (rw e at h)) (λ e. one-sample aborted-sample P (rw e at h))
+rival-samples : (exampleRoll : List RollRow) → AllSamples exampleRoll rivalSent
+rival-samples exampleRoll k v P h = by (eqb k 1) (λ e. one-sample old-sample P (rw e at h)) (λ e. one-sample aborted-sample P (rw e at h))
 
-rival-premises : (roll : List RollRow) → Sending roll rivalSent
-rival-premises roll = record {
-  each-sound = samples-sound roll rivalSent (rival-samples roll);
+rival-premises : (exampleRoll : List RollRow) → Sending exampleRoll rivalSent
+rival-premises exampleRoll = record {
+  each-sound = samples-sound exampleRoll rivalSent (rival-samples exampleRoll);
   each-kept = λ k v. by (eqb k 1) (λ e. rw e tt) (λ e. rw e tt);
-  each-one-body = samples-one-body roll rivalSent (rival-samples roll);
+  each-one-body = samples-one-body exampleRoll rivalSent (rival-samples exampleRoll);
 }
 
 pub majority-needed : WithHalf → ⊥
@@ -253,6 +253,6 @@ one-roll-needed f =
     not-mergeable (rw (← computed .two-rolls-won)
     (f (weights 2 1) (weights 1 2) rivalSent rivalElections rivalElections (rival-premises _) (rival-premises _) (chosen _) (chosen _)))
   where
-    chosen : (roll : List RollRow) → EachChosen roll rivalSent rivalElections
-    chosen roll x (inl q) = rw q (λ k v. by (eqb k 1) (λ e. rw e (inr (inl refl))) (λ e. rw e (inr (inl refl))))
-    chosen roll x (inr z) = absurd z
+    chosen : (exampleRoll : List RollRow) → EachChosen exampleRoll rivalSent rivalElections
+    chosen exampleRoll x (inl q) = rw q (λ k v. by (eqb k 1) (λ e. rw e (inr (inl refl))) (λ e. rw e (inr (inl refl))))
+    chosen exampleRoll x (inr z) = absurd z

@@ -13,7 +13,7 @@ use Rattle.fit.proofs.Fit.{checked-fit}
 use Rattle.proposal.specs.Proposal.{started, proposed, Paired, Keeps, keeps}
 use Rattle.proposal.proofs.Finished.{finished-well-formed, finished-sound}
 use Rattle.proposal.proofs.Proposed.{keeps-is}
-use Rattle.propose.specs.Propose.{draftFault, unkept, Lent, recordM, proposalQ, proposalFault, newProposal}
+use Rattle.propose.specs.Propose.{draftFault, unkept, LentToPropose, recordM, proposalQ, proposeFault, newProposal}
 use Rattle.propose.proofs.Drafts.{start-faultless}
 use Rattle.mergeability.specs.Mergeability.{SoundTables}
 
@@ -31,8 +31,8 @@ drafted-sound M Q k h =
     record { formed = f; has-schedule = sound-is _ f .0 (finished-sound w p (s .1)) }
 
 -- An accepted proposal is sound and keeps the old one: one more of a row.
-pub proposal-next : (t : Lent) → proposalFault t ≡ 0 → SoundTables (newProposal t) × Keeps (proposalQ t) (newProposal t)
-unfolding newProposal proposalFault unkept
+pub proposal-next : (t : LentToPropose) → proposeFault t ≡ 0 → SoundTables (newProposal t) × Keeps (proposalQ t) (newProposal t)
+unfolding newProposal proposeFault unkept
 proposal-next t h =
     let M = recordM t in
     let Q = proposalQ t in
@@ -41,5 +41,5 @@ proposal-next t h =
     let c = orelse-none (draftFault M Q) _ (b .1) in
     let d = orelse-none (11 given not (keeps Q (proposed M Q))) _ (c .1) in
     let k = joined-checked M (t .oldedits) (t .oldconstraints) (lent-checked (t .edits) (t .constraints) (a .0)) (b .0) in
-    rw (eq-eqb (proposalFault t) 0 h)
+    rw (eq-eqb (proposeFault t) 0 h)
     (drafted-sound M Q k (c .0), keeps-is Q (proposed M Q) .0 (not-false (keeps Q (proposed M Q)) (given-none 10 (not (keeps Q (proposed M Q))) (d .0))))

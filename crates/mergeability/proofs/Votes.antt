@@ -13,7 +13,7 @@ use Rattle.lists.specs.Lists.{mem, _among_, Has}
 use Rattle.record.specs.Record.{Record, written, has, WellFormed}
 use Rattle.record.specs.Judgement.{settled}
 use Rattle.lists.proofs.Lists.{by, clash, and-l, and-r, nil-no, all-in}
-use Rattle.lists.proofs.Logic.{sift-from}
+use Rattle.lists.proofs.Logic.{filter-from}
 use Rattle.table.specs.Table.{emptyTables}
 use Rattle.vote.specs.declared.RollRow.{RollRow}
 use Rattle.vote.specs.Bundle.{members, bundle, eligible, vote}
@@ -58,7 +58,7 @@ module _ {P B : Record} {e : ℕ} (w : WellFormed P) (v : IsVote P e B) where
 -- an edit of the bundle is one of the proposal, body and all
 bundle-edit : (P : Record) (e : ℕ) (d : Edit) → Has d (bundle P e .edits) → Has d (P .edits)
 unfolding bundle
-bundle-edit P e d h = sift-from (λ x. mem (x .name) (members P e)) (P .edits) d h .0
+bundle-edit P e d h = filter-from (λ x. mem (x .name) (members P e)) (P .edits) d h .0
 
 pub vote-edit : {P B : Record} {e : ℕ} → IsVote P e B → (d : Edit) → Has d (B .edits) → Has d (P .edits)
 vote-edit {P} {B} {e} v d h = bundle-edit P e d (rw (v .is) h)

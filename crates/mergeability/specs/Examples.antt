@@ -44,8 +44,8 @@ bad = record { edits = insert 257 5 ∷ insert 258 6 ∷ []; constraints = con 2
 abbrev pub wild : Record
 wild = record { edits = record { name = 257; body = Remove 9 } ∷ []; constraints = con 257 0 257 ∷ con 257 1 0 ∷ [] }
 
-abbrev pub roll : List RollRow
-roll = row 1 3 ∷ row 2 2 ∷ row 3 1 ∷ row 4 0 ∷ []
+abbrev pub exampleRoll : List RollRow
+exampleRoll = row 1 3 ∷ row 2 2 ∷ row 3 1 ∷ row 4 0 ∷ []
 
 -- by bench; bench 4, whose weight is 0, does as it likes
 abbrev byBench : {A : Type 0} → A → A → A → A → ℕ → A
@@ -66,24 +66,24 @@ electionAnswer won greatest silent = record { number = 0; won = won; greatest = 
 
 -- The results: the first and the third are won, the second is open. The won bundles united are the newer proposal.
 pub record Results : Type 0 where
-  pub first : counted (ballots (holding old) 257 roll) ≡ electionAnswer true 4 0
-  pub second : counted (ballots (holding old) 258 roll) ≡ electionAnswer false 2 3
-  pub third : counted (ballots (holding new) 258 roll) ≡ electionAnswer true 4 0
-  pub won-bundles : wonIn roll elections ≡ old ∷ new ∷ []
+  pub first : counted (ballots (holding old) 257 exampleRoll) ≡ electionAnswer true 4 0
+  pub second : counted (ballots (holding old) 258 exampleRoll) ≡ electionAnswer false 2 3
+  pub third : counted (ballots (holding new) 258 exampleRoll) ≡ electionAnswer true 4 0
+  pub won-bundles : wonIn exampleRoll elections ≡ old ∷ new ∷ []
   pub union-is : uniteAll emptyTables (old ∷ new ∷ []) ≡ new
 
 -- The example meets the premises, so that the promise says this of it.
 pub record Example : Type 0 where
-  pub premises : Sending roll sent
-  pub choices : EachChosen roll sent elections
+  pub premises : Sending exampleRoll sent
+  pub choices : EachChosen exampleRoll sent elections
   pub results : Results
   pub mergeable : Mergeable (old ∷ new ∷ [])
 
 -- The promise without keeping.
 abbrev pub WithoutKeeping : Type 0
 WithoutKeeping =
-    (roll : List RollRow) (sent : ℕ → List Record) (l : List HeldElection) → EachSound roll sent → EachOneBody roll sent → EachChosen roll sent l
-    → Mergeable (wonIn roll l)
+    (exampleRoll : List RollRow) (sent : ℕ → List Record) (l : List HeldElection) → EachSound exampleRoll sent → EachOneBody exampleRoll sent → EachChosen exampleRoll sent l
+    → Mergeable (wonIn exampleRoll l)
 
 -- half of the roll's weight wins
 unfoldable pub halfWinnerOf : List Ballot → List Ballot → Option Record
@@ -91,19 +91,19 @@ halfWinnerOf l [] = none
 halfWinnerOf l (b ∷ m) = let r = halfWinnerOf l m in cond (leb (total l) (2 * group l (b .vote))) (b .vote) r
 
 abbrev pub halfWonBundle : List RollRow → HeldElection → Option Record
-halfWonBundle roll x = let l = ballots (x .held) (x .edit) roll in halfWinnerOf l l
+halfWonBundle exampleRoll x = let l = ballots (x .held) (x .edit) exampleRoll in halfWinnerOf l l
 
 -- The promise where half wins.
 abbrev pub WithHalf : Type 0
 WithHalf =
-    (roll : List RollRow) (sent : ℕ → List Record) (l : List HeldElection) → Sending roll sent → EachChosen roll sent l
-    → Mergeable (wonBy (halfWonBundle roll) l)
+    (exampleRoll : List RollRow) (sent : ℕ → List Record) (l : List HeldElection) → Sending exampleRoll sent → EachChosen exampleRoll sent l
+    → Mergeable (wonBy (halfWonBundle exampleRoll) l)
 
 -- The promise where some elections are held on one roll, some on another, and the premises hold of both.
 abbrev pub WithTwoRolls : Type 0
 WithTwoRolls =
-    (roll other : List RollRow) (sent : ℕ → List Record) (l m : List HeldElection) → Sending roll sent → Sending other sent → EachChosen roll sent l → EachChosen other sent m
-    → Mergeable (wonIn roll l ++ wonIn other m)
+    (exampleRoll other : List RollRow) (sent : ℕ → List Record) (l m : List HeldElection) → Sending exampleRoll sent → Sending other sent → EachChosen exampleRoll sent l → EachChosen other sent m
+    → Mergeable (wonIn exampleRoll l ++ wonIn other m)
 
 -- Each of them is false by two bundles that are won: `old`, and 257 aborted. United they are not sound, and 257 must stand in the one and can never
 -- stand in the other.

@@ -42,11 +42,11 @@ module _ (line : Line) {r : Order} where
   line-faulty h e = rw (ne-eqb (line .number) 0 h) e
 
   module _ (h : line .number ≡ 0) where
-    pub line-edit : line .isedit ≡ true → r ≡ record { number = 0; kind = 26; cells = cellsOf (line .edit) } → r ≡ lineOrder line
-    line-edit i e = rw (eq-eqb (line .number) 0 h, i) e
+    pub order-edit : line .isedit ≡ true → r ≡ record { number = 0; kind = 26; cells = cellsOf (line .edit) } → r ≡ lineOrder line
+    order-edit i e = rw (eq-eqb (line .number) 0 h, i) e
 
-    pub line-constraint : line .isedit ≡ false → r ≡ record { number = 0; kind = 27; cells = cellsOf (line .constraint) } → r ≡ lineOrder line
-    line-constraint i e = rw (eq-eqb (line .number) 0 h, i) e
+    pub order-constraint : line .isedit ≡ false → r ≡ record { number = 0; kind = 27; cells = cellsOf (line .constraint) } → r ≡ lineOrder line
+    order-constraint i e = rw (eq-eqb (line .number) 0 h, i) e
 
 -- the whole line
 module _ (s : List ℕ) {r : Order} where

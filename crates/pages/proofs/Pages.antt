@@ -6,11 +6,11 @@ use native.Mathlib.Omega.{arith}
 use lib.ListN.{length, getD, set, take}
 use lib.Seq.{getD-set-same, set-set, set-getD}
 use Rattle.record.specs.Stored.{padded}
-use Rattle.pages.specs.Pages.{Kind, View, touched, runEdit, run, kept, emptyCatalogue, viewOf}
+use Rattle.pages.specs.Pages.{Shelf, View, touched, runEdit, run, kept, emptyCatalogue, viewOf}
 use Rattle.pages.specs.Steps.{stepForward, stepBack}
 use Rattle.record.proofs.Padded.{length-padded, padded-more, getD-padded, padded-past}
 
-module _ (K : Kind) where
+module _ (K : Shelf) where
   pub run-append : (c : List (K .Entry)) (xs ys : List (K .Edit)) → run K c (xs ++ ys) ≡ run K (run K c xs) ys
   unfolding run
   run-append c [] ys = refl

@@ -10,8 +10,8 @@ use lib.ListN.{length, getD, take, drop, length-append, length-take, length-drop
 use lib.Seq.{slice, slice-cons, length-slice, length-take-le, take-take, take-suc, take-all, drop-append-le}
 use borrow.Author.Tests.{leb-true, leb-false}
 use Rattle.lists.proofs.Lists.{by}
-use Rattle.pages.specs.Pages.{Kind, View, viewOf}
-use Rattle.pages.specs.Steps.{stepForward, stepBack, forward, back, turn, change}
+use Rattle.pages.specs.Pages.{Shelf, View, viewOf}
+use Rattle.pages.specs.Steps.{stepForward, stepBack, forward, back, turn, rescheduled}
 use Rattle.pages.proofs.Pages.{view-more, view-less}
 
 -- the first rows up to one that is not past a later one
@@ -34,7 +34,7 @@ slice-snoc f i l d h k =
     let m : f ≤ length (take i l) = rw (length-take-le i l (omega arith)) h in
     ap (drop f) (take-suc l i d k) ∙ drop-append-le f (take i l) (getD l i d ∷ []) m
 
-module _ (K : Kind) where
+module _ (K : Shelf) where
   back-snoc : (row : ℕ) (xs : List (K .Edit)) (x : K .Edit) (view : View K)
       → back K row (xs ++ (x ∷ [])) view ≡ back K row xs (stepBack K (row + length xs) x view)
   unfolding back
@@ -119,8 +119,8 @@ module _ (K : Kind) where
 
     -- A change goes back to a common beginning of c pages and on, and comes to the view of the new edits.
     pub pages-change : (opened new : List (K .Edit)) (c : ℕ) → length opened ≤ rows → length new ≤ rows → c ≤ length opened → c ≤ length new
-        → take c opened ≡ take c new → change K opened new c (viewOf K places rows opened) ≡ viewOf K places rows new
-    unfolding change
+        → take c opened ≡ take c new → rescheduled K opened new c (viewOf K places rows opened) ≡ viewOf K places rows new
+    unfolding rescheduled
     pages-change opened new c r s h k e =
         let a : length (take c opened) ≡ c = length-take-le c opened h in
         let b : length (take c new) ≡ c = length-take-le c new k in

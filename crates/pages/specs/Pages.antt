@@ -6,18 +6,18 @@ use Rattle.record.specs.Stored.{padded}
 
 -- A kind of entry: its edits, the absent entry, the place that an edit touches and what the edit makes of the entry there. An edit that
 -- touches none of the places has a place past the last.
-pub record Kind : Type 1 where
+pub record Shelf : Type 1 where
   pub Edit : Type 0
   pub Entry : Type 0
   pub absent : Entry
   pub place : Edit → ℕ
   pub action : Edit → Entry → Entry
 
-pub record View (K : Kind) : Type 0 where
+pub record View (K : Shelf) : Type 0 where
   pub catalogue : List (K .Entry)
   pub journal : List (K .Entry)
 
-module _ (K : Kind) where
+module _ (K : Shelf) where
   unfoldable pub touched : List (K .Entry) → K .Edit → K .Entry
   touched catalogue edit = getD catalogue (K .place edit) (K .absent)
 

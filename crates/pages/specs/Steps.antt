@@ -7,9 +7,9 @@ use Prim.Native.Nat.{ℕ, suc, _<_}
 use lib.Dec.{eqb, leb}
 use lib.ListN.{length, getD, set, drop}
 use lib.Seq.{slice}
-use Rattle.pages.specs.Pages.{Kind, View, touched, runEdit}
+use Rattle.pages.specs.Pages.{Shelf, View, touched, runEdit}
 
-module _ (K : Kind) where
+module _ (K : Shelf) where
   -- the row keeps the touched entry, and the edit runs
   unfoldable pub stepForward : ℕ → K .Edit → View K → View K
   stepForward row edit view = record {
@@ -40,8 +40,8 @@ module _ (K : Kind) where
       cond (leb opened page) (forward opened (slice opened page edits) view) (back page (slice page opened edits) view)
 
   -- a change from the open edits to new ones: back to the common beginning of c pages, and on
-  unfoldable pub change : List (K .Edit) → List (K .Edit) → ℕ → View K → View K
-  change opened new c view = forward c (drop c new) (back c (drop c opened) view)
+  unfoldable pub rescheduled : List (K .Edit) → List (K .Edit) → ℕ → View K → View K
+  rescheduled opened new c view = forward c (drop c new) (back c (drop c opened) view)
 
 -- how many pages two rows of names have in common at their beginning
 unfoldable pub commonBeginning : List ℕ → List ℕ → ℕ

@@ -1,2 +1,2 @@
-pub mod Sifting
+pub mod Filtering
 pub mod Unordered

@@ -10,10 +10,10 @@ use lib.ListN.{length, take, getD, set}
 use lib.Seq.{length-take-le}
 use Rattle.record.specs.declared.Constraint.{Constraint}
 use Rattle.record.specs.declared.Record as declared
-use Rattle.lists.specs.Lists.{_among_, sift, at, Has}
+use Rattle.lists.specs.Lists.{_among_, filter, indexOf, Has}
 use Rattle.record.specs.Record.{Record, names, notafter, WellFormed}
 use Rattle.record.specs.Stored.{stored}
-use Rattle.lists.proofs.Lists.{mem-at}
+use Rattle.lists.proofs.Lists.{mem-index}
 use Rattle.lists.proofs.Logic.{has-getD}
 use Rattle.indexes.proofs.Resolving as resolving
 use Rattle.links.specs.Marks.{nameAt, placeIn}
@@ -22,18 +22,18 @@ use Rattle.table.proofs.Tables.{held}
 use Rattle.indexes.specs.Fit.{Fit}
 use Rattle.proposal.specs.Proposal.{unordered}
 use Rattle.proposal.proofs.Joined.{in-has}
-use Rattle.pairs.proofs.Sifting.{sift-next, sift-end, in-array}
+use Rattle.pairs.proofs.Filtering.{filter-next, filter-end, in-array}
 
 abbrev pub isUnordered : Record → Constraint → Bool
 isUnordered R c = eqb (c .rule) 2 && not (notafter R (c .left) (c .right) || notafter R (c .right) (c .left))
 
 -- the index of a known name
 module _ (R : Record) (table : List ℕ) (f : (x : ℕ) → getD table x 0 ≡ placeIn (names R) x) (x : ℕ) (h : x among names R) {i : ℕ} (e : i ≡ getD table x 0) where
-  index-at : i ≡ at x (names R)
+  index-at : i ≡ indexOf x (names R)
   index-at = e ∙ f x ∙ place-known x (names R) h
 
   pub index-low : i < length (names R)
-  index-low = let a = index-at in let b = mem-at x (names R) h in omega arith
+  index-low = let a = index-at in let b = mem-index x (names R) h in omega arith
 
   pub index-name : nameAt R i ≡ x
   index-name = ap (nameAt R) index-at ∙ getD-place x (names R) h
@@ -52,32 +52,32 @@ module _ (R : Record) (c : Constraint) where
 
 -- a constraint of a record has known ends
 module _ (R : Record) (w : WellFormed R) (c : Constraint) (m : Has c (R .constraints)) where
-  pub left-known : c .left among names R
-  left-known = resolving.left-known w _ _ _ (in-has c (R .constraints) m)
+  pub pair-left-known : c .left among names R
+  pair-left-known = resolving.left-known w _ _ _ (in-has c (R .constraints) m)
 
-  pub right-known : c .right among names R
-  right-known = resolving.right-known w _ _ _ (in-has c (R .constraints) m)
+  pub pair-right-known : c .right among names R
+  pair-right-known = resolving.right-known w _ _ _ (in-has c (R .constraints) m)
 
 -- the loop over the constraints in the first n rows of an array
 module _ (constraints : List Constraint) (n : ℕ) (w : n ≤ length constraints) (R : Record) (e : take n constraints ≡ R .constraints) where
   pub here : (i : ℕ) (d : Constraint) → i < n → Has (getD constraints i d) (R .constraints)
   here i d h = let q = in-array constraints (R .constraints) n i d e h w in rw (q .1) (has-getD (R .constraints) i d (q .0))
 
-  pub pairs-next : (rows : List Constraint) (i k m : ℕ) (d : Constraint) (b : Bool) → i < n → k < length rows → take k rows ≡ sift (isUnordered R) (take i (R .constraints))
-      → b ≡ isUnordered R (getD constraints i d) → m ≡ cond b 1 0 → take (k + m) (set rows k (getD constraints i d)) ≡ sift (isUnordered R) (take (i + 1) (R .constraints))
+  pub pairs-next : (rows : List Constraint) (i k m : ℕ) (d : Constraint) (b : Bool) → i < n → k < length rows → take k rows ≡ filter (isUnordered R) (take i (R .constraints))
+      → b ≡ isUnordered R (getD constraints i d) → m ≡ cond b 1 0 → take (k + m) (set rows k (getD constraints i d)) ≡ filter (isUnordered R) (take (i + 1) (R .constraints))
   pairs-next rows i k m d b h v t g z =
       let q = in-array constraints (R .constraints) n i d e h w in
-      rw (q .1) (sift-next (isUnordered R) (R .constraints) rows i k m d b (q .0) v t (rw (q .1) at g) z)
+      rw (q .1) (filter-next (isUnordered R) (R .constraints) rows i k m d b (q .0) v t (rw (q .1) at g) z)
 
-  pub pairs-end : (rows : List Constraint) (i k : ℕ) → n ≤ i → take k rows ≡ sift (isUnordered R) (take i (R .constraints)) → take k rows ≡ unordered R
+  pub pairs-end : (rows : List Constraint) (i k : ℕ) → n ≤ i → take k rows ≡ filter (isUnordered R) (take i (R .constraints)) → take k rows ≡ unordered R
   unfolding unordered
   pairs-end rows i k h t =
       let l : length (R .constraints) ≤ i = let z = ap length (sym e) ∙ length-take-le n constraints w in omega arith in
-      sift-end (isUnordered R) (R .constraints) rows i k l t
+      filter-end (isUnordered R) (R .constraints) rows i k l t
 
 -- none is passed yet
-pub pairs-start : (R : Record) (rows : List Constraint) → take 0 rows ≡ sift (isUnordered R) (take 0 (R .constraints))
-unfolding sift
+pub pairs-start : (R : Record) (rows : List Constraint) → take 0 rows ≡ filter (isUnordered R) (take 0 (R .constraints))
+unfolding filter
 pairs-start R rows = refl
 
 pub bit-low : (b : Bool) {m k : ℕ} → k ≡ m → m ≡ cond b 1 0 → (k ≡ cond b 1 0) × (k ≤ 1)

@@ -1,10 +1,10 @@
 // The noncommuting pairs of a record with no order between them (document 01, "Proposals and votes", last paragraph). Functions are pub for the
 // crates of this workspace that make proposals.
-use row::NAMES;
 use links::NOTAFTER;
 use links::ROWS;
 use record::Constraint;
 use record::Record;
+use row::NAMES;
 ghost use mathlib.Core.Path.{_≡_};
 ghost use mathlib.Core.Bool.{not, _&&_, _||_};
 ghost use Prim.Native.Nat.{ℕ, _≤_, _<_};

@@ -56,8 +56,8 @@ pub eight-tells : (ℓ : Lifetime) (κ : Lft) (m : ℕ) → Tells (Eight ℓ κ 
 eight-tells ℓ κ m = array-tells (ShrSlice ℓ κ (Array u32 m)) slice-vals (shr-slice-tells ℓ κ (Array u32 m)) 8
 
 -- the roll's
-abbrev pub Rows : Lft → RattleType
-Rows κ = ShrSlice (named 2) κ T.the-row
+abbrev pub RollSlice : Lft → RattleType
+RollSlice κ = ShrSlice (named 2) κ T.the-row
 
 abbrev pub rowsVal : RefT (List RollRow) → Val
 rowsVal x = sliceVal (x .ptr) (length (x .now))
@@ -75,8 +75,8 @@ module _ {M : Type 1} (𝓤 : URA M) (H : Heap 𝓤) (A : Atoms 𝓤) where
       abbrev pub to-gathered : Gathered .Ghost
       to-gathered = (((κ, tt), (q, tt), tt, (x, tt), (rowsVal x ∷ [], tt)), tt)
 
-      pub goes-gathered : Given 𝓤 H A → ent 𝓤 (⋆ 𝓤 H A (‵ (flft κ q) ∷ ‵ (Rows κ .own x (rowsVal x ∷ [])) ∷ [])) (Gathered .pre to-gathered)
-      goes-gathered W = qed W (‵ (flft κ q) ∷ ‵ (Rows κ .own x (rowsVal x ∷ [])) ∷ []) ∵ nothing ! $ move ! (1 ∷ 0 ∷ []) $ join ! $ nothing ! $ move ! (2 ∷ 0 ∷ []) $ fjoin ! $ move ! (1 ∷ 0 ∷ []) $ join ! $ frame ! $ done !
+      pub goes-gathered : Given 𝓤 H A → ent 𝓤 (⋆ 𝓤 H A (‵ (flft κ q) ∷ ‵ (RollSlice κ .own x (rowsVal x ∷ [])) ∷ [])) (Gathered .pre to-gathered)
+      goes-gathered W = qed W (‵ (flft κ q) ∷ ‵ (RollSlice κ .own x (rowsVal x ∷ [])) ∷ []) ∵ nothing ! $ move ! (1 ∷ 0 ∷ []) $ join ! $ nothing ! $ move ! (2 ∷ 0 ∷ []) $ fjoin ! $ move ! (1 ∷ 0 ∷ []) $ join ! $ frame ! $ done !
 
       pub said-gathered : (s : Roll) → ent 𝓤 (ensured 𝓤 H A gathered.ended (gathered.clauses 𝓤 H A mem run) (κ, tt) (x, tt) tt s) (fact 𝓤 (s ≡ rollOf (x .now)))
       said-gathered s = exE 𝓤 _ (λ ws. snd∗ 𝓤 (sem 𝓤 H A (lasts gathered.ended (κ, tt) (x, tt) ws)) (fact 𝓤 (s ≡ rollOf (x .now))))

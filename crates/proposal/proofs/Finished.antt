@@ -8,27 +8,27 @@ use native.Mathlib.Omega.{arith}
 use lib.Dec.{eqb, ltb}
 use borrow.Author.Tests.{eqb-true, eqb-false, eq-eqb, not-true, not-false, ltb-true, ltb-false}
 use Rattle.record.specs.declared.Constraint.{Constraint}
-use Rattle.lists.specs.Lists.{any, all, sift, mem, at, _among_, _within_, Has}
+use Rattle.lists.specs.Lists.{any, all, filter, mem, indexOf, _among_, _within_, Has}
 use Rattle.record.specs.Record.{Record, names, written, is, has, notafter, enables, noncommuting, WellFormed, Extends}
 use Rattle.record.specs.Sound.{Sound, Must, Never, Ordered, earlier, later, right-never, Serialised, Settled}
 use Rattle.record.specs.Schedule.{schedule}
 use Rattle.record.specs.Judgement.{sound, settled}
-use Rattle.lists.proofs.Lists.{by, clash, is-by, and-l, and-r, and-i, or-by, or-l, or-r, or-no-l, or-no-r, mem-head, mem-tail, cons-by, nil-no, mem-at}
-use Rattle.record.proofs.Records.{sift-has, has-sift, pair-by, written-names, noncommuting-right, right-written, init-known}
+use Rattle.lists.proofs.Lists.{by, clash, is-by, and-l, and-r, and-i, or-by, or-l, or-r, or-no-l, or-no-r, mem-head, mem-tail, cons-by, nil-no, mem-index}
+use Rattle.record.proofs.Records.{filter-has, has-filter, pair-by, written-names, noncommuting-right, right-written, init-known}
 use Rattle.record.proofs.Records as records
 use Rattle.record.proofs.Order.{sound-init}
 use Rattle.record.proofs.Judged.{sound-is, must-is, never-is, settled-is}
 use Rattle.record.proofs.Scheduled.{schedule-sound, musts-scheduled, schedule-members}
 use Rattle.lists.specs.Keyed.{Ascending}
 use Rattle.lists.proofs.Union.{ascending-united}
-use Rattle.lists.proofs.Logic.{sift-from, sift-into}
+use Rattle.lists.proofs.Logic.{filter-from, filter-into}
 use Rattle.table.specs.Table.{constraintKey}
-use Rattle.proposal.specs.Proposal.{withConstraints, before, unordered, decisions, orders, finished, Paired}
+use Rattle.proposal.specs.Proposal.{joinedConstraints, before, unordered, decisions, orders, finished, Paired}
 use Rattle.proposal.proofs.Joined.{con, has-in, in-has, has-append, has-with, written-with, extends-with, with-well-formed, with-part}
 
 -- two names of a row at one place are one
-at-same : (a b : ℕ) (row : List ℕ) → a among row → b among row → at a row ≡ at b row → a ≡ b
-unfolding at mem
+at-same : (a b : ℕ) (row : List ℕ) → a among row → b among row → indexOf a row ≡ indexOf b row → a ≡ b
+unfolding indexOf mem
 at-same a b [] i j e = clash i refl
 at-same a b (x ∷ row) i j e =
     by (eqb a x)
@@ -43,8 +43,8 @@ Decides row a k b = ((a among row) × (k ≡ 1) × (b ≡ 0)) ⊎ ((mem a row �
 decision-by : (row : List ℕ) (x a k b : ℕ) → is a k b (cond (mem x row) (con x 1 0) (before x x)) ≡ true → (a ≡ x) × Decides row a k b
 decision-by row x a k b h =
     by (mem x row)
-    (λ m. records.is-by a k b (con x 1 0) (rw m at h) (λ p q r. (sym p, inl (rw (← p) m, sym q, sym r))))
-    (λ m. records.is-by a k b (before x x) (rw m at h) (λ p q r. (sym p, inr (rw (← p) m, sym q, sym r ∙ p))))
+    (λ m. records.constraint-by a k b (con x 1 0) (rw m at h) (λ p q r. (sym p, inl (rw (← p) m, sym q, sym r))))
+    (λ m. records.constraint-by a k b (before x x) (rw m at h) (λ p q r. (sym p, inr (rw (← p) m, sym q, sym r ∙ p))))
 
 pub decisions-by : (row l : List ℕ) (a k b : ℕ) → has a k b (decisions row l) ≡ true → (a among l) × Decides row a k b
 unfolding decisions has any
@@ -77,7 +77,7 @@ Unordered R c = (has (c .left) 2 (c .right) (R .constraints) ≡ true) × (notaf
 pub unordered-from : (R : Record) (c : Constraint) → Has c (unordered R) → Unordered R c
 unfolding unordered
 unordered-from R c h =
-    let r = sift-from (λ c. eqb (c .rule) 2 && not (notafter R (c .left) (c .right) || notafter R (c .right) (c .left))) (R .constraints) c h in
+    let r = filter-from (λ c. eqb (c .rule) 2 && not (notafter R (c .left) (c .right) || notafter R (c .right) (c .left))) (R .constraints) c h in
     let n = not-true _ (and-r (eqb (c .rule) 2) _ (r .1)) in
     let k : c .rule ≡ 2 = eqb-true (c .rule) 2 (and-l _ _ (r .1)) in
     let i = in-has c (R .constraints) (r .0) in
@@ -86,7 +86,7 @@ unordered-from R c h =
 pub unordered-into : (R : Record) (a b : ℕ) → has a 2 b (R .constraints) ≡ true → notafter R a b ≡ false → notafter R b a ≡ false → Has (con a 2 b) (unordered R)
 unfolding unordered
 unordered-into R a b h m n =
-    sift-into (λ c. eqb (c .rule) 2 && not (notafter R (c .left) (c .right) || notafter R (c .right) (c .left))) (R .constraints) (con a 2 b)
+    filter-into (λ c. eqb (c .rule) 2 && not (notafter R (c .left) (c .right) || notafter R (c .right) (c .left))) (R .constraints) (con a 2 b)
     (has-in a 2 b (R .constraints) h) (rw (m, n))
 
 -- the orders that a row gives
@@ -96,7 +96,7 @@ pub record Earlier (known row : List ℕ) (a k b : ℕ) : Type 0 where
   pub right : b among row
   pub left-known : a among known
   pub right-known : b among known
-  pub earlier : at a row < at b row
+  pub earlier : indexOf a row < indexOf b row
 
 -- what is asked of a pair that is ordered
 pub record Pair (known : List ℕ) (c : Constraint) : Type 0 where
@@ -105,16 +105,16 @@ pub record Pair (known : List ℕ) (c : Constraint) : Type 0 where
   pub right : c .right among known
 
 order-by : (known row : List ℕ) (c : Constraint) → Pair known c → c .left among row → c .right among row → (a k b : ℕ)
-    → is a k b (cond (ltb (at (c .left) row) (at (c .right) row)) (before (c .left) (c .right)) (before (c .right) (c .left))) ≡ true → Earlier known row a k b
+    → is a k b (cond (ltb (indexOf (c .left) row) (indexOf (c .right) row)) (before (c .left) (c .right)) (before (c .right) (c .left))) ≡ true → Earlier known row a k b
 order-by known row c l i j a k b h =
-    by (ltb (at (c .left) row) (at (c .right) row))
+    by (ltb (indexOf (c .left) row) (indexOf (c .right) row))
     (λ e. let t = ltb-true _ _ e in
-    records.is-by a k b (before (c .left) (c .right)) (rw e at h)
+    records.constraint-by a k b (before (c .left) (c .right)) (rw e at h)
     (λ p q r. record { rule = sym q; left = rw (← p) i; right = rw (← r) j; left-known = rw (← p) (l .left); right-known = rw (← r) (l .right); earlier = rw (← p, ← r) t }))
-    (λ e. let t : at (c .right) row < at (c .left) row = is-by (at (c .left) row) (at (c .right) row)
+    (λ e. let t : indexOf (c .right) row < indexOf (c .left) row = is-by (indexOf (c .left) row) (indexOf (c .right) row)
     (λ s. absurd (let z = at-same (c .left) (c .right) row i j s in omega (arith, l .lower)))
-    (λ s. omega (arith, s, ltb-false (at (c .left) row) (at (c .right) row) e)) in
-    records.is-by a k b (before (c .right) (c .left)) (rw e at h)
+    (λ s. omega (arith, s, ltb-false (indexOf (c .left) row) (indexOf (c .right) row) e)) in
+    records.constraint-by a k b (before (c .right) (c .left)) (rw e at h)
     (λ p q r. record { rule = sym q; left = rw (← p) j; right = rw (← r) i; left-known = rw (← p) (l .right); right-known = rw (← r) (l .left); earlier = rw (← p, ← r) t }))
 
 pub orders-by : (known row : List ℕ) (l : List Constraint) → ((c : Constraint) → Has c l → Pair known c) → (a k b : ℕ) → has a k b (orders row l) ≡ true → Earlier known row a k b
@@ -122,7 +122,7 @@ unfolding orders has any
 orders-by known row [] f a k b h = clash h refl
 orders-by known row (c ∷ l) f a k b h =
     by (mem (c .left) row && mem (c .right) row)
-    (λ e. or-by (is a k b (cond (ltb (at (c .left) row) (at (c .right) row)) (before (c .left) (c .right)) (before (c .right) (c .left)))) (has a k b (orders row l))
+    (λ e. or-by (is a k b (cond (ltb (indexOf (c .left) row) (indexOf (c .right) row)) (before (c .left) (c .right)) (before (c .right) (c .left)))) (has a k b (orders row l))
     (rw e at h)
     (λ i. order-by known row c (f c (inl refl)) (and-l _ _ e) (and-r (mem (c .left) row) _ e) a k b i)
     (λ i. orders-by known row l (λ d m. f d (inr m)) a k b i))
@@ -134,13 +134,13 @@ unfolding orders
 orders-in row [] c h i j = absurd h
 orders-in row (d ∷ l) c (inl e) i j =
     let both : (mem (d .left) row && mem (d .right) row) ≡ true = and-i _ _ (rw e at i) (rw e at j) in
-    rw both (by (ltb (at (d .left) row) (at (d .right) row))
+    rw both (by (ltb (indexOf (d .left) row) (indexOf (d .right) row))
     (λ t. rw (t, e) (or-l _ _ (records.has-head (before (d .left) (d .right)) (orders row l))))
     (λ t. rw (t, e) (or-r (has (d .left) 0 (d .right) (before (d .right) (d .left) ∷ orders row l)) _ (records.has-head (before (d .right) (d .left)) (orders row l)))))
 orders-in row (d ∷ l) c (inr h) i j =
     let r = orders-in row l c h i j in
     by (mem (d .left) row && mem (d .right) row)
-    (λ e. let x = cond (ltb (at (d .left) row) (at (d .right) row)) (before (d .left) (d .right)) (before (d .right) (d .left)) in
+    (λ e. let x = cond (ltb (indexOf (d .left) row) (indexOf (d .right) row)) (before (d .left) (d .right)) (before (d .right) (d .left)) in
     rw e (or-by (has (c .left) 0 (c .right) (orders row l)) _ r
     (λ m. or-l _ _ (records.has-tail (c .left) 0 (c .right) x (orders row l) m))
     (λ m. or-r (has (c .left) 0 (c .right) (x ∷ orders row l)) _ (records.has-tail (c .right) 0 (c .left) x (orders row l) m))))
@@ -274,7 +274,7 @@ module _ {R : Record} (w : WellFormed R) (p : Paired R) (h : sound R ≡ true) w
 
   module _ (a : Ascending constraintKey (R .constraints)) where
     pub finished-ascending : Ascending constraintKey (finished R .constraints)
-    unfolding finished withConstraints
+    unfolding finished joinedConstraints
     finished-ascending = ascending-united constraintKey (R .constraints) _ a
 
     decided-before : (c : Constraint) → Has c (decisions (schedule (finished R) []) (written R)) → Has c (finished R .constraints)

@@ -12,13 +12,13 @@ use Rattle.record.specs.declared.Constraint.{Constraint}
 use Rattle.lists.specs.Lists.{any, all, mem, _among_, Has}
 use Rattle.record.specs.Record.{Record, nameOf, written, is, has, WellFormed, Extends}
 use Rattle.lists.proofs.Lists.{by, clash, or-by, or-l, or-r, same-by, mem-head, mem-tail, cons-by, nil-no}
-use Rattle.record.proofs.Records.{is-by, is-self, has-head, has-tail}
+use Rattle.record.proofs.Records.{constraint-by, is-self, has-head, has-tail}
 use Rattle.lists.specs.Keyed.{precedes, Ascending, united}
 use Rattle.lists.proofs.Order.{less-total}
 use Rattle.lists.proofs.Union.{Agree, united-has, united-old, united-new, united-comm, united-part}
 use Rattle.table.specs.Table.{editKey, constraintKey, unite}
 use Rattle.table.proofs.Unions.{mem-by, mem-has, united-extends, joining-extends}
-use Rattle.proposal.specs.Proposal.{withConstraints}
+use Rattle.proposal.specs.Proposal.{joinedConstraints}
 
 abbrev pub con : ℕ → ℕ → ℕ → Constraint
 con a k b = record { left = a; rule = k; right = b }
@@ -29,7 +29,7 @@ unfolding has any
 has-in a k b [] h = clash h refl
 has-in a k b (c ∷ l) h =
     or-by (is a k b c) (has a k b l) h
-    (λ e. is-by a k b c e (λ x y z. inl (λ i. record { left = sym x i; rule = sym y i; right = sym z i })))
+    (λ e. constraint-by a k b c e (λ x y z. inl (λ i. record { left = sym x i; rule = sym y i; right = sym z i })))
     (λ e. inr (has-in a k b l e))
 
 pub in-has : (c : Constraint) (l : List Constraint) → Has c l → has (c .left) (c .rule) (c .right) l ≡ true
@@ -61,14 +61,14 @@ has-united a k b s t =
     (λ m. united-new constraintKey (con a k b) s t (constraints-agree t s) (constraints-agree t t) (has-in a k b t m))))
 
 -- what is needed of two records that are joined: ascending tables, and one body for a name
-pub record Joins (M Q : Record) : Type 0 where
+pub record Joinable (M Q : Record) : Type 0 where
   pub left-edits : Ascending editKey (M .edits)
   pub right-edits : Ascending editKey (Q .edits)
   pub left-constraints : Ascending constraintKey (M .constraints)
   pub right-constraints : Ascending constraintKey (Q .constraints)
   pub bodies : Agree editKey (Q .edits) (M .edits)
 
-module _ {M Q : Record} (j : Joins M Q) where
+module _ {M Q : Record} (j : Joinable M Q) where
   pub unite-left : (e : Edit) → Has e (M .edits) → Has e (unite M Q .edits)
   unfolding unite
   unite-left e h = united-old editKey e (M .edits) (Q .edits) h
@@ -109,25 +109,25 @@ module _ {M Q : Record} (j : Joins M Q) where
 
 -- added constraints
 module _ (R : Record) (l : List Constraint) where
-  pub has-with : (a k b : ℕ) → has a k b (withConstraints R l .constraints) ≡ (has a k b (R .constraints) || has a k b l)
-  unfolding withConstraints
+  pub has-with : (a k b : ℕ) → has a k b (joinedConstraints R l .constraints) ≡ (has a k b (R .constraints) || has a k b l)
+  unfolding joinedConstraints
   has-with a k b = has-united a k b (R .constraints) l
 
-  pub written-with : written (withConstraints R l) ≡ written R
-  unfolding withConstraints written
+  pub written-with : written (joinedConstraints R l) ≡ written R
+  unfolding joinedConstraints written
   written-with = refl
 
-  pub extends-with : Extends R (withConstraints R l)
+  pub extends-with : Extends R (joinedConstraints R l)
   extends-with = record { edits = λ x h. rw written-with h; constraints = λ a k b h. has-with a k b ∙ or-l _ _ h }
 
   pub with-well-formed : WellFormed R → ((a k b : ℕ) → has a k b l ≡ true → (a among written R) × ((b among written R) ⊎ ((k ≡ 1) × (b ≡ 0))))
-      → WellFormed (withConstraints R l)
+      → WellFormed (joinedConstraints R l)
   with-well-formed w f = record {
     unwritten = rw written-with (w .unwritten);
     left = λ a k b h. rw written-with (or-by (has a k b (R .constraints)) (has a k b l) (sym (has-with a k b) ∙ h) (w .left a k b) (λ i. f a k b i .0));
     right = λ a k b h. rw written-with (or-by (has a k b (R .constraints)) (has a k b l) (sym (has-with a k b) ∙ h) (w .right a k b) (λ i. f a k b i .1));
   }
 
-  pub with-part : Ascending constraintKey (R .constraints) → ((c : Constraint) → Has c l → Has c (R .constraints)) → withConstraints R l ≡ R
-  unfolding withConstraints
+  pub with-part : Ascending constraintKey (R .constraints) → ((c : Constraint) → Has c l → Has c (R .constraints)) → joinedConstraints R l ≡ R
+  unfolding joinedConstraints
   with-part a f = let c = united-part constraintKey (R .constraints) l a f in λ i. record { edits = R .edits; constraints = c i }

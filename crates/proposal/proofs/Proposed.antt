@@ -22,8 +22,8 @@ use Rattle.vote.proofs.Bundles.{bundle-written, written-bundle, member-self}
 use Rattle.vote.proofs.Elections.{same-is}
 use Rattle.table.specs.Table.{editKey, constraintKey, unite}
 use Rattle.table.proofs.Unions.{united-extends, joining-extends}
-use Rattle.proposal.specs.Proposal.{withConstraints, before, unordered, settledIn, settledFirst, firsts, started, finished, proposed, Paired, Keeps, keeps}
-use Rattle.proposal.proofs.Joined.{con, has-in, in-has, has-with, extends-with, with-well-formed, Joins, unite-left, has-unite, unite-well-formed, unite-part}
+use Rattle.proposal.specs.Proposal.{joinedConstraints, before, unordered, settledIn, settledFirst, firsts, started, finished, proposed, Paired, Keeps, keeps}
+use Rattle.proposal.proofs.Joined.{con, has-in, in-has, has-with, extends-with, with-well-formed, Joinable, unite-left, has-unite, unite-well-formed, unite-part}
 use Rattle.proposal.proofs.Finished.{unordered-from, finished-extends, finished-well-formed, finished-sound, finished-settled, finished-ascending, finished-again}
 
 pub extends-trans : {P Q R : Record} → Extends P Q → Extends Q R → Extends P R
@@ -52,7 +52,7 @@ unfolding firsts
 firsts-none Q [] f = refl
 firsts-none Q (c ∷ l) f = let r = f c (inl refl) in rw (r .0, r .1) (firsts-none Q l (λ d m. f d (inr m)))
 
-module _ {M Q : Record} (j : Joins M Q) (v : WellFormed M) (w : WellFormed Q) (p : Paired M) (q : Paired Q) where
+module _ {M Q : Record} (j : Joinable M Q) (v : WellFormed M) (w : WellFormed Q) (p : Paired M) (q : Paired Q) where
   unite-paired : Paired (unite M Q)
   unite-paired = record {
     lower = λ a b h. or-by (has a 2 b (M .constraints)) (has a 2 b (Q .constraints)) (sym (has-unite j a 2 b) ∙ h) (p .lower a b) (q .lower a b);
@@ -86,7 +86,7 @@ module _ {M Q : Record} (j : Joins M Q) (v : WellFormed M) (w : WellFormed Q) (p
   started-extends = extends-with (unite M Q) _
 
   started-ascending : Ascending constraintKey (started M Q .constraints)
-  unfolding started withConstraints unite
+  unfolding started joinedConstraints unite
   started-ascending = ascending-united constraintKey _ _ (ascending-united constraintKey (M .constraints) (Q .constraints) (j .left-constraints))
 
   module _ (h : sound (started M Q) ≡ true) where
@@ -111,7 +111,7 @@ module _ {M Q : Record} (j : Joins M Q) (v : WellFormed M) (w : WellFormed Q) (p
 
     -- with the bodies of its edits
     pub proposed-edits : proposed M Q .edits ≡ unite M Q .edits
-    unfolding proposed finished withConstraints started
+    unfolding proposed finished joinedConstraints started
     proposed-edits = refl
 
     -- Every edit of it is settled in it.
@@ -127,7 +127,7 @@ module _ {M Q : Record} (j : Joins M Q) (v : WellFormed M) (w : WellFormed Q) (p
     unfolding unite
     proposed-edits-ascend = rw proposed-edits (ascending-united editKey (M .edits) (Q .edits) (j .left-edits))
 
-    again-joins : Joins M (proposed M Q)
+    again-joins : Joinable M (proposed M Q)
     again-joins = record {
       left-edits = j .left-edits;
       right-edits = proposed-edits-ascend;
@@ -152,7 +152,7 @@ module _ {M Q : Record} (j : Joins M Q) (v : WellFormed M) (w : WellFormed Q) (p
         ))
 
     again-started : started M (proposed M Q) ≡ proposed M Q
-    unfolding started withConstraints united
+    unfolding started joinedConstraints united
     again-started = rw (again-united, again-firsts)
 
     again-finished : finished (proposed M Q) ≡ proposed M Q

@@ -5,7 +5,7 @@ use mathlib.Core.List.{List, [], _∷_, _++_, map}
 use Prim.Native.Nat.{ℕ, _<_}
 use lib.Dec.{eqb, ltb}
 use Rattle.record.specs.declared.Constraint.{Constraint}
-use Rattle.lists.specs.Lists.{all, sift, mem, at, _among_}
+use Rattle.lists.specs.Lists.{all, filter, mem, indexOf, _among_}
 use Rattle.record.specs.Record.{Record, written, has, notafter}
 use Rattle.record.specs.Schedule.{schedule}
 use Rattle.record.specs.Judgement.{settled}
@@ -15,15 +15,15 @@ use Rattle.vote.specs.Bundle.{bundle, eligible}
 use Rattle.vote.specs.Tally.{sameBundle}
 
 -- the record with the constraints of a list
-unfoldable pub withConstraints : Record → List Constraint → Record
-withConstraints R l = record { edits = R .edits; constraints = united constraintKey (R .constraints) l }
+unfoldable pub joinedConstraints : Record → List Constraint → Record
+joinedConstraints R l = record { edits = R .edits; constraints = united constraintKey (R .constraints) l }
 
 abbrev pub before : ℕ → ℕ → Constraint
 before a b = record { left = a; rule = 0; right = b }
 
 -- the noncommuting pairs with no order between them, an order being a direct row
 unfoldable pub unordered : Record → List Constraint
-unordered R = sift (λ c. eqb (c .rule) 2 && not (notafter R (c .left) (c .right) || notafter R (c .right) (c .left))) (R .constraints)
+unordered R = filter (λ c. eqb (c .rule) 2 && not (notafter R (c .left) (c .right) || notafter R (c .right) (c .left))) (R .constraints)
 
 -- settled in Q; an edit that Q doesn't know is not
 unfoldable pub settledIn : Record → ℕ → Bool
@@ -42,7 +42,7 @@ firsts Q (c ∷ l) = settledFirst (settledIn Q (c .left)) (settledIn Q (c .right
 
 -- the union, with what was settled first
 unfoldable pub started : Record → Record → Record
-started M Q = let U = unite M Q in withConstraints U (firsts Q (unordered U))
+started M Q = let U = unite M Q in joinedConstraints U (firsts Q (unordered U))
 
 -- the edits of the row are marked required, the others aborted
 abbrev pub decisionOn : List ℕ → ℕ → Constraint
@@ -56,10 +56,10 @@ unfoldable pub orders : List ℕ → List Constraint → List Constraint
 orders row [] = []
 orders row (c ∷ l) =
     let r = orders row l in
-    cond (mem (c .left) row && mem (c .right) row) (cond (ltb (at (c .left) row) (at (c .right) row)) (before (c .left) (c .right)) (before (c .right) (c .left)) ∷ r) r
+    cond (mem (c .left) row && mem (c .right) row) (cond (ltb (indexOf (c .left) row) (indexOf (c .right) row)) (before (c .left) (c .right)) (before (c .right) (c .left)) ∷ r) r
 
 unfoldable pub finished : Record → Record
-finished R = let row = schedule R [] in withConstraints R (decisions row (written R) ++ orders row (unordered R))
+finished R = let row = schedule R [] in joinedConstraints R (decisions row (written R) ++ orders row (unordered R))
 
 -- the new proposal
 unfoldable pub proposed : Record → Record → Record

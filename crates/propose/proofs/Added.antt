@@ -24,7 +24,7 @@ use Rattle.table.specs.Checked.{Checked}
 use Rattle.table.proofs.Unions.{mem-by}
 use Rattle.table.proofs.Records.{checked-wellformed}
 use Rattle.fit.proofs.Fit.{checked-fit}
-use Rattle.proposal.specs.Proposal.{withConstraints, before, unordered, firsts, started, decisions, orders, finished}
+use Rattle.proposal.specs.Proposal.{joinedConstraints, before, unordered, firsts, started, decisions, orders, finished}
 use Rattle.proposal.proofs.Joined.{in-has}
 use Rattle.proposal.proofs.Finished.{Decides, decisions-by, orders-by, unordered-from}
 use Rattle.proposal.proofs.Proposed.{firsts-by}
@@ -85,8 +85,8 @@ module _ (R : Record) (k : Checked R) (l : List Constraint) (f : (c : Constraint
   either {ℓ} : {P : Type ℓ} (c : Constraint) → Has c (united constraintKey (R .constraints) l) → (Has c (R .constraints) → P) → (Added R c → P) → P
   either {P = P} c m g h = ⊎-elim {C = P} g (λ (i : Has c l). h (f c i)) (united-has constraintKey c (R .constraints) l m)
 
-  pub added-checked : length (united constraintKey (R .constraints) l) ≤ 512 → Checked (withConstraints R l)
-  unfolding withConstraints names written
+  pub added-checked : length (united constraintKey (R .constraints) l) ≤ 512 → Checked (joinedConstraints R l)
+  unfolding joinedConstraints names written
   added-checked w =
       record {
         editplaces = k .editplaces;
@@ -118,7 +118,7 @@ firsts-added U Q k c h =
     (λ (e : c ≡ before (d .right) (d .left)). inl (rw e (pair-right U k d m, refl, pair-left U k d m))) o)
 
 pub started-checked : (M Q : Record) → Checked (unite M Q) → length (started M Q .constraints) ≤ 512 → Checked (started M Q)
-unfolding started withConstraints
+unfolding started joinedConstraints
 started-checked M Q k w = added-checked (unite M Q) k (firsts Q (unordered (unite M Q))) (firsts-added (unite M Q) Q k) w
 
 -- decisions and orders
@@ -136,5 +136,5 @@ finished-added R k row c h =
     inl (e .left-known, e .rule, e .right-known))
 
 pub finished-checked : (R : Record) → Checked R → length (finished R .constraints) ≤ 512 → Checked (finished R)
-unfolding finished withConstraints
+unfolding finished joinedConstraints
 finished-checked R k w = added-checked R k (decisions (schedule R []) (written R) ++ orders (schedule R []) (unordered R)) (finished-added R k (schedule R [])) w

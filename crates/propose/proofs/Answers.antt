@@ -21,14 +21,14 @@ use Rattle.table.proofs.Tables.{stored-back}
 use Rattle.table.proofs.Unions.{joining-extends}
 use Rattle.table.proofs.Records.{lent-checked, joined-checked, joining-checked, joining-editplaces, joining-constraintplaces}
 use Rattle.join.specs.declared.Joined.{Joined}
-use Rattle.join.specs.Join.{outcome}
-use Rattle.proposal.specs.Proposal.{withConstraints, started, finished, proposed, keeps}
+use Rattle.join.specs.Join.{joinedOf}
+use Rattle.proposal.specs.Proposal.{joinedConstraints, started, finished, proposed, keeps}
 use Rattle.propose.specs.declared.Proposed.{Proposed}
-use Rattle.propose.specs.Propose.{draftFault, unkept, tooShort, Lent, recordM, proposalQ, proposalFault, newProposal, over, Makes, newFault, newOutcome}
+use Rattle.propose.specs.Propose.{draftFault, unkept, tooShort, LentToPropose, recordM, proposalQ, proposeFault, newProposal, over, Makes, newFault, newOutcome}
 use Rattle.propose.proofs.Drafts.{stopped-is, made-is, drafted-checked}
 
 -- what an outcome says
-module _ (n : ℕ) (P : Record) (r : Joined) (e : r ≡ outcome n emptyTables P) where
+module _ (n : ℕ) (P : Record) (r : Joined) (e : r ≡ joinedOf n emptyTables P) where
   pub number-is : r .number ≡ n
   number-is = ap (λ (x : Joined). x .number) e
 
@@ -39,13 +39,13 @@ module _ (n : ℕ) (P : Record) (r : Joined) (e : r ≡ outcome n emptyTables P)
 
 -- the new proposal knows the edits of the old
 pub knows-old : (M Q : Record) → written Q within written (proposed M Q)
-unfolding proposed finished withConstraints started written
+unfolding proposed finished joinedConstraints started written
 knows-old M Q x h = joining-extends M Q .edits x h
 
 -- keeping, after a draft
-module _ (M Q : Record) (new : Joined) (e : new ≡ outcome (draftFault M Q) emptyTables (proposed M Q)) where
+module _ (M Q : Record) (new : Joined) (e : new ≡ joinedOf (draftFault M Q) emptyTables (proposed M Q)) where
   pub draft-refused : (new .number ≡ 0 → ⊥) → {r : Joined} → r ≡ record { number = new .number; after = stored emptyTables }
-      → r ≡ outcome (draftFault M Q orelse 11 given unkept M Q) emptyTables (proposed M Q)
+      → r ≡ joinedOf (draftFault M Q orelse 11 given unkept M Q) emptyTables (proposed M Q)
   draft-refused z f =
       let n = number-is (draftFault M Q) (proposed M Q) new e in
       stopped-is (new .number) (draftFault M Q orelse 11 given unkept M Q) (proposed M Q) (orelse-first (draftFault M Q) (11 given unkept M Q) (λ q. z (n ∙ q)) ∙ sym n) z f
@@ -61,13 +61,13 @@ module _ (M Q : Record) (new : Joined) (e : new ≡ outcome (draftFault M Q) emp
     new-stored = after-is (draftFault M Q) (proposed M Q) new e z
 
     pub not-kept : {b : Bool} → b ≡ keeps Q (proposed M Q) → b ≡ false → {r : Joined} → r ≡ record { number = 11; after = stored emptyTables }
-        → r ≡ outcome (draftFault M Q orelse 11 given unkept M Q) emptyTables (proposed M Q)
+        → r ≡ joinedOf (draftFault M Q orelse 11 given unkept M Q) emptyTables (proposed M Q)
     unfolding unkept
     not-kept f g h =
         let q : keeps Q (proposed M Q) ≡ false = sym f ∙ g in
         stopped-is 11 (draftFault M Q orelse 11 given unkept M Q) (proposed M Q) (orelse-second (draftFault M Q) (11 given unkept M Q) faultless ∙ rw q) (λ y. omega arith) h
 
-    pub is-kept : {b : Bool} → b ≡ keeps Q (proposed M Q) → b ≡ true → record { number = 0; after = new .after } ≡ outcome (draftFault M Q orelse 11 given unkept M Q) emptyTables (proposed M Q)
+    pub is-kept : {b : Bool} → b ≡ keeps Q (proposed M Q) → b ≡ true → record { number = 0; after = new .after } ≡ joinedOf (draftFault M Q orelse 11 given unkept M Q) emptyTables (proposed M Q)
     unfolding unkept
     is-kept f g =
         let q : keeps Q (proposed M Q) ≡ true = sym f ∙ g in
@@ -81,9 +81,9 @@ module _ (es cs oes ocs : Rows) where
   abbrev Q : Record
   Q = decoded oes ocs
 
-  module _ (own : Joined) (e : own ≡ outcome (lentFault emptyTables es cs) emptyTables M) where
-    pub rows-refused : (own .number ≡ 0 → ⊥) → {r : Joined} → r ≡ record { number = own .number; after = stored emptyTables } → r ≡ newOutcome es cs oes ocs
-    rows-refused z f =
+  module _ (own : Joined) (e : own ≡ joinedOf (lentFault emptyTables es cs) emptyTables M) where
+    pub propose-rows-refused : (own .number ≡ 0 → ⊥) → {r : Joined} → r ≡ record { number = own .number; after = stored emptyTables } → r ≡ newOutcome es cs oes ocs
+    propose-rows-refused z f =
         let n : own .number ≡ lentFault emptyTables es cs = ap (λ (x : Joined). x .number) e in
         stopped-is (own .number) (newFault es cs oes ocs) (proposed M Q)
         (orelse-first (lentFault emptyTables es cs) (lentFault M oes ocs orelse draftFault M Q orelse 11 given unkept M Q) (λ q. z (n ∙ q)) ∙ sym n) z f
@@ -98,7 +98,7 @@ module _ (es cs oes ocs : Rows) where
       pub own-checked : Checked M
       own-checked = lent-checked es cs none
 
-      module _ (joined : Joined) (f : joined ≡ outcome (lentFault M oes ocs) M (unite M Q)) where
+      module _ (joined : Joined) (f : joined ≡ joinedOf (lentFault M oes ocs) M (unite M Q)) where
         second : joined .number ≡ lentFault M oes ocs
         second = ap (λ (x : Joined). x .number) f
 
@@ -124,9 +124,9 @@ module _ (es cs oes ocs : Rows) where
           pub old-few : (length oes ≤ 127) × (length ocs ≤ 512)
           old-few = (joining-editplaces M _ false oes ocs own-checked none-second, joining-constraintplaces M _ false oes ocs own-checked none-second)
 
-          pub made-rows : {r : Joined} → r ≡ outcome (draftFault M Q orelse 11 given unkept M Q) emptyTables (proposed M Q) → r ≡ newOutcome es cs oes ocs
+          pub made-rows : {r : Joined} → r ≡ joinedOf (draftFault M Q orelse 11 given unkept M Q) emptyTables (proposed M Q) → r ≡ newOutcome es cs oes ocs
           made-rows h =
-              h ∙ ap (λ (n : ℕ). outcome n emptyTables (proposed M Q))
+              h ∙ ap (λ (n : ℕ). joinedOf n emptyTables (proposed M Q))
               (sym (orelse-second (lentFault emptyTables es cs) (lentFault M oes ocs orelse draftFault M Q orelse 11 given unkept M Q) none ∙ orelse-second (lentFault M oes ocs) (draftFault M Q orelse 11 given unkept M Q) none-second))
 
 -- a number that is given stays so with a further ground, and with none the further one decides
@@ -134,7 +134,7 @@ further : (a b c d f : ℕ) → (a orelse b orelse c orelse d orelse f) ≡ ((a 
 further a b c d f =
     by (eqb a 0) (λ p. by (eqb b 0) (λ q. by (eqb c 0) (λ r. rw (p, q, r)) (λ r. rw (p, q, r, r))) (λ q. rw (p, q, q))) (λ p. rw (p, p))
 
-module _ (t : Lent) where
+module _ (t : LentToPropose) where
   abbrev pub fault : ℕ
   fault = newFault (t .edits) (t .constraints) (t .oldedits) (t .oldconstraints)
 
@@ -144,16 +144,16 @@ module _ (t : Lent) where
   abbrev pub short : ℕ
   short = 12 given tooShort (length (t .newedits)) (length (t .newconstraints)) new
 
-  pub fault-is : proposalFault t ≡ (fault orelse short)
-  unfolding proposalFault
+  pub fault-is : proposeFault t ≡ (fault orelse short)
+  unfolding proposeFault
   fault-is =
       further (lentFault emptyTables (t .edits) (t .constraints)) (lentFault (recordM t) (t .oldedits) (t .oldconstraints)) (draftFault (recordM t) (proposalQ t)) (11 given unkept (recordM t) (proposalQ t)) short
 
   -- refused: nothing is written
-  refused-is : (n : ℕ) → proposalFault t ≡ n → (n ≡ 0 → ⊥) → {r : Proposed} → r ≡ record { number = n; editcount = 0; constraintcount = 0 } → Makes t r (t .newedits) (t .newconstraints)
+  refused-is : (n : ℕ) → proposeFault t ≡ n → (n ≡ 0 → ⊥) → {r : Proposed} → r ≡ record { number = n; editcount = 0; constraintcount = 0 } → Makes t r (t .newedits) (t .newconstraints)
   unfolding newProposal
   refused-is n e z f =
-      let b : eqb (proposalFault t) 0 ≡ false = ap (λ (m : ℕ). eqb m 0) e ∙ ne-eqb n 0 z in
+      let b : eqb (proposeFault t) 0 ≡ false = ap (λ (m : ℕ). eqb m 0) e ∙ ne-eqb n 0 z in
       record { answers = f ∙ rw (b, e); editrows = rw b; constraintrows = rw b }
 
   module _ (made : Joined) (e : made ≡ newOutcome (t .edits) (t .constraints) (t .oldedits) (t .oldconstraints)) where
@@ -203,15 +203,15 @@ module _ (t : Lent) where
             refused-is 12 (fault-is ∙ orelse-second fault short none-new ∙ rw (enough, l)) (λ q. omega arith) f
 
         module _ (i : made .after .constraintcount ≤ length (t .newconstraints)) where
-          pub accepted : proposalFault t ≡ 0
+          pub proposal-accepted : proposeFault t ≡ 0
           unfolding tooShort
-          accepted =
+          proposal-accepted =
               let l : ltb (length (t .newconstraints)) (length (new .constraints)) ≡ false = le-ltb (length (t .newconstraints)) (length (new .constraints)) (let q = constraintcount-is in omega arith) in
               fault-is ∙ orelse-second fault short none-new ∙ rw (enough, l)
 
           pub given-new : newProposal t ≡ new
           unfolding newProposal
-          given-new = rw accepted
+          given-new = rw proposal-accepted
 
           held : recordOf (made .after) ≡ newProposal t
           held = ap recordOf new-held ∙ stored-back new ∙ sym given-new
@@ -222,7 +222,7 @@ module _ (t : Lent) where
           written-is f g =
               let n : made .after .editcount ≡ length (newProposal t .edits) = editcount-is ∙ ap (λ (R : Record). length (R .edits)) (sym given-new) in
               let m : made .after .constraintcount ≡ length (newProposal t .constraints) = constraintcount-is ∙ ap (λ (R : Record). length (R .constraints)) (sym given-new) in
-              let a : 0 ≡ proposalFault t = sym accepted in
+              let a : 0 ≡ proposeFault t = sym proposal-accepted in
               record {
                 answers = λ j. record { number = a j; editcount = n j; constraintcount = m j };
                 editrows = f ∙ ap (λ (R : Record). over (editRows R) (t .newedits)) held;

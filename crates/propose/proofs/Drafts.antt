@@ -17,23 +17,23 @@ use Rattle.ground.proofs.Grounds.{orelse-none, given-none}
 use Rattle.table.specs.Table.{emptyTables, constraintKey, unite}
 use Rattle.table.specs.Checked.{Checked}
 use Rattle.join.specs.declared.Joined.{Joined}
-use Rattle.join.specs.Join.{outcome}
+use Rattle.join.specs.Join.{joinedOf}
 use Rattle.insertion.specs.declared.Constraints.{Constraints}
-use Rattle.insertion.specs.Insertion.{tableOf}
+use Rattle.insertion.specs.Insertion.{heldTable}
 use Rattle.insertion.proofs.Tables.{full-is}
-use Rattle.proposal.specs.Proposal.{withConstraints, unordered, firsts, started, finished, proposed}
+use Rattle.proposal.specs.Proposal.{joinedConstraints, unordered, firsts, started, finished, proposed}
 use Rattle.propose.specs.Propose.{overfull, draftFault}
 use Rattle.propose.proofs.Added.{started-checked, finished-checked}
 
 -- a refusal with a number that is given
-pub stopped-is : (n m : ℕ) (P : Record) → m ≡ n → (n ≡ 0 → ⊥) → {r : Joined} → r ≡ record { number = n; after = stored emptyTables } → r ≡ outcome m emptyTables P
+pub stopped-is : (n m : ℕ) (P : Record) → m ≡ n → (n ≡ 0 → ⊥) → {r : Joined} → r ≡ record { number = n; after = stored emptyTables } → r ≡ joinedOf m emptyTables P
 stopped-is n m P e z f = f ∙ sym (rw (e, ne-eqb n 0 z))
 
-pub made-is : (m : ℕ) (P : Record) → m ≡ 0 → {r : declared.Record} → r ≡ stored P → record { number = 0; after = r } ≡ outcome m emptyTables P
+pub made-is : (m : ℕ) (P : Record) → m ≡ 0 → {r : declared.Record} → r ≡ stored P → record { number = 0; after = r } ≡ joinedOf m emptyTables P
 made-is m P e f = rw (e, f)
 
 -- whether a table is full tells whether the rows have places
-full-tells : (table : Constraints) (l : List Constraint) → table ≡ tableOf l → table .full ≡ ltb 512 (length l)
+full-tells : (table : Constraints) (l : List Constraint) → table ≡ heldTable l → table .full ≡ ltb 512 (length l)
 full-tells table l e = ap (λ (t : Constraints). t .full) e ∙ full-is l
 
 module _ (M Q : Record) where
@@ -48,9 +48,9 @@ module _ (M Q : Record) where
   pub unsound-old : sound Q ≡ false → draftFault M Q ≡ 8
   unsound-old e = tested ∙ rw e
 
-  module _ (p : sound Q ≡ true) (first : Constraints) (t : first ≡ tableOf (united constraintKey (unite M Q .constraints) (firsts Q (unordered (unite M Q))))) where
+  module _ (p : sound Q ≡ true) (first : Constraints) (t : first ≡ heldTable (united constraintKey (unite M Q .constraints) (firsts Q (unordered (unite M Q))))) where
     first-tells : first .full ≡ overfull (started M Q)
-    unfolding overfull started withConstraints
+    unfolding overfull started joinedConstraints
     first-tells = full-tells first _ t
 
     pub no-place-before : first .full ≡ true → draftFault M Q ≡ 3
@@ -66,15 +66,15 @@ module _ (M Q : Record) where
 
       -- the start as it is stored
       pub start-is : (both start : declared.Record)
-          → ((R : Record) (l : List Constraint) → both ≡ stored R → first ≡ tableOf l → first .full ≡ false → start ≡ stored (record { edits = R .edits; constraints = l }))
+          → ((R : Record) (l : List Constraint) → both ≡ stored R → first ≡ heldTable l → first .full ≡ false → start ≡ stored (record { edits = R .edits; constraints = l }))
           → both ≡ stored (unite M Q) → start ≡ stored (started M Q)
-      unfolding started withConstraints
+      unfolding started joinedConstraints
       start-is both start f e = f (unite M Q) _ e t q
 
       pub unsound-start : sound (started M Q) ≡ false → draftFault M Q ≡ 8
       unsound-start e = tested ∙ rw (p, placed, e)
 
-      module _ (s : sound (started M Q) ≡ true) (last : Constraints) (u : last ≡ tableOf (finished (started M Q) .constraints)) where
+      module _ (s : sound (started M Q) ≡ true) (last : Constraints) (u : last ≡ heldTable (finished (started M Q) .constraints)) where
         last-tells : last .full ≡ overfull (proposed M Q)
         unfolding overfull proposed
         last-tells = full-tells last _ u
@@ -83,13 +83,13 @@ module _ (M Q : Record) where
         no-place-after e = let z : overfull (proposed M Q) ≡ true = sym last-tells ∙ e in tested ∙ rw (p, placed, s, z)
 
         module _ (v : last .full ≡ false) where
-          pub no-fault : draftFault M Q ≡ 0
-          no-fault = let z : overfull (proposed M Q) ≡ false = sym last-tells ∙ v in tested ∙ rw (p, placed, s, z)
+          pub propose-no-fault : draftFault M Q ≡ 0
+          propose-no-fault = let z : overfull (proposed M Q) ≡ false = sym last-tells ∙ v in tested ∙ rw (p, placed, s, z)
 
           pub last-is : (start new : declared.Record)
-              → ((R : Record) (l : List Constraint) → start ≡ stored R → last ≡ tableOf l → last .full ≡ false → new ≡ stored (record { edits = R .edits; constraints = l }))
+              → ((R : Record) (l : List Constraint) → start ≡ stored R → last ≡ heldTable l → last .full ≡ false → new ≡ stored (record { edits = R .edits; constraints = l }))
               → start ≡ stored (started M Q) → new ≡ stored (proposed M Q)
-          unfolding proposed finished withConstraints
+          unfolding proposed finished joinedConstraints
           last-is start new f e = f (started M Q) _ e u v
 
 -- of a draft without fault the start is checked and sound, and the rows have places

@@ -11,7 +11,7 @@ use Rattle.record.specs.Judgement.{sound}
 use Rattle.ground.specs.Ground.{Rows, _given_, _orelse_}
 use Rattle.table.specs.Table.{editRows, constraintRows, decoded, emptyTables, lentFault}
 use Rattle.join.specs.declared.Joined.{Joined}
-use Rattle.join.specs.Join.{outcome}
+use Rattle.join.specs.Join.{joinedOf}
 use Rattle.proposal.specs.Proposal.{started, proposed, keeps}
 use Rattle.propose.specs.declared.Proposed.{Proposed}
 
@@ -37,7 +37,7 @@ unfoldable pub tooShort : ℕ → ℕ → Record → Bool
 tooShort editplaces constraintplaces R = ltb editplaces (length (R .edits)) || ltb constraintplaces (length (R .constraints))
 
 -- What is lent: the tables of M and of Q, and the tables that take the new proposal.
-pub record Lent : Type 0 where
+pub record LentToPropose : Type 0 where
   pub edits : Rows
   pub constraints : Rows
   pub oldedits : Rows
@@ -45,15 +45,15 @@ pub record Lent : Type 0 where
   pub newedits : Rows
   pub newconstraints : Rows
 
-abbrev pub recordM : Lent → Record
+abbrev pub recordM : LentToPropose → Record
 recordM t = decoded (t .edits) (t .constraints)
 
-abbrev pub proposalQ : Lent → Record
+abbrev pub proposalQ : LentToPropose → Record
 proposalQ t = decoded (t .oldedits) (t .oldconstraints)
 
 -- the number: rows of M; rows of Q, which join M; the faults of the whole call
-unfoldable pub proposalFault : Lent → ℕ
-proposalFault t =
+unfoldable pub proposeFault : LentToPropose → ℕ
+proposeFault t =
     lentFault emptyTables (t .edits) (t .constraints)
     orelse lentFault (recordM t) (t .oldedits) (t .oldconstraints)
     orelse draftFault (recordM t) (proposalQ t)
@@ -61,26 +61,26 @@ proposalFault t =
     orelse 12 given tooShort (length (t .newedits)) (length (t .newconstraints)) (proposed (recordM t) (proposalQ t))
 
 -- what is given: the new proposal, and nothing where it is refused
-unfoldable pub newProposal : Lent → Record
-newProposal t = cond (eqb (proposalFault t) 0) (proposed (recordM t) (proposalQ t)) emptyTables
+unfoldable pub newProposal : LentToPropose → Record
+newProposal t = cond (eqb (proposeFault t) 0) (proposed (recordM t) (proposalQ t)) emptyTables
 
 -- THE ANSWER: the number, and how many rows of each table are written; 0 and 0 where it is refused
-abbrev pub answerOf : Lent → Proposed
-answerOf t = record { number = proposalFault t; editcount = length (newProposal t .edits); constraintcount = length (newProposal t .constraints) }
+abbrev pub proposedOf : LentToPropose → Proposed
+proposedOf t = record { number = proposeFault t; editcount = length (newProposal t .edits); constraintcount = length (newProposal t .constraints) }
 
 -- rows written over the first of a table; what stands after them stays
 abbrev pub over : Rows → Rows → Rows
 over rows table = rows ++ drop (length rows) table
 
-abbrev pub editsAfter : Lent → Rows
+abbrev pub editsAfter : LentToPropose → Rows
 editsAfter t = over (editRows (newProposal t)) (t .newedits)
 
-abbrev pub constraintsAfter : Lent → Rows
+abbrev pub constraintsAfter : LentToPropose → Rows
 constraintsAfter t = over (constraintRows (newProposal t)) (t .newconstraints)
 
 -- What making a proposal promises: the answer, and the whole content of both tables afterwards.
-pub record Makes (t : Lent) (answer : Proposed) (edits constraints : Rows) : Type 0 where
-  pub answers : answer ≡ answerOf t
+pub record Makes (t : LentToPropose) (answer : Proposed) (edits constraints : Rows) : Type 0 where
+  pub answers : answer ≡ proposedOf t
   pub editrows : edits ≡ editsAfter t
   pub constraintrows : constraints ≡ constraintsAfter t
 
@@ -93,4 +93,4 @@ newFault edits constraints oldedits oldconstraints =
 
 abbrev pub newOutcome : Rows → Rows → Rows → Rows → Joined
 newOutcome edits constraints oldedits oldconstraints =
-    outcome (newFault edits constraints oldedits oldconstraints) emptyTables (proposed (decoded edits constraints) (decoded oldedits oldconstraints))
+    joinedOf (newFault edits constraints oldedits oldconstraints) emptyTables (proposed (decoded edits constraints) (decoded oldedits oldconstraints))

@@ -11,7 +11,7 @@ ghost use Rattle.row.specs.Row.{editRow, constraintRow};
 ghost use Rattle.table.specs.Table.{emptyTables, decoded, lentFault, unite};
 ghost use Rattle.table.specs.Checked.{Checked};
 ghost use Rattle.ground.specs.Ground.{_given_, _orelse_};
-ghost use Rattle.join.specs.Join.{outcome};
+ghost use Rattle.join.specs.Join.{joinedOf};
 ghost use Rattle.proposal.specs.Proposal.{proposed};
 ghost use Rattle.propose.specs.Propose.{draftFault, unkept, newOutcome, over, Makes};
 
@@ -34,7 +34,7 @@ pub fn stopped(number: u32) -> Joined
 
 // The finished proposal, not yet compared with the old one. both: the union of the record and the old proposal.
 fn drafted(both: Record, old: Record) -> Joined
-    ensures { λ r. ⌜ ((M Q : theory.Record) → both ≡ stored (unite M Q) → Checked (unite M Q) → old ≡ stored Q → Checked Q → r ≡ outcome (draftFault M Q) emptyTables (proposed M Q)) ⌝ }
+    ensures { λ r. ⌜ ((M Q : theory.Record) → both ≡ stored (unite M Q) → Checked (unite M Q) → old ≡ stored Q → Checked Q → r ≡ joinedOf (draftFault M Q) emptyTables (proposed M Q)) ⌝ }
 {
     if !judge::sound(old) {
         return stopped(8);
@@ -60,7 +60,7 @@ fn drafted(both: Record, old: Record) -> Joined
 // The finished proposal, if it keeps the old one.
 fn made(both: Record, old: Record) -> Joined
     ensures { λ r. ⌜ ((M Q : theory.Record) → both ≡ stored (unite M Q) → Checked (unite M Q) → old ≡ stored Q → Checked Q
-        → r ≡ outcome (draftFault M Q orelse 11 given unkept M Q) emptyTables (proposed M Q)) ⌝ }
+        → r ≡ joinedOf (draftFault M Q orelse 11 given unkept M Q) emptyTables (proposed M Q)) ⌝ }
 {
     let new = drafted(both, old);
     let number = new.number;

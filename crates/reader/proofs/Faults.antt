@@ -12,22 +12,22 @@ use Rattle.lists.specs.Lists.{any}
 use Rattle.lists.specs.Keyed.{Ascending}
 use Rattle.lists.proofs.Union.{united-alone}
 use Rattle.row.specs.Row.{Row}
-use Rattle.ground.specs.Ground.{Rows, Kind, known, noPlace, otherBody, misplaced, rowFault, _given_, _orelse_}
+use Rattle.ground.specs.Ground.{Rows, TableKind, known, noPlace, otherBody, misplaced, rowFault, _given_, _orelse_}
 use Rattle.ground.proofs.Grounds.{orelse-first, orelse-second, before-none}
 use Rattle.ground.proofs.Accepted.{row-clean}
 
 -- 3 only where the rows above take every place
-pub place-left : (limit n : ℕ) (known : Bool) → n < limit → false ≡ (not known && leb limit n)
-place-left limit n known h = sym (rw (lt-leb limit n h) (and-false (not known)))
+pub reader-place-left : (limit n : ℕ) (known : Bool) → n < limit → false ≡ (not known && leb limit n)
+reader-place-left limit n known h = sym (rw (lt-leb limit n h) (and-false (not known)))
 
-pub place-none : (limit n : ℕ) {again known : Bool} → limit ≤ n → again ≡ known → not again ≡ (not known && leb limit n)
-place-none limit n {again} h e = rw (le-leb limit n h, ← e) (one again)
+pub reader-place-none : (limit n : ℕ) {again known : Bool} → limit ≤ n → again ≡ known → not again ≡ (not known && leb limit n)
+reader-place-none limit n {again} h e = rw (le-leb limit n h, ← e) (one again)
   where
     one : (b : Bool) → not b ≡ (not b && true)
     one true = refl
     one false = refl
 
-module _ (K : Kind) (t : Rows) (n : ℕ) (h : n < length t) where
+module _ (K : TableKind) (t : Rows) (n : ℕ) (h : n < length t) where
   abbrev above : Rows
   above = take n t
 
@@ -69,7 +69,7 @@ module _ (K : Kind) (t : Rows) (n : ℕ) (h : n < length t) where
         alone-late u = let m : misplaced (K .key) above row ≡ true = sym w ∙ ap not u in sym (rest-is ∙ orelse-second (K .further row) _ e ∙ rw m)
 
 -- a row without fault has a place
-pub alone-room : (K : Kind) (above : Rows) (row : Row) → Ascending (take (K .key)) above → rowFault K [] above row ≡ 0 → length above < K .limit
+pub alone-room : (K : TableKind) (above : Rows) (row : Row) → Ascending (take (K .key)) above → rowFault K [] above row ≡ 0 → length above < K .limit
 unfolding noPlace misplaced any
 alone-room K above row a h =
     let c = row-clean K [] above row h in

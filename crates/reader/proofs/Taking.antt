@@ -12,7 +12,7 @@ use lib.Seq.{length-take-le, take-set-le, take-suc-set, getD-set-same}
 use Rattle.lists.specs.Keyed.{Ascending}
 use Rattle.lists.proofs.Union.{ascending-snoc}
 use Rattle.row.specs.Row.{Row, cell}
-use Rattle.ground.specs.Ground.{Rows, Kind, misplaced, rowFault, _given_, _orelse_}
+use Rattle.ground.specs.Ground.{Rows, TableKind, misplaced, rowFault, _given_, _orelse_}
 use Rattle.ground.proofs.Grounds.{orelse-first, orelse-second}
 use Rattle.ground.proofs.Accepted.{row-clean}
 use Rattle.table.specs.Table.{namesOf, editKind, constraintKind}
@@ -23,9 +23,9 @@ use Rattle.reader.specs.Held.{EditsHeld, ConstraintsHeld, EditTaken, Con
 use Rattle.reader.proofs.Faults.{alone-room}
 
 -- the row stands at n, below the rows that stood there
-module _ (K : Kind) (t : Rows) (n : ℕ) (row : Row) (h : n < length t) where
-  pub judged-is : {number : ℕ} → Ascending (take (K .key)) (take n t) → (Ascending (take (K .key)) (take n (set t n row)) → number ≡ rowFault K [] (take n (set t n row)) (getD (set t n row) n [])) → number ≡ rowFault K [] (take n t) row
-  judged-is a f =
+module _ (K : TableKind) (t : Rows) (n : ℕ) (row : Row) (h : n < length t) where
+  pub reading-judged-is : {number : ℕ} → Ascending (take (K .key)) (take n t) → (Ascending (take (K .key)) (take n (set t n row)) → number ≡ rowFault K [] (take n (set t n row)) (getD (set t n row) n [])) → number ≡ rowFault K [] (take n t) row
+  reading-judged-is a f =
       let w : n ≤ n = omega arith in
       let s = take-set-le n t n row w in
       let g = getD-set-same t n row [] h in
@@ -47,7 +47,7 @@ module _ (edits : Rows) (marks : List ℕ) (n m : ℕ) (row : Row) (h : EditsHel
   inside = omega (arith, h .size, h .few)
 
   is : number ≡ rowFault editKind [] (take n edits) row
-  is = judged-is editKind edits n row inside (h .ascends) f
+  is = reading-judged-is editKind edits n row inside (h .ascends) f
 
   pub edit-faulty : (number ≡ 0 → ⊥) → EditTaken edits marks n m row number (set edits n row) marks
   edit-faulty z =
@@ -95,7 +95,7 @@ pub constraint-taken : (names : List ℕ) (constraints : Rows) (m : ℕ) (row : 
 constraint-taken names constraints m row h {number} f =
     let K = constraintKind names false in
     let inside : m < length constraints = omega (arith, h .size, h .few) in
-    let is : number ≡ rowFault K [] (take m constraints) row = judged-is K constraints m row inside (h .ascends) f in
+    let is : number ≡ rowFault K [] (take m constraints) row = reading-judged-is K constraints m row inside (h .ascends) f in
     record {
       number-is = is;
       constraints-are = refl;

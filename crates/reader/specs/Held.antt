@@ -9,7 +9,7 @@ use Rattle.lists.specs.Keyed.{Ascending}
 use Rattle.row.specs.Row.{Row}
 use Rattle.ground.specs.Ground.{Rows, rowFault, _given_, _orelse_}
 use Rattle.table.specs.Table.{namesOf, editKind, constraintKind}
-use Rattle.table.specs.Checked.{Marked}
+use Rattle.table.specs.Checked.{MarksNames}
 use Rattle.line.specs.declared.Line.{Line}
 use Rattle.text.specs.Text.{lineFault, editsWith, constraintsWith}
 
@@ -19,7 +19,7 @@ pub record EditsHeld (edits : Rows) (marks : List ℕ) (n : ℕ) : Type 0 where
   pub marksize : length marks ≡ 2304
   pub few : n ≤ 127
   pub ascends : Ascending (take 1) (take n edits)
-  pub marked : Marked marks (namesOf (take n edits))
+  pub marked : MarksNames marks (namesOf (take n edits))
 
 pub record ConstraintsHeld (constraints : Rows) (m : ℕ) : Type 0 where
   pub size : length constraints ≡ 513

@@ -11,7 +11,7 @@ ghost use Rattle.record.specs.Stored.{emptyRecord};
 ghost use Rattle.lists.specs.Keyed.{Ascending};
 ghost use Rattle.ground.specs.Ground.{known, rowFault};
 ghost use Rattle.table.specs.Table.{editKind, constraintKind};
-ghost use Rattle.table.specs.Checked.{Marked};
+ghost use Rattle.table.specs.Checked.{MarksNames};
 ghost use Rattle.line.specs.Lines.{lines};
 ghost use Rattle.text.specs.Text.{readRows, readText};
 ghost use Rattle.reader.specs.Reading.{readingOf};
@@ -85,7 +85,7 @@ fn constraint_no_place(t: &[[u32; 3]], m: usize) -> bool
 // The number of row m below those above it, where marks are those of the edits that it knows.
 fn constraint_row_fault(t: &[[u32; 3]], m: usize, marks: &[u8]) -> u32
     requires { ⌜ m < length (now t) ⌝ }
-    ensures { λ r. ⌜ ((names : List ℕ) → Marked (now (marks .entry)) names → Ascending (take 3) (take m (now (t .entry))) → r ≡ rowFault (constraintKind names false) [] (take m (now (t .entry))) (getD (now (t .entry)) m [])) ⌝ }
+    ensures { λ r. ⌜ ((names : List ℕ) → MarksNames (now (marks .entry)) names → Ascending (take 3) (take m (now (t .entry))) → r ≡ rowFault (constraintKind names false) [] (take m (now (t .entry))) (getD (now (t .entry)) m [])) ⌝ }
 {
     let row = t[m];
     if !row::constraint_in_range(row) {
@@ -107,7 +107,7 @@ fn constraint_row_fault(t: &[[u32; 3]], m: usize, marks: &[u8]) -> u32
 // The number of a constraint after m constraints. Without fault it is held.
 fn take_constraint(constraints: &mut [[u32; 3]], m: usize, marks: &[u8], row: [u32; 3]) -> u32
     requires { ⌜ ConstraintsHeld (now constraints) m ⌝ }
-    ensures { λ r. ⌜ ((names : List ℕ) → Marked (now (marks .entry)) names → ConstraintTaken names (now (constraints .entry)) m row r (now (constraints .exit))) ⌝ }
+    ensures { λ r. ⌜ ((names : List ℕ) → MarksNames (now (marks .entry)) names → ConstraintTaken names (now (constraints .entry)) m row r (now (constraints .exit))) ⌝ }
 {
     constraints[m] = row;
     constraint_row_fault(&constraints[..], m, marks)

@@ -21,7 +21,7 @@ ghost use Rattle.row.specs.Row.{editRow, constraintRow, editCells, constraintCe
 ghost use Rattle.ground.specs.Ground.{tableFault};
 ghost use Rattle.ground.specs.Walk.{PlaceOf, lateFault, stepAt};
 ghost use Rattle.table.specs.Table.{editRows, constraintRows, editKind, constraintKind, emptyTables, lentFault, addEditFault, addConstraintFault};
-ghost use Rattle.table.specs.Checked.{Checked, Ordered, Marked};
+ghost use Rattle.table.specs.Checked.{Checked, OrderedTables, MarksNames};
 
 // The step of a lent row at row x of the record's table, of which at of n rows are passed, while count of limit places are taken; key: the cells of the key.
 fn step(at: usize, n: usize, x: &[u32], row: &[u32], key: usize, count: usize, limit: usize) -> Step
@@ -66,7 +66,7 @@ fn edit_late(a: [Edit; EDITS], n: usize, count: usize, t: &[[u32; EDIT_CELLS]], 
 
 // The number of the first faulty row of a table of edits that joins a record.
 fn edit_fault(r: Record, t: &[[u32; EDIT_CELLS]]) -> u32
-    ensures { λ q. ⌜ (Ordered r → q ≡ tableFault editKind (editRows (recordOf r)) (now (t .entry))) ⌝ }
+    ensures { λ q. ⌜ (OrderedTables r → q ≡ tableFault editKind (editRows (recordOf r)) (now (t .entry))) ⌝ }
 {
     let a = r.edits;
     let n = r.editcount;
@@ -134,7 +134,7 @@ fn constraint_late(
 
 // The number of the first faulty row of a table of constraints that joins a record, where marks are those of the edits that it knows.
 fn constraint_fault(r: Record, t: &[[u32; CONSTRAINT_CELLS]], marks: &[u8], adding: bool) -> u32
-    ensures { λ q. ⌜ ((names : List ℕ) → Marked (now (marks .entry)) names → Ordered r → q ≡ tableFault (constraintKind names adding) (constraintRows (recordOf r)) (now (t .entry))) ⌝ }
+    ensures { λ q. ⌜ ((names : List ℕ) → MarksNames (now (marks .entry)) names → OrderedTables r → q ≡ tableFault (constraintKind names adding) (constraintRows (recordOf r)) (now (t .entry))) ⌝ }
 {
     let a = r.constraints;
     let n = r.constraintcount;

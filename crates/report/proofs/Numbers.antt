@@ -28,9 +28,9 @@ numbered-snoc j index (x ∷ l) e =
     ap (λ (t : List (List ℕ)). numbersAt (x .name) j index ∷ t) (numbered-snoc j (suc index) l e ∙ rw z)
 
 -- one row more
-pub rows-next : (edits : List Edit) (j : Judged) (rows : List (List ℕ)) (i : ℕ) (d : Edit) {row : List ℕ} → i < length edits → i < length rows → take i rows ≡ numbered j 1 (take i edits) → row ≡ numbersAt ((getD edits i d) .name) j (i + 1)
+pub report-rows-next : (edits : List Edit) (j : Judged) (rows : List (List ℕ)) (i : ℕ) (d : Edit) {row : List ℕ} → i < length edits → i < length rows → take i rows ≡ numbered j 1 (take i edits) → row ≡ numbersAt ((getD edits i d) .name) j (i + 1)
     → take (i + 1) (set rows i row) ≡ numbered j 1 (take (i + 1) edits)
-rows-next edits j rows i d {row} h k e f =
+report-rows-next edits j rows i d {row} h k e f =
     let w : i ≤ length edits = omega arith in
     let z : 1 + i ≡ i + 1 = omega arith in
     let a : take (i + 1) (set rows i row) ≡ take i rows ++ (row ∷ []) = rw add-one (take-suc-set rows i row k) in

@@ -67,8 +67,8 @@ module _ (text : List ℕ) {reading : Reading} (e : reading ≡ readingOf (lengt
           k (q ∙ rw (a, b))
 
   -- an accepted one
-  pub accepted : {P : Type 0} → reading .number ≡ 0 → ((R : Record) → readText text ≡ Accepted R → reading .content ≡ stored R → Checked R → P) → P
-  accepted {P} z k = go (readText text) refl
+  pub report-accepted : {P : Type 0} → reading .number ≡ 0 → ((R : Record) → readText text ≡ Accepted R → reading .content ≡ stored R → Checked R → P) → P
+  report-accepted {P} z k = go (readText text) refl
     where
       go : (a : Answer) → readText text ≡ a → P
       go (Accepted R) q = k R q (ap (λ (x : Reading). x .content) (e ∙ ap (readingOf (length (lines text))) q)) (accepted-text text R q .0 .checked)
@@ -84,7 +84,7 @@ module _ (text : List ℕ) {reading : Reading} (e : reading ≡ readingOf (lengt
 
     module _ (z : reading .number ≡ 0) {w : Written} {after : List ℕ} (f : (R : Record) → reading .content ≡ stored R → Checked R → (w ≡ placing (reportOf R) 0 out) × (after ≡ placed (reportOf R) 0 out)) where
       pub reported-accepted : (record { number = w .number; line = 0; size = w .end } ≡ reported (readText text) out) × (after ≡ reportedOut (readText text) out)
-      reported-accepted = accepted z (λ R q c k. let p = f R c k in (rw (q, p .0), rw q (p .1)))
+      reported-accepted = report-accepted z (λ R q c k. let p = f R c k in (rw (q, p .0), rw q (p .1)))
 
       pub printed-accepted : (w ≡ placing (printed (readText text)) 0 out) × (after ≡ placed (printed (readText text)) 0 out)
-      printed-accepted = accepted z (λ R q c k. let p = f R c k in (rw q (p .0), rw q (p .1)))
+      printed-accepted = report-accepted z (λ R q c k. let p = f R c k in (rw q (p .0), rw q (p .1)))

@@ -11,7 +11,7 @@ use Rattle.lists.specs.Lists.{mem, Has}
 use Rattle.record.specs.Record.{Record, nameOf, written}
 use Rattle.record.specs.Schedule.{schedule}
 use Rattle.record.specs.Judgement.{sound, must, never, settled}
-use Rattle.lists.proofs.Lists.{mem-at, by}
+use Rattle.lists.proofs.Lists.{mem-index, by}
 use Rattle.record.proofs.Scheduled.{schedule-length}
 use Rattle.lists.proofs.Logic.{has-mapped, all-has}
 use Rattle.row.specs.Row.{editInRange, editRow}
@@ -59,7 +59,7 @@ module _ (R : Record) (k : Checked R) (s : sound R ≡ true) where
       let w = schedule-length R (checked-wellformed R k) s [] in
       let n : length (map nameOf (R .edits)) ≡ length (R .edits) = length-map (R .edits) nameOf in
       by (mem x (schedule R []))
-      (λ (e : mem x (schedule R []) ≡ true). rw e (omega (arith, mem-at x (schedule R []) e, k .editplaces)))
+      (λ (e : mem x (schedule R []) ≡ true). rw e (omega (arith, mem-index x (schedule R []) e, k .editplaces)))
       (λ (e : mem x (schedule R []) ≡ false). rw e (omega arith))
 
   line-size : (e : Edit) → Has e (R .edits) → length (fill reportForm (reportNumbers R (e .name))) ≤ 100

@@ -15,28 +15,28 @@ use Rattle.record.proofs.Padded.{take-padded, padded-more}
 use Rattle.vote.specs.declared.RollRow.{RollRow}
 use Rattle.lists.proofs.Front.{all-append}
 use Rattle.roll.specs.declared.Roll.{Roll}
-use Rattle.roll.specs.Roll.{benchOf, isBench, rollFaulty, rowFaulty, fillerRow, faultyRoll, rollOf}
+use Rattle.roll.specs.Roll.{rollBench, isBench, rollFaulty, rowFaulty, fillerRow, faultyRoll, rollOf}
 
 turned : (a b : ℕ) → eqb a b ≡ eqb b a
 turned a b = by (eqb a b) (λ e. e ∙ sym (eq-eqb b a (sym (eqb-true a b e)))) (λ e. e ∙ sym (ne-eqb b a (λ q. eqb-false a b e (sym q))))
 
 -- a bench among the rows
-pub bench-some : (bench : ℕ) (rows : List RollRow) → any (λ row. eqb (row .bench) bench) rows ≡ mem bench (map benchOf rows)
+pub bench-some : (bench : ℕ) (rows : List RollRow) → any (λ row. eqb (row .bench) bench) rows ≡ mem bench (map rollBench rows)
 unfolding any mem
 bench-some bench [] = refl
 bench-some bench (x ∷ rows) = rw (turned (x .bench) bench, bench-some bench rows)
 
-mem-more : (x : ℕ) (rows : List RollRow) (row : RollRow) → mem x (map benchOf (rows ++ (row ∷ []))) ≡ (mem x (map benchOf rows) || eqb x (row .bench))
+mem-more : (x : ℕ) (rows : List RollRow) (row : RollRow) → mem x (map rollBench (rows ++ (row ∷ []))) ≡ (mem x (map rollBench rows) || eqb x (row .bench))
 unfolding mem
 mem-more x [] row = or-false (eqb x (row .bench))
 mem-more x (y ∷ rows) row = by (eqb x (y .bench)) (λ e. rw e) (λ e. rw e (mem-more x rows row))
 
-distinct-more : (rows : List RollRow) (row : RollRow) → distinct (map benchOf (rows ++ (row ∷ []))) ≡ (distinct (map benchOf rows) && not (mem (row .bench) (map benchOf rows)))
+distinct-more : (rows : List RollRow) (row : RollRow) → distinct (map rollBench (rows ++ (row ∷ []))) ≡ (distinct (map rollBench rows) && not (mem (row .bench) (map rollBench rows)))
 unfolding distinct mem
 distinct-more [] row = refl
 distinct-more (x ∷ rows) row =
     rw (mem-more (x .bench) rows row, distinct-more rows row, turned (row .bench) (x .bench))
-    (parted (mem (x .bench) (map benchOf rows)) (eqb (x .bench) (row .bench)) (distinct (map benchOf rows)) (mem (row .bench) (map benchOf rows)))
+    (parted (mem (x .bench) (map rollBench rows)) (eqb (x .bench) (row .bench)) (distinct (map rollBench rows)) (mem (row .bench) (map rollBench rows)))
   where
     parted : (a e d m : Bool) → (not (a || e) && (d && not m)) ≡ ((not a && d) && not (e || m))
     parted true e d m = refl
@@ -64,13 +64,13 @@ pub fault-more : (rows : List RollRow) (row : RollRow) → rollFaulty rows ≡ f
 unfolding rollFaulty rowFaulty all
 fault-more rows row h =
     rw (all-append isBench rows (row ∷ []), and-true (isBench row), distinct-more rows row, longer rows row)
-    (faults-more (all isBench rows) (distinct (map benchOf rows)) (ltb 8 (length rows)) (isBench row) (mem (row .bench) (map benchOf rows)) (leb 8 (length rows)) h)
+    (faults-more (all isBench rows) (distinct (map rollBench rows)) (ltb 8 (length rows)) (isBench row) (mem (row .bench) (map rollBench rows)) (leb 8 (length rows)) h)
 
-pub fault-stays : (rows : List RollRow) (row : RollRow) → rollFaulty rows ≡ true → rollFaulty (rows ++ (row ∷ [])) ≡ true
+pub roll-fault-stays : (rows : List RollRow) (row : RollRow) → rollFaulty rows ≡ true → rollFaulty (rows ++ (row ∷ [])) ≡ true
 unfolding rollFaulty all
-fault-stays rows row h =
+roll-fault-stays rows row h =
     rw (all-append isBench rows (row ∷ []), and-true (isBench row), distinct-more rows row, longer rows row)
-    (faults-stay (all isBench rows) (distinct (map benchOf rows)) (ltb 8 (length rows)) (isBench row) (mem (row .bench) (map benchOf rows)) (leb 8 (length rows))
+    (faults-stay (all isBench rows) (distinct (map rollBench rows)) (ltb 8 (length rows)) (isBench row) (mem (row .bench) (map rollBench rows)) (leb 8 (length rows))
     (λ e. le-leb 8 (length rows) (omega (arith, ltb-true 8 (length rows) e))) h)
 
 -- THE ROLL with one row more
@@ -81,7 +81,7 @@ module _ (roll : Roll) (rows : List RollRow) (row : RollRow) (e : roll ≡ rollO
 
   pub stays-faulty : roll .faulty ≡ true → roll ≡ rollOf (rows ++ (row ∷ []))
   unfolding rollOf
-  stays-faulty h = let f : rollFaulty rows ≡ true = sym faulty-is ∙ h in rw (fault-stays rows row f) (rw f at e)
+  stays-faulty h = let f : rollFaulty rows ≡ true = sym faulty-is ∙ h in rw (roll-fault-stays rows row f) (rw f at e)
 
   module _ (h : roll .faulty ≡ false) where
     faultless : rollFaulty rows ≡ false
@@ -120,14 +120,14 @@ module _ (rows : List RollRow) (row : RollRow) (n : ℕ) where
   unfolding rowFaulty
   bench-high h = rw (lt-leb (row .bench) 8 h, and-false (leb 1 (row .bench)))
 
-  pub no-place : 8 ≤ n → true ≡ rowFaulty rows row n
+  pub no-roll-place : 8 ≤ n → true ≡ rowFaulty rows row n
   unfolding rowFaulty
-  no-place h = rw (le-leb 8 n h, or-true (mem (row .bench) (map benchOf rows)), or-true (not (isBench row)))
+  no-roll-place h = rw (le-leb 8 n h, or-true (mem (row .bench) (map rollBench rows)), or-true (not (isBench row)))
 
-  pub bench-twice : 1 ≤ row .bench → row .bench ≤ 8 → n < 8 → mem (row .bench) (map benchOf rows) ≡ rowFaulty rows row n
+  pub bench-twice : 1 ≤ row .bench → row .bench ≤ 8 → n < 8 → mem (row .bench) (map rollBench rows) ≡ rowFaulty rows row n
   unfolding rowFaulty
-  bench-twice a b h = rw (le-leb 1 (row .bench) a, le-leb (row .bench) 8 b, lt-leb 8 n h) (sym (or-false (mem (row .bench) (map benchOf rows))))
+  bench-twice a b h = rw (le-leb 1 (row .bench) a, le-leb (row .bench) 8 b, lt-leb 8 n h) (sym (or-false (mem (row .bench) (map rollBench rows))))
 
   pub place-left : rowFaulty rows row n ≡ false → n < 8
   unfolding rowFaulty
-  place-left h = leb-false 8 n (or-no-r (mem (row .bench) (map benchOf rows)) (leb 8 n) (or-no-r (not (isBench row)) (mem (row .bench) (map benchOf rows) || leb 8 n) h))
+  place-left h = leb-false 8 n (or-no-r (mem (row .bench) (map rollBench rows)) (leb 8 n) (or-no-r (not (isBench row)) (mem (row .bench) (map rollBench rows) || leb 8 n) h))

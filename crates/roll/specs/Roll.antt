@@ -9,19 +9,19 @@ use Rattle.record.specs.Stored.{padded}
 use Rattle.vote.specs.declared.RollRow.{RollRow}
 use Rattle.roll.specs.declared.Roll.{Roll}
 
-abbrev pub benchOf : RollRow → ℕ
-benchOf row = row .bench
+abbrev pub rollBench : RollRow → ℕ
+rollBench row = row .bench
 
 abbrev pub isBench : RollRow → Bool
 isBench row = leb 1 (row .bench) && leb (row .bench) 8
 
 -- 14: bench not 1 to 8, bench twice, or 9 rows
 unfoldable pub rollFaulty : List RollRow → Bool
-rollFaulty rows = not (all isBench rows) || (not (distinct (map benchOf rows)) || ltb 8 (length rows))
+rollFaulty rows = not (all isBench rows) || (not (distinct (map rollBench rows)) || ltb 8 (length rows))
 
 -- the same of one row more, after n rows without fault
 unfoldable pub rowFaulty : List RollRow → RollRow → ℕ → Bool
-rowFaulty rows row n = not (isBench row) || (mem (row .bench) (map benchOf rows) || leb 8 n)
+rowFaulty rows row n = not (isBench row) || (mem (row .bench) (map rollBench rows) || leb 8 n)
 
 -- what stands in the rows past the count
 abbrev pub fillerRow : RollRow

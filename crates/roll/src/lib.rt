@@ -6,7 +6,7 @@ ghost use Prim.Native.Nat.{ℕ, _≤_};
 ghost use lib.ListN.{take};
 ghost use Rattle.vote.specs.declared.RollRow.{RollRow};
 ghost use Rattle.lists.specs.Lists.{mem};
-ghost use Rattle.roll.specs.Roll.{benchOf, faultyRoll, rollOf, rowFaulty};
+ghost use Rattle.roll.specs.Roll.{rollBench, faultyRoll, rollOf, rowFaulty};
 
 // At most 8 rows; rows past the count hold a filler, so that equal rolls are equal values. Every fault of a roll is 14.
 pub struct Roll {
@@ -39,7 +39,7 @@ pub fn empty_roll() -> Roll
 // Whether a bench has one of the first n rows.
 fn has_bench(rows: [RollRow; 8], n: usize, bench: u8) -> bool
     requires { ⌜ n ≤ 8 ⌝ }
-    ensures { λ r. ⌜ r ≡ mem bench (map benchOf (take n rows)) ⌝ }
+    ensures { λ r. ⌜ r ≡ mem bench (map rollBench (take n rows)) ⌝ }
 {
     let mut i = 0;
     while i < n {

@@ -55,16 +55,16 @@ module _ {M : Type 1} (𝓤 : URA M) (H : Heap 𝓤) (A : Atoms 𝓤) (W : Given
       use2 W (‵ (row T.the-row q xs b (o + mem T.the-row .size))) (paste q n xs b (o + mem T.the-row .size)) $ move ! (1 ∷ 0 ∷ []) $ fjoin ! $ done !
 
   module _ (m : ℕ) (xs : List RollRow) (b o : ℕ) where
-    pub lies-in : Is (Array T.the-row m) xs (arr xs ∷ []) → ent 𝓤 (sem 𝓤 H A (fat fullShare (tyArray T′.mir m) b o (arr xs))) (sem 𝓤 H A (partAt (Array T.the-row m) fullShare xs b o))
+    pub roll-lies-in : Is (Array T.the-row m) xs (arr xs ∷ []) → ent 𝓤 (sem 𝓤 H A (fat fullShare (tyArray T′.mir m) b o (arr xs))) (sem 𝓤 H A (partAt (Array T.the-row m) fullShare xs b o))
     unfolding partOf
-    lies-in is =
+    roll-lies-in is =
         qed W (‵ (fat fullShare (tyArray T′.mir m) b o (arr xs)) ∷ []) ∵ use1 W (‵ (cellAt fullShare (Array T.the-row m .mir) (arr xs ∷ []) b o)) (W .laws .at-raw fullShare (tyArray T′.mir m) b o (arr xs)) $
         owned ! (Array T.the-row m) (Is (Array T.the-row m)) (array-makes 𝓤 H A W T.the-row (LL.makes T.the-type T′.the-plain 𝓤 H A) m) xs (arr xs ∷ []) is $ move ! (1 ∷ 0 ∷ []) $ fjoin ! $
         fpack ! (List Val) (λ us. fsep (cellAt fullShare (Array T.the-row m .mir) us b o) (Array T.the-row m .own xs us)) (arr xs ∷ []) $ done !
 
-    pub lies-out : ent 𝓤 (sem 𝓤 H A (partAt (Array T.the-row m) fullShare xs b o)) (sem 𝓤 H A (fat fullShare (tyArray T′.mir m) b o (arr xs)))
+    pub roll-lies-out : ent 𝓤 (sem 𝓤 H A (partAt (Array T.the-row m) fullShare xs b o)) (sem 𝓤 H A (fat fullShare (tyArray T′.mir m) b o (arr xs)))
     unfolding partOf
-    lies-out =
+    roll-lies-out =
         qed W (‵ (partAt (Array T.the-row m) fullShare xs b o) ∷ []) ∵ fpick ! (λ vs. fsplit ! $
         spelt ! (Array T.the-row m) (Is (Array T.the-row m)) (shows 𝓤 H A (Array T.the-row m)) (array-vals (LL.vals T.the-type T′.the-laws)) (array-tells T.the-row (LL.vals T.the-type T′.the-laws) (LL.tells T.the-type T′.the-laws) m) fullShare xs vs b o $
         move ! (1 ∷ []) $ drop ! $ use1 W (‵ (fat fullShare (tyArray T′.mir m) b o (arr xs))) (W .laws .raw-at fullShare (tyArray T′.mir m) b o (arr xs)) $ done !)

@@ -13,8 +13,8 @@ use Rattle.vote.specs.declared.RollRow.{RollRow}
 use Rattle.roll.specs.declared.Roll.{Roll}
 use Rattle.roll.specs.Roll.{rollOf}
 
-pub taken : (rows : List RollRow) (count : ℕ) {n : ℕ} {roll : Roll} → length rows ≡ 9 → n ≡ min count 9 → roll ≡ rollOf (take n rows) → roll ≡ rollOf (take count rows)
-taken rows count {n} nine e h = h ∙ ap rollOf same
+pub first-rows-taken : (rows : List RollRow) (count : ℕ) {n : ℕ} {roll : Roll} → length rows ≡ 9 → n ≡ min count 9 → roll ≡ rollOf (take n rows) → roll ≡ rollOf (take count rows)
+first-rows-taken rows count {n} nine e h = h ∙ ap rollOf same
   where
     same : take n rows ≡ take count rows
     same =

@@ -130,9 +130,9 @@ pub body-set-is : (kind place field value : ℕ) {f : Field} → kind ≡ 1 → 
 body-set-is kind place field value e g = rw (e, g)
 
 -- the row of an edit
-pub row-is : (e : Edit) {b : Body} → e .body ≡ b → e .name ∷ bodyCells b ≡ editRow e
+pub edit-row-is : (e : Edit) {b : Body} → e .body ≡ b → e .name ∷ bodyCells b ≡ editRow e
 unfolding editRow
-row-is e p = rw p
+edit-row-is e p = rw p
 
 pub row-set-is : (e : Edit) {p v : ℕ} {f : Field} {n : ℕ} → e .body ≡ Set p f v → n ≡ fieldNumber f → e .name ∷ 1 ∷ p ∷ n ∷ v ∷ [] ≡ editRow e
 unfolding editRow

@@ -11,10 +11,10 @@ use lib.Seq.{drop-cons}
 use borrow.Author.Tests.{ltb-true, lt-ltb, eq-eqb, ne-eqb}
 use Rattle.record.specs.declared.Constraint.{Constraint}
 use Rattle.record.specs.declared.Record as declared
-use Rattle.lists.specs.Lists.{all, mem, at, _among_}
+use Rattle.lists.specs.Lists.{all, mem, indexOf, _among_}
 use Rattle.record.specs.Record.{Record, names}
 use Rattle.record.specs.Stored.{stored}
-use Rattle.record.specs.Judgement.{fits, starts, soundRow}
+use Rattle.record.specs.Judgement.{fits, startsWithInit, soundRow}
 use Rattle.lists.proofs.Lists.{by, is-by, same-by}
 use Rattle.links.specs.Marks.{placeIn}
 use Rattle.links.proofs.Names.{place-known}
@@ -51,7 +51,7 @@ module _ (row : List ℕ) (x y a b : ℕ) (p : a ≡ seatIn row x) (q : b ≡ se
       let u = p ∙ seat-at row x (here n) in
       let v = q ∙ seat-at row y (here-right m) in
       rw (here n, here-right m)
-      (same-by _ _ (λ h. lt-ltb (at x row) (at y row) (omega (arith, ltb-true a b h))) (λ h. lt-ltb a b (omega (arith, ltb-true (at x row) (at y row) h))))
+      (same-by _ _ (λ h. lt-ltb (indexOf x row) (indexOf y row) (omega (arith, ltb-true a b h))) (λ h. lt-ltb a b (omega (arith, ltb-true (indexOf x row) (indexOf y row) h))))
 
   pub with-absent : b ≡ 0 → true ≡ fits row x 1 y
   unfolding fits
@@ -97,10 +97,10 @@ module _ (r : declared.Record) (R : Record) (e : r ≡ stored R) (f : Fit R) (ta
   unfolding all
   fitting-stop b q y = rw (drop-cons (R .constraints) j d h, ← rule-at, ← q, y)
 
-pub fitting-end : (R : Record) (row : List ℕ) (j : ℕ) → length (R .constraints) ≤ j
+pub row-fitting-end : (R : Record) (row : List ℕ) (j : ℕ) → length (R .constraints) ≤ j
     → true ≡ all (λ c. fits row (c .left) (c .rule) (c .right)) (drop j (R .constraints))
 unfolding all
-fitting-end R row j h = rw (drop-of-length-le (R .constraints) h)
+row-fitting-end R row j h = rw (drop-of-length-le (R .constraints) h)
 
 -- the whole test
 pub empty-not : (R : Record) (row : List ℕ) → length row ≡ 0 → false ≡ soundRow R row
@@ -113,7 +113,7 @@ unfolding soundRow
 start-not R [] n m = absurd (n refl)
 start-not R (x ∷ row) n m = rw (ne-eqb x 0 m)
 
-starts-is : (row : List ℕ) → (length row ≡ 0 → ⊥) → getD row 0 0 ≡ 0 → starts row ≡ true
+starts-is : (row : List ℕ) → (length row ≡ 0 → ⊥) → getD row 0 0 ≡ 0 → startsWithInit row ≡ true
 starts-is [] n e = absurd (n refl)
 starts-is (x ∷ row) n e = eq-eqb x 0 e
 

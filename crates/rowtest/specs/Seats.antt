@@ -4,7 +4,7 @@ use mathlib.Core.Bool.{Bool, true, _&&_, cond}
 use mathlib.Core.List.{List}
 use Prim.Native.Nat.{ℕ, suc, _<_}
 use lib.ListN.{length, getD}
-use Rattle.lists.specs.Lists.{all, mem, at, distinct, _among_}
+use Rattle.lists.specs.Lists.{all, mem, indexOf, distinct, _among_}
 use Rattle.record.specs.Record.{Record, names}
 use Rattle.links.specs.Marks.{placeIn}
 
@@ -14,11 +14,11 @@ Indexed R table = (x : ℕ) → getD table x 0 ≡ placeIn (names R) x
 
 -- the place of a name in a row, counted from 1; 0 where it does not stand in it
 unfoldable pub seatIn : List ℕ → ℕ → ℕ
-seatIn row x = cond (mem x row) (suc (at x row)) 0
+seatIn row x = cond (mem x row) (suc (indexOf x row)) 0
 
 -- the seats of the record's edits in the row
 abbrev pub Seated : Record → List ℕ → List ℕ → Type 0
-Seated R row places = (x : ℕ) → x among names R → getD places (at x (names R)) 0 ≡ seatIn row x
+Seated R row places = (x : ℕ) → x among names R → getD places (indexOf x (names R)) 0 ≡ seatIn row x
 
 -- names are known and distinct
 unfoldable pub knownApart : Record → List ℕ → Bool

@@ -1,14 +1,14 @@
 // The test of a row of names against a record in memory. It is safe for any record and any row; its promise is for a record that is stored with
 // checked tables.
-use row::NAMES;
 use record::Record;
+use row::NAMES;
 ghost use mathlib.Core.Path.{_≡_};
 ghost use mathlib.Core.Bool.{true, cond};
 ghost use mathlib.Core.List.{List};
 ghost use Prim.Native.Nat.{ℕ, _≤_, _<_};
 ghost use lib.ListN.{length, getD};
 ghost use Rattle.record.specs.Record as theory;
-ghost use Rattle.lists.specs.Lists.{all, mem, at};
+ghost use Rattle.lists.specs.Lists.{all, mem, indexOf};
 ghost use Rattle.record.specs.Stored.{stored};
 ghost use Rattle.record.specs.Judgement.{fits, soundRow};
 ghost use Rattle.indexes.specs.Fit.{Fit};
@@ -29,7 +29,7 @@ fn wide32(x: u32) -> usize
 // The index of a known name; 128 where the record does not know it.
 fn known_index(table: &[u8; NAMES], name: usize) -> usize
     requires { ⌜ (length (now table) ≡ 2304) × ((x : ℕ) → getD (now table) x 0 < 128) ⌝ }
-    ensures { λ r. ⌜ ((R : theory.Record) → Fit R → Indexed R (now (table .entry)) → r ≡ cond (mem name (theory.names R)) (at name (theory.names R)) 128) ⌝ }
+    ensures { λ r. ⌜ ((R : theory.Record) → Fit R → Indexed R (now (table .entry)) → r ≡ cond (mem name (theory.names R)) (indexOf name (theory.names R)) 128) ⌝ }
 {
     let index = indexes::index_of(table, name);
     if index != 0 {

@@ -8,7 +8,7 @@ ghost use mathlib.Core.List.{List, _∷_};
 ghost use Prim.Native.Nat.{ℕ, _<_, _≤_};
 ghost use lib.Dec.{ltb};
 ghost use lib.ListN.{length, getD};
-ghost use Rattle.lists.specs.Lists.{mem, any, first, distinct, _within_};
+ghost use Rattle.lists.specs.Lists.{mem, any, find, distinct, _within_};
 ghost use Rattle.record.specs.Record.{Record, names, notafter};
 ghost use Rattle.record.specs.Schedule.{needs, musts, order, ring, admit, scheduled, schedule};
 ghost use Rattle.record.specs.Judgement.{must};
@@ -16,7 +16,7 @@ ghost use Rattle.links.specs.Marks.{nameAt, valuesOf, marksOf, placeIn};
 ghost use Rattle.links.specs.Links.{Safe};
 ghost use Rattle.links.specs.Reversed.{Reversed};
 ghost use Rattle.marks.specs.Resolved.{Resolved};
-ghost use Rattle.schedules.specs.Rows.{free, Held, foundAt, Hides, bars, Clear, Missed, RowIs};
+ghost use Rattle.schedules.specs.Rows.{free, HeldBack, foundAt, Hides, bars, Clear, Missed, RowIs};
 
 // Edits in order, by index.
 pub struct Row {
@@ -41,7 +41,7 @@ fn lowest(n: usize, from: usize, rows: &[u16; ROWS], waits: &[u8; MARKS]) -> usi
     requires { ⌜ Safe (now rows) × (n ≤ 128) × (from ≤ n) ⌝ }
     ensures { λ r. ⌜ ((R : Record) (test : ℕ → Bool) → Resolved R (now (rows .entry)) → n ≡ length (names R)
         → now (waits .entry) ≡ marksOf R test → ((y : ℕ) → y < from → free R test (nameAt R y) ≡ false)
-        → (first (free R test) (names R) ≡ foundAt R (ltb r n) r) × ((y : ℕ) → y < r → free R test (nameAt R y) ≡ false)) ⌝ }
+        → (find (free R test) (names R) ≡ foundAt R (ltb r n) r) × ((y : ℕ) → y < r → free R test (nameAt R y) ≡ false)) ⌝ }
 {
     let mut x = from;
     while x < n {
@@ -56,7 +56,7 @@ fn lowest(n: usize, from: usize, rows: &[u16; ROWS], waits: &[u8; MARKS]) -> usi
 // The lower of best and the edit at y, where that is free.
 fn lower_free(rows: &[u16; ROWS], waits: &[u8; MARKS], y: usize, best: usize) -> usize
     requires { ⌜ Safe (now rows) × (y < 128) ⌝ }
-    ensures { λ r. ⌜ (r ≤ best) × (y < r → Held (now (rows .entry)) (now (waits .entry)) y) ⌝ }
+    ensures { λ r. ⌜ (r ≤ best) × (y < r → HeldBack (now (rows .entry)) (now (waits .entry)) y) ⌝ }
 {
     if y >= best {
         return best;
@@ -71,7 +71,7 @@ fn lower_free(rows: &[u16; ROWS], waits: &[u8; MARKS], y: usize, best: usize) ->
 fn lowest_freed(rows: &[u16; ROWS], reversed: &[u16; ROWS], waits: &[u8; MARKS], x: usize) -> usize
     requires { ⌜ Safe (now rows) × Safe (now reversed) × (x < 128) ⌝ }
     ensures { λ r. ⌜ (r ≤ x) × ((R : Record) (y : ℕ) → Reversed R (now (reversed .entry)) → distinct (names R) ≡ true → x < length (names R) → y < length (names R)
-        → notafter R (nameAt R x) (nameAt R y) ≡ true → y < r → Held (now (rows .entry)) (now (waits .entry)) y) ⌝ }
+        → notafter R (nameAt R x) (nameAt R y) ≡ true → y < r → HeldBack (now (rows .entry)) (now (waits .entry)) y) ⌝ }
 {
     let mut best = x;
     let mut j = links::first_row(reversed, x);

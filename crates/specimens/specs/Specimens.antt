@@ -9,7 +9,7 @@ use lib.IntN.{ℤ, pos, negsuc}
 use Rattle.record.specs.declared.Body.the-variants.{Insert}
 use Rattle.record.specs.declared.Edit.{Edit}
 use Rattle.record.specs.declared.Constraint.{Constraint}
-use Rattle.lists.specs.Lists.{all, sift, mem, _among_, Has}
+use Rattle.lists.specs.Lists.{all, filter, mem, _among_, Has}
 use Rattle.row.specs.Row.{same}
 use Rattle.record.specs.Record.{Record, written}
 use Rattle.record.specs.Sound.{Sound, SoundRecord, Must, Never, Settled}
@@ -18,7 +18,7 @@ use Rattle.record.specs.Judgement.{sound, must, never, settled, soundRow, wellF
 use Rattle.vote.specs.declared.RollRow.{RollRow}
 use Rattle.vote.specs.Tally.{Ballot, ballots, total, greatest, silent, won}
 use Rattle.turner.specs.declared.TurnAnswer.{TurnAnswer}
-use Rattle.turner.specs.Turn.{turned, answerOf}
+use Rattle.turner.specs.Turn.{turned, turnedAnswer}
 
 -- A record: its edits and constraints, what is hidden; what is expected: is it sound, those that can never stand, must stand and are settled,
 -- the schedule, and rows that are not sound schedules.
@@ -56,8 +56,8 @@ pub data Specimen : Type 0 where
   turn : Turned → Specimen
 
 -- bodies play no part in the judgement
-abbrev pub recordOf : Judged → Record
-recordOf s = record { edits = map (λ n. record { name = n; body = Insert 5 }) (s .names); constraints = s .constraints }
+abbrev pub specimenRecord : Judged → Record
+specimenRecord s = record { edits = map (λ n. record { name = n; body = Insert 5 }) (s .names); constraints = s .constraints }
 
 abbrev pub agrees : Bool → Bool → Bool
 agrees true b = b
@@ -65,21 +65,21 @@ agrees false b = not b
 
 unfoldable pub judgedHolds : Judged → Bool
 judgedHolds s =
-    let R = recordOf s in
+    let R = specimenRecord s in
     wellFormed R && cond (s .sound)
-    (sound R && (same (sift (never R) (written R)) (s .nevers) && (same (sift (must R) (written R)) (s .musts)
-    && (same (sift (settled R) (written R)) (s .settleds) && (same (schedule R (s .hidden)) (s .row) && all (λ row. not (soundRow R row)) (s .unsound))))))
+    (sound R && (same (filter (never R) (written R)) (s .nevers) && (same (filter (must R) (written R)) (s .musts)
+    && (same (filter (settled R) (written R)) (s .settleds) && (same (schedule R (s .hidden)) (s .row) && all (λ row. not (soundRow R row)) (s .unsound))))))
     (not (sound R))
 
 -- bench k's proposal: 257 inserts at a chip place, and is required
-abbrev pub proposalOf : Voted → ℕ → Record
-proposalOf s k = record {
+abbrev pub specimenProposal : Voted → ℕ → Record
+specimenProposal s k = record {
   edits = record { name = 257; body = Insert (s .chip k) } ∷ [];
   constraints = record { left = 257; rule = 1; right = 0 } ∷ [];
 }
 
 abbrev pub ballotsOf : Voted → List Ballot
-ballotsOf s = ballots (proposalOf s) 257 (s .roll)
+ballotsOf s = ballots (specimenProposal s) 257 (s .roll)
 
 unfoldable pub votedHolds : Voted → Bool
 votedHolds s =
@@ -88,7 +88,7 @@ votedHolds s =
 
 unfoldable pub turnHolds : Turned → Bool
 turnHolds s =
-    let a = answerOf (s .opened) (turned (s .opened) (s .last) (s .by)) in
+    let a = turnedAnswer (s .opened) (turned (s .opened) (s .last) (s .by)) in
     eqb (a .number) (s .number) && eqb (a .opened) (s .page)
 
 -- the specimen's expectations, computed
@@ -99,16 +99,16 @@ holds (turn s) = turnHolds s
 
 -- the same as facts of the definitions, of the declarative ones where there are
 pub record JudgedFacts (s : Judged) : Type 0 where
-  pub nevers : (e : ℕ) → e among written (recordOf s) → Never (recordOf s) e ↔ e among s .nevers
-  pub musts : (e : ℕ) → e among written (recordOf s) → Must (recordOf s) e ↔ e among s .musts
-  pub settleds : (e : ℕ) → e among written (recordOf s) → Settled (recordOf s) e ↔ e among s .settleds
-  pub scheduled : schedule (recordOf s) (s .hidden) ≡ s .row
-  pub stands : Sound (recordOf s) (s .row)
-  pub fails : (row : List ℕ) → Has row (s .unsound) → Sound (recordOf s) row → ⊥
+  pub nevers : (e : ℕ) → e among written (specimenRecord s) → Never (specimenRecord s) e ↔ e among s .nevers
+  pub musts : (e : ℕ) → e among written (specimenRecord s) → Must (specimenRecord s) e ↔ e among s .musts
+  pub settleds : (e : ℕ) → e among written (specimenRecord s) → Settled (specimenRecord s) e ↔ e among s .settleds
+  pub scheduled : schedule (specimenRecord s) (s .hidden) ≡ s .row
+  pub stands : Sound (specimenRecord s) (s .row)
+  pub fails : (row : List ℕ) → Has row (s .unsound) → Sound (specimenRecord s) row → ⊥
 
 abbrev pub Expected : Judged → Bool → Type 0
 Expected s true = JudgedFacts s
-Expected s false = SoundRecord (recordOf s) → ⊥
+Expected s false = SoundRecord (specimenRecord s) → ⊥
 
 pub record VotedFacts (s : Voted) : Type 0 where
   pub won-is : won (ballotsOf s) ≡ s .won
@@ -119,7 +119,7 @@ pub record VotedFacts (s : Voted) : Type 0 where
 abbrev pub Facts : Specimen → Type 0
 Facts (judged s) = Expected s (s .sound)
 Facts (voted s) = VotedFacts s
-Facts (turn s) = answerOf (s .opened) (turned (s .opened) (s .last) (s .by)) ≡ record { number = s .number; opened = s .page }
+Facts (turn s) = turnedAnswer (s .opened) (turned (s .opened) (s .last) (s .by)) ≡ record { number = s .number; opened = s .page }
 
 abbrev pub Each : List Specimen → Type 0
 Each [] = Unit

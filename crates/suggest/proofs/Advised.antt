@@ -9,7 +9,7 @@ use borrow.Author.Tests.{lt-ltb, le-ltb, eq-eqb, ne-eqb, eqb-true, eqb-false}
 use lib.Dec.{eqb}
 use Rattle.lists.proofs.Lists.{by}
 use Rattle.row.specs.Row.{Row, cell, editInRange}
-use Rattle.suggest.specs.Suggest.{afterTable, concurrentTable, adviceOf, advised, rowsOf, given, refused, suggested}
+use Rattle.suggest.specs.Suggest.{afterTable, concurrentTable, adviceOf, advised, rowsOf, given, refusedSuggestion, suggested}
 use Rattle.suggest.specs.declared.Advice.{Advice}
 use Rattle.suggest.specs.declared.Advice.the-variants.{Nothing, Notafter, NotafterEnables, Noncommuting}
 use Rattle.suggest.specs.declared.Suggested.{Suggested}
@@ -118,21 +118,21 @@ module _ (a b : ℕ) {advice : Advice} where
 
 -- the answer
 module _ (a b : Row) (kind : ℕ) {r : Suggested} where
-  pub first-refused : editInRange a ≡ false → r ≡ refused → r ≡ suggested a b kind
+  pub first-refused : editInRange a ≡ false → r ≡ refusedSuggestion → r ≡ suggested a b kind
   unfolding suggested
   first-refused h e = rw h e
 
-  pub second-refused : editInRange a ≡ true → editInRange b ≡ false → r ≡ refused → r ≡ suggested a b kind
+  pub second-refused : editInRange a ≡ true → editInRange b ≡ false → r ≡ refusedSuggestion → r ≡ suggested a b kind
   unfolding suggested
   second-refused h k e = rw (h, k) e
 
-  pub case-refused : editInRange a ≡ true → editInRange b ≡ true → 1 < kind → r ≡ refused → r ≡ suggested a b kind
+  pub case-refused : editInRange a ≡ true → editInRange b ≡ true → 1 < kind → r ≡ refusedSuggestion → r ≡ suggested a b kind
   unfolding suggested
   case-refused h k l e = let m : 2 ≤ kind = omega arith in rw (h, k, le-ltb kind 2 m) e
 
-  pub accepted : {advice : Advice} → editInRange a ≡ true → editInRange b ≡ true → kind ≤ 1 → advice ≡ advised kind a b → r ≡ given (rowsOf advice (cell a 0) (cell b 0)) → r ≡ suggested a b kind
+  pub suggestion-accepted : {advice : Advice} → editInRange a ≡ true → editInRange b ≡ true → kind ≤ 1 → advice ≡ advised kind a b → r ≡ given (rowsOf advice (cell a 0) (cell b 0)) → r ≡ suggested a b kind
   unfolding suggested
-  accepted h k l q e = let m : kind < 2 = omega arith in rw (h, k, lt-ltb kind 2 m, ← q) e
+  suggestion-accepted h k l q e = let m : kind < 2 = omega arith in rw (h, k, lt-ltb kind 2 m, ← q) e
 
 -- Concurrent edits suggest the same whichever is named first.
 table-swapped : (a b : ℕ) (f : Bool) → concurrentTable a b f ≡ concurrentTable b a f

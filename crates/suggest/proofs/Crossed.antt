@@ -8,7 +8,7 @@ use lib.Dec.{eqb}
 use Rattle.row.specs.Row.{Row, cell, editInRange}
 use Rattle.suggest.specs.Suggest.{concurrentTable, advised, rowsOf, given, suggested}
 use Rattle.suggest.specs.declared.Advice.the-variants.{Noncommuting}
-use Rattle.suggest.proofs.Advised.{advise-concurrent, accepted}
+use Rattle.suggest.proofs.Advised.{advise-concurrent, suggestion-accepted}
 
 -- document 01's table, as it stood before the request
 unfoldable pub formerTable : ℕ → ℕ → Bool → Bool
@@ -47,4 +47,4 @@ pub crossed-suggested : (a b : Row) → editInRange a ≡ true → editInRange b
 crossed-suggested a b h k n e x =
     let moved : concurrentTable (cell a 1) (cell b 1) (eqb (cell a 3) (cell b 3)) ≡ true = just-crossed-moved (cell a 1) (cell b 1) (eqb (cell a 3) (cell b 3)) .0 ∙ rw x in
     let advice : Noncommuting ≡ advised 1 a b = advise-concurrent 1 a b true n e refl (λ q. absurd (omega arith)) refl moved in
-    sym (accepted a b 1 h k (omega arith) advice refl)
+    sym (suggestion-accepted a b 1 h k (omega arith) advice refl)

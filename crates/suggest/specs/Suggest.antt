@@ -55,9 +55,9 @@ abbrev pub given : List Row → Suggested
 given rows = record { number = 0; count = length rows; first = getD rows 0 noRow; second = getD rows 1 noRow }
 
 -- 2: a number outside its range
-abbrev pub refused : Suggested
-refused = record { number = 2; count = 0; first = noRow; second = noRow }
+abbrev pub refusedSuggestion : Suggested
+refusedSuggestion = record { number = 2; count = 0; first = noRow; second = noRow }
 
 unfoldable pub suggested : Row → Row → ℕ → Suggested
 suggested a b kind =
-    cond (editInRange a && (editInRange b && ltb kind 2)) (given (rowsOf (advised kind a b) (nameCell a) (nameCell b))) refused
+    cond (editInRange a && (editInRange b && ltb kind 2)) (given (rowsOf (advised kind a b) (nameCell a) (nameCell b))) refusedSuggestion

@@ -1,6 +1,6 @@
 // Suggested constraints (document 01 and document 02, A1; 002, tables 2 and 3): rows for whoever asks, for two edits and the case that holds.
 ghost use mathlib.Core.Path.{_≡_};
-ghost use Rattle.suggest.specs.Suggest.{afterTable, concurrentTable, advised, rowsOf, given, refused, suggested};
+ghost use Rattle.suggest.specs.Suggest.{afterTable, concurrentTable, advised, rowsOf, given, refusedSuggestion, suggested};
 ghost use Prim.Native.Nat.{min, max};
 ghost use lib.Dec.{eqb};
 
@@ -147,7 +147,7 @@ fn rows(advice: Advice, a: u32, b: u32) -> Suggested
 }
 
 fn refuse() -> Suggested
-    ensures { λ r. ⌜ r ≡ refused ⌝ }
+    ensures { λ r. ⌜ r ≡ refusedSuggestion ⌝ }
 {
     let none = [0, 0, 0];
     Suggested {

@@ -11,12 +11,12 @@ use Rattle.lists.proofs.Lists.{by}
 use Rattle.lists.specs.Lists.{mem}
 use Rattle.row.specs.Row.{cell}
 use Rattle.table.specs.Table.{unknown, pairNotAllowed, decision, constraintFurther}
-use Rattle.table.specs.Checked.{Marked}
+use Rattle.table.specs.Checked.{MarksNames}
 
-pub past : (l : List ℕ) (n : ℕ) → length l ≤ n → false ≡ eqb (getD l n 0) 1
-past [] n h = refl
-past (x ∷ l) zero h = absurd (omega arith)
-past (x ∷ l) (suc n) h = past l n (omega arith)
+pub past-unmarked : (l : List ℕ) (n : ℕ) → length l ≤ n → false ≡ eqb (getD l n 0) 1
+past-unmarked [] n h = refl
+past-unmarked (x ∷ l) zero h = absurd (omega arith)
+past-unmarked (x ∷ l) (suc n) h = past-unmarked l n (omega arith)
 
 module _ (left rule right : ℕ) where
   pub pair-none : left ≡ 0 → true ≡ pairNotAllowed left rule right
@@ -60,7 +60,7 @@ module _ (left rule right : ℕ) where
   unfolding decision
   decides-not n e = rw (ne-eqb rule 1 n, ne-eqb rule 0 e)
 
-module _ (names : List ℕ) (adding : Bool) (row : List ℕ) (marks : List ℕ) (k : Marked marks names) where
+module _ (names : List ℕ) (adding : Bool) (row : List ℕ) (marks : List ℕ) (k : MarksNames marks names) where
   is : {b v : Bool} (n : ℕ) → b ≡ eqb (getD marks n 0) 1 → b ≡ v → mem n (0 ∷ names) ≡ v
   is n p q = sym (k n) ∙ sym p ∙ q
 

@@ -17,9 +17,9 @@ use Rattle.lists.proofs.Logic.{all-has, has-getD}
 use Rattle.lists.proofs.Arrays.{getD-zeros}
 use Rattle.row.specs.Row.{Row, cell, editInRange, editRow}
 use Rattle.row.proofs.Cells.{edit-in-range, name-small}
-use Rattle.table.specs.Checked.{Marked}
+use Rattle.table.specs.Checked.{MarksNames}
 
-pub marks-start : (m : ℕ) → 0 < m → Marked (set (replicate m 0) 0 1) []
+pub marks-start : (m : ℕ) → 0 < m → MarksNames (set (replicate m 0) 0 1) []
 unfolding mem
 marks-start m h n =
     by (eqb n 0)
@@ -35,7 +35,7 @@ unfolding mem
 mem-snoc n x [] = or-false (eqb n x)
 mem-snoc n x (y ∷ l) = by (eqb n y) (λ e. rw e) (λ e. rw e (mem-snoc n x l))
 
-pub marks-more : (marks names : List ℕ) (x : ℕ) → x < length marks → Marked marks names → Marked (set marks x 1) (names ++ (x ∷ []))
+pub marks-more : (marks names : List ℕ) (x : ℕ) → x < length marks → MarksNames marks names → MarksNames (set marks x 1) (names ++ (x ∷ []))
 unfolding mem
 marks-more marks names x h k n =
     by (eqb n x)
@@ -49,20 +49,20 @@ marks-more marks names x h k n =
 -- one more element of a list is marked by its number, which is below the length of the marks where the element is good
 module _ {A : Type 0} (number : A → ℕ) (good : A → Bool) (size : ℕ) (small : (x : A) → good x ≡ true → number x < size) (l : List A) where
   pub marks-next : (marks : List ℕ) (i k : ℕ) (d : A) → i < length l → length marks ≡ size → (number (getD l i d) < size → k ≡ number (getD l i d))
-      → (all good l ≡ true → Marked marks (map number (take i l))) → all good l ≡ true → Marked (set marks k 1) (map number (take (i + 1) l))
+      → (all good l ≡ true → MarksNames marks (map number (take i l))) → all good l ≡ true → MarksNames (set marks k 1) (map number (take (i + 1) l))
   marks-next marks i k d h w place s f =
       let b : number (getD l i d) < size = small (getD l i d) (all-has good l f (getD l i d) (has-getD l i d h)) in
       let e : k ≡ number (getD l i d) = place b in
       let n : map number (take (i + 1) l) ≡ map number (take i l) ++ (number (getD l i d) ∷ []) = rw (add-one i, take-suc l i d h, map-append) in
       rw (n, e) (marks-more marks (map number (take i l)) (number (getD l i d)) (omega arith) (s f))
 
-  pub marks-end : (marks : List ℕ) (i : ℕ) → length l ≤ i → Marked marks (map number (take i l)) → Marked marks (map number l)
+  pub marks-end : (marks : List ℕ) (i : ℕ) → length l ≤ i → MarksNames marks (map number (take i l)) → MarksNames marks (map number l)
   marks-end marks i h k = let e : take i l ≡ l = take-all i l h in rw e at k
 
 -- the same of the first n elements of an array
 pub marks-front : {A : Type 0} (number : A → ℕ) (good : A → Bool) (size : ℕ) → ((x : A) → good x ≡ true → number x < size) → (a : List A) (n : ℕ) → n ≤ length a → (marks : List ℕ) (i k : ℕ) (d : A) → i < n
-    → length marks ≡ size → (number (getD a i d) < size → k ≡ number (getD a i d)) → (all good (take n a) ≡ true → Marked marks (map number (take i (take n a)))) → all good (take n a) ≡ true
-    → Marked (set marks k 1) (map number (take (i + 1) (take n a)))
+    → length marks ≡ size → (number (getD a i d) < size → k ≡ number (getD a i d)) → (all good (take n a) ≡ true → MarksNames marks (map number (take i (take n a)))) → all good (take n a) ≡ true
+    → MarksNames (set marks k 1) (map number (take (i + 1) (take n a)))
 marks-front number good size small a n w marks i k d h l place s =
     let e = getD-take n a i d h in
     marks-next number good size small (take n a) marks i k d (omega (arith, length-take-le n a w)) l (rw e place) s

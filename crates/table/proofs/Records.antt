@@ -11,7 +11,7 @@ use lib.ListN.{length, length-map}
 use Rattle.lists.proofs.Lists.{by, and-l, and-r, or-no-l, or-no-r}
 use Rattle.record.specs.declared.Edit.{Edit}
 use Rattle.record.specs.declared.Constraint.{Constraint}
-use Rattle.lists.specs.Lists.{any, all, mem, ascending, first, grown, closure, Has}
+use Rattle.lists.specs.Lists.{any, all, mem, ascending, find, grown, closure, Has}
 use Rattle.record.specs.Record.{Record, written, names, nameOf, is, has, WellFormed}
 use Rattle.record.specs.Schedule.{needs, musts, ready, order, ring}
 use Rattle.record.specs.Judgement.{sound}
@@ -25,7 +25,7 @@ use Rattle.ground.specs.Ground.{Rows, tableFault, _given_, _orelse_}
 use Rattle.ground.proofs.Grounds.{orelse-none, orelse-second, given-none}
 use Rattle.ground.proofs.Accepted.{accepted-range}
 use Rattle.ground.proofs.Decoded.{decoded-again, elements-accepted, lent-range, lent-further, lent-ascending, lent-within, lent-agree, lent-places}
-use Rattle.table.specs.Table.{unknown, pairNotAllowed, decision, constraintFurther, editKind, constraintKind, editRows, constraintRows, decoded, emptyTables, joinFault, namesOf, lentFault, addEditFault, addConstraintFault, recordFault, editKey, constraintKey, unite}
+use Rattle.table.specs.Table.{unknown, pairNotAllowed, decision, constraintFurther, editKind, constraintKind, editRows, constraintRows, decoded, emptyTables, joinFault, namesOf, lentFault, addEditFault, addConstraintFault, recordJoinFault, editKey, constraintKey, unite}
 use Rattle.table.specs.Checked.{Checked}
 use Rattle.table.proofs.Elements.{editElements, constraintElements, editCoding, constraintCoding}
 use Rattle.table.proofs.Unions.{mem-by, united-extends, joining-extends, united-empty}
@@ -45,7 +45,7 @@ empty-checked =
     }
 
 pub empty-sound : sound emptyTables ≡ true
-unfolding sound musts ring order ready needs names written has closure grown first any mem
+unfolding sound musts ring order ready needs names written has closure grown find any mem
 empty-sound = refl
 
 -- a constraint without 5 and 6
@@ -216,7 +216,7 @@ checked-decoded R k =
     rows-decoded R (all-has (λ e. editInRange (editRow e)) (R .edits) (k .editrange)) (all-has (λ c. constraintInRange (constraintRow c)) (R .constraints) (k .constraintrange))
 
 -- a record whose rows join a checked one without fault
-module _ (R S : Record) (k : Checked R) (h : recordFault R S ≡ 0) where
+module _ (R S : Record) (k : Checked R) (h : recordJoinFault R S ≡ 0) where
   pub record-decoded : decoded (editRows S) (constraintRows S) ≡ S
   record-decoded =
       let p = both R (namesOf (editRows S)) false (editRows S) (constraintRows S) k h in

@@ -18,7 +18,7 @@ use Rattle.ground.specs.Ground.{Rows, tableFault, firstFault, _orelse_}
 use Rattle.ground.proofs.Grounds.{orelse-first, orelse-second, orelse-zero}
 use Rattle.ground.proofs.Accepted.{accepted-range}
 use Rattle.table.specs.Table.{editKind, constraintKind, editRows, constraintRows, namesOf, emptyTables, joinFault, lentFault, addEditFault, addConstraintFault}
-use Rattle.table.specs.Checked.{Checked, Ordered, Marked}
+use Rattle.table.specs.Checked.{Checked, OrderedTables, MarksNames}
 
 -- what a stored record holds is the record
 pub stored-back : (R : Record) → recordOf (stored R) ≡ R
@@ -42,7 +42,7 @@ module _ (r : declared.Record) (R : Record) (e : r ≡ stored R) where
   held-constraints : recordOf r .constraints ≡ R .constraints
   held-constraints = ap (λ (x : Record). x .constraints) held
 
-  pub stored-ordered : Checked R → Ordered r
+  pub stored-ordered : Checked R → OrderedTables r
   stored-ordered k =
       record {
         editplaces = rw (ap (λ (x : declared.Record). x .editcount) e) (k .editplaces);
@@ -52,7 +52,7 @@ module _ (r : declared.Record) (R : Record) (e : r ≡ stored R) where
       }
 
   -- the number of the edits, and of the constraints, as the walks give it
-  module _ (k : Checked R) (es : Rows) {n : ℕ} (f : Ordered r → n ≡ tableFault editKind (editRows (recordOf r)) es) where
+  module _ (k : Checked R) (es : Rows) {n : ℕ} (f : OrderedTables r → n ≡ tableFault editKind (editRows (recordOf r)) es) where
     pub first-table : n ≡ tableFault editKind (editRows R) es
     first-table = f (stored-ordered k) ∙ ap (λ (x : Record). tableFault editKind (editRows x) es) held
 
@@ -63,8 +63,8 @@ module _ (r : declared.Record) (R : Record) (e : r ≡ stored R) where
           let q : tableFault editKind (editRows R) es ≡ 0 → ⊥ = λ y. z (first-table ∙ y) in
           first-table ∙ sym (orelse-first (tableFault editKind (editRows R) es) (tableFault (constraintKind (namesOf es) false) (constraintRows R) cs) q)
 
-      pub lent-second : n ≡ 0 → (marks : List ℕ) → (all editInRange es ≡ true → Marked marks (namesOf es)) → {m : ℕ}
-          → ((names : List ℕ) → Marked marks names → Ordered r → m ≡ tableFault (constraintKind names false) (constraintRows (recordOf r)) cs) → m ≡ lentFault R es cs
+      pub lent-second : n ≡ 0 → (marks : List ℕ) → (all editInRange es ≡ true → MarksNames marks (namesOf es)) → {m : ℕ}
+          → ((names : List ℕ) → MarksNames marks names → OrderedTables r → m ≡ tableFault (constraintKind names false) (constraintRows (recordOf r)) cs) → m ≡ lentFault R es cs
       unfolding joinFault
       lent-second z marks s g =
           let q : tableFault editKind (editRows R) es ≡ 0 = sym first-table ∙ z in
@@ -74,13 +74,13 @@ module _ (r : declared.Record) (R : Record) (e : r ≡ stored R) where
           ∙ sym (orelse-second (tableFault editKind (editRows R) es) (tableFault (constraintKind (namesOf es) false) (constraintRows R) cs) q)
 
   -- one row that is added
-  pub add-edit : Checked R → (row : Row) {n : ℕ} → (Ordered r → n ≡ tableFault editKind (editRows (recordOf r)) (row ∷ [])) → n ≡ addEditFault R row
+  pub add-edit : Checked R → (row : Row) {n : ℕ} → (OrderedTables r → n ≡ tableFault editKind (editRows (recordOf r)) (row ∷ [])) → n ≡ addEditFault R row
   unfolding joinFault firstFault
   add-edit k row f = first-table k (row ∷ []) f ∙ sym (orelse-zero (tableFault editKind (editRows R) (row ∷ [])))
 
-  pub add-constraint : (k : Checked R) (row : Row) (marks : List ℕ) → (all (λ e. editInRange (editRow e)) (recordOf r .edits) ≡ true → Marked marks (map nameOf (recordOf r .edits))) → {m : ℕ}
-      → ((names : List ℕ) → Marked marks names → Ordered r → m ≡ tableFault (constraintKind names true) (constraintRows (recordOf r)) (row ∷ [])) → m ≡ addConstraintFault R row
+  pub add-constraint : (k : Checked R) (row : Row) (marks : List ℕ) → (all (λ e. editInRange (editRow e)) (recordOf r .edits) ≡ true → MarksNames marks (map nameOf (recordOf r .edits))) → {m : ℕ}
+      → ((names : List ℕ) → MarksNames marks names → OrderedTables r → m ≡ tableFault (constraintKind names true) (constraintRows (recordOf r)) (row ∷ [])) → m ≡ addConstraintFault R row
   unfolding joinFault firstFault written
   add-constraint k row marks s g =
-      let named : Marked marks (map nameOf (recordOf r .edits)) = s (rw held-edits (k .editrange)) in
+      let named : MarksNames marks (map nameOf (recordOf r .edits)) = s (rw held-edits (k .editrange)) in
       g (map nameOf (recordOf r .edits)) named (stored-ordered k) ∙ ap (λ (x : Record). tableFault (constraintKind (written x) true) (constraintRows x) (row ∷ [])) held

@@ -28,12 +28,12 @@ pub record Checked (R : Record) : Type 0 where
   pub pairs : all (λ c. not (pairNotAllowed (c .left) (c .rule) (c .right))) (R .constraints) ≡ true
 
 -- the part of it that the walks need, of a record as it is stored
-pub record Ordered (r : declared.Record) : Type 0 where
+pub record OrderedTables (r : declared.Record) : Type 0 where
   pub editplaces : r .editcount ≤ editLimit
   pub constraintplaces : r .constraintcount ≤ constraintLimit
   pub editorder : Ascending editKey (recordOf r .edits)
   pub constraintorder : Ascending constraintKey (recordOf r .constraints)
 
 -- marks of the edits that are known: 1 at each name and at 0
-abbrev pub Marked : List ℕ → List ℕ → Type 0
-Marked marks names = (n : ℕ) → eqb (getD marks n 0) 1 ≡ mem n (0 ∷ names)
+abbrev pub MarksNames : List ℕ → List ℕ → Type 0
+MarksNames marks names = (n : ℕ) → eqb (getD marks n 0) 1 ≡ mem n (0 ∷ names)

@@ -10,7 +10,7 @@ use Rattle.record.specs.Record.{Record, written}
 use Rattle.lists.specs.Keyed.{united}
 use Rattle.record.specs.Stored.{editLimit, constraintLimit}
 use Rattle.row.specs.Row.{Row, nameCell, leftCell, ruleCell, rightCell, editInRange, constraintInRange, editOf, constraintOf, editRow, constraintRow}
-use Rattle.ground.specs.Ground.{Rows, Kind, tableFault, _given_, _orelse_}
+use Rattle.ground.specs.Ground.{Rows, TableKind, tableFault, _given_, _orelse_}
 
 -- the rows of a record's tables, and the record that two tables are
 abbrev pub editRows : Record → Rows
@@ -45,10 +45,10 @@ constraintFurther names adding row =
     orelse 7 given (adding && decision (leftCell row) (ruleCell row) (rightCell row))
 
 -- the two kinds of table: an edit's key is its name, a constraint is all key, so that 4 never holds of it
-abbrev pub editKind : Kind
+abbrev pub editKind : TableKind
 editKind = record { key = 1; limit = editLimit; inRange = editInRange; further = λ row. 0 }
 
-abbrev pub constraintKind : List ℕ → Bool → Kind
+abbrev pub constraintKind : List ℕ → Bool → TableKind
 constraintKind names adding = record { key = 3; limit = constraintLimit; inRange = constraintInRange; further = constraintFurther names adding }
 
 -- two tables join a record: edits first, then constraints
@@ -72,8 +72,8 @@ abbrev pub addConstraintFault : Record → Row → ℕ
 addConstraintFault R row = joinFault R (written R) true [] (row ∷ [])
 
 -- a record joins another: the old proposal joins a record, or a won bundle does
-abbrev pub recordFault : Record → Record → ℕ
-recordFault R S = lentFault R (editRows S) (constraintRows S)
+abbrev pub recordJoinFault : Record → Record → ℕ
+recordJoinFault R S = lentFault R (editRows S) (constraintRows S)
 
 -- merge is set union; a known name keeps its row
 abbrev pub editKey : Edit → List ℕ

@@ -19,7 +19,7 @@ ghost use Rattle.record.specs.Stored.{editLimit};
 ghost use Rattle.row.specs.Row.{editInRange, editRow};
 ghost use Rattle.ground.specs.Ground.{known, misplaced};
 ghost use Rattle.table.specs.Table.{namesOf, pairNotAllowed, decision, constraintFurther};
-ghost use Rattle.table.specs.Checked.{Marked};
+ghost use Rattle.table.specs.Checked.{MarksNames};
 
 // Whether row i is above the row before it. Pub for `refusal` and `reader`, which walk the rows.
 pub fn edit_follows(t: &[[u32; EDIT_CELLS]], i: usize) -> bool
@@ -89,7 +89,7 @@ fn is_decision(left: u32, rule: u32, right: u32) -> bool
 
 // The lowest of 5, 6 and 7 that holds of a row.
 pub fn constraint_further(row: [u32; CONSTRAINT_CELLS], marks: &[u8], adding: bool) -> u32
-    ensures { λ r. ⌜ ((names : List ℕ) → Marked (now (marks .entry)) names → r ≡ constraintFurther names adding row) ⌝ }
+    ensures { λ r. ⌜ ((names : List ℕ) → MarksNames (now (marks .entry)) names → r ≡ constraintFurther names adding row) ⌝ }
 {
     let left = row[0];
     let rule = row[1];
@@ -146,7 +146,7 @@ fn wide(n: u32) -> usize
 
 // The marks of the names of a table of edits in range.
 pub fn mark_rows(t: &[[u32; EDIT_CELLS]]) -> [u8; NAMES]
-    ensures { λ r. ⌜ (all editInRange (now (t .entry)) ≡ true → Marked r (namesOf (now (t .entry)))) ⌝ }
+    ensures { λ r. ⌜ (all editInRange (now (t .entry)) ≡ true → MarksNames r (namesOf (now (t .entry)))) ⌝ }
 {
     let mut marks = [0u8; NAMES];
     marks[0] = 1;
@@ -163,7 +163,7 @@ pub fn mark_rows(t: &[[u32; EDIT_CELLS]]) -> [u8; NAMES]
 // The marks of the first n edits, in range. Pub for `refusal`, whose count is of the table's rows.
 pub fn mark_edits(a: [Edit; EDITS], n: usize) -> [u8; NAMES]
     requires { ⌜ n ≤ editLimit ⌝ }
-    ensures { λ r. ⌜ (all (λ e. editInRange (editRow e)) (take n a) ≡ true → Marked r (map nameOf (take n a))) ⌝ }
+    ensures { λ r. ⌜ (all (λ e. editInRange (editRow e)) (take n a) ≡ true → MarksNames r (map nameOf (take n a))) ⌝ }
 {
     let mut marks = [0u8; NAMES];
     marks[0] = 1;

@@ -20,7 +20,7 @@ use Rattle.tally.specs.declared.Group.{Group}
 use Rattle.tally.specs.declared.Tally.{Tally}
 use Rattle.tally.specs.Groups.{bundles, groupIn, fillerGroup, tallyOf, place, WinningPlace, winnerStored}
 use Rattle.tally.proofs.Counts.{unknown-weightless}
-use Rattle.tally.proofs.Steps.{none-yet, place-known, place-stands, total-is, count-is, groups-taken}
+use Rattle.tally.proofs.Steps.{none-yet, place-found, place-stands, total-is, tally-count-is, groups-taken}
 
 -- a group with weight is no heavier than the greatest
 under-greatest {ℓ} : {P : Type ℓ} (B : Record) (k m : List Ballot) → (weigh (votesFor B) m ≡ 0 → P) → (weigh (votesFor B) k ≤ greatestOf k m → P) → P
@@ -74,13 +74,13 @@ module _ (tally : Tally) (l : List Ballot) (e : tally ≡ tallyOf l) (i : ℕ) (
       go (some B) p =
           let a = winner-wins l B p .0 in
           let k = winner-known l B a in
-          let q = place-known B (bundles l) k in
-          let n = w .none (omega (arith, number, count-is tally l 0 e)) (place B (bundles l)) (omega (arith, number)) in
+          let q = place-found B (bundles l) k in
+          let n = w .none (omega (arith, number, tally-count-is tally l 0 e)) (place B (bundles l)) (omega (arith, number)) in
           clash a (rw (place-stands B (bundles l) k) at (sym (wins-at (place B (bundles l)) q) ∙ n))
 
   pub the-winner : (d : Group) → i < tally .count → getD (tally .groups) i d .bundle ≡ winnerStored (winner l)
   the-winner d h =
-      let n : i < length (bundles l) = omega (arith, count-is tally l 0 e) in
+      let n : i < length (bundles l) = omega (arith, tally-count-is tally l 0 e) in
       let a : wins l (getD (bundles l) i none-yet) ≡ true = sym (wins-at i n) ∙ w .wins (omega (arith, number)) in
       let b : getD (tally .groups) i d .bundle ≡ stored (getD (bundles l) i none-yet) =
       ap (λ x. x .bundle) (sym (getD-take (tally .count) (tally .groups) i d h) ∙ (ap (λ t. getD t i d) (groups-taken tally l 0 e) ∙ getD-mapped (groupIn l) (bundles l) i none-yet d n)) in

@@ -63,5 +63,5 @@ pub record WinningPlace (groups : List Group) (whole i : ℕ) : Type 0 where
   pub none : length groups ≤ i → (j : ℕ) → j < length groups → ltb whole (2 * getD groups j fillerGroup .weight) ≡ false
 
 -- the answer from its three weights
-abbrev pub answerOf : ℕ → ℕ → ℕ → Election
-answerOf greatest silent total = record { number = 0; won = ltb total (2 * greatest); greatest = greatest; silent = silent; total = total }
+abbrev pub electionBy : ℕ → ℕ → ℕ → Election
+electionBy greatest silent total = record { number = 0; won = ltb total (2 * greatest); greatest = greatest; silent = silent; total = total }

@@ -12,7 +12,7 @@ ghost use lib.ListN.{length, take};
 ghost use Rattle.record.specs.Record as theory;
 ghost use Rattle.record.specs.Stored.{stored};
 ghost use Rattle.vote.specs.Tally.{Ballot, total, winner};
-ghost use Rattle.tally.specs.Groups.{place, groupIn, castOf, tallyOf, answerOf, WinningPlace, winnerStored};
+ghost use Rattle.tally.specs.Groups.{place, groupIn, castOf, tallyOf, electionBy, WinningPlace, winnerStored};
 
 // A vote is silent or a bundle. A bundle's record stands beside it, in Cast.
 pub enum Vote {
@@ -67,7 +67,7 @@ fn is_won(weight: u32, whole: u32) -> bool
 }
 
 fn answer(greatest: u32, silent: u32, total: u32) -> Election
-    ensures { λ r. ⌜ r ≡ answerOf greatest silent total ⌝ }
+    ensures { λ r. ⌜ r ≡ electionBy greatest silent total ⌝ }
 {
     Election {
         number: 0,

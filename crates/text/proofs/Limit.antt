@@ -13,7 +13,7 @@ use Rattle.lists.proofs.Lists.{by, or-no-l, or-no-r}
 use Rattle.lists.specs.Lists.{mem}
 use Rattle.record.specs.Judgement.{sound}
 use Rattle.row.specs.Row.{Row, cell}
-use Rattle.ground.specs.Ground.{Rows, Kind, noPlace, otherBody, misplaced, rowFault, _given_, _orelse_}
+use Rattle.ground.specs.Ground.{Rows, TableKind, noPlace, otherBody, misplaced, rowFault, _given_, _orelse_}
 use Rattle.table.specs.Table.{emptyTables, namesOf, unknown, pairNotAllowed, constraintFurther, editKind, constraintKind}
 use Rattle.table.proofs.Records.{empty-checked, joining-editplaces, joining-constraintplaces}
 use Rattle.line.specs.declared.Line.{Line}
@@ -184,7 +184,7 @@ given-small m n false h = omega arith
 pub first-small : (m n : ℕ) (b : Bool) (later : ℕ) → n ≤ m → later ≤ m → (n given b orelse later) ≤ m
 first-small m n b later p q = orelse-small m (n given b) later (given-small m n b p) q
 
-row-small : (K : Kind) (joined above : Rows) (row : Row) → K .further row ≤ 13 → rowFault K joined above row ≤ 13
+row-small : (K : TableKind) (joined above : Rows) (row : Row) → K .further row ≤ 13 → rowFault K joined above row ≤ 13
 unfolding rowFault
 row-small K joined above row h =
     first-small 13 2 (not (K .inRange row)) _ (omega arith)

@@ -11,7 +11,7 @@ use Rattle.lists.proofs.Lists.{clash, and-l, and-r}
 use Rattle.lists.specs.Lists.{all}
 use Rattle.row.specs.Row.{Row, cell, bodyInRange, editInRange, constraintInRange}
 use Rattle.row.proofs.Cells.{edit-in-range, constraint-in-range, name-small, constraint-bounds}
-use Rattle.ground.specs.Ground.{Rows, Kind, rowFault, firstFault, tableFault, _given_}
+use Rattle.ground.specs.Ground.{Rows, TableKind, rowFault, firstFault, tableFault, _given_}
 use Rattle.ground.proofs.Grounds.{orelse-none, orelse-second, given-none, Clean, clean, clean-is}
 use Rattle.table.specs.Table.{emptyTables, namesOf, editKind, constraintKind, joinFault, lentFault}
 use Rattle.line.specs.declared.Line.{Line}
@@ -88,7 +88,7 @@ clean-more : (f : Rows → Row → ℕ) (above t : Rows) (row : Row) → Clean f
 clean-more f above [] row c h = (rw append-nil at h, tt)
 clean-more f above (r ∷ t) row c h = (c .0, clean-more f (above ++ (r ∷ [])) t row (c .1) (rw append-assoc h))
 
-pub table-more : (K : Kind) (t : Rows) (row : Row) → tableFault K [] t ≡ 0 → rowFault K [] t row ≡ 0 → tableFault K [] (t ++ (row ∷ [])) ≡ 0
+pub table-more : (K : TableKind) (t : Rows) (row : Row) → tableFault K [] t ≡ 0 → rowFault K [] t row ≡ 0 → tableFault K [] (t ++ (row ∷ [])) ≡ 0
 table-more K t row h e = clean-is (rowFault K []) [] (t ++ (row ∷ [])) (clean-more (rowFault K []) [] t row (clean (rowFault K []) [] t h) e)
 
 -- a line without fault

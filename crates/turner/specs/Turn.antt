@@ -21,6 +21,6 @@ unfoldable pub turnOf : ℕ → ℕ → ℤ → Turned
 turnOf opened last by = cond (leb opened 127) (turned opened last by) Refused
 
 -- what each case answers: the number, and the page that is then open
-abbrev pub answerOf : ℕ → Turned → TurnAnswer
-answerOf opened (To page) = record { number = 0; opened = page }
-answerOf opened Refused = record { number = 10; opened = opened }
+abbrev pub turnedAnswer : ℕ → Turned → TurnAnswer
+turnedAnswer opened (To page) = record { number = 0; opened = page }
+turnedAnswer opened Refused = record { number = 10; opened = opened }

@@ -1,6 +1,6 @@
 // The turner (document 01, "Entries and pages"): the open page and the last page, and a turn by a signed number of pages.
 ghost use mathlib.Core.Path.{_≡_};
-ghost use Rattle.turner.specs.Turn.{answerOf, turnOf};
+ghost use Rattle.turner.specs.Turn.{turnedAnswer, turnOf};
 
 pub struct Turner {
     pub opened: usize,
@@ -39,7 +39,7 @@ pub fn turn_step(opened: usize, last: usize, by: i32) -> Turned
 }
 
 pub fn turn_answer(opened: usize, turned: Turned) -> TurnAnswer
-    ensures { λ r. ⌜ r ≡ answerOf opened turned ⌝ }
+    ensures { λ r. ⌜ r ≡ turnedAnswer opened turned ⌝ }
 {
     match turned {
         Turned::To(page) => TurnAnswer {

@@ -7,9 +7,9 @@ use mir.Val.{SFits, toZ, ofZ}
 use mir.Facts.{toZ-ofZ}
 use Rattle.turner.specs.declared.Turned.{Turned}
 use Rattle.turner.specs.declared.TurnAnswer.{TurnAnswer}
-use Rattle.turner.specs.Turn.{turnOf, answerOf}
+use Rattle.turner.specs.Turn.{turnOf, turnedAnswer}
 use Rattle.turning.specs.Turning.{turnAnswerOf}
 
-pub answer-is : (opened last : ℕ) (by : ℤ) → SFits w32 by → (t : Turned) (answer : TurnAnswer) → t ≡ turnOf opened last (toZ w32 (ofZ w32 by)) → answer ≡ answerOf opened t
+pub answer-is : (opened last : ℕ) (by : ℤ) → SFits w32 by → (t : Turned) (answer : TurnAnswer) → t ≡ turnOf opened last (toZ w32 (ofZ w32 by)) → answer ≡ turnedAnswer opened t
     → answer ≡ turnAnswerOf opened last by
-answer-is opened last by f t answer h a = a ∙ ap (answerOf opened) (h ∙ ap (turnOf opened last) (toZ-ofZ f))
+answer-is opened last by f t answer h a = a ∙ ap (turnedAnswer opened) (h ∙ ap (turnOf opened last) (toZ-ofZ f))

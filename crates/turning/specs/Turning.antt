@@ -3,12 +3,12 @@ use Prim.Native.Nat.{ℕ}
 use lib.IntN.{ℤ}
 use Rattle.turner.specs.declared.Turner.{Turner}
 use Rattle.turner.specs.declared.TurnAnswer.{TurnAnswer}
-use Rattle.turner.specs.Turn.{turnOf, answerOf}
+use Rattle.turner.specs.Turn.{turnOf, turnedAnswer}
 use Rattle.turning.specs.declared.Turning.{Turning}
 
 -- what a turn answers: the number, and the page that is then open
 abbrev pub turnAnswerOf : ℕ → ℕ → ℤ → TurnAnswer
-turnAnswerOf opened last by = answerOf opened (turnOf opened last by)
+turnAnswerOf opened last by = turnedAnswer opened (turnOf opened last by)
 
 -- the turner after a turn: the last page stays
 abbrev pub afterTurn : Turner → ℤ → Turner

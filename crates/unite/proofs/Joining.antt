@@ -108,7 +108,7 @@ module _ {A : Type 0} (key : A → List ℕ) (even : (x y : A) → length (key x
 
   module _ (limit : ℕ) (z : A) (a : List A) (n : ℕ) (b : List A) (m : ℕ) where
     -- what the loop keeps
-    pub record Walk (out : List A) (p j q : ℕ) : Type 0 where
+    pub record UnionWalk (out : List A) (p j q : ℕ) : Type 0 where
       pub own : p ≤ n
       pub joining : j ≤ m
       pub own-places : n ≤ limit
@@ -119,8 +119,8 @@ module _ {A : Type 0} (key : A → List ℕ) (even : (x y : A) → length (key x
       pub joining-size : length b ≡ limit
       pub joins : Unites key limit (take n a) (take m b) → Joining limit z (take n a) (take m b) out p j q
 
-    pub walk-start : {o : A} → o ≡ z → n ≤ limit → m ≤ limit → length a ≡ limit → length b ≡ limit → Walk (replicate limit o) 0 0 0
-    walk-start {o} e h k v w = record {
+    pub union-walk-start : {o : A} → o ≡ z → n ≤ limit → m ≤ limit → length a ≡ limit → length b ≡ limit → UnionWalk (replicate limit o) 0 0 0
+    union-walk-start {o} e h k v w = record {
       own = omega arith;
       joining = omega arith;
       own-places = h;
@@ -132,7 +132,7 @@ module _ {A : Type 0} (key : A → List ℕ) (even : (x y : A) → length (key x
       joins = λ u. record { written = padded-begin limit z e; rest = refl; short = omega arith };
     }
 
-    module _ (out : List A) (p j q : ℕ) (w : Walk out p j q) where
+    module _ (out : List A) (p j q : ℕ) (w : UnionWalk out p j q) where
       -- i, k and o: the places of the two next elements and of the one that is written
       module _ (more : p + j < n + m) (i k o : ℕ) (d d′ : A) (own : p < n → i ≡ p) (joins : j < m → k ≡ j) (free : q < limit → o ≡ q) (choice : Choice) {lower upper : Bool}
           (e : choice ≡ chosen (ltb p n) (ltb j m) lower upper) (l : lower ≡ precedes (key (getD a i d)) (key (getD b k d′))) (g : upper ≡ precedes (key (getD b k d′)) (key (getD a i d)))
@@ -148,7 +148,7 @@ module _ {A : Type 0} (key : A → List ℕ) (even : (x y : A) → length (key x
             lent : ltb p n ≡ false → ltb j m ≡ true
             lent x = by (ltb j m) (λ y. y) (λ y. absurd (omega (arith, ltb-false p n x, ltb-false j m y)))
 
-        pub walk-next : p + choice .own ≤ n → j + choice .joining ≤ m → 1 ≤ choice .own + choice .joining → Walk (set out o v) (p + choice .own) (j + choice .joining) (q + 1)
+        pub walk-next : p + choice .own ≤ n → j + choice .joining ≤ m → 1 ≤ choice .own + choice .joining → UnionWalk (set out o v) (p + choice .own) (j + choice .joining) (q + 1)
         walk-next x y more = record {
           own = x;
           joining = y;

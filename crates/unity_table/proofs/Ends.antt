@@ -9,7 +9,7 @@ use native.Mathlib.Nat.{div-le-self}
 use borrow.Author.Tests.{ne-eqb, ltb-true, lt-ltb, lt-leb}
 use lib.Dec.{leb}
 use lib.ListN.{length}
-use Rattle.lists.specs.Lists.{sift}
+use Rattle.lists.specs.Lists.{filter}
 use Rattle.lists.proofs.Lists.{by}
 use Rattle.ground.specs.Ground.{_given_}
 use Rattle.fraction.specs.declared.Fraction.{Fraction}
@@ -23,12 +23,12 @@ use Rattle.unity_table.specs.declared.Weights.{Weights}
 use Rattle.unity_table.specs.declared.Summed.{Summed}
 use Rattle.unity_table.specs.Unity.{electionLimit, shares, outOfRange, tooWide, weightsFault, Fault, decidingFault, summary, refusedUnity, unityOf}
 use Rattle.unity_table.specs.Summed.{running, summed, summedOf, acceptedUnity}
-use Rattle.unity_table.proofs.Faults.{noFault, stays, ends}
-use Rattle.unity_table.proofs.Sums.{shares-positive, passes, passed, state-faulty, open-is}
+use Rattle.unity_table.proofs.Faults.{noFault, stays, table-ends}
+use Rattle.unity_table.proofs.Sums.{shares-positive, passes, passed, state-faulty, open-summed}
 
 -- the mean's denominator does not fit
-abbrev pub late : List Weights → Bool
-late l = not (fits64 (mean (shares l) .denominator))
+abbrev pub late-row : List Weights → Bool
+late-row l = not (fits64 (mean (shares l) .denominator))
 
 -- a row that has a fault has it as the last one too
 pub fault-stays : (above : List Weights) (a : Weights) → weightsFault above a false ≢ 0 → weightsFault above a true ≡ weightsFault above a false
@@ -48,19 +48,19 @@ fault-stays above a n =
     (λ (m : fits64 (sumOf (shares l) .numerator) ≡ false). rw (h, p, d, m)))
     (λ (d : fits64 (sumOf (shares l) .denominator) ≡ false). rw (h, p, d))))
 
-fault-last : (above : List Weights) (a : Weights) → weightsFault above a false ≡ 0 → weightsFault above a true ≡ 17 given late (above ++ (a ∷ []))
+fault-last : (above : List Weights) (a : Weights) → weightsFault above a false ≡ 0 → weightsFault above a true ≡ 17 given late-row (above ++ (a ∷ []))
 unfolding weightsFault tooWide
 fault-last above a z =
     let f = passes above a z in
     rw (f .range, lt-leb electionLimit (length above) (f .place), f .denominator, f .numerator)
 
-late-none : late [] ≡ false
-unfolding shares sift mean
+late-none : late-row [] ≡ false
+unfolding shares filter mean
 late-none = refl
 
 -- the first fault of a table whose rows have none but, maybe, the last one's
-pub last-decides : (l : List Weights) → running l .number ≡ 0 → decidingFault weightsFault [] l ≡ cond (late l) (record { number = 17; row = length l }) noFault
-last-decides l z = ends weightsFault late fault-last late-none l z
+pub last-decides : (l : List Weights) → running l .number ≡ 0 → decidingFault weightsFault [] l ≡ cond (late-row l) (record { number = 17; row = length l }) noFault
+last-decides l z = table-ends weightsFault late-row fault-last late-none l z
 
 none-is : (m : List Fraction) → length m ≡ 0 → m ≡ []
 none-is [] h = refl
@@ -75,10 +75,10 @@ module _ (s : Summed) (l : List Weights) (e : s ≡ summedOf l) where
       rw (f, ne-eqb (s .number) 0 n)
 
   module _ (z : s .number ≡ 0) where
-    end-accepts : late l ≡ false → acceptedUnity s (mean (shares l)) ≡ unityOf l
+    end-accepts : late-row l ≡ false → acceptedUnity s (mean (shares l)) ≡ unityOf l
     unfolding unityOf summary summed
     end-accepts h =
-        let o = open-is s l e z in
+        let o = open-summed s l e z in
         let f : decidingFault weightsFault [] l ≡ noFault = last-decides l (o .none) ∙ rw h in
         rw f (ap (λ (x : Summed). acceptedUnity x (mean (shares l))) (o .is))
 
@@ -86,7 +86,7 @@ module _ (s : Summed) (l : List Weights) (e : s ≡ summedOf l) where
     pub end-none : s .entered ≡ 0 → acceptedUnity s (s .least) ≡ unityOf l
     unfolding summed mean leastFraction
     end-none n =
-        let o = open-is s l e z in
+        let o = open-summed s l e z in
         let g : length (shares l) ≡ 0 = sym (ap (λ (x : Summed). x .entered) (o .is)) ∙ n in
         let m = none-is (shares l) g in
         let a : mean (shares l) ≡ zeroFraction = rw m in
@@ -96,7 +96,7 @@ module _ (s : Summed) (l : List Weights) (e : s ≡ summedOf l) where
     module _ (some : s .entered ≢ 0) where
       pub end-divisor : 0 < s .sum .denominator
       unfolding summed sumOf
-      end-divisor = rw (open-is s l e z .is) (common-positive (shares l) (shares-positive l))
+      end-divisor = rw (open-summed s l e z .is) (common-positive (shares l) (shares-positive l))
 
       pub end-count : 0 < s .entered
       end-count = omega (arith, some)
@@ -112,15 +112,15 @@ module _ (s : Summed) (l : List Weights) (e : s ≡ summedOf l) where
       mean-is : mean (shares l) ≡ divided
       unfolding summed
       mean-is =
-          let i = open-is s l e z .is in
+          let i = open-summed s l e z .is in
           mean-some (shares l) (λ q. some (ap (λ (x : Summed). x .entered) i ∙ q)) ∙ sym (ap (λ (x : Summed). lowestTerms (x .sum .numerator) (x .sum .denominator * x .entered)) i)
 
       -- the numerator is no greater than the sum's
       numerator-fits : fits64 (divided .numerator) ≡ true
       unfolding lowestTerms summed
       numerator-fits =
-          let i = open-is s l e z .is in
-          let n = ltb-true (sumOf (shares l) .numerator) limit64 (passed l (open-is s l e z .none) .numerator) in
+          let i = open-summed s l e z .is in
+          let n = ltb-true (sumOf (shares l) .numerator) limit64 (passed l (open-summed s l e z .none) .numerator) in
           let q : s .sum .numerator ≡ sumOf (shares l) .numerator = ap (λ (x : Summed). x .sum .numerator) i in
           let d = div-le-self (s .sum .numerator) (gcd (s .sum .numerator) (s .sum .denominator * s .entered)) in
           lt-ltb (s .sum .numerator / gcd (s .sum .numerator) (s .sum .denominator * s .entered)) limit64 (omega arith)
@@ -132,9 +132,9 @@ module _ (s : Summed) (l : List Weights) (e : s ≡ summedOf l) where
         pub end-wide : r .fits ≡ false → refusedUnity (record { number = 17; row = s .row }) ≡ unityOf l
         unfolding unityOf summed
         end-wide t =
-            let o = open-is s l e z in
+            let o = open-summed s l e z in
             let d : fits64 (divided .denominator) ≡ false = sym told ∙ t in
-            let w : late l ≡ true = rw (mean-is, d) in
+            let w : late-row l ≡ true = rw (mean-is, d) in
             let f : decidingFault weightsFault [] l ≡ record { number = 17; row = length l } = last-decides l (o .none) ∙ rw w in
             rw f (ap (λ (x : Summed). refusedUnity (record { number = 17; row = x .row })) (o .is))
 

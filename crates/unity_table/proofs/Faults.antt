@@ -84,7 +84,7 @@ module _ {A : Type 0} (f : List A → A → Bool → ℕ) where
         (λ (e : eqb (f above x false) 0 ≡ false). absurd (eqb-false (f above x false) 0 e (rw e at z)))
 
     -- no row has another fault: the last row decides
-    pub ends : late [] ≡ false → (l : List A) → runningBy early [] l .number ≡ 0 → decidingFault f [] l ≡ cond (late l) (record { number = 17; row = length l }) noFault
+    pub table-ends : late [] ≡ false → (l : List A) → runningBy early [] l .number ≡ 0 → decidingFault f [] l ≡ cond (late l) (record { number = 17; row = length l }) noFault
     unfolding decidingFault
-    ends none [] z = rw none
-    ends none (x ∷ l) z = ends-some [] x l z
+    table-ends none [] z = rw none
+    table-ends none (x ∷ l) z = ends-some [] x l z

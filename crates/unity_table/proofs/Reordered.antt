@@ -8,13 +8,13 @@ use native.Mathlib.Nat.{mul-pos}
 use borrow.Author.Tests.{eqb-false}
 use lib.Dec.{eqb}
 use lib.ListN.{length}
-use Rattle.lists.specs.Lists.{sift}
+use Rattle.lists.specs.Lists.{filter}
 use Rattle.lists.proofs.Lists.{by}
 use Rattle.fraction.specs.declared.Fraction.{Fraction}
 use Rattle.fraction.specs.Fraction.{LowestTerms, Positive, sumOf, mean, isBelow, isAbove, First, leastFraction, greatestFraction}
 use Rattle.fraction.proofs.Fractions.{lowest-terms-is, common-positive}
 use Rattle.fraction.proofs.Extremes.{least-is, greatest-is}
-use Rattle.fraction.proofs.Reordered.{reduced-positive, length-reordered, mean-reordered, least-reordered, greatest-reordered}
+use Rattle.fraction.proofs.Reordered.{reduced-positive, length-reordered, mean-reordered, least-reordered, greatest-fraction-reordered}
 use Rattle.unity_table.specs.declared.Weights.{Weights}
 use Rattle.unity_table.proofs.Sums.{shares-reduced, shares-positive}
 use Rattle.unity_table.specs.Unity.{isEmpty, isWon, shareOf, shares, decidingFault, weightsFault, Fault, countBy, summary, unityBy, unityOf}
@@ -37,32 +37,32 @@ greatest-share l f rest e = rw e (greatest-is f rest (rw e at (shares-positive l
 
 -- another order
 module _ (p : Weights → Bool) where
-  sift-reordered : {l m : List Weights} → List·Permᴰ l m → List·Permᴰ (sift p l) (sift p m)
-  unfolding sift
-  sift-reordered List·Permᴰ·nil = List·Permᴰ·nil
-  sift-reordered (List·Permᴰ·cons {a} {b} e r) =
+  filter-reordered : {l m : List Weights} → List·Permᴰ l m → List·Permᴰ (filter p l) (filter p m)
+  unfolding filter
+  filter-reordered List·Permᴰ·nil = List·Permᴰ·nil
+  filter-reordered (List·Permᴰ·cons {a} {b} e r) =
       by (p b)
-      (λ (h : p b ≡ true). rw (e, h) (List·Permᴰ·cons refl (sift-reordered r)))
-      (λ (h : p b ≡ false). rw (e, h) (sift-reordered r))
-  sift-reordered (List·Permᴰ·swap {a} {b} {a′} {b′} {l} e g) =
+      (λ (h : p b ≡ true). rw (e, h) (List·Permᴰ·cons refl (filter-reordered r)))
+      (λ (h : p b ≡ false). rw (e, h) (filter-reordered r))
+  filter-reordered (List·Permᴰ·swap {a} {b} {a′} {b′} {l} e g) =
       by (p a′)
       (λ (h : p a′ ≡ true).
       by (p b′)
       (λ (k : p b′ ≡ true). rw (e, g, h, k) (List·Permᴰ·swap refl refl))
-      (λ (k : p b′ ≡ false). rw (e, g, h, k) (Permᴰ·refl (a′ ∷ sift p l))))
+      (λ (k : p b′ ≡ false). rw (e, g, h, k) (Permᴰ·refl (a′ ∷ filter p l))))
       (λ (h : p a′ ≡ false).
       by (p b′)
-      (λ (k : p b′ ≡ true). rw (e, g, h, k) (Permᴰ·refl (b′ ∷ sift p l)))
-      (λ (k : p b′ ≡ false). rw (e, g, h, k) (Permᴰ·refl (sift p l))))
-  sift-reordered (List·Permᴰ·trans r s) = List·Permᴰ·trans (sift-reordered r) (sift-reordered s)
+      (λ (k : p b′ ≡ true). rw (e, g, h, k) (Permᴰ·refl (b′ ∷ filter p l)))
+      (λ (k : p b′ ≡ false). rw (e, g, h, k) (Permᴰ·refl (filter p l))))
+  filter-reordered (List·Permᴰ·trans r s) = List·Permᴰ·trans (filter-reordered r) (filter-reordered s)
 
   count-reordered : {l m : List Weights} → List·Permᴰ l m → countBy p l ≡ countBy p m
   unfolding countBy
-  count-reordered r = length-reordered (sift-reordered r)
+  count-reordered r = length-reordered (filter-reordered r)
 
 shares-reordered : {l m : List Weights} → List·Permᴰ l m → List·Permᴰ (shares l) (shares m)
 unfolding shares
-shares-reordered r = Permᴰ·map shareOf (sift-reordered (λ a. not (isEmpty a)) r)
+shares-reordered r = Permᴰ·map shareOf (filter-reordered (λ a. not (isEmpty a)) r)
 
 summary-reordered : (l m : List Weights) → List·Permᴰ l m → summary l ≡ summary m
 unfolding summary
@@ -71,7 +71,7 @@ summary-reordered l m r =
     let h = shares-reduced l in
     let a = mean-reordered s (reduced-positive (shares l) h) in
     let b = least-reordered (shares l) (shares m) s h in
-    let c = greatest-reordered (shares l) (shares m) s h in
+    let c = greatest-fraction-reordered (shares l) (shares m) s h in
     let d = count-reordered isWon r in
     let e = count-reordered isEmpty r in
     λ i. record { number = 0; row = 0; mean = a i; least = b i; greatest = c i; won = d i; empty = e i }

@@ -16,7 +16,7 @@ use Rattle.fraction.proofs.Bounds.{fraction-told, fraction-value}
 use Rattle.unity_table.specs.declared.Weights.{Weights}
 use Rattle.unity_table.specs.declared.Summed.{Summed}
 use Rattle.unity_table.specs.Unity.{totalLimit, isWon, shareOf, outOfRange}
-use Rattle.unity_table.specs.Summed.{stopped, Small, Room, withSum, withShare}
+use Rattle.unity_table.specs.Summed.{stoppedAt, WithinTotals, Room, withSum, withShare}
 use Rattle.unity_table.proofs.Sums.{in-range, share-small}
 
 -- the range of a row, without a sum that could overflow
@@ -41,7 +41,7 @@ module _ (a : Weights) where
       rw (e, le-ltb (a .total) (a .greatest + a .silent) (omega arith), le-ltb totalLimit (a .total) h))
 
 -- two shares are compared in 64 bits
-pub small-product : (f g : Fraction) → Small f → Small g → f .numerator * g .denominator < limit64
+pub small-product : (f g : Fraction) → WithinTotals f → WithinTotals g → f .numerator * g .denominator < limit64
 small-product f g p q = let m = mul-le-mul (p .numerator) (q .denominator) in omega arith
 
 pub won-fits : (s : Summed) → Room s → (won : ℕ) → won ≤ 1 → s .won + won < limit64
@@ -62,14 +62,14 @@ module _ (s : Summed) (a : Weights) (m : Room s) (h : outOfRange a ≡ false) (t
       let r = in-range a h in
       record { divisor = m .divisor; positive = lowest-positive (a .greatest) (a .total) t; atmost = lowest-atmost (a .greatest) (a .total) t (let x = r .together in omega arith) }
 
-  pub share-kept : Small (shareOf a)
+  pub share-kept : WithinTotals (shareOf a)
   share-kept = share-small a (in-range a h)
 
   pub group-kept : a .greatest ≤ totalLimit
   group-kept = let r = in-range a h in let x = r .together in let y = r .limited in omega arith
 
   module _ (r : BoundedFraction) (e : r ≡ boundedFraction (plus (s .sum) (shareOf a))) where
-    pub share-wide : r .fits ≡ false → stopped 17 (s .row + 1) ≡ withShare s a
+    pub share-wide : r .fits ≡ false → stoppedAt 17 (s .row + 1) ≡ withShare s a
     unfolding withShare
     share-wide n = let w = sym (fraction-told (plus (s .sum) (shareOf a)) r e) ∙ n in rw w
 

@@ -9,49 +9,49 @@ use native.Mathlib.Nat.{div-le-self}
 use borrow.Author.Tests.{eqb-true, eqb-false, eq-eqb, ne-eqb, ltb-false, le-ltb, leb-true, leb-false, le-leb, lt-leb}
 use lib.Dec.{eqb, ltb, leb}
 use lib.ListN.{length, length-append, length-map}
-use Rattle.lists.specs.Lists.{sift}
+use Rattle.lists.specs.Lists.{filter}
 use Rattle.lists.proofs.Lists.{by, and-l, and-r, or-no-l, or-no-r}
-use Rattle.lists.proofs.Front.{sift-append, sift-length}
+use Rattle.lists.proofs.Front.{filter-append, filter-length}
 use Rattle.fraction.specs.declared.Fraction.{Fraction}
 use Rattle.fraction.specs.Divisor.{gcd}
 use Rattle.fraction.specs.Fraction.{lowestTerms, Positive, commonDenominator, numeratorOver, sumOf, isBelow, leastFraction, greatestFraction}
 use Rattle.fraction.specs.Bounded.{fits64, plus}
 use Rattle.fraction.proofs.Fractions.{lowest-terms-is, lowest-positive, common-positive, sum-more}
 use Rattle.fraction.proofs.Reordered.{Reduced, reduced-positive}
-use Rattle.fraction.proofs.Extremes.{least-more, greatest-more}
+use Rattle.fraction.proofs.Extremes.{least-more, greatest-fraction-more}
 use Rattle.unity_table.specs.declared.Weights.{Weights}
 use Rattle.unity_table.specs.declared.Summed.{Summed}
 use Rattle.unity_table.specs.Unity.{electionLimit, totalLimit, isEmpty, isWon, shareOf, shares, outOfRange, tooWide, weightsFault, Fault, countBy}
-use Rattle.unity_table.specs.Summed.{running, summed, stopped, summedOf, Small, Room, withEmpty, withSum, withShare}
+use Rattle.unity_table.specs.Summed.{running, summed, stoppedAt, summedOf, WithinTotals, Room, withEmpty, withSum, withShare}
 use Rattle.unity_table.proofs.Faults.{noFault, faultAt, running-more, running-keeps}
 
 -- how many pass a test, of one answer more
 count-more : (p : Weights → Bool) (l : List Weights) (a : Weights) → countBy p (l ++ (a ∷ [])) ≡ countBy p l + cond (p a) 1 0
-unfolding countBy sift
+unfolding countBy filter
 count-more p l a =
     by (p a)
-    (λ (e : p a ≡ true). rw (sift-append p l (a ∷ []), e, length-append (sift p l) (a ∷ [])))
-    (λ (e : p a ≡ false). rw (sift-append p l (a ∷ []), e, append-nil (sift p l)) (omega arith))
+    (λ (e : p a ≡ true). rw (filter-append p l (a ∷ []), e, length-append (filter p l) (a ∷ [])))
+    (λ (e : p a ≡ false). rw (filter-append p l (a ∷ []), e, append-nil (filter p l)) (omega arith))
 
 -- the shares of one answer more
 module _ (l : List Weights) (a : Weights) where
   shares-empty : a .total ≡ 0 → shares (l ++ (a ∷ [])) ≡ shares l
-  unfolding shares sift
-  shares-empty z = rw (sift-append (λ a. not (isEmpty a)) l (a ∷ []), eq-eqb (a .total) 0 z, append-nil (sift (λ a. not (isEmpty a)) l))
+  unfolding shares filter
+  shares-empty z = rw (filter-append (λ a. not (isEmpty a)) l (a ∷ []), eq-eqb (a .total) 0 z, append-nil (filter (λ a. not (isEmpty a)) l))
 
   shares-more : 0 < a .total → shares (l ++ (a ∷ [])) ≡ shares l ++ (shareOf a ∷ [])
-  unfolding shares sift
+  unfolding shares filter
   shares-more h =
       let n : eqb (a .total) 0 ≡ false = ne-eqb (a .total) 0 (λ e. omega arith) in
-      rw (sift-append (λ a. not (isEmpty a)) l (a ∷ []), n) (map-append shareOf (sift (λ a. not (isEmpty a)) l) (a ∷ []))
+      rw (filter-append (λ a. not (isEmpty a)) l (a ∷ []), n) (map-append shareOf (filter (λ a. not (isEmpty a)) l) (a ∷ []))
 
 shares-few : (l : List Weights) → length (shares l) ≤ length l
 unfolding shares
-shares-few l = let m = length-map (sift (λ a. not (isEmpty a)) l) shareOf in let n = sift-length (λ a. not (isEmpty a)) l in omega arith
+shares-few l = let m = length-map (filter (λ a. not (isEmpty a)) l) shareOf in let n = filter-length (λ a. not (isEmpty a)) l in omega arith
 
 -- every share is in lowest terms, its denominator above 0
 pub shares-reduced : (l : List Weights) → Reduced (shares l)
-unfolding shares sift
+unfolding shares filter
 shares-reduced [] = tt
 shares-reduced (a ∷ l) =
     by (eqb (a .total) 0)
@@ -76,14 +76,14 @@ in-range a h = record {
   limited = ltb-false totalLimit (a .total) (or-no-r (ltb (a .total) (a .greatest + a .silent)) (ltb totalLimit (a .total)) h);
 }
 
-pub share-small : (a : Weights) → InRange a → Small (shareOf a)
+pub share-small : (a : Weights) → InRange a → WithinTotals (shareOf a)
 unfolding lowestTerms
 share-small a h = record {
   numerator = let d = div-le-self (a .greatest) (gcd (a .greatest) (a .total)) in let t = h .together in let m = h .limited in omega arith;
   denominator = let d = div-le-self (a .total) (gcd (a .greatest) (a .total)) in let m = h .limited in omega arith;
 }
 
-choice-small : (b : Bool) (f g : Fraction) → Small f → Small g → Small (cond b f g)
+choice-small : (b : Bool) (f g : Fraction) → WithinTotals f → WithinTotals g → WithinTotals (cond b f g)
 choice-small true f g p q = p
 choice-small false f g p q = q
 
@@ -92,8 +92,8 @@ pub record Passed (l : List Weights) : Type 0 where
   pub few : length l ≤ electionLimit
   pub denominator : fits64 (sumOf (shares l) .denominator) ≡ true
   pub numerator : fits64 (sumOf (shares l) .numerator) ≡ true
-  pub least : Small (leastFraction (shares l))
-  pub greatest : Small (greatestFraction (shares l))
+  pub least : WithinTotals (leastFraction (shares l))
+  pub greatest : WithinTotals (greatestFraction (shares l))
 
 -- the grounds of a row, one by one
 module _ (above : List Weights) (a : Weights) where
@@ -141,7 +141,7 @@ module _ (above : List Weights) (a : Weights) where
       (λ (w : (fits64 (sumOf (shares rows) .denominator) && fits64 (sumOf (shares rows) .numerator)) ≡ false). absurd (let q = fault-wide h few w in omega arith))))
 
 passed-none : Passed []
-unfolding shares sift sumOf commonDenominator numeratorOver leastFraction greatestFraction
+unfolding shares filter sumOf commonDenominator numeratorOver leastFraction greatestFraction
 passed-none = record { few = omega arith; denominator = refl; numerator = refl; least = record { numerator = omega arith; denominator = omega arith }; greatest = record { numerator = omega arith; denominator = omega arith } }
 
 passed-more : (above : List Weights) (a : Weights) → Passed above → weightsFault above a false ≡ 0 → Passed (above ++ (a ∷ []))
@@ -161,7 +161,7 @@ passed-more above a p z =
       denominator = f .denominator;
       numerator = f .numerator;
       least = rw (s, least-more (shares above) (shareOf a)) (choice-small (eqb (length (shares above)) 0 || isBelow (shareOf a) (leastFraction (shares above))) (shareOf a) (leastFraction (shares above)) small (p .least));
-      greatest = rw (s, greatest-more (shares above) (shareOf a)) (choice-small (eqb (length (shares above)) 0 || isBelow (greatestFraction (shares above)) (shareOf a)) (shareOf a) (greatestFraction (shares above)) small (p .greatest));
+      greatest = rw (s, greatest-fraction-more (shares above) (shareOf a)) (choice-small (eqb (length (shares above)) 0 || isBelow (greatestFraction (shares above)) (shareOf a)) (shareOf a) (greatestFraction (shares above)) small (p .greatest));
     })
 
 pub passed : (l : List Weights) → running l .number ≡ 0 → Passed l
@@ -172,12 +172,12 @@ pub record Open (s : Summed) (l : List Weights) : Type 0 where
   pub none : running l .number ≡ 0
   pub is : s ≡ summed l
 
-pub open-is : (s : Summed) (l : List Weights) → s ≡ summedOf l → s .number ≡ 0 → Open s l
+pub open-summed : (s : Summed) (l : List Weights) → s ≡ summedOf l → s .number ≡ 0 → Open s l
 unfolding summedOf
-open-is s l e z =
+open-summed s l e z =
     by (eqb (running l .number) 0)
     (λ (h : eqb (running l .number) 0 ≡ true). record { none = eqb-true (running l .number) 0 h; is = rw h at e })
-    (λ (h : eqb (running l .number) 0 ≡ false). absurd (eqb-false (running l .number) 0 h (let q : s ≡ stopped (running l .number) (running l .row) = rw h at e in sym (ap (λ (x : Summed). x .number) q) ∙ z)))
+    (λ (h : eqb (running l .number) 0 ≡ false). absurd (eqb-false (running l .number) 0 h (let q : s ≡ stoppedAt (running l .number) (running l .row) = rw h at e in sym (ap (λ (x : Summed). x .number) q) ∙ z)))
 
 -- a state with a fault has that of its rows
 pub state-faulty : (s : Summed) (l : List Weights) → s ≡ summedOf l → s .number ≢ 0 → running l ≡ record { number = s .number; row = s .row }
@@ -185,7 +185,7 @@ unfolding summedOf summed
 state-faulty s l e n =
     by (eqb (running l .number) 0)
     (λ (h : eqb (running l .number) 0 ≡ true). absurd (n (let q : s ≡ summed l = rw h at e in ap (λ (x : Summed). x .number) q)))
-    (λ (h : eqb (running l .number) 0 ≡ false). let q : s ≡ stopped (running l .number) (running l .row) = rw h at e in sym (ap (λ (x : Summed). record { number = x .number; row = x .row }) q))
+    (λ (h : eqb (running l .number) 0 ≡ false). let q : s ≡ stoppedAt (running l .number) (running l .row) = rw h at e in sym (ap (λ (x : Summed). record { number = x .number; row = x .row }) q))
 
 -- one row more
 pub running-row : (l : List Weights) (a : Weights) → running l .number ≡ 0 → running (l ++ (a ∷ [])) ≡ faultAt (weightsFault l a false) (length l)
@@ -202,41 +202,41 @@ module _ (s : Summed) (l : List Weights) (a : Weights) (e : s ≡ summedOf l) wh
       rw (r, q) (rw q at e)
 
   module _ (z : s .number ≡ 0) where
-    pub row-is : s .row ≡ length l
+    pub weights-row-is : s .row ≡ length l
     unfolding summed
-    row-is = ap (λ (x : Summed). x .row) (open-is s l e z .is)
+    weights-row-is = ap (λ (x : Summed). x .row) (open-summed s l e z .is)
 
     pub row-few : s .row ≤ electionLimit
-    row-few = let q = row-is in let p = passed l (open-is s l e z .none) .few in omega arith
+    row-few = let q = weights-row-is in let p = passed l (open-summed s l e z .none) .few in omega arith
 
     -- a faulty row
-    answer-stops : (number : ℕ) → weightsFault l a false ≡ number → number ≢ 0 → stopped number (s .row + 1) ≡ summedOf (l ++ (a ∷ []))
+    answer-stops : (number : ℕ) → weightsFault l a false ≡ number → number ≢ 0 → stoppedAt number (s .row + 1) ≡ summedOf (l ++ (a ∷ []))
     unfolding summedOf
     answer-stops number f n =
-        let r : running (l ++ (a ∷ [])) ≡ record { number = number; row = suc (length l) } = running-row l a (open-is s l e z .none) ∙ rw (f, ne-eqb number 0 n) in
-        let q : s .row + 1 ≡ suc (length l) = let p = row-is in omega arith in
+        let r : running (l ++ (a ∷ [])) ≡ record { number = number; row = suc (length l) } = running-row l a (open-summed s l e z .none) ∙ rw (f, ne-eqb number 0 n) in
+        let q : s .row + 1 ≡ suc (length l) = let p = weights-row-is in omega arith in
         rw (r, ne-eqb number 0 n, q)
 
-    pub answer-range : outOfRange a ≡ true → stopped 2 (s .row + 1) ≡ summedOf (l ++ (a ∷ []))
+    pub answer-range : outOfRange a ≡ true → stoppedAt 2 (s .row + 1) ≡ summedOf (l ++ (a ∷ []))
     answer-range h = answer-stops 2 (fault-range l a h) (λ q. omega arith)
 
     module _ (h : outOfRange a ≡ false) where
-      pub answer-place : electionLimit ≤ s .row → stopped 3 (s .row + 1) ≡ summedOf (l ++ (a ∷ []))
-      answer-place p = let q = row-is in answer-stops 3 (fault-place l a h (omega arith)) (λ q. omega arith)
+      pub answer-place : electionLimit ≤ s .row → stoppedAt 3 (s .row + 1) ≡ summedOf (l ++ (a ∷ []))
+      answer-place p = let q = weights-row-is in answer-stops 3 (fault-place l a h (omega arith)) (λ q. omega arith)
 
       module _ (p : s .row < electionLimit) where
         -- there is room for it
         pub answer-room : Room s
         unfolding summed countBy sumOf
         answer-room =
-            let o = open-is s l e z in
+            let o = open-summed s l e z in
             let k = passed l (o .none) in
             let i = o .is in
             record {
               row = p;
               entered = rw i (shares-few l);
-              won = rw i (sift-length isWon l);
-              empty = rw i (sift-length isEmpty l);
+              won = rw i (filter-length isWon l);
+              empty = rw i (filter-length isEmpty l);
               divisor = rw i (common-positive (shares l) (shares-positive l));
               least = rw i (k .least);
               greatest = rw i (k .greatest);
@@ -246,7 +246,7 @@ module _ (s : Summed) (l : List Weights) (a : Weights) (e : s ≡ summedOf l) wh
         answer-adds : weightsFault l a false ≡ 0 → summed (l ++ (a ∷ [])) ≡ summedOf (l ++ (a ∷ []))
         unfolding summedOf
         answer-adds f =
-            let r : running (l ++ (a ∷ [])) ≡ noFault = running-row l a (open-is s l e z .none) ∙ rw f in
+            let r : running (l ++ (a ∷ [])) ≡ noFault = running-row l a (open-summed s l e z .none) ∙ rw f in
             rw r
 
         row-next : length l + 1 ≡ length (l ++ (a ∷ []))
@@ -255,7 +255,7 @@ module _ (s : Summed) (l : List Weights) (a : Weights) (e : s ≡ summedOf l) wh
         pub answer-empty : a .total ≡ 0 → withEmpty s ≡ summedOf (l ++ (a ∷ []))
         unfolding summed
         answer-empty t =
-            let o = open-is s l e z in
+            let o = open-summed s l e z in
             let k = passed l (o .none) in
             let i = o .is in
             let q = shares-empty l a t in
@@ -263,7 +263,7 @@ module _ (s : Summed) (l : List Weights) (a : Weights) (e : s ≡ summedOf l) wh
             let w : isWon a ≡ false = le-ltb (a .total) (2 * a .greatest) (let x = g .together in omega arith) in
             let won : countBy isWon l ≡ countBy isWon (l ++ (a ∷ [])) = sym (count-more isWon l a ∙ rw w (omega arith)) in
             let empty : countBy isEmpty l + 1 ≡ countBy isEmpty (l ++ (a ∷ [])) = sym (count-more isEmpty l a ∙ rw (eq-eqb (a .total) 0 t)) in
-            let f : weightsFault l a false ≡ 0 = fault-none l a h (let n = row-is in omega arith) (rw q (k .denominator)) (rw q (k .numerator)) in
+            let f : weightsFault l a false ≡ 0 = fault-none l a h (let n = weights-row-is in omega arith) (rw q (k .denominator)) (rw q (k .numerator)) in
             rw i (rw (won, empty, row-next, ← q) (answer-adds f))
 
         module _ (t : 0 < a .total) where
@@ -274,7 +274,7 @@ module _ (s : Summed) (l : List Weights) (a : Weights) (e : s ≡ summedOf l) wh
           sum-next : sumOf (shares (l ++ (a ∷ []))) ≡ added
           unfolding summed
           sum-next =
-              let i = open-is s l e z .is in
+              let i = open-summed s l e z .is in
               rw (shares-more l a t, i) (sum-more (shares l) (shareOf a) (shares-positive l) (lowest-positive (a .greatest) (a .total) t))
 
           -- the state with it, field by field
@@ -282,10 +282,10 @@ module _ (s : Summed) (l : List Weights) (a : Weights) (e : s ≡ summedOf l) wh
           unfolding summed
           with-sum-is =
               let q = shares-more l a t in
-              let i = open-is s l e z .is in
+              let i = open-summed s l e z .is in
               let sum : added ≡ sumOf (shares (l ++ (a ∷ []))) = sym sum-next in
               let lower : cond (eqb (length (shares l)) 0 || isBelow (shareOf a) (leastFraction (shares l))) (shareOf a) (leastFraction (shares l)) ≡ leastFraction (shares (l ++ (a ∷ []))) = rw q (sym (least-more (shares l) (shareOf a))) in
-              let higher : cond (eqb (length (shares l)) 0 || isBelow (greatestFraction (shares l)) (shareOf a)) (shareOf a) (greatestFraction (shares l)) ≡ greatestFraction (shares (l ++ (a ∷ []))) = rw q (sym (greatest-more (shares l) (shareOf a))) in
+              let higher : cond (eqb (length (shares l)) 0 || isBelow (greatestFraction (shares l)) (shareOf a)) (shareOf a) (greatestFraction (shares l)) ≡ greatestFraction (shares (l ++ (a ∷ []))) = rw q (sym (greatest-fraction-more (shares l) (shareOf a))) in
               let entered : length (shares l) + 1 ≡ length (shares (l ++ (a ∷ []))) = rw q (sym (length-append (shares l) (shareOf a ∷ []))) in
               let won = sym (count-more isWon l a) in
               let empty : countBy isEmpty l ≡ countBy isEmpty (l ++ (a ∷ [])) = sym (count-more isEmpty l a ∙ rw (ne-eqb (a .total) 0 (λ x. omega arith)) (omega arith)) in
@@ -296,7 +296,7 @@ module _ (s : Summed) (l : List Weights) (a : Weights) (e : s ≡ summedOf l) wh
           unfolding withShare
           answer-share =
               let m = sum-next in
-              let few : length l < electionLimit = let n = row-is in omega arith in
+              let few : length l < electionLimit = let n = weights-row-is in omega arith in
               by (fits64 (added .denominator) && fits64 (added .numerator))
               (λ (w : (fits64 (added .denominator) && fits64 (added .numerator)) ≡ true).
               let d = and-l (fits64 (added .denominator)) (fits64 (added .numerator)) w in

@@ -24,11 +24,11 @@ unfoldable pub summed : List Weights → Summed
 summed l =
     record { number = 0; row = length l; sum = sumOf (shares l); least = leastFraction (shares l); greatest = greatestFraction (shares l); entered = length (shares l); won = countBy isWon l; empty = countBy isEmpty l }
 
-abbrev pub stopped : ℕ → ℕ → Summed
-stopped number row = record { number = number; row = row; sum = noFraction; least = noFraction; greatest = noFraction; entered = 0; won = 0; empty = 0 }
+abbrev pub stoppedAt : ℕ → ℕ → Summed
+stoppedAt number row = record { number = number; row = row; sum = noFraction; least = noFraction; greatest = noFraction; entered = 0; won = 0; empty = 0 }
 
 unfoldable pub summedOf : List Weights → Summed
-summedOf l = cond (eqb (running l .number) 0) (summed l) (stopped (running l .number) (running l .row))
+summedOf l = cond (eqb (running l .number) 0) (summed l) (stoppedAt (running l .number) (running l .row))
 
 -- what some answers left
 pub record Left (s : Summed) : Type 0 where
@@ -43,7 +43,7 @@ abbrev pub Ends : Summed → Unity → Type 0
 Ends s r = (l : List Weights) → s ≡ summedOf l → r ≡ unityOf l
 
 -- the numbers of a share, which are at most those of its row
-pub record Small (f : Fraction) : Type 0 where
+pub record WithinTotals (f : Fraction) : Type 0 where
   pub numerator : f .numerator ≤ totalLimit
   pub denominator : f .denominator ≤ totalLimit
 
@@ -54,8 +54,8 @@ pub record Room (s : Summed) : Type 0 where
   pub won : s .won ≤ s .row
   pub empty : s .empty ≤ s .row
   pub divisor : 0 < s .sum .denominator
-  pub least : Small (s .least)
-  pub greatest : Small (s .greatest)
+  pub least : WithinTotals (s .least)
+  pub greatest : WithinTotals (s .greatest)
 
 -- one row more, by the step that the code makes
 abbrev pub withEmpty : Summed → Summed
@@ -80,7 +80,7 @@ withSum s a share sum =
 unfoldable pub withShare : Summed → Weights → Summed
 withShare s a =
     let sum = plus (s .sum) (shareOf a) in
-    cond (fits64 (sum .denominator) && fits64 (sum .numerator)) (withSum s a (shareOf a) sum) (stopped 17 (s .row + 1))
+    cond (fits64 (sum .denominator) && fits64 (sum .numerator)) (withSum s a (shareOf a) sum) (stoppedAt 17 (s .row + 1))
 
 abbrev pub acceptedUnity : Summed → Fraction → Unity
 acceptedUnity s mean = record { number = 0; row = 0; mean = mean; least = s .least; greatest = s .greatest; won = s .won; empty = s .empty }

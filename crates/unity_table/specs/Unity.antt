@@ -7,7 +7,7 @@ use mathlib.Core.List.{List, [], _∷_, _++_, map}
 use Prim.Native.Nat.{ℕ, suc, _+_, _*_}
 use lib.Dec.{leb, ltb, eqb}
 use lib.ListN.{length, getD}
-use Rattle.lists.specs.Lists.{sift}
+use Rattle.lists.specs.Lists.{filter}
 use Rattle.ground.specs.Ground.{_given_, _orelse_}
 use Rattle.fraction.specs.declared.Fraction.{Fraction}
 use Rattle.fraction.specs.Fraction.{lowestTerms, sumOf, noFraction, mean, leastFraction, greatestFraction}
@@ -37,7 +37,7 @@ abbrev pub shareOf : Weights → Fraction
 shareOf a = lowestTerms (a .greatest) (a .total)
 
 unfoldable pub shares : List Weights → List Fraction
-shares l = map shareOf (sift (λ a. not (isEmpty a)) l)
+shares l = map shareOf (filter (λ a. not (isEmpty a)) l)
 
 -- 2: greatest group and silent weight together exceed the total, or the total exceeds its limit
 unfoldable pub outOfRange : Weights → Bool
@@ -83,7 +83,7 @@ pub record FirstFaulty {A : Type 0} (f : List A → A → Bool → ℕ) (l : Lis
   pub row-is : fault .row ≡ suc (length above)
 
 unfoldable pub countBy : (Weights → Bool) → List Weights → ℕ
-countBy p l = length (sift p l)
+countBy p l = length (filter p l)
 
 unfoldable pub summary : List Weights → Unity
 summary l =

@@ -57,7 +57,7 @@ fn is_out_of_range(a: Weights) -> bool
 }
 
 fn stopped(number: u32, row: usize) -> Summed
-    ensures { λ r. ⌜ r ≡ held.stopped number row ⌝ }
+    ensures { λ r. ⌜ r ≡ held.stoppedAt number row ⌝ }
 {
     let none = Fraction {
         numerator: 0,
@@ -129,7 +129,7 @@ fn with_empty(s: Summed) -> Summed
 
 // One election more whose share enters the sum.
 fn with_sum(s: Summed, a: Weights, share: Fraction, sum: Fraction) -> Summed
-    requires { ⌜ held.Room s × (held.Small share × (a .greatest ≤ unity.totalLimit)) ⌝ }
+    requires { ⌜ held.Room s × (held.WithinTotals share × (a .greatest ≤ unity.totalLimit)) ⌝ }
     ensures { λ r. ⌜ r ≡ held.withSum s a share sum ⌝ }
 {
     let none = s.entered == 0;

@@ -45,11 +45,11 @@ module _ (above : List (List ℕ)) (line : List ℕ) where
       (λ (h : inForm line ≡ false). unformed-fault last h ∙ sym (unformed-fault false h))
 
   -- a line without fault is in form, and no more than 199 stand above it
-  pub record Good : Type 0 where
+  pub record GoodLine : Type 0 where
     pub formed : inForm line ≡ true
     pub place : length above < electionLimit
 
-  pub line-good : weightsLineFault above line false ≡ 0 → Good
+  pub line-good : weightsLineFault above line false ≡ 0 → GoodLine
   line-good z =
       by (inForm line)
       (λ (h : inForm line ≡ true).
@@ -116,9 +116,9 @@ module _ (done : List (List ℕ)) (x : List ℕ) (rest : List (List ℕ)) (h : a
       stops number (line-stays done x (isLast rest) (λ y. m (sym f ∙ y)) ∙ f) m ∙ sym (q ∙ rw (e, length-map done weightsIn)))
 
 -- a text whose first fault is known
-pub text-refused : (text : List ℕ) (f : Fault) → decidingFault weightsLineFault [] (lines text) ≡ f → f .number ≢ 0 → textUnity text ≡ refusedUnity f
+pub unity-text-refused : (text : List ℕ) (f : Fault) → decidingFault weightsLineFault [] (lines text) ≡ f → f .number ≢ 0 → textUnity text ≡ refusedUnity f
 unfolding textUnity
-text-refused text f e n = rw (e, ne-eqb (f .number) 0 n)
+unity-text-refused text f e n = rw (e, ne-eqb (f .number) 0 n)
 
 -- Where all lines are in form, a text comes to what its answers come to.
 pub text-formed : (text : List ℕ) (l : List (List ℕ)) → lines text ≡ l → all inForm l ≡ true → textUnity text ≡ unityOf (map weightsIn l)

@@ -21,7 +21,7 @@ use Rattle.line.proofs.Ends.{ended-line}
 use Rattle.text.proofs.Limit.{FirstEnd, first-end, begins}
 use Rattle.unity_table.specs.Unity.{electionLimit, Fault, isLast, decidingFault}
 use Rattle.unity_text.specs.Text.{weightsForm, numbersIn, isSome, inForm, weightsLineFault, textUnity}
-use Rattle.unity_text.proofs.Faults.{unformed-fault, line-stays, line-good, fault-here, fault-later, text-refused}
+use Rattle.unity_text.proofs.Faults.{unformed-fault, line-stays, line-good, fault-here, fault-later, unity-text-refused}
 
 some-by : {P : Type 0} (o : Option (List ℕ)) → isSome o ≡ true → ((ns : List ℕ) → o ≡ some ns → P) → P
 some-by none h k = clash h refl
@@ -143,7 +143,7 @@ module _ (q : List ℕ) where
       (first-end s)
 
 -- Of a text of at least 20,301 bytes what follows changes nothing.
-pub first-bytes-decide : (first rest : List ℕ) → 20301 ≤ length first → textUnity (first ++ rest) ≡ textUnity first
-first-bytes-decide first rest h =
+pub unity-first-bytes-decide : (first rest : List ℕ) → 20301 ≤ length first → textUnity (first ++ rest) ≡ textUnity first
+unity-first-bytes-decide first rest h =
     let d = decide rest (length first) first [] (omega arith) (omega arith) (omega arith) in
-    text-refused (first ++ rest) (d .fault) (d .second) (d .some) ∙ sym (text-refused first (d .fault) (d .first) (d .some))
+    unity-text-refused (first ++ rest) (d .fault) (d .second) (d .some) ∙ sym (unity-text-refused first (d .fault) (d .first) (d .some))

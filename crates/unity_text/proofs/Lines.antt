@@ -14,15 +14,15 @@ use Rattle.unity_table.specs.declared.Summed.{Summed}
 use Rattle.unity_table.specs.declared.Unity.{Unity}
 use Rattle.unity_table.specs.Unity.{electionLimit, weightsOf, Fault, decidingFault, refusedUnity}
 use Rattle.unity_table.specs.Summed.{running, summed, summedOf, Left, Adds, Ends}
-use Rattle.unity_table.proofs.Sums.{state-faulty, open-is, row-is, row-few}
+use Rattle.unity_table.proofs.Sums.{state-faulty, open-summed, weights-row-is, row-few}
 use Rattle.unity_text.specs.declared.Said.{Said}
 use Rattle.unity_text.specs.Text.{numbersIn, inForm, weightsIn, weightsLineFault, textUnity}
 use Rattle.unity_text.specs.Said.{saidOf}
 use Rattle.unity_text.proofs.Reading.{cut-same}
-use Rattle.unity_text.proofs.Faults.{stops-unformed, stops-faulty, text-refused, text-formed}
+use Rattle.unity_text.proofs.Faults.{stops-unformed, stops-faulty, unity-text-refused, text-formed}
 
 -- the lines read so far: all are in form, and their answers leave a state without fault
-pub record Upto (text : List ℕ) (s : Summed) (at : ℕ) : Type 0 where
+pub record SummedUpto (text : List ℕ) (s : Summed) (at : ℕ) : Type 0 where
   pub inside : at ≤ length text
   pub done : List (List ℕ)
   pub lines-are : lines text ≡ done ++ lines (drop at text)
@@ -38,21 +38,21 @@ nothing-formed : all inForm [] ≡ true
 unfolding all
 nothing-formed = refl
 
-pub upto-start : (text : List ℕ) {s : Summed} → s ≡ summedOf [] → Upto text s 0
-upto-start text e = record { inside = omega arith; done = []; lines-are = refl; formed = nothing-formed; is = e; none = ap (λ (x : Summed). x .number) e ∙ none-yet }
+pub summed-start : (text : List ℕ) {s : Summed} → s ≡ summedOf [] → SummedUpto text s 0
+summed-start text e = record { inside = omega arith; done = []; lines-are = refl; formed = nothing-formed; is = e; none = ap (λ (x : Summed). x .number) e ∙ none-yet }
 
-module _ (text : List ℕ) {s : Summed} {at : ℕ} (u : Upto text s at) where
+module _ (text : List ℕ) {s : Summed} {at : ℕ} (u : SummedUpto text s at) where
   pub upto-left : Left s
   upto-left = record { answers = map weightsIn (u .done); is = u .is }
 
   rows-none : running (map weightsIn (u .done)) .number ≡ 0
-  rows-none = open-is s (map weightsIn (u .done)) (u .is) (u .none) .none
+  rows-none = open-summed s (map weightsIn (u .done)) (u .is) (u .none) .none
 
   pub upto-few : s .row ≤ electionLimit
   upto-few = row-few s (map weightsIn (u .done)) (weightsOf []) (u .is) (u .none)
 
-  pub upto-end : length text ≤ at → {r : Unity} → Ends s r → r ≡ textUnity text
-  upto-end h f =
+  pub summed-end : length text ≤ at → {r : Unity} → Ends s r → r ≡ textUnity text
+  summed-end h f =
       f (map weightsIn (u .done)) (u .is) ∙ sym (text-formed text (u .done) (u .lines-are ∙ rw (no-lines text at h) (append-nil (u .done))) (u .formed))
 
   module _ (h : at < length text) {end : ℕ} (e : end ≡ at + length (firstLine (drop at text))) where
@@ -73,8 +73,8 @@ module _ (text : List ℕ) {s : Summed} {at : ℕ} (u : Upto text s at) where
       upto-unformed n q =
           let f : decidingFault weightsLineFault [] (lines text) ≡ record { number = 1; row = suc (length (u .done)) } =
           ap (decidingFault weightsLineFault []) next-lines ∙ stops-unformed (u .done) line (lines (drop end text)) (u .formed) rows-none (line-formed ∙ n) in
-          let w : s .row + 1 ≡ suc (length (u .done)) = let x = row-is s (map weightsIn (u .done)) (weightsOf []) (u .is) (u .none) ∙ length-map (u .done) weightsIn in omega arith in
-          q ∙ ap (λ (k : ℕ). refusedUnity (record { number = 1; row = k })) w ∙ sym (text-refused text (record { number = 1; row = suc (length (u .done)) }) f (λ z. omega arith))
+          let w : s .row + 1 ≡ suc (length (u .done)) = let x = weights-row-is s (map weightsIn (u .done)) (weightsOf []) (u .is) (u .none) ∙ length-map (u .done) weightsIn in omega arith in
+          q ∙ ap (λ (k : ℕ). refusedUnity (record { number = 1; row = k })) w ∙ sym (unity-text-refused text (record { number = 1; row = suc (length (u .done)) }) f (λ z. omega arith))
 
       module _ (y : said .fits ≡ true) {after : Summed} (a : Adds s (said .answer) after) where
         after-is : after ≡ summedOf (map weightsIn (u .done) ++ (weightsIn line ∷ []))
@@ -90,11 +90,11 @@ module _ (text : List ℕ) {s : Summed} {at : ℕ} (u : Upto text s at) where
             ap (decidingFault weightsLineFault []) next-lines
             ∙ stops-faulty (u .done) line (lines (drop end text)) (u .formed) rows-none (line-formed ∙ y) (λ z. n (sym (ap (λ (k : Fault). k .number) g) ∙ z))
             ∙ g in
-            q ∙ sym (text-refused text (record { number = after .number; row = after .row }) f n)
+            q ∙ sym (unity-text-refused text (record { number = after .number; row = after .row }) f n)
 
-        pub upto-next : after .number ≡ 0 → Upto text after end
+        pub summed-next : after .number ≡ 0 → SummedUpto text after end
         unfolding all
-        upto-next z = record {
+        summed-next z = record {
           inside = next .inside;
           done = u .done ++ (line ∷ []);
           lines-are = next-lines ∙ sym (append-assoc (u .done) (line ∷ []) (lines (drop end text)));

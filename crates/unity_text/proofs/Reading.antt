@@ -11,7 +11,7 @@ use Rattle.line.specs.Line.{lineLimit}
 use Rattle.lists.proofs.Lists.{by}
 use Rattle.decimal.specs.Decimal.{saturated}
 use Rattle.form.specs.declared.Filled.{Filled}
-use Rattle.form.specs.Form.{taken, told}
+use Rattle.form.specs.Form.{taken, filledOf}
 use Rattle.line.proofs.Says.{kept-first, kept-second, kept-third, no-fit, fit}
 use Rattle.unity_table.specs.declared.Weights.{Weights}
 use Rattle.unity_table.specs.declared.Summed.{Summed}
@@ -27,7 +27,7 @@ module _ (line : List ℕ) where
   unfolding numbersIn
   said-long h q = rw (lt-ltb lineLimit (length line) h) q
 
-  module _ (few : length line ≤ lineLimit) {t : Filled} (e : t ≡ told (taken weightsForm line)) where
+  module _ (few : length line ≤ lineLimit) {t : Filled} (e : t ≡ filledOf (taken weightsForm line)) where
     numbers-are : numbersIn line ≡ taken weightsForm line
     unfolding numbersIn
     numbers-are = rw (le-ltb lineLimit (length line) few)
@@ -39,7 +39,7 @@ module _ (line : List ℕ) where
     said-answer h =
         fit (taken weightsForm line) (sym (ap (λ (x : Filled). x .fits) e) ∙ h)
         (λ ns q.
-        let r : t .numbers ≡ take 8 (map saturated ns ++ replicate 8 0) = ap (λ (x : Filled). x .numbers) (e ∙ ap told q) in
+        let r : t .numbers ≡ take 8 (map saturated ns ++ replicate 8 0) = ap (λ (x : Filled). x .numbers) (e ∙ ap filledOf q) in
         let g : getD (t .numbers) 0 0 ≡ saturated (getD ns 0 0) = rw r (kept-first ns) in
         let s : getD (t .numbers) 1 0 ≡ saturated (getD ns 1 0) = rw r (kept-second ns) in
         let w : getD (t .numbers) 2 0 ≡ saturated (getD ns 2 0) = rw r (kept-third ns) in

@@ -10,7 +10,7 @@ use lib.Dec.{eqb, leb}
 use lib.ListN.{length, getD, length-append}
 use Rattle.lists.specs.Lists.{all}
 use Rattle.lists.proofs.Lists.{by}
-use Rattle.lists.proofs.Front.{sift-length}
+use Rattle.lists.proofs.Front.{filter-length}
 use Rattle.fraction.specs.declared.Fraction.{Fraction}
 use Rattle.fraction.specs.Divisor.{gcd}
 use Rattle.fraction.specs.Fraction.{lowestTerms, sumOf, mean}
@@ -27,7 +27,7 @@ use Rattle.unity_table.specs.Unity.{electionLimit, isEmpty, isWon, shares, outO
 use Rattle.unity_table.specs.Summed.{running}
 use Rattle.unity_table.proofs.Faults.{stays}
 use Rattle.unity_table.proofs.Sums.{passed}
-use Rattle.unity_table.proofs.Ends.{late, fault-stays, last-decides}
+use Rattle.unity_table.proofs.Ends.{late-row, fault-stays, last-decides}
 use Rattle.unity_text.specs.Text.{unityForm, inForm, weightsIn, weightsLineFault, textUnity, unityNumbers, printedUnity}
 use Rattle.unity_text.proofs.Faults.{line-stays, line-good, formed-faults}
 
@@ -56,9 +56,9 @@ module _ (l : List Weights) (z : decidingFault weightsFault [] l .number ≡ 0) 
 
   mean-fits : fits64 (mean (shares l) .denominator) ≡ true
   mean-fits =
-      by (late l)
-      (λ (e : late l ≡ true). absurd (let q : decidingFault weightsFault [] l .number ≡ 17 = ap (λ (f : Fault). f .number) (last-decides l rows-run) ∙ rw e in omega arith))
-      (λ (e : late l ≡ false). not-false _ e)
+      by (late-row l)
+      (λ (e : late-row l ≡ true). absurd (let q : decidingFault weightsFault [] l .number ≡ 17 = ap (λ (f : Fault). f .number) (last-decides l rows-run) ∙ rw e in omega arith))
+      (λ (e : late-row l ≡ false). not-false _ e)
 
   numbers-fit : AllFit (unityNumbers (summary l))
   unfolding summary countBy
@@ -72,8 +72,8 @@ module _ (l : List Weights) (z : decidingFault weightsFault [] l .number ≡ 0) 
       let b = p .least .denominator in
       let e = p .greatest .numerator in
       let f = p .greatest .denominator in
-      let w = sift-length isWon l in
-      let v = sift-length isEmpty l in
+      let w = filter-length isWon l in
+      let v = filter-length isEmpty l in
       (omega arith, (omega arith, (omega arith, (omega arith, (omega arith, (omega arith, (omega arith, (omega arith, tt))))))))
 
 -- The first fault of a text.
@@ -126,9 +126,9 @@ refusal-size : length refusalForm ≤ 17
 unfolding refusalForm bytes
 refusal-size = omega arith
 
-pub printed-size : (text : List ℕ) → length (printedUnity (textUnity text)) ≤ 1024
+pub unity-printed-size : (text : List ℕ) → length (printedUnity (textUnity text)) ≤ 1024
 unfolding textUnity printedUnity summary refusalLine
-printed-size text =
+unity-printed-size text =
     let f = decidingFault weightsLineFault [] (lines text) in
     let l = map weightsIn (lines text) in
     by (eqb (f .number) 0)
@@ -144,5 +144,5 @@ printed-size text =
     rw (e, e) (omega (arith, a, refusal-size)))
 
 -- An output of 1,024 bytes takes what is printed of any text.
-pub printed-fits : (text out : List ℕ) → 1024 ≤ length out → (placing (printedUnity (textUnity text)) 0 out) .number ≡ 0
-printed-fits text out h = start-enough (printedUnity (textUnity text)) out 1024 (printed-size text) h
+pub unity-printed-fits : (text out : List ℕ) → 1024 ≤ length out → (placing (printedUnity (textUnity text)) 0 out) .number ≡ 0
+unity-printed-fits text out h = start-enough (printedUnity (textUnity text)) out 1024 (unity-printed-size text) h

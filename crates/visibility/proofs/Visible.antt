@@ -7,11 +7,11 @@ use native.Mathlib.Omega.{arith}
 use lib.Dec.{eqb}
 use lib.ListN.{length, getD, set}
 use borrow.Author.Tests.{eq-eqb, ne-eqb, not-true, not-false}
-use Rattle.lists.specs.Lists.{sift, mem, at, _among_, _within_}
+use Rattle.lists.specs.Lists.{filter, mem, indexOf, _among_, _within_}
 use Rattle.record.specs.Record.{Record, names, written}
 use Rattle.record.specs.Stored.{stored}
 use Rattle.record.specs.Judgement.{must}
-use Rattle.lists.proofs.Lists.{by, clash, or-l, or-r, same-by, mem-at, mem-head, cons-within, sift-mem, mem-sift}
+use Rattle.lists.proofs.Lists.{by, clash, or-l, or-r, same-by, mem-index, mem-head, cons-within, filter-mem, mem-filter}
 use Rattle.row.specs.Row.{isName}
 use Rattle.ground.specs.Ground.{_given_, _orelse_}
 use Rattle.ground.proofs.Grounds.{orelse-none, orelse-first, orelse-second, orelse-assoc, given-none}
@@ -19,7 +19,7 @@ use Rattle.links.specs.Marks.{marksOf}
 use Rattle.links.proofs.Names.{getD-place}
 use Rattle.links.proofs.Marks.{marks-at}
 use Rattle.vote.specs.declared.Election.{Election}
-use Rattle.hidden.specs.Marks.{indexOf}
+use Rattle.hidden.specs.Marks.{positionOf}
 use Rattle.hidden.proofs.Index.{index-known, index-unknown}
 use Rattle.hidden.proofs.Named.{mark-set}
 use Rattle.ledger.specs.declared.Bench.{Bench}
@@ -46,21 +46,21 @@ mem-other x y h n = rw (ne-eqb y x n)
 shown-same : (x : ℕ) (h : List ℕ) → mem x (shown x h) ≡ false
 unfolding shown
 shown-same x h =
-    by (mem x (sift (λ y. not (eqb y x)) h)) (λ i. clash (eq-eqb x x refl) (not-true (eqb x x) (sift-mem (λ y. not (eqb y x)) h x i .1))) (λ i. i)
+    by (mem x (filter (λ y. not (eqb y x)) h)) (λ i. clash (eq-eqb x x refl) (not-true (eqb x x) (filter-mem (λ y. not (eqb y x)) h x i .1))) (λ i. i)
 
 shown-other : (x y : ℕ) (h : List ℕ) → (y ≡ x → ⊥) → mem y (shown x h) ≡ mem y h
 unfolding shown
 shown-other x y h n =
-    same-by (mem y (sift (λ z. not (eqb z x)) h)) (mem y h) (λ i. sift-mem (λ z. not (eqb z x)) h y i .0) (λ i. mem-sift (λ z. not (eqb z x)) h y i (rw (ne-eqb y x n)))
+    same-by (mem y (filter (λ z. not (eqb z x)) h)) (mem y h) (λ i. filter-mem (λ z. not (eqb z x)) h y i .0) (λ i. mem-filter (λ z. not (eqb z x)) h y i (rw (ne-eqb y x n)))
 
 -- the index and the number of the edit that a call names
-pub named-fault : (R : Record) (x i : ℕ) {b : Bool} → b ≡ isName x → i ≡ indexOf x (written R) → (b ≡ false → 2 ≡ nameFault R x) × (b ≡ true → (i ≡ 0 → 5 ≡ nameFault R x) × ((i ≡ 0 → ⊥) → 0 ≡ nameFault R x))
+pub named-fault : (R : Record) (x i : ℕ) {b : Bool} → b ≡ isName x → i ≡ positionOf x (written R) → (b ≡ false → 2 ≡ nameFault R x) × (b ≡ true → (i ≡ 0 → 5 ≡ nameFault R x) × ((i ≡ 0 → ⊥) → 0 ≡ nameFault R x))
 named-fault R x i g f = (
   λ e. let n : isName x ≡ false = sym g ∙ e in rw n,
   λ e. let n : isName x ≡ true = sym g ∙ e in (λ z. rw (n, index-unknown x (written R) (sym f ∙ z)), λ z. rw (n, index-known x (written R) (λ w. z (f ∙ w)) .0)),
 )
 
-module _ (L : Ledger) (v : Valid L) (bench : Bench) (e : bench ≡ benchOf L) (x n i : ℕ) (f : (n ≡ nameFault (L .multilog) x) × (i ≡ indexOf x (written (L .multilog)))) where
+module _ (L : Ledger) (v : Valid L) (bench : Bench) (e : bench ≡ benchOf L) (x n i : ℕ) (f : (n ≡ nameFault (L .multilog) x) × (i ≡ positionOf x (written (L .multilog)))) where
   -- the call judges the name, then gives 9 where b holds
   abbrev Judges : Call → Bool → Type 0
   Judges call b = judge L call ≡ ((nameFault (L .multilog) x) orelse 9 given b)
@@ -92,16 +92,16 @@ module _ (L : Ledger) (v : Valid L) (bench : Bench) (e : bench ≡ benchOf L) (x
     known : x among written (L .multilog)
     known = not-false _ (given-none 4 _ (orelse-none (2 given not (isName x)) _ no-fault .1))
 
-    place : i ≡ suc (at x (written (L .multilog)))
-    unfolding indexOf
+    place : i ≡ suc (indexOf x (written (L .multilog)))
+    unfolding positionOf
     place = f .1 ∙ rw known
 
     -- the mark at the index
     mark-is : (marks : List ℕ) (test : ℕ → Bool) → marks ≡ marksOf (L .multilog) test → getD marks i 0 ≡ cond (test x) 1 0
     unfolding names
     mark-is marks test h =
-        let w : suc (at x (written (L .multilog))) < length (names (L .multilog)) = omega (arith, mem-at x (written (L .multilog)) known) in
-        rw (h, place) (marks-at (L .multilog) test (suc (at x (written (L .multilog)))) w ∙ ap (λ (y : ℕ). cond (test y) 1 0) (getD-place x (written (L .multilog)) known))
+        let w : suc (indexOf x (written (L .multilog))) < length (names (L .multilog)) = omega (arith, mem-index x (written (L .multilog)) known) in
+        rw (h, place) (marks-at (L .multilog) test (suc (indexOf x (written (L .multilog)))) w ∙ ap (λ (y : ℕ). cond (test y) 1 0) (getD-place x (written (L .multilog)) known))
 
     hidden-mark : getD (bench .hidden) i 0 ≡ cond (mem x (L .hidden)) 1 0
     hidden-mark = mark-is (bench .hidden) (λ y. mem y (L .hidden)) (bench-hidden L bench e)
@@ -133,7 +133,7 @@ module _ (L : Ledger) (v : Valid L) (bench : Bench) (e : bench ≡ benchOf L) (x
 
 -- the change of a bench that the calls left
 module _ (calls : List Call) (bench : Bench) (e : bench ≡ benchOf (fed start calls)) (x n i : ℕ)
-    (f : (n ≡ nameFault (fed start calls .multilog) x) × (i ≡ indexOf x (written (fed start calls .multilog)))) (z : n ≡ 0) (r : Outcome) where
+    (f : (n ≡ nameFault (fed start calls .multilog) x) × (i ≡ positionOf x (written (fed start calls .multilog)))) (z : n ≡ 0) (r : Outcome) where
   pub hide-changes : (musts : List ℕ) → musts ≡ marksOf (fed start calls .multilog) (must (fed start calls .multilog)) → (getD musts i 0 ≡ 1 → ⊥)
       → (getD (bench .hidden) i 0 ≡ 1 → ⊥) → (E : Election) → E ≡ noElection → Changes bench (bench .multilog) (set (bench .hidden) i 1) E r → r ≡ outcome (step (fed start calls) (hide x))
   unfolding Changes act

@@ -8,7 +8,7 @@ ghost use Rattle.record.specs.Record as theory;
 ghost use Rattle.record.specs.Record.{written};
 ghost use Rattle.record.specs.Stored.{stored};
 ghost use Rattle.table.specs.Checked.{Checked};
-ghost use Rattle.hidden.specs.Marks.{indexOf};
+ghost use Rattle.hidden.specs.Marks.{positionOf};
 ghost use Rattle.ledger.specs.Ledger.{Call};
 ghost use Rattle.ledger.specs.Bench.{Answers};
 ghost use Rattle.visibility.specs.Named.{nameFault};
@@ -20,7 +20,7 @@ pub struct Named {
 }
 
 fn find(multilog: Record, edit: u32) -> Named
-    ensures { λ r. ⌜ (r .index < 128) × ((R : theory.Record) → multilog ≡ stored R → Checked R → (r .number ≡ nameFault R edit) × (r .index ≡ indexOf edit (written R))) ⌝ }
+    ensures { λ r. ⌜ (r .index < 128) × ((R : theory.Record) → multilog ≡ stored R → Checked R → (r .number ≡ nameFault R edit) × (r .index ≡ positionOf edit (written R))) ⌝ }
 {
     let index = hidden::edit_index(multilog, edit);
     if !row::is_name(edit) {

@@ -8,21 +8,21 @@ use Prim.Native.Nat.{ℕ}
 use lib.Dec.{eqb}
 use borrow.Author.Tests.{eqb-true, not-true, not-false}
 use Rattle.record.specs.declared.Edit.{Edit}
-use Rattle.lists.specs.Lists.{all, sift, mem, _among_, _within_, closure}
+use Rattle.lists.specs.Lists.{all, filter, mem, _among_, _within_, closure}
 use Rattle.record.specs.Record.{Record, nameOf, written, has, notafter, enables, noncommuting, WellFormed, Extends}
 use Rattle.record.specs.Sound.{Settled}
 use Rattle.record.specs.Judgement.{sound, settled}
-use Rattle.lists.proofs.Lists.{by, clash, and-l, and-r, and-i, or-by, or-l, or-r, mem-head, mem-tail, cons-by, nil-no, sift-mem, mem-sift, all-in, in-all, closure-holds, closure-least, closure-closed}
-use Rattle.record.proofs.Records.{sift-has, has-sift, pair-by, not-init, noncommuting-left}
+use Rattle.lists.proofs.Lists.{by, clash, and-l, and-r, and-i, or-by, or-l, or-r, mem-head, mem-tail, cons-by, nil-no, filter-mem, mem-filter, all-in, in-all, closure-holds, closure-least, closure-closed}
+use Rattle.record.proofs.Records.{filter-has, has-filter, pair-by, not-init, noncommuting-left}
 use Rattle.record.proofs.Judged.{settled-is}
 use Rattle.record.proofs.Extended.{sound-extended}
 use Rattle.vote.specs.Bundle.{Member, itself, earlier, enabler, rival, leads, members, between, bundle, Eligible, eligible, vote}
 
--- the names of sifted edits
-pub sift-names : (p : ℕ → Bool) (l : List Edit) → map nameOf (sift (λ x. p (x .name)) l) ≡ sift p (map nameOf l)
-unfolding sift
-sift-names p [] = refl
-sift-names p (x ∷ l) = by (p (x .name)) (λ e. rw e (ap (λ r. x .name ∷ r) (sift-names p l))) (λ e. rw e (sift-names p l))
+-- the names of filtered edits
+pub filter-names : (p : ℕ → Bool) (l : List Edit) → map nameOf (filter (λ x. p (x .name)) l) ≡ filter p (map nameOf l)
+unfolding filter
+filter-names p [] = refl
+filter-names p (x ∷ l) = by (p (x .name)) (λ e. rw e (ap (λ r. x .name ∷ r) (filter-names p l))) (λ e. rw e (filter-names p l))
 
 only : (x e : ℕ) → x among e ∷ [] → x ≡ e
 only x e i = cons-by x e [] i (λ q. q) (nil-no x)
@@ -87,19 +87,19 @@ module _ {R : Record} (w : WellFormed R) where
     -- the edits of the bundle are the members that are edits of the proposal
     pub bundle-written : (x : ℕ) → x among written (bundle R e) → (x among written R) × (x among members R e)
     unfolding written bundle
-    bundle-written x h = sift-mem (λ y. mem y (members R e)) (written R) x (rw (sift-names (λ y. mem y (members R e)) (R .edits)) at h)
+    bundle-written x h = filter-mem (λ y. mem y (members R e)) (written R) x (rw (filter-names (λ y. mem y (members R e)) (R .edits)) at h)
 
     pub written-bundle : (x : ℕ) → x among written R → x among members R e → x among written (bundle R e)
     unfolding written bundle
-    written-bundle x i h = rw (sift-names (λ y. mem y (members R e)) (R .edits)) (mem-sift (λ y. mem y (members R e)) (written R) x i h)
+    written-bundle x i h = rw (filter-names (λ y. mem y (members R e)) (R .edits)) (mem-filter (λ y. mem y (members R e)) (written R) x i h)
 
     bundle-has : (a k b : ℕ) → has a k b (bundle R e .constraints) ≡ true → (has a k b (R .constraints) ≡ true) × (between (members R e) a b ≡ true)
     unfolding bundle
-    bundle-has a k b = sift-has (between (members R e)) (R .constraints) a k b
+    bundle-has a k b = filter-has (between (members R e)) (R .constraints) a k b
 
     has-bundle : (a k b : ℕ) → has a k b (R .constraints) ≡ true → between (members R e) a b ≡ true → has a k b (bundle R e .constraints) ≡ true
     unfolding bundle
-    has-bundle a k b = has-sift (between (members R e)) (R .constraints) a k b
+    has-bundle a k b = has-filter (between (members R e)) (R .constraints) a k b
 
     pub bundle-extended : Extends (bundle R e) R
     bundle-extended = record { edits = λ x h. bundle-written x h .0; constraints = λ a k b h. bundle-has a k b h .0 }

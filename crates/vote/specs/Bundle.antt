@@ -6,7 +6,7 @@ use mathlib.Core.List.{List, [], _∷_}
 use mathlib.Core.Option.{Option, none, some}
 use Prim.Native.Nat.{ℕ}
 use lib.Dec.{eqb}
-use Rattle.lists.specs.Lists.{all, sift, mem, _among_, closure}
+use Rattle.lists.specs.Lists.{all, filter, mem, _among_, closure}
 use Rattle.record.specs.Record.{Record, written, notafter, enables, noncommuting}
 use Rattle.record.specs.Sound.{Settled}
 use Rattle.record.specs.Judgement.{settled}
@@ -33,8 +33,8 @@ between m a b = mem a m && (mem b m || eqb b 0)
 -- Bundle: 000's candidate, a well-formed prefix of the proposal. A small record: the members with their bodies, and the constraints between them.
 unfoldable pub bundle : Record → ℕ → Record
 bundle R e = record {
-  edits = sift (λ x. mem (x .name) (members R e)) (R .edits);
-  constraints = sift (λ c. between (members R e) (c .left) (c .right)) (R .constraints);
+  edits = filter (λ x. mem (x .name) (members R e)) (R .edits);
+  constraints = filter (λ c. between (members R e) (c .left) (c .right)) (R .constraints);
 }
 
 -- eligible: each member is settled in that small record taken alone

@@ -1,11 +1,11 @@
 -- `answers::place_of` meets its contract. Assumes nothing.
 use borrow.Author.Needs.{needs}
-use Rattle.answers.proofs.Places.{place-is, no-place}
+use Rattle.answers.proofs.Places.{answer-place-is, no-answer-place}
 use Rattle.answers.proofs.place_of.Statement.{statement}
 use Rattle.answers.proofs.place_of.Tie as tie
 
 returns : tie.Need-returns
-returns c = no-place (c .before .args .kind) (c .if1 .taken)
+returns c = no-answer-place (c .before .args .kind) (c .if1 .taken)
 
 mul-index16 : tie.Need-mul-index16
 mul-index16 c = search needs
@@ -29,7 +29,7 @@ index16-requires-2 : tie.Need-index16-requires-2
 index16-requires-2 c κs = search needs
 
 returns-2 : tie.Need-returns-2
-returns-2 c = place-is (c .before .before .before .args .kind) (c .before .before .if1 .left) (c .before .index16 .ensures) (c .index162 .ensures)
+returns-2 c = answer-place-is (c .before .before .before .args .kind) (c .before .before .if1 .left) (c .before .index16 .ensures) (c .index162 .ensures)
 
 pub place-of-spec : {M : Type 1} → statement M
 place-of-spec =

@@ -2,7 +2,7 @@
 use borrow.Author.Needs.{needs}
 use Rattle.record.specs.Stored.{recordOf}
 use Rattle.text.specs.Text.{textOf}
-use Rattle.answers.proofs.Placing.{text-printed, text-refused}
+use Rattle.answers.proofs.Placing.{text-printed, answer-text-refused}
 use Rattle.answers.proofs.print_text.Statement.{statement}
 use Rattle.answers.proofs.print_text.Tie as tie
 
@@ -16,7 +16,7 @@ same-length : tie.Need-same-length
 same-length c = search needs
 
 returns : tie.Need-returns
-returns c = let s = c .before .before .before .before .before .before .before .args in text-refused (textOf (recordOf (s .content))) (s .out .now) (s .at) (c .before .before .before .before .write-text .ensures) (c .if1 .taken)
+returns c = let s = c .before .before .before .before .before .before .before .args in answer-text-refused (textOf (recordOf (s .content))) (s .out .now) (s .at) (c .before .before .before .before .write-text .ensures) (c .if1 .taken)
 
 same-length-2 : tie.Need-same-length-2
 same-length-2 c = search needs

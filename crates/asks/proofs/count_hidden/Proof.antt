@@ -3,19 +3,19 @@ use borrow.Author.Needs.{needs}
 use native.Mathlib.Omega.{arith}
 use Prim.Native.Nat.{_-_}
 use lib.ListN.{drop}
-use Rattle.asks.proofs.Counts.{Counting, counting-start, counting-end, marks-few, hidden-next}
+use Rattle.asks.proofs.Counts.{ChipCounting, chip-counting-start, chip-counting-end, marks-few, hidden-next}
 use Rattle.asks.specs.Asks.{hides}
 use Rattle.asks.proofs.count_hidden.Statement.{statement}
 use Rattle.asks.proofs.count_hidden.Tie as tie
 
 abbrev Inv-loop : tie.InvT-loop
-Inv-loop n marks count₀ i₀ count i = Counting hides (drop 1 marks) n count i
+Inv-loop n marks count₀ i₀ count i = ChipCounting hides (drop 1 marks) n count i
 
 abbrev μ-loop : tie.MeasureT-loop
 μ-loop n marks count₀ i₀ count i = n - i
 
 loop-holds : tie.Need-loop-holds Inv-loop μ-loop
-loop-holds c = counting-start hides (drop 1 (c .args .t1)) (c .args .n) (marks-few (c .args .t1) (c .args .n) (search needs) (c .pre))
+loop-holds c = chip-counting-start hides (drop 1 (c .args .t1)) (c .args .n) (marks-few (c .args .t1) (c .args .n) (search needs) (c .pre))
 
 add-mark : tie.Need-add-mark Inv-loop μ-loop
 add-mark c = omega (arith, c .before .loop .inv .near, c .before .before .pre)
@@ -42,7 +42,7 @@ loop-again : tie.Need-loop-again Inv-loop μ-loop
 loop-again c = hidden-next (c .before .before .before .before .args .t1) (c .before .before .before .before .args .n) (c .before .before .before .loop .inv) (c .before .before .loop-test .taken) (c .before .is-hidden .ensures) (c .bit .ensures)
 
 returns : tie.Need-returns Inv-loop μ-loop
-returns c = counting-end hides (drop 1 (c .before .before .args .t1)) (c .before .before .args .n) (c .before .loop .inv) (c .loop-test .left)
+returns c = chip-counting-end hides (drop 1 (c .before .before .args .t1)) (c .before .before .args .n) (c .before .loop .inv) (c .loop-test .left)
 
 pub count-hidden-spec : {M : Type 1} → statement M
 count-hidden-spec =

@@ -5,21 +5,21 @@ use Prim.Native.Nat.{_-_}
 use mathlib.Core.Path.{_≡_, _∙_, ap}
 use lib.ListN.{length}
 use Rattle.lists.proofs.Lists.{length-mapped}
-use Rattle.asks.proofs.Counts.{Counting, counting-start, counting-next, counting-end}
+use Rattle.asks.proofs.Counts.{ChipCounting, chip-counting-start, counting-next, chip-counting-end}
 use Rattle.asks.specs.Asks.{isPresent}
 use Rattle.asks.proofs.Questions.{all-of}
-use Rattle.lists.specs.Lists.{sift}
+use Rattle.lists.specs.Lists.{filter}
 use Rattle.asks.proofs.count_present.Statement.{statement}
 use Rattle.asks.proofs.count_present.Tie as tie
 
 abbrev Inv-loop : tie.InvT-loop
-Inv-loop entries count₀ i₀ count i = Counting isPresent entries 64 count i
+Inv-loop entries count₀ i₀ count i = ChipCounting isPresent entries 64 count i
 
 abbrev μ-loop : tie.MeasureT-loop
 μ-loop entries count₀ i₀ count i = 64 - i
 
 loop-holds : tie.Need-loop-holds Inv-loop μ-loop
-loop-holds c = let s : length (c .args .t1) ≡ 64 = search (needs, length-mapped) in counting-start isPresent (c .args .t1) 64 (omega arith)
+loop-holds c = let s : length (c .args .t1) ≡ 64 = search (needs, length-mapped) in chip-counting-start isPresent (c .args .t1) 64 (omega arith)
 
 mul-entry : tie.Need-mul-entry Inv-loop μ-loop
 mul-entry c = search needs
@@ -43,7 +43,7 @@ loop-again : tie.Need-loop-again Inv-loop μ-loop
 loop-again c = counting-next isPresent (c .before .before .before .before .args .t1) 64 (c .before .before .before .loop .inv) _ (c .before .before .loop-test .taken) (c .bit .ensures)
 
 returns : tie.Need-returns Inv-loop μ-loop
-returns c = let s : length (c .before .before .args .t1) ≡ 64 = search (needs, length-mapped) in counting-end isPresent (c .before .before .args .t1) 64 (c .before .loop .inv) (c .loop-test .left) ∙ ap (λ l. length (sift isPresent l)) (all-of (c .before .before .args .t1) 64 s)
+returns c = let s : length (c .before .before .args .t1) ≡ 64 = search (needs, length-mapped) in chip-counting-end isPresent (c .before .before .args .t1) 64 (c .before .loop .inv) (c .loop-test .left) ∙ ap (λ l. length (filter isPresent l)) (all-of (c .before .before .args .t1) 64 s)
 
 pub count-present-spec : {M : Type 1} → statement M
 count-present-spec =

@@ -8,7 +8,7 @@ use borrow.Author.Needs.{needs}
 use Rattle.record.specs.Record.{Record, names, written}
 use Rattle.lists.specs.Lists.{all}
 use Rattle.links.specs.Marks.{marksOf}
-use Rattle.bundle.proofs.Judging.{marked-more, unmarked, all-marked}
+use Rattle.bundle.proofs.Judging.{marked-more, bundle-unmarked, all-marked}
 use Rattle.bundle.proofs.every_marked.Statement.{statement}
 use Rattle.bundle.proofs.every_marked.Tie as tie
 
@@ -35,7 +35,7 @@ returns : tie.Need-returns Inv-loop μ-loop
 returns c = λ R test e m.
     let l = c .before .before in
     let lt = c .before .loop-test .taken in
-    unmarked R test (l .before .args .t1) m (l .loop .i) (omega arith) (c .if1 .taken)
+    bundle-unmarked R test (l .before .args .t1) m (l .loop .i) (omega arith) (c .if1 .taken)
 
 add-i : tie.Need-add-i Inv-loop μ-loop
 add-i c = search needs

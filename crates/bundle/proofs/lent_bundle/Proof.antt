@@ -7,7 +7,7 @@ use Rattle.row.proofs.Cells.{name-small}
 use Rattle.table.proofs.Records.{lent-checked}
 use Rattle.table.specs.Table.{emptyTables, decoded, lentFault}
 use Rattle.vote.specs.Bundle.{bundle}
-use Rattle.bundle.proofs.Judging.{bundle-fit, eligible-all, lent-stored, rows-refused, name-refused, unknown-refused, unsound-refused, bundle-answered}
+use Rattle.bundle.proofs.Judging.{bundle-fit, eligible-all, lent-stored, bundle-rows-refused, bundle-name-refused, bundle-unknown-refused, bundle-unsound-refused, bundle-answered}
 use Rattle.fit.proofs.Fit.{checked-fit}
 use Rattle.bundle.proofs.lent_bundle.Statement.{statement}
 use Rattle.bundle.proofs.lent_bundle.Tie as tie
@@ -19,7 +19,7 @@ refused-requires : tie.Need-refused-requires
 refused-requires c κs = search needs
 
 returns : tie.Need-returns
-returns c = let s = c .before .before .before .before in c .refused .ensures ∙ rows-refused (s .args .edits .now) (s .args .constraints .now) (s .args .edit) (c .before .before .before .lent .result) (c .before .before .before .lent .ensures) (c .before .if1 .taken)
+returns c = let s = c .before .before .before .before in c .refused .ensures ∙ bundle-rows-refused (s .args .edits .now) (s .args .constraints .now) (s .args .edit) (c .before .before .before .lent .result) (c .before .before .before .lent .ensures) (c .before .if1 .taken)
 
 is-name-requires : tie.Need-is-name-requires
 is-name-requires c κs = search needs
@@ -35,7 +35,7 @@ returns-2 c = let s = c .before .before .before .before .before .before in
     let R = decoded es cs in
     let j = c .before .before .before .before .before .lent .result in
     let p = lent-stored j (lentFault emptyTables es cs) R (c .before .before .before .before .before .lent .ensures) (c .before .before .before .if1 .left) in
-    c .refused2 .ensures ∙ name-refused es cs x (p .0) (sym (c .before .before .is-name .ensures) ∙ not-true _ (c .before .if2 .taken))
+    c .refused2 .ensures ∙ bundle-name-refused es cs x (p .0) (sym (c .before .before .is-name .ensures) ∙ not-true _ (c .before .if2 .taken))
 
 cast-name : tie.Need-cast-name
 cast-name c = let s = c .before .before .before .before .before in omega (arith, name-small (s .args .edit) (sym (c .before .is-name .ensures) ∙ not-false _ (c .if2 .left)))
@@ -56,7 +56,7 @@ returns-3 c = let s = c .before .before .before .before .before .before .before 
     let p = lent-stored j (lentFault emptyTables es cs) R (c .before .before .before .before .before .before .before .before .lent .ensures) (c .before .before .before .before .before .before .if1 .left) in
     let nm = sym (c .before .before .before .before .before .is-name .ensures) ∙ not-false _ (c .before .before .before .before .if2 .left) in
     let k = lent-checked es cs (p .0) in
-    c .refused3 .ensures ∙ unknown-refused es cs x (p .0) nm (sym (c .before .before .knows .ensures R (p .1) k) ∙ not-true _ (c .before .if3 .taken))
+    c .refused3 .ensures ∙ bundle-unknown-refused es cs x (p .0) nm (sym (c .before .before .knows .ensures R (p .1) k) ∙ not-true _ (c .before .if3 .taken))
 
 sound-requires : tie.Need-sound-requires
 sound-requires c κs = search needs
@@ -76,7 +76,7 @@ returns-4 c = let s = c .before .before .before .before .before .before .before 
     let k = lent-checked es cs (p .0) in
     let kn = sym (c .before .before .before .before .knows .ensures R (p .1) k) ∙ not-false _ (c .before .before .before .if3 .left) in
     let f = checked-fit R k in
-    c .refused4 .ensures ∙ unsound-refused es cs x (p .0) nm kn (sym (c .before .before .sound .ensures R (p .1) f) ∙ not-true _ (c .before .if4 .taken))
+    c .refused4 .ensures ∙ bundle-unsound-refused es cs x (p .0) nm kn (sym (c .before .before .sound .ensures R (p .1) f) ∙ not-true _ (c .before .if4 .taken))
 
 bundle-requires : tie.Need-bundle-requires
 bundle-requires c κs = search needs

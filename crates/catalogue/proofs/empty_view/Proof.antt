@@ -1,6 +1,6 @@
 -- `catalogue::empty_view` meets its contract.
 use borrow.Author.Needs.{needs}
-use Rattle.catalogue.proofs.Entries.{empty-stored}
+use Rattle.catalogue.proofs.Entries.{empty-view-stored}
 use Rattle.catalogue.proofs.empty_view.Statement.{statement}
 use Rattle.catalogue.proofs.empty_view.Tie as tie
 
@@ -8,7 +8,7 @@ absent-entry-requires : tie.Need-absent-entry-requires
 absent-entry-requires c κs = search needs
 
 returns : tie.Need-returns
-returns c = empty-stored _ (c .absent-entry .ensures)
+returns c = empty-view-stored _ (c .absent-entry .ensures)
 
 pub empty-view-spec : {M : Type 1} → statement M
 empty-view-spec = tie.close (tie.spec absent-entry-requires returns)

@@ -6,13 +6,13 @@ use native.Mathlib.Omega.{arith}
 use borrow.Author.Needs.{needs}
 use Rattle.lists.proofs.Lists.{length-mapped}
 use Rattle.catalogue.specs.Chips.{cells, places, rows, storedView}
-use Rattle.catalogue.proofs.Loops.{Running, run-within, run-past, run-end}
+use Rattle.catalogue.proofs.Loops.{LeftToRun, run-within, run-past, pages-run-end}
 use Rattle.catalogue.proofs.forward_to.Statement.{statement}
 use Rattle.catalogue.proofs.forward_to.Tie as tie
 
 abbrev Inv-loop : tie.InvT-loop
 Inv-loop from to schedule end catalogue₀ journal₀ page₀ catalogue journal page =
-    Running cells places rows (schedule .edits) page₀ end (record { catalogue = catalogue₀ .entries; journal = journal₀ .rows }) page
+    LeftToRun cells places rows (schedule .edits) page₀ end (record { catalogue = catalogue₀ .entries; journal = journal₀ .rows }) page
     (record { catalogue = catalogue .entries; journal = journal .rows })
 
 abbrev μ-loop : tie.MeasureT-loop
@@ -104,7 +104,7 @@ returns c =
     let l = c .before in
     let s = l .before .before .before .before in
     let g : length (s .args .t2 .edits) ≡ rows = search (needs, length-mapped) in
-    ap storedView (run-end cells places rows (s .args .t2 .edits) g _ _ _ _ _ _ (l .loop .inv) (c .loop-test .left) (l .before .before .before .least .ensures))
+    ap storedView (pages-run-end cells places rows (s .args .t2 .edits) g _ _ _ _ _ _ (l .loop .inv) (c .loop-test .left) (l .before .before .before .least .ensures))
 
 pub forward-to-spec : {M : Type 1} → statement M
 forward-to-spec =

@@ -6,8 +6,8 @@ use borrow.Author.Tests.{not-true, not-false}
 use borrow.Author.Needs.{needs}
 use Rattle.row.proofs.Cells.{name-small}
 use Rattle.count.specs.Count.{lentProposals, Faultless}
-use Rattle.count.proofs.Answers.{answer-held, rows-refused, roll-refused, name-refused, unknown-refused, unsound-refused, count-answered}
-use Rattle.count.proofs.Rolled.{faulty-is, cast-few}
+use Rattle.count.proofs.Answers.{answer-held, count-rows-refused, roll-refused, count-name-refused, count-unknown-refused, count-unsound-refused, count-answered}
+use Rattle.count.proofs.Rolled.{roll-faulty-is, cast-few}
 use Rattle.election.specs.Election.{cast}
 use denote.Ref.{now}
 use Rattle.count.proofs.count.Statement.{statement}
@@ -20,7 +20,7 @@ refused-requires : tie.Need-refused-requires
 refused-requires c κs = search needs
 
 returns : tie.Need-returns
-returns c = λ rows e. let s = c .before .before .before in c .refused .ensures ∙ rows-refused (s .args .edit) (lentProposals (map now (s .args .edits)) (map now (s .args .constraints))) rows (c .before .before .proposals-fault .result) (c .before .before .proposals-fault .ensures) (c .before .if1 .taken)
+returns c = λ rows e. let s = c .before .before .before in c .refused .ensures ∙ count-rows-refused (s .args .edit) (lentProposals (map now (s .args .edits)) (map now (s .args .constraints))) rows (c .before .before .proposals-fault .result) (c .before .before .proposals-fault .ensures) (c .before .if1 .taken)
 
 refused-requires-2 : tie.Need-refused-requires-2
 refused-requires-2 c κs = search needs
@@ -31,7 +31,7 @@ returns-2 c = λ rows e.
     let P = lentProposals (map now (s .args .edits)) (map now (s .args .constraints)) in
     let x = s .args .edit in
     let z : Faultless P = sym (c .before .before .before .proposals-fault .ensures) ∙ c .before .before .if1 .left in
-    c .refused2 .ensures ∙ roll-refused x P rows z (sym (faulty-is (s .args .roll) rows e) ∙ c .before .if2 .taken)
+    c .refused2 .ensures ∙ roll-refused x P rows z (sym (roll-faulty-is (s .args .roll) rows e) ∙ c .before .if2 .taken)
 
 is-name-requires : tie.Need-is-name-requires
 is-name-requires c κs = search needs
@@ -45,8 +45,8 @@ returns-3 c = λ rows e.
     let P = lentProposals (map now (s .args .edits)) (map now (s .args .constraints)) in
     let x = s .args .edit in
     let z : Faultless P = sym (c .before .before .before .before .before .proposals-fault .ensures) ∙ c .before .before .before .before .if1 .left in
-    let f = sym (faulty-is (s .args .roll) rows e) ∙ c .before .before .before .if2 .left in
-    c .refused3 .ensures ∙ name-refused x P rows z f (sym (c .before .before .is-name .ensures) ∙ not-true _ (c .before .if3 .taken))
+    let f = sym (roll-faulty-is (s .args .roll) rows e) ∙ c .before .before .before .if2 .left in
+    c .refused3 .ensures ∙ count-name-refused x P rows z f (sym (c .before .before .is-name .ensures) ∙ not-true _ (c .before .if3 .taken))
 
 cast-name : tie.Need-cast-name
 cast-name c = let s = c .before .before .before .before .before in omega (arith, name-small (s .args .edit) (sym (c .before .is-name .ensures) ∙ not-false _ (c .if3 .left)))
@@ -63,9 +63,9 @@ returns-4 c = λ rows e.
     let P = lentProposals (map now (s .args .edits)) (map now (s .args .constraints)) in
     let x = s .args .edit in
     let z : Faultless P = sym (c .before .before .before .before .before .before .before .proposals-fault .ensures) ∙ c .before .before .before .before .before .before .if1 .left in
-    let f = sym (faulty-is (s .args .roll) rows e) ∙ c .before .before .before .before .before .if2 .left in
+    let f = sym (roll-faulty-is (s .args .roll) rows e) ∙ c .before .before .before .before .before .if2 .left in
     let nm = sym (c .before .before .before .before .is-name .ensures) ∙ not-false _ (c .before .before .before .if3 .left) in
-    c .refused4 .ensures ∙ unknown-refused x P rows z f nm (sym (c .before .before .is-known .ensures _ z) ∙ not-true _ (c .before .if4 .taken))
+    c .refused4 .ensures ∙ count-unknown-refused x P rows z f nm (sym (c .before .before .is-known .ensures _ z) ∙ not-true _ (c .before .if4 .taken))
 
 all-sound-requires : tie.Need-all-sound-requires
 all-sound-requires c κs = search needs
@@ -79,10 +79,10 @@ returns-5 c = λ rows e.
     let P = lentProposals (map now (s .args .edits)) (map now (s .args .constraints)) in
     let x = s .args .edit in
     let z : Faultless P = sym (c .before .before .before .before .before .before .before .before .before .proposals-fault .ensures) ∙ c .before .before .before .before .before .before .before .before .if1 .left in
-    let f = sym (faulty-is (s .args .roll) rows e) ∙ c .before .before .before .before .before .before .before .if2 .left in
+    let f = sym (roll-faulty-is (s .args .roll) rows e) ∙ c .before .before .before .before .before .before .before .if2 .left in
     let nm = sym (c .before .before .before .before .before .before .is-name .ensures) ∙ not-false _ (c .before .before .before .before .before .if3 .left) in
     let kn = sym (c .before .before .before .before .is-known .ensures _ z) ∙ not-false _ (c .before .before .before .if4 .left) in
-    c .refused5 .ensures ∙ unsound-refused x P rows z f nm kn (sym (c .before .before .all-sound .ensures z) ∙ not-true _ (c .before .if5 .taken))
+    c .refused5 .ensures ∙ count-unsound-refused x P rows z f nm kn (sym (c .before .before .all-sound .ensures z) ∙ not-true _ (c .before .if5 .taken))
 
 tally-of-requires : tie.Need-tally-of-requires
 tally-of-requires c κs = search needs
@@ -96,7 +96,7 @@ returns-6 c = λ rows e.
     let P = lentProposals (map now (s .args .edits)) (map now (s .args .constraints)) in
     let x = s .args .edit in
     let z : Faultless P = sym (c .before .before .before .before .before .before .before .before .before .before .before .proposals-fault .ensures) ∙ c .before .before .before .before .before .before .before .before .before .before .if1 .left in
-    let f = sym (faulty-is (s .args .roll) rows e) ∙ c .before .before .before .before .before .before .before .before .before .if2 .left in
+    let f = sym (roll-faulty-is (s .args .roll) rows e) ∙ c .before .before .before .before .before .before .before .before .before .if2 .left in
     let nm = sym (c .before .before .before .before .before .before .before .before .is-name .ensures) ∙ not-false _ (c .before .before .before .before .before .before .before .if3 .left) in
     let kn = sym (c .before .before .before .before .before .before .is-known .ensures _ z) ∙ not-false _ (c .before .before .before .before .before .if4 .left) in
     let t = c .before .before .tally-of .result in

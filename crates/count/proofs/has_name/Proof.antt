@@ -5,12 +5,12 @@ use Prim.Native.Nat.{_-_, _≤_}
 use lib.ListN.{length, take}
 use borrow.Author.Needs.{needs}
 use Rattle.lists.specs.Lists.{any}
-use Rattle.count.proofs.Known.{named, name-found, name-next, name-missing}
+use Rattle.count.proofs.Known.{count-named, name-found, name-next, name-missing}
 use Rattle.count.proofs.has_name.Statement.{statement}
 use Rattle.count.proofs.has_name.Tie as tie
 
 abbrev Inv-loop : tie.InvT-loop
-Inv-loop edits name wanted i₀ i = (i ≤ length edits) × (any (named name) (take i edits) ≡ false)
+Inv-loop edits name wanted i₀ i = (i ≤ length edits) × (any (count-named name) (take i edits) ≡ false)
 
 abbrev μ-loop : tie.MeasureT-loop
 μ-loop edits name wanted i₀ i = length edits - i

@@ -3,7 +3,7 @@ use mathlib.Core.Path.{refl}
 use Prim.Native.Nat.{_-_, _≤_}
 use native.Mathlib.Omega.{arith}
 use borrow.Author.Needs.{needs}
-use Rattle.count.proofs.Benches.{Faultless, first-fault, no-fault, all-faultless}
+use Rattle.count.proofs.Benches.{Faultless, first-fault, count-no-fault, all-faultless}
 use denote.Ref.{now}
 use Rattle.count.proofs.proposals_fault.Statement.{statement}
 use Rattle.count.proofs.proposals_fault.Tie as tie
@@ -46,7 +46,7 @@ loop-less c = search needs
 loop-again : tie.Need-loop-again Inv-loop μ-loop
 loop-again c = let l = c .before .before .before .before .before in
     let s = l .before in
-    (search needs, no-fault now now (s .args .t1) (s .args .t2) (l .loop .k) (c .before .before .before .before .loop-test .taken) _ _ refl refl (c .before .lent-fault .result) (c .before .lent-fault .ensures) (l .loop .inv .1) (c .if1 .left))
+    (search needs, count-no-fault now now (s .args .t1) (s .args .t2) (l .loop .k) (c .before .before .before .before .loop-test .taken) _ _ refl refl (c .before .lent-fault .result) (c .before .lent-fault .ensures) (l .loop .inv .1) (c .if1 .left))
 
 returns-2 : tie.Need-returns-2 Inv-loop μ-loop
 returns-2 c = let l = c .before in let s = l .before in all-faultless now now (s .args .t1) (s .args .t2) (l .loop .k) (c .loop-test .left) (l .loop .inv .1)

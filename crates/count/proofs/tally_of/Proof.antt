@@ -8,14 +8,14 @@ use borrow.Author.Needs.{needs}
 use Rattle.vote.specs.declared.RollRow.{RollRow}
 use Rattle.roll.specs.Roll.{rollFaulty, rollOf}
 use Rattle.count.specs.Count.{lentProposals, Faultless}
-use Rattle.count.proofs.Rolled.{rows-counted, rows-few, Counting, counting-start, counting-step, counting-end, by-rows}
+use Rattle.count.proofs.Rolled.{rows-counted, rows-few, RollCounting, roll-counting-start, counting-step, roll-counting-end, by-rows}
 use denote.Ref.{now}
 use Rattle.count.proofs.tally_of.Statement.{statement}
 use Rattle.count.proofs.tally_of.Tie as tie
 
 abbrev Inv-loop : tie.InvT-loop
 Inv-loop name edits constraints tally₀ rows n i₀ tally i = (i ≤ n) × (n ≤ 8) × ((l : List RollRow) → Faultless (lentProposals (map now edits) (map now constraints)) → (e : record { rows = rows; count = n; faulty = false } ≡ rollOf l) → (f : rollFaulty l ≡ false)
-    → Counting (record { rows = rows; count = n; faulty = false }) l e f name (lentProposals (map now edits) (map now constraints)) i tally)
+    → RollCounting (record { rows = rows; count = n; faulty = false }) l e f name (lentProposals (map now edits) (map now constraints)) i tally)
 
 abbrev μ-loop : tie.MeasureT-loop
 μ-loop name edits constraints tally₀ rows n i₀ tally i = n - i
@@ -28,7 +28,7 @@ returns c = λ l g e f. let s = c .before .before .before in absurd (omega (arit
 
 loop-holds : tie.Need-loop-holds Inv-loop μ-loop
 loop-holds c = let s = c .before .before .before in
-    (search needs, search needs, λ l g e f. counting-start _ l e f (s .args .name) (lentProposals (map now (s .args .edits)) (map now (s .args .constraints))) _ (c .before .before .no-votes .ensures))
+    (search needs, search needs, λ l g e f. roll-counting-start _ l e f (s .args .name) (lentProposals (map now (s .args .edits)) (map now (s .args .constraints))) _ (c .before .before .no-votes .ensures))
 
 mul-row : tie.Need-mul-row Inv-loop μ-loop
 mul-row c = search needs
@@ -60,7 +60,7 @@ returns-2 c = λ k g e f.
     let s = c .before .before .before .before .before in
     let r = s .args .roll in
     let e′ = by-rows r k e f in
-    counting-end _ k e′ f (s .args .name) (lentProposals (map now (s .args .edits)) (map now (s .args .constraints))) (l .loop .i) (l .loop .tally) (omega (arith, rows-counted r k e f, c .loop-test .left)) (l .loop .inv .2 k g e′ f)
+    roll-counting-end _ k e′ f (s .args .name) (lentProposals (map now (s .args .edits)) (map now (s .args .constraints))) (l .loop .i) (l .loop .tally) (omega (arith, rows-counted r k e f, c .loop-test .left)) (l .loop .inv .2 k g e′ f)
 
 pub tally-of-spec : {M : Type 1} → statement M
 tally-of-spec =

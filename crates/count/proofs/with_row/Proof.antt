@@ -6,7 +6,7 @@ use borrow.Author.Needs.{needs}
 use Rattle.vote.specs.Bundle.{vote}
 use Rattle.tally.specs.Groups.{castOf}
 use Rattle.count.specs.Count.{lentProposals}
-use Rattle.count.proofs.Proposals.{held-checked, bench-faultless, bench-low}
+use Rattle.count.proofs.Proposals.{held-checked, bench-faultless, proposal-bench-low}
 use Rattle.election.specs.Election.{held}
 use denote.Ref.{now}
 use Rattle.count.proofs.with_row.Statement.{statement}
@@ -30,7 +30,7 @@ returns c = let s = c .before .before .before .before in
     let k = c .before .before .before .place-of .result in (
       c .with-vote .ensures .0,
       λ l h b e n t.
-          let bl = bench-low (s .args .row) b in
+          let bl = proposal-bench-low (s .args .row) b in
           let q : s .args .row .bench ≡ k + 1 = c .before .before .before .place-of .ensures .1 (bl .0) (bl .1) in
           let g = bench-faultless P h k (c .before .before .before .place-of .ensures .0) in
           let v = c .before .vote-of .ensures (held P (k + 1)) (c .before .before .proposal-at .ensures g) (held-checked P (k + 1) g) in

@@ -12,7 +12,7 @@ use Rattle.proposal.specs.Proposal.{decisions, decisionOn}
 use Rattle.indexes.proofs.Tables.{few-left, edit-count}
 use Rattle.unite.proofs.Joining.{decode-next, decode-end}
 use Rattle.decisions.specs.Decisions.{Paged}
-use Rattle.decisions.proofs.Paging.{named, decision-here, decisions-end, held-edits}
+use Rattle.decisions.proofs.Paging.{decisions-named, decision-here, decisions-end, held-edits}
 use Rattle.decisions.proofs.Joined.{only-start, only-stored, decisions-many, written-few}
 use Rattle.decisions.proofs.decisions_of.Statement.{statement}
 use Rattle.decisions.proofs.decisions_of.Tie as tie
@@ -70,7 +70,7 @@ loop-again c =
       l .inv .2,
       simp length-set (l .inv .3),
       λ R rest index q g.
-          let w = named R rest index (s .pages .now) g (s .multilog .edits) (s .multilog .editcount) (omega arith) q (l .i) fillerEdit h .0 in
+          let w = decisions-named R rest index (s .pages .now) g (s .multilog .edits) (s .multilog .editcount) (omega arith) q (l .i) fillerEdit h .0 in
           decode-next 512 fillerConstraint (decisionOn (0 ∷ rest)) (written R) (l .rows) (l .i) 0 w (written-few R (s .multilog .edits) (s .multilog .editcount) (l .inv .1) (omega arith) q) (l .inv .4 R rest index q g)
           (decision-here R rest index (s .pages .now) g (s .multilog .edits) (s .multilog .editcount) (omega arith) q (l .i) fillerEdit h (c .decision .ensures)),
     )

@@ -7,7 +7,7 @@ use Rattle.lists.proofs.Union.{ascending-united}
 use Rattle.table.specs.Table.{constraintKey}
 use Rattle.proposal.specs.Proposal.{decisions}
 use Rattle.links.specs.Marks.{valuesOf, placeIn}
-use Rattle.insertion.specs.Insertion.{tableOf}
+use Rattle.insertion.specs.Insertion.{heldTable}
 use Rattle.fit.proofs.Fit.{checked-fit}
 use Rattle.decisions.specs.Decisions.{Paged}
 use Rattle.decisions.proofs.Paging.{scheduled-rest, finished-is}
@@ -38,7 +38,7 @@ returns c =
     let w = scheduled-rest R (i .formed) h in
     let g : Paged R (w .0) (o .before .index-table .result) (o .pages .result) = record { formed = i .formed; indexed = o .before .index-table .ensures .2 R e i; paged = o .pages .ensures .1 R e i ∙ ap (λ (row : List ℕ). valuesOf R (placeIn row)) (w .1) } in
     c .with-orders .ensures R (w .0) _ g (c .before .before .before .decided-table .ensures R (w .0) _ e k g) (ascending-united constraintKey (R .constraints) (decisions (0 ∷ w .0) (written R)) (k .constraintorder)) (o .before .before .unordered-pairs .ensures .2 R e i)
-    ∙ ap tableOf (finished-is R (w .0) (w .1))
+    ∙ ap heldTable (finished-is R (w .0) (w .1))
 
 pub finished-spec : {M : Type 1} → statement M
 finished-spec =

@@ -1,5 +1,5 @@
 -- `decisions::order_row` meets its contract. Assumes nothing.
-use Rattle.decisions.proofs.Paging.{no-left, no-right, in-order, in-reverse}
+use Rattle.decisions.proofs.Paging.{no-left, no-right, decisions-in-order, in-reverse}
 use borrow.Author.Needs.{needs}
 use Rattle.decisions.proofs.order_row.Statement.{statement}
 use Rattle.decisions.proofs.order_row.Tie as tie
@@ -21,7 +21,7 @@ insert-requires c κs = search needs
 returns-3 : tie.Need-returns-3
 returns-3 c =
     λ t e a. let s = c .before .before .before .before .before .args in
-    in-order (s .a) (s .b) (s .c .left) (s .c .right) t (c .before .before .before .before .if1 .left) (c .before .before .before .if2 .left) (c .insert .ensures t e a) (c .before .before .if3 .taken) (c .before .notafter .ensures)
+    decisions-in-order (s .a) (s .b) (s .c .left) (s .c .right) t (c .before .before .before .before .if1 .left) (c .before .before .before .if2 .left) (c .insert .ensures t e a) (c .before .before .if3 .taken) (c .before .notafter .ensures)
 
 notafter-requires-2 : tie.Need-notafter-requires-2
 notafter-requires-2 c κs = search needs

@@ -11,7 +11,7 @@ use Rattle.record.specs.Stored.{fillerEdit}
 use Rattle.lists.specs.Keyed.{Ascending, united}
 use Rattle.table.specs.Table.{constraintKey}
 use Rattle.proposal.specs.Proposal.{decisions}
-use Rattle.insertion.specs.Insertion.{tableOf}
+use Rattle.insertion.specs.Insertion.{heldTable}
 use Rattle.draft.proofs.Joins.{joins-start, joins-order, joins-end}
 use Rattle.decisions.specs.Decisions.{Paged}
 use Rattle.indexes.proofs.Tables.{few-left}
@@ -22,8 +22,8 @@ use Rattle.decisions.proofs.with_decisions.Tie as tie
 
 abbrev Inv-loop : tie.InvT-loop
 Inv-loop pages n edits out₀ i₀ out i = (i ≤ n) × (n ≤ 127) × (length edits ≡ 127)
-    × ((R : Record) (rest index : List ℕ) (t : List Constraint) → take n edits ≡ R .edits → Paged R rest index pages → out₀ ≡ tableOf t → Ascending constraintKey t
-    → out ≡ tableOf (united constraintKey t (decisions (0 ∷ rest) (take i (written R)))))
+    × ((R : Record) (rest index : List ℕ) (t : List Constraint) → take n edits ≡ R .edits → Paged R rest index pages → out₀ ≡ heldTable t → Ascending constraintKey t
+    → out ≡ heldTable (united constraintKey t (decisions (0 ∷ rest) (take i (written R)))))
 
 abbrev μ-loop : tie.MeasureT-loop
 μ-loop pages n edits out₀ i₀ out i = n - i

@@ -11,7 +11,7 @@ use Rattle.record.specs.Stored.{fillerConstraint}
 use Rattle.lists.specs.Keyed.{Ascending, united}
 use Rattle.table.specs.Table.{constraintKey}
 use Rattle.proposal.specs.Proposal.{unordered, orders}
-use Rattle.insertion.specs.Insertion.{tableOf}
+use Rattle.insertion.specs.Insertion.{heldTable}
 use Rattle.draft.proofs.Joins.{joins-start, joins-order, joins-end}
 use Rattle.draft.proofs.Settled.{array-end}
 use Rattle.decisions.specs.Decisions.{Paged}
@@ -22,8 +22,8 @@ use Rattle.decisions.proofs.with_orders.Tie as tie
 
 abbrev Inv-loop : tie.InvT-loop
 Inv-loop index pages rows n out₀ i₀ out i = (i ≤ n) × (n ≤ 512) × (length rows ≡ 512)
-    × ((R : Record) (rest : List ℕ) (t : List Constraint) → Paged R rest index pages → out₀ ≡ tableOf t → Ascending constraintKey t → take n rows ≡ unordered R
-    → out ≡ tableOf (united constraintKey t (orders (0 ∷ rest) (take i (unordered R)))))
+    × ((R : Record) (rest : List ℕ) (t : List Constraint) → Paged R rest index pages → out₀ ≡ heldTable t → Ascending constraintKey t → take n rows ≡ unordered R
+    → out ≡ heldTable (united constraintKey t (orders (0 ∷ rest) (take i (unordered R)))))
 
 abbrev μ-loop : tie.MeasureT-loop
 μ-loop index pages rows n out₀ i₀ out i = n - i

@@ -2,13 +2,13 @@
 use mathlib.Core.Path.{refl, ap, _∙_}
 use borrow.Author.Needs.{needs}
 use Rattle.turning.specs.Turning.{turningOf}
-use Rattle.desk.proofs.Cases.{turned-far, turned-near}
+use Rattle.desk.proofs.Cases.{session-turned-far, turned-near}
 use Rattle.desk.proofs.Signs.{signed-passed}
 use Rattle.desk.proofs.turn_by.Statement.{statement}
 use Rattle.desk.proofs.turn_by.Tie as tie
 
 returns : tie.Need-returns
-returns c = turned-far _ _ _ _ (c .if1 .taken) refl
+returns c = session-turned-far _ _ _ _ (c .if1 .taken) refl
 
 signed-requires : tie.Need-signed-requires
 signed-requires c κs = search needs

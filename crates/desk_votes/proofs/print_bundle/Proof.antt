@@ -1,6 +1,6 @@
 -- `desk_votes::print_bundle` meets its contract. Assumes nothing.
 use borrow.Author.Needs.{needs}
-use Rattle.desk_votes.proofs.Answered.{refused-so, bundle-answered}
+use Rattle.desk_votes.proofs.Answered.{refused-so, bundle-line-answered}
 use Rattle.desk_votes.proofs.print_bundle.Statement.{statement}
 use Rattle.desk_votes.proofs.print_bundle.Tie as tie
 
@@ -29,7 +29,7 @@ same-length-2 : tie.Need-same-length-2
 same-length-2 c = search needs
 
 returns-2 : tie.Need-returns-2
-returns-2 c = let s = c .before .before .before .before .before .before .before .before .before .before .before .before .before .before .args in bundle-answered (s .line) (s .out .now) (s .at) (s .answer) (c .before .before .before .before .before .before .before .before .before .before .before .if1 .left) (c .before .before .before .before .before .before .before .before .before .bit .ensures) (c .before .before .before .before .before .before .tell .ensures) (c .before .before .print-text .ensures)
+returns-2 c = let s = c .before .before .before .before .before .before .before .before .before .before .before .before .before .before .args in bundle-line-answered (s .line) (s .out .now) (s .at) (s .answer) (c .before .before .before .before .before .before .before .before .before .before .before .if1 .left) (c .before .before .before .before .before .before .before .before .before .bit .ensures) (c .before .before .before .before .before .before .tell .ensures) (c .before .before .print-text .ensures)
 
 pub print-bundle-spec : {M : Type 1} → statement M
 print-bundle-spec =

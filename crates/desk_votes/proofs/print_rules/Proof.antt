@@ -1,6 +1,6 @@
 -- `desk_votes::print_rules` meets its contract. Assumes nothing.
 use borrow.Author.Needs.{needs}
-use Rattle.desk_votes.proofs.Answered.{no-rule, one-rule, two-rules}
+use Rattle.desk_votes.proofs.Answered.{no-rule-answer, one-rule, two-rules}
 use Rattle.desk_votes.proofs.print_rules.Statement.{statement}
 use Rattle.desk_votes.proofs.print_rules.Tie as tie
 
@@ -14,7 +14,7 @@ same-length : tie.Need-same-length
 same-length c = search needs
 
 returns : tie.Need-returns
-returns c = let s = c .before .before .before .before .before .before .before .before .before .args in no-rule (s .suggested) (s .out .now) (s .at) (c .before .before .before .tell .ensures) (c .if1 .taken)
+returns c = let s = c .before .before .before .before .before .before .before .before .before .args in no-rule-answer (s .suggested) (s .out .now) (s .at) (c .before .before .before .tell .ensures) (c .if1 .taken)
 
 print-rule-requires : tie.Need-print-rule-requires
 print-rule-requires c κs = search needs

@@ -1,7 +1,7 @@
 -- `draft::settled_in` meets its contract. Assumes nothing.
 use native.Mathlib.Omega.{arith}
 use Rattle.pairs.proofs.Unordered.{index-read}
-use Rattle.draft.proofs.Settled.{unknown-is, known-is}
+use Rattle.draft.proofs.Settled.{unknown-is, draft-known-is}
 use borrow.Author.Needs.{needs}
 use Rattle.draft.proofs.settled_in.Statement.{statement}
 use Rattle.draft.proofs.settled_in.Tie as tie
@@ -26,7 +26,7 @@ element-copy-out-result c =
 returns-2 : tie.Need-returns-2
 returns-2 c =
     let s = c .before .before .before .before in
-    λ Q g. known-is Q (s .args .index .now) (s .args .settled .now) g (s .args .name) _ (index-read (s .args .index .now) (s .args .name) _ _ (c .before .before .before .wide16 .ensures) (c .before .before .index-of .ensures)) (c .before .if1 .left)
+    λ Q g. draft-known-is Q (s .args .index .now) (s .args .settled .now) g (s .args .name) _ (index-read (s .args .index .now) (s .args .name) _ _ (c .before .before .before .wide16 .ensures) (c .before .before .index-of .ensures)) (c .before .if1 .left)
 
 pub settled-in-spec : {M : Type 1} → statement M
 settled-in-spec =

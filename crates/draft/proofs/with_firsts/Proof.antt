@@ -11,7 +11,7 @@ use Rattle.record.specs.Stored.{fillerConstraint}
 use Rattle.lists.specs.Keyed.{Ascending, united}
 use Rattle.table.specs.Table.{constraintKey}
 use Rattle.proposal.specs.Proposal.{firsts}
-use Rattle.insertion.specs.Insertion.{tableOf}
+use Rattle.insertion.specs.Insertion.{heldTable}
 use Rattle.draft.specs.Draft.{Settles}
 use Rattle.draft.proofs.Joins.{joins-start, joins-order, joins-end}
 use Rattle.draft.proofs.Settled.{firsts-none, firsts-append, firsts-next, array-end}
@@ -21,7 +21,7 @@ use Rattle.draft.proofs.with_firsts.Tie as tie
 
 abbrev Inv-loop : tie.InvT-loop
 Inv-loop index settled rows n out₀ i₀ out i = (i ≤ n) × (n ≤ 512) × (length rows ≡ 512)
-    × ((Q : Record) (t l : List Constraint) → Settles Q index settled → out₀ ≡ tableOf t → Ascending constraintKey t → take n rows ≡ l → out ≡ tableOf (united constraintKey t (firsts Q (take i l))))
+    × ((Q : Record) (t l : List Constraint) → Settles Q index settled → out₀ ≡ heldTable t → Ascending constraintKey t → take n rows ≡ l → out ≡ heldTable (united constraintKey t (firsts Q (take i l))))
 
 abbrev μ-loop : tie.MeasureT-loop
 μ-loop index settled rows n out₀ i₀ out i = n - i

@@ -6,7 +6,7 @@ use native.Mathlib.Omega.{arith}
 use borrow.Author.Needs.{needs}
 use Rattle.lists.specs.Lists.{_among_}
 use Rattle.record.specs.Record.{Record, written}
-use Rattle.hidden.proofs.Index.{Holds, holds, count-room}
+use Rattle.hidden.proofs.Index.{StoredRows, stored-rows, count-room}
 use Rattle.hidden.proofs.Named.{Indexed, indexed-none, indexed-next, indexed-end}
 use Rattle.hidden.proofs.by_index.Statement.{statement}
 use Rattle.hidden.proofs.by_index.Tie as tie
@@ -14,13 +14,13 @@ use Rattle.hidden.proofs.by_index.Tie as tie
 abbrev Inv-loop : tie.InvT-loop
 Inv-loop names edits count marks₀ i₀ marks i =
     (i ≤ count) × (count ≤ 127) × (length marks ≡ 128)
-    × ((R : Record) (test : ℕ → Bool) (h : Holds R edits count) → test 0 ≡ false → ((x : ℕ) → x among written R → getD names x 0 ≡ cond (test x) 1 0) → Indexed R edits count test h marks i)
+    × ((R : Record) (test : ℕ → Bool) (h : StoredRows R edits count) → test 0 ≡ false → ((x : ℕ) → x among written R → getD names x 0 ≡ cond (test x) 1 0) → Indexed R edits count test h marks i)
 
 abbrev μ-loop : tie.MeasureT-loop
 μ-loop names edits count marks₀ i₀ marks i = count - i
 
 returns : tie.Need-returns Inv-loop μ-loop
-returns c = let s = c .before .before in λ R test e k. absurd (omega (arith, c .if1 .taken, count-room R _ _ (holds R (s .args .multilog) e k)))
+returns c = let s = c .before .before in λ R test e k. absurd (omega (arith, c .if1 .taken, count-room R _ _ (stored-rows R (s .args .multilog) e k)))
 
 loop-holds : tie.Need-loop-holds Inv-loop μ-loop
 loop-holds c = (search needs, search needs, search needs, λ R test h z f. indexed-none R _ _ test h z)
@@ -64,7 +64,7 @@ returns-2 c =
     let l = c .before in
     let s = l .before .before .before in
     λ R test e k z f.
-    let h = holds R (s .args .multilog) e k in
+    let h = stored-rows R (s .args .multilog) e k in
     indexed-end R _ _ test h (l .loop .marks) (l .loop .i) (l .loop .inv .0) (c .loop-test .left) (l .loop .inv .2) (l .loop .inv .3 R test h z f)
 
 pub by-index-spec : {M : Type 1} → statement M

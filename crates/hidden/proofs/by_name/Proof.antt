@@ -7,7 +7,7 @@ use borrow.Author.Needs.{needs}
 use Rattle.record.specs.Record.{Record, written}
 use Rattle.links.specs.Marks.{marksOf}
 use Rattle.hidden.specs.Marks.{ByName}
-use Rattle.hidden.proofs.Index.{Holds, holds, count-room}
+use Rattle.hidden.proofs.Index.{StoredRows, stored-rows, count-room}
 use Rattle.hidden.proofs.Named.{named-none, named-next, named-end}
 use Rattle.hidden.proofs.by_name.Statement.{statement}
 use Rattle.hidden.proofs.by_name.Tie as tie
@@ -15,7 +15,7 @@ use Rattle.hidden.proofs.by_name.Tie as tie
 abbrev Inv-loop : tie.InvT-loop
 Inv-loop hidden edits count marks₀ i₀ marks i =
     (i ≤ count) × (count ≤ 127) × (length marks ≡ 2304)
-    × ((R : Record) (test : ℕ → Bool) → Holds R edits count → hidden ≡ marksOf R test → ByName (take i (written R)) test marks)
+    × ((R : Record) (test : ℕ → Bool) → StoredRows R edits count → hidden ≡ marksOf R test → ByName (take i (written R)) test marks)
 
 abbrev μ-loop : tie.MeasureT-loop
 μ-loop hidden edits count marks₀ i₀ marks i = count - i
@@ -23,7 +23,7 @@ abbrev μ-loop : tie.MeasureT-loop
 returns : tie.Need-returns Inv-loop μ-loop
 returns c =
     let s = c .before .before in
-    (search needs, λ R test e k. absurd (omega (arith, c .if1 .taken, count-room R _ _ (holds R (s .args .multilog) e k))))
+    (search needs, λ R test e k. absurd (omega (arith, c .if1 .taken, count-room R _ _ (stored-rows R (s .args .multilog) e k))))
 
 loop-holds : tie.Need-loop-holds Inv-loop μ-loop
 loop-holds c = (search needs, search needs, search needs, λ R test h e. named-none test 2304)
@@ -66,7 +66,7 @@ returns-2 c =
     let l = c .before in
     let s = l .before .before .before in (
       l .loop .inv .2,
-      λ R test e k m. let h = holds R (s .args .multilog) e k in named-end R _ _ test h (l .loop .marks) (l .loop .i) (c .loop-test .left) (l .loop .inv .3 R test h m),
+      λ R test e k m. let h = stored-rows R (s .args .multilog) e k in named-end R _ _ test h (l .loop .marks) (l .loop .i) (c .loop-test .left) (l .loop .inv .3 R test h m),
     )
 
 pub by-name-spec : {M : Type 1} → statement M

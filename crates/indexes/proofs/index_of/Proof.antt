@@ -2,7 +2,7 @@
 use lib.ListN.{List·getD-eq-default}
 use mathlib.Core.Path.{sym}
 use borrow.Author.Needs.{needs}
-use Rattle.indexes.proofs.Tables.{past}
+use Rattle.indexes.proofs.Tables.{past-length}
 use Rattle.indexes.proofs.index_of.Statement.{statement}
 use Rattle.indexes.proofs.index_of.Tie as tie
 
@@ -18,7 +18,7 @@ returns c = search needs
 returns-2 : tie.Need-returns-2
 returns-2 c =
     let s = c .before in
-    sym (List·getD-eq-default (s .args .table .now) 0 (past (s .args .table .now) (s .args .name) 2304 (s .pre) (c .if1 .left)))
+    sym (List·getD-eq-default (s .args .table .now) 0 (past-length (s .args .table .now) (s .args .name) 2304 (s .pre) (c .if1 .left)))
 
 pub index-of-spec : {M : Type 1} → statement M
 index-of-spec = tie.close (tie.spec element-copy-out-wide8 wide8-requires returns returns-2)

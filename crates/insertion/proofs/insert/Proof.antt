@@ -1,6 +1,6 @@
 -- `insertion::insert` meets its contract. Assumes nothing.
 use native.Mathlib.Omega.{arith}
-use Rattle.insertion.proofs.Tables.{stays-full, few, count-is, in-order, known-is, overflows, joins}
+use Rattle.insertion.proofs.Tables.{stays-full, few, held-count-is, held-in-order, known-is, overflows, joins}
 use borrow.Author.Needs.{needs}
 use Rattle.insertion.proofs.insert.Statement.{statement}
 use Rattle.insertion.proofs.insert.Tie as tie
@@ -14,7 +14,7 @@ returns-2 c =
     λ l e a.
     let s = c .before .before in
     let f = c .before .if1 .left in
-    absurd (omega (arith, few (s .args .table) l e (s .args .c) f, count-is (s .args .table) l e (s .args .c) f))
+    absurd (omega (arith, few (s .args .table) l e (s .args .c) f, held-count-is (s .args .table) l e (s .args .c) f))
 
 place-requires : tie.Need-place-requires
 place-requires c κs = search needs
@@ -28,7 +28,7 @@ returns-3 c =
     let s = c .before .before .before .before .before .before in
     let f = c .before .before .before .before .before .if1 .left in
     let p = c .before .before .place in
-    known-is (s .args .table) l e (s .args .c) f (p .result) (p .ensures .0 (in-order (s .args .table) l e (s .args .c) f a)) (c .before .stands .ensures) (c .if3 .taken)
+    known-is (s .args .table) l e (s .args .c) f (p .result) (p .ensures .0 (held-in-order (s .args .table) l e (s .args .c) f a)) (c .before .stands .ensures) (c .if3 .taken)
 
 full-table-requires : tie.Need-full-table-requires
 full-table-requires c κs = search needs
@@ -39,7 +39,7 @@ returns-4 c =
     let s = c .before .before .before .before .before .before .before .before in
     let f = c .before .before .before .before .before .before .before .if1 .left in
     let p = c .before .before .before .before .place in
-    overflows (s .args .table) l e (s .args .c) f (p .result) (p .ensures .0 (in-order (s .args .table) l e (s .args .c) f a)) (c .before .before .before .stands .ensures) (c .before .before .if3 .left) (c .before .if4 .taken) (c .full-table .ensures)
+    overflows (s .args .table) l e (s .args .c) f (p .result) (p .ensures .0 (held-in-order (s .args .table) l e (s .args .c) f a)) (c .before .before .before .stands .ensures) (c .before .before .if3 .left) (c .before .if4 .taken) (c .full-table .ensures)
 
 put-at-requires : tie.Need-put-at-requires
 put-at-requires c κs =
@@ -55,7 +55,7 @@ returns-5 c =
     let s = c .before .before .before .before .before .before .before .before in
     let f = c .before .before .before .before .before .before .before .if1 .left in
     let p = c .before .before .before .before .place in
-    joins (s .args .table) l e (s .args .c) f (p .result) (p .ensures .0 (in-order (s .args .table) l e (s .args .c) f a)) (c .before .before .before .stands .ensures) (c .before .before .if3 .left) (c .before .if4 .left) (c .put-at .ensures)
+    joins (s .args .table) l e (s .args .c) f (p .result) (p .ensures .0 (held-in-order (s .args .table) l e (s .args .c) f a)) (c .before .before .before .stands .ensures) (c .before .before .if3 .left) (c .before .if4 .left) (c .put-at .ensures)
 
 pub insert-spec : {M : Type 1} → statement M
 insert-spec =

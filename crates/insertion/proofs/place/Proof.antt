@@ -6,13 +6,13 @@ use Rattle.record.specs.Stored.{fillerConstraint}
 use Rattle.lists.specs.Keyed.{Ascending}
 use Rattle.table.specs.Table.{constraintKey}
 use Rattle.lookup.proofs.Places.{middle-below}
-use Rattle.insertion.proofs.Places.{Between, array-start, array-low, array-high, array-place}
+use Rattle.insertion.proofs.Places.{InsertionBetween, array-start, array-low, array-high, array-place}
 use borrow.Author.Needs.{needs}
 use Rattle.insertion.proofs.place.Statement.{statement}
 use Rattle.insertion.proofs.place.Tie as tie
 
 abbrev Inv-loop : tie.InvT-loop
-Inv-loop n c rows low₀ high₀ low high = (low ≤ high) × (high ≤ n) × (n ≤ length rows) × (Ascending constraintKey (take n rows) → Between constraintKey c (take n rows) low high)
+Inv-loop n c rows low₀ high₀ low high = (low ≤ high) × (high ≤ n) × (n ≤ length rows) × (Ascending constraintKey (take n rows) → InsertionBetween constraintKey c (take n rows) low high)
 
 abbrev μ-loop : tie.MeasureT-loop
 μ-loop n c rows low₀ high₀ low high = high - low

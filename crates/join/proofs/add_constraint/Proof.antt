@@ -1,7 +1,7 @@
 -- `join::add_constraint` meets its contract. Assumes nothing.
 use mathlib.Core.List.{[], _∷_}
 use Rattle.table.specs.Table.{decoded, addConstraintFault, unite}
-use Rattle.join.proofs.Answers.{refused-is, inserted-is}
+use Rattle.join.proofs.Answers.{join-refused-is, inserted-is}
 use borrow.Author.Needs.{needs}
 use Rattle.join.proofs.add_constraint.Statement.{statement}
 use Rattle.join.proofs.add_constraint.Tie as tie
@@ -10,7 +10,7 @@ constraint-add-fault-requires : tie.Need-constraint-add-fault-requires
 constraint-add-fault-requires c κs = search needs
 
 returns : tie.Need-returns
-returns c = λ R e k. let s = c .before .before .args in refused-is (addConstraintFault R (s .row)) R (unite R (decoded [] (s .row ∷ []))) (c .before .constraint-add-fault .ensures R e k) (c .if1 .taken) e
+returns c = λ R e k. let s = c .before .before .args in join-refused-is (addConstraintFault R (s .row)) R (unite R (decoded [] (s .row ∷ []))) (c .before .constraint-add-fault .ensures R e k) (c .if1 .taken) e
 
 table-of-requires : tie.Need-table-of-requires
 table-of-requires c κs = search needs

@@ -3,7 +3,7 @@ use mathlib.Core.List.{[], _∷_}
 use mathlib.Core.Bool.{true}
 use Rattle.record.specs.Record.{written}
 use Rattle.table.specs.Table.{decoded, addEditFault, unite}
-use Rattle.join.proofs.Answers.{refused-is, union-is}
+use Rattle.join.proofs.Answers.{join-refused-is, union-is}
 use borrow.Author.Needs.{needs}
 use Rattle.join.proofs.add_edit.Statement.{statement}
 use Rattle.join.proofs.add_edit.Tie as tie
@@ -12,7 +12,7 @@ edit-add-fault-requires : tie.Need-edit-add-fault-requires
 edit-add-fault-requires c κs = search needs
 
 returns : tie.Need-returns
-returns c = λ R e k. let s = c .before .before .args in refused-is (addEditFault R (s .row)) R (unite R (decoded (s .row ∷ []) [])) (c .before .edit-add-fault .ensures R e k) (c .if1 .taken) e
+returns c = λ R e k. let s = c .before .before .args in join-refused-is (addEditFault R (s .row)) R (unite R (decoded (s .row ∷ []) [])) (c .before .edit-add-fault .ensures R e k) (c .if1 .taken) e
 
 edit-alone-requires : tie.Need-edit-alone-requires
 edit-alone-requires c κs = search needs

@@ -2,7 +2,7 @@
 use mathlib.Core.Path.{_∙_}
 use Rattle.table.specs.Table.{emptyTables, decoded, lentFault}
 use Rattle.table.proofs.Tables.{empty-stored}
-use Rattle.join.proofs.Answers.{refused-is, lent-is}
+use Rattle.join.proofs.Answers.{join-refused-is, lent-is}
 use borrow.Author.Needs.{needs}
 use Rattle.join.proofs.lent.Statement.{statement}
 use Rattle.join.proofs.lent.Tie as tie
@@ -18,7 +18,7 @@ returns c =
     let s = c .before .before .before .args in
     let es = s .edits .now in
     let cs = s .constraints .now in
-    refused-is (lentFault emptyTables es cs) emptyTables (decoded es cs) (c .before .before .lent-fault .ensures) (c .before .if1 .taken) (c .empty .ensures ∙ empty-stored)
+    join-refused-is (lentFault emptyTables es cs) emptyTables (decoded es cs) (c .before .before .lent-fault .ensures) (c .before .if1 .taken) (c .empty .ensures ∙ empty-stored)
 
 decode-requires : tie.Need-decode-requires
 decode-requires c κs = search needs

@@ -1,7 +1,7 @@
 -- `join::merge` meets its contract. Assumes nothing.
 use mathlib.Core.Bool.{false}
 use Rattle.table.specs.Table.{decoded, namesOf, lentFault, unite}
-use Rattle.join.proofs.Answers.{refused-is, union-is}
+use Rattle.join.proofs.Answers.{join-refused-is, union-is}
 use borrow.Author.Needs.{needs}
 use Rattle.join.proofs.merge.Statement.{statement}
 use Rattle.join.proofs.merge.Tie as tie
@@ -14,7 +14,7 @@ returns c = λ R e k.
     let s = c .before .before .args in
     let es = s .edits .now in
     let cs = s .constraints .now in
-    refused-is (lentFault R es cs) R (unite R (decoded es cs)) (c .before .fault .ensures R e k) (c .if1 .taken) e
+    join-refused-is (lentFault R es cs) R (unite R (decoded es cs)) (c .before .fault .ensures R e k) (c .if1 .taken) e
 
 decode-requires : tie.Need-decode-requires
 decode-requires c κs = search needs

@@ -4,7 +4,7 @@ use lib.ListN.{length}
 use native.Mathlib.Omega.{arith}
 use Rattle.lists.proofs.Lists.{length-mapped}
 use Rattle.record.proofs.Padded.{edits-within, constraints-within}
-use Rattle.join.proofs.Answers.{front, record-is}
+use Rattle.join.proofs.Answers.{front, joined-record-is}
 use borrow.Author.Needs.{needs}
 use Rattle.join.proofs.merge_record.Statement.{statement}
 use Rattle.join.proofs.merge_record.Tie as tie
@@ -53,7 +53,7 @@ returns-3 c = λ R S e k f.
     let s = c .before .before .before .before .before .before .before .before .before .before .before .args in
     let es = c .before .before .before .before .before .before .edit-rows in
     let cs = c .before .before .before .before .before .constraint-rows in
-    record-is R S k (s .joining) f _ _ (front (s .joining .editcount) (es .result) (es .ensures)) (front (s .joining .constraintcount) (cs .result) (cs .ensures)) (c .merge .ensures R e k)
+    joined-record-is R S k (s .joining) f _ _ (front (s .joining .editcount) (es .result) (es .ensures)) (front (s .joining .constraintcount) (cs .result) (cs .ensures)) (c .merge .ensures R e k)
 
 pub merge-record-spec : {M : Type 1} → statement M
 merge-record-spec =

@@ -1,6 +1,6 @@
 -- `lending::add_constraint` meets its contract. Assumes nothing.
 use borrow.Author.Needs.{needs}
-use Rattle.lending.proofs.Rows.{no-record, no-place, outside, has-place, one-more}
+use Rattle.lending.proofs.Rows.{no-record, no-lent-place, outside-lent, has-place, one-more-row}
 use Rattle.lending.proofs.add_constraint.Statement.{statement}
 use Rattle.lending.proofs.add_constraint.Tie as tie
 
@@ -14,7 +14,7 @@ array-read-n : tie.Need-array-read-n
 array-read-n c = search needs
 
 returns-2 : tie.Need-returns-2
-returns-2 c = λ tables T. no-place T _ (c .before .if1 .left) _ (c .if2 .taken)
+returns-2 c = λ tables T. no-lent-place T _ (c .before .if1 .left) _ (c .if2 .taken)
 
 mul-at : tie.Need-mul-at
 mul-at c = search needs
@@ -23,7 +23,7 @@ add-at : tie.Need-add-at
 add-at c = search needs
 
 returns-3 : tie.Need-returns-3
-returns-3 c = λ tables T. outside T _ (c .before .before .if1 .left) (c .before .if2 .left) (c .if3 .taken)
+returns-3 c = λ tables T. outside-lent T _ (c .before .before .if1 .left) (c .before .if2 .left) (c .if3 .taken)
 
 mul-row : tie.Need-mul-row
 mul-row c = search needs
@@ -44,7 +44,7 @@ same-length : tie.Need-same-length
 same-length c = search needs
 
 returns-4 : tie.Need-returns-4
-returns-4 c = λ tables T. (has-place T _ (c .before .before .if1 .left) (c .before .if2 .left), one-more T _ (c .before .before .if1 .left) _ (c .before .if2 .left))
+returns-4 c = λ tables T. (has-place T _ (c .before .before .if1 .left) (c .before .if2 .left), one-more-row T _ (c .before .before .if1 .left) _ (c .before .if2 .left))
 
 pub add-constraint-spec : {M : Type 1} → statement M
 add-constraint-spec =

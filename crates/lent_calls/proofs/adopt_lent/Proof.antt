@@ -1,7 +1,7 @@
 -- `lent_calls::adopt_lent` meets its contract. Assumes nothing.
 use native.Mathlib.Omega.{arith}
 use borrow.Author.Needs.{needs}
-use Rattle.lent_calls.proofs.Given.{eight, adoption-given}
+use Rattle.lent_calls.proofs.Given.{eight-lent, adoption-given}
 use Rattle.lent_calls.proofs.adopt_lent.Statement.{statement}
 use Rattle.lent_calls.proofs.adopt_lent.Tie as tie
 
@@ -60,7 +60,7 @@ returns : tie.Need-returns
 returns c =
     λ L K.
     adoption-given L _ _ _
-    (eight (L .edits)
+    (eight-lent (L .edits)
     (c .before .before .before .before .before .before .before .before .before .before .before .before .before .before .before .before .edits-of .ensures (L .edits) (K .edits) (omega arith))
     (c .before .before .before .before .before .before .before .before .before .before .before .before .before .before .before .edits-of2 .ensures (L .edits) (K .edits) (omega arith))
     (c .before .before .before .before .before .before .before .before .before .before .before .before .before .before .edits-of3 .ensures (L .edits) (K .edits) (omega arith))
@@ -69,7 +69,7 @@ returns c =
     (c .before .before .before .before .before .before .before .before .before .before .before .edits-of6 .ensures (L .edits) (K .edits) (omega arith))
     (c .before .before .before .before .before .before .before .before .before .before .edits-of7 .ensures (L .edits) (K .edits) (omega arith))
     (c .before .before .before .before .before .before .before .before .before .edits-of8 .ensures (L .edits) (K .edits) (omega arith)))
-    (eight (L .constraints)
+    (eight-lent (L .constraints)
     (c .before .before .before .before .before .before .before .before .constraints-of .ensures (L .constraints) (K .constraints) (omega arith))
     (c .before .before .before .before .before .before .before .constraints-of2 .ensures (L .constraints) (K .constraints) (omega arith))
     (c .before .before .before .before .before .before .constraints-of3 .ensures (L .constraints) (K .constraints) (omega arith))

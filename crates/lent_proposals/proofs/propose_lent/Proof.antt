@@ -1,7 +1,7 @@
 -- `lent_proposals::propose_lent` meets its contract. Assumes nothing.
 use native.Mathlib.Omega.{arith}
 use borrow.Author.Needs.{needs}
-use Rattle.lent_proposals.proofs.Making.{record-elsewhere, old-elsewhere, rows-stop, few-edits, few-constraints, whole}
+use Rattle.lent_proposals.proofs.Making.{record-elsewhere, old-elsewhere, rows-stop, lent-few-edits, lent-few-constraints, proposal-whole}
 use Rattle.lent_proposals.proofs.propose_lent.Statement.{statement}
 use Rattle.lent_proposals.proofs.propose_lent.Tie as tie
 
@@ -41,18 +41,18 @@ stopped-requires-3 c κs = search needs
 
 returns-4 : tie.Need-returns-4
 returns-4 c =
-    λ L K. let h = c .before .before .before .before .before .before .before .before .before .before .before .before .before .before .if1 .left in let i = c .before .before .before .before .before .before .before .before .before .before .before .before .before .if2 .left in few-edits L _ _ _ _ h i _ (c .before .before .before .before .before .before .new-proposal .ensures) (c .before .before .before .before .before .before .before .before .before .before .edits-of .ensures (L .edits) (K .edits) (omega arith)) (c .before .before .before .before .before .before .before .before .before .constraints-of .ensures (L .constraints) (K .constraints) (omega arith)) (c .before .before .before .before .before .before .before .before .edits-of2 .ensures (L .edits) (K .edits) (omega arith)) (c .before .before .before .before .before .before .before .constraints-of2 .ensures (L .constraints) (K .constraints) (omega arith)) (c .before .before .before .before .if3 .left) (c .before .if4 .taken) (c .stopped3 .ensures)
+    λ L K. let h = c .before .before .before .before .before .before .before .before .before .before .before .before .before .before .if1 .left in let i = c .before .before .before .before .before .before .before .before .before .before .before .before .before .if2 .left in lent-few-edits L _ _ _ _ h i _ (c .before .before .before .before .before .before .new-proposal .ensures) (c .before .before .before .before .before .before .before .before .before .before .edits-of .ensures (L .edits) (K .edits) (omega arith)) (c .before .before .before .before .before .before .before .before .before .constraints-of .ensures (L .constraints) (K .constraints) (omega arith)) (c .before .before .before .before .before .before .before .before .edits-of2 .ensures (L .edits) (K .edits) (omega arith)) (c .before .before .before .before .before .before .before .constraints-of2 .ensures (L .constraints) (K .constraints) (omega arith)) (c .before .before .before .before .if3 .left) (c .before .if4 .taken) (c .stopped3 .ensures)
 
 stopped-requires-4 : tie.Need-stopped-requires-4
 stopped-requires-4 c κs = search needs
 
 returns-5 : tie.Need-returns-5
 returns-5 c =
-    λ L K. let h = c .before .before .before .before .before .before .before .before .before .before .before .before .before .before .before .before .if1 .left in let i = c .before .before .before .before .before .before .before .before .before .before .before .before .before .before .before .if2 .left in few-constraints L _ _ _ _ h i _ (c .before .before .before .before .before .before .before .before .new-proposal .ensures) (c .before .before .before .before .before .before .before .before .before .before .before .before .edits-of .ensures (L .edits) (K .edits) (omega arith)) (c .before .before .before .before .before .before .before .before .before .before .before .constraints-of .ensures (L .constraints) (K .constraints) (omega arith)) (c .before .before .before .before .before .before .before .before .before .before .edits-of2 .ensures (L .edits) (K .edits) (omega arith)) (c .before .before .before .before .before .before .before .before .before .constraints-of2 .ensures (L .constraints) (K .constraints) (omega arith)) (c .before .before .before .before .before .before .if3 .left) (c .before .before .before .if4 .left) (c .before .if5 .taken) (c .stopped4 .ensures)
+    λ L K. let h = c .before .before .before .before .before .before .before .before .before .before .before .before .before .before .before .before .if1 .left in let i = c .before .before .before .before .before .before .before .before .before .before .before .before .before .before .before .if2 .left in lent-few-constraints L _ _ _ _ h i _ (c .before .before .before .before .before .before .before .before .new-proposal .ensures) (c .before .before .before .before .before .before .before .before .before .before .before .before .edits-of .ensures (L .edits) (K .edits) (omega arith)) (c .before .before .before .before .before .before .before .before .before .before .before .constraints-of .ensures (L .constraints) (K .constraints) (omega arith)) (c .before .before .before .before .before .before .before .before .before .before .edits-of2 .ensures (L .edits) (K .edits) (omega arith)) (c .before .before .before .before .before .before .before .before .before .constraints-of2 .ensures (L .constraints) (K .constraints) (omega arith)) (c .before .before .before .before .before .before .if3 .left) (c .before .before .before .if4 .left) (c .before .if5 .taken) (c .stopped4 .ensures)
 
 returns-6 : tie.Need-returns-6
 returns-6 c =
-    λ L K. let h = c .before .before .before .before .before .before .before .before .before .before .before .before .before .before .before .if1 .left in let i = c .before .before .before .before .before .before .before .before .before .before .before .before .before .before .if2 .left in whole L _ _ _ _ h i _ (c .before .before .before .before .before .before .before .new-proposal .ensures) (c .before .before .before .before .before .before .before .before .before .before .before .edits-of .ensures (L .edits) (K .edits) (omega arith)) (c .before .before .before .before .before .before .before .before .before .before .constraints-of .ensures (L .constraints) (K .constraints) (omega arith)) (c .before .before .before .before .before .before .before .before .before .edits-of2 .ensures (L .edits) (K .edits) (omega arith)) (c .before .before .before .before .before .before .before .before .constraints-of2 .ensures (L .constraints) (K .constraints) (omega arith)) (c .before .before .before .before .before .if3 .left) (c .before .before .if4 .left) (c .if5 .left)
+    λ L K. let h = c .before .before .before .before .before .before .before .before .before .before .before .before .before .before .before .if1 .left in let i = c .before .before .before .before .before .before .before .before .before .before .before .before .before .before .if2 .left in proposal-whole L _ _ _ _ h i _ (c .before .before .before .before .before .before .before .new-proposal .ensures) (c .before .before .before .before .before .before .before .before .before .before .before .edits-of .ensures (L .edits) (K .edits) (omega arith)) (c .before .before .before .before .before .before .before .before .before .before .constraints-of .ensures (L .constraints) (K .constraints) (omega arith)) (c .before .before .before .before .before .before .before .before .before .edits-of2 .ensures (L .edits) (K .edits) (omega arith)) (c .before .before .before .before .before .before .before .before .constraints-of2 .ensures (L .constraints) (K .constraints) (omega arith)) (c .before .before .before .before .before .if3 .left) (c .before .before .if4 .left) (c .if5 .left)
 
 pub propose-lent-spec : {M : Type 1} → statement M
 propose-lent-spec =

@@ -51,7 +51,7 @@ use Rattle.vote.specs.declared.RollRow.{RollRow}
 use Rattle.roll.specs.declared.Roll.{Roll}
 use Rattle.roll.specs.Roll.{fillerRow, rollOf}
 use Rattle.lists.proofs.Front.{take-more}
-use Rattle.lent_roll.proofs.After.{after}
+use Rattle.lent_roll.proofs.After.{body-after}
 use Rattle.vote.proofs.RollRow as T
 use Rattle.vote.proofs.RollRow.Laws as T′
 use Rattle.roll.proofs.Roll as S
@@ -174,7 +174,7 @@ module _ {M : Type 1} (𝓤 : URA M) (H : Heap 𝓤) (A : Atoms 𝓤) (W : Given
         assigns ! (of-opd ! (load ! (from ! (fld ! refl (stop !))) (look-in ! 12 (sub ! 1 refl (whole !))))) (from ! (stop !)) (init ! 6 refl (tt, record { fits = gn .0 })) $
         assigns ! (bin ! (load ! (from ! (stop !)) (look ! 8 refl)) (load ! (from ! (stop !)) (look ! 6 refl)) tt) (from ! (stop !)) (init ! 4 refl (tt, tt)) $
         first ! $ branches ! (load ! (from ! (stop !)) (look ! 4 refl))
-        (λ less. skips ! $ exec ! C Λ En (after (after (after mir.turn-1))) (anyQ (Turned t)) $
+        (λ less. skips ! $ exec ! C Λ En (body-after (body-after (body-after mir.turn-1))) (anyQ (Turned t)) $
         assigns ! (bin ! (load ! (from ! (stop !)) (look ! 8 refl)) (lit ! tt) (record { fits = far (t .0) (gn .1) (small less) })) (from ! (stop !)) (store ! 6 refl (tt, record { fits = far (t .0) (gn .1) (small less) })) $
         assigns ! (bin ! (load ! (from ! (fld ! refl (stop !))) (look-in ! 12 (sub ! 0 refl (whole !)))) (load ! (from ! (stop !)) (look ! 6 refl)) tt) (from ! (stop !)) (init ! 2 refl (tt, tt)) $
         rewrite ! 2 (λ (p : ℕ). ‵ (fat fullShare tyPtr l₆ 0 (vptr b p))) (sym (place-is 4 o (t .0))) refl $

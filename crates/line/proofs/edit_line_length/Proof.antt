@@ -6,7 +6,7 @@ use borrow.Author.Needs.{needs}
 use Rattle.form.specs.Spelling.{bytes}
 use Rattle.line.specs.Line.{setForm, editForm, editLine}
 use Rattle.line.proofs.Says.{kind-rest}
-use Rattle.line.proofs.Puts.{length-as, edit-line-is, words-length, insert-words, remove-words}
+use Rattle.line.proofs.Puts.{line-length-as, edit-line-is, words-length, insert-words, remove-words}
 use Rattle.line.proofs.edit_line_length.Statement.{statement}
 use Rattle.line.proofs.edit_line_length.Tie as tie
 
@@ -49,7 +49,7 @@ returns c = let a = c .before .before .before .before .args in words-length (byt
 
 returns-2 : tie.Need-returns-2
 unfolding editForm
-returns-2 c = let a = c .before .before .before .before .before .args in length-as (editLine (a .t1)) _ (edit-line-is (a .t1) (setForm (getD (a .t1) 3 0)) (ap (λ (k : ℕ). editForm k (getD (a .t1) 3 0)) (c .before .before .match .keys2)) (c .before .before .before .before .wide32 .ensures) (c .before .before .before .wide322 .ensures) (c .before .wide323 .ensures)) (c .set-length .ensures)
+returns-2 c = let a = c .before .before .before .before .before .args in line-length-as (editLine (a .t1)) _ (edit-line-is (a .t1) (setForm (getD (a .t1) 3 0)) (ap (λ (k : ℕ). editForm k (getD (a .t1) 3 0)) (c .before .before .match .keys2)) (c .before .before .before .before .wide32 .ensures) (c .before .before .before .wide322 .ensures) (c .before .wide323 .ensures)) (c .set-length .ensures)
 
 returns-3 : tie.Need-returns-3
 unfolding bytes

@@ -1,7 +1,7 @@
 -- `measure::measure_election` meets its contract. Assumes nothing.
 use borrow.Author.Needs.{needs}
 use Rattle.measure.specs.Measured.{equalSeats}
-use Rattle.measure.proofs.Answers.{elected}
+use Rattle.measure.proofs.Answers.{measured-election}
 use Rattle.measure.proofs.measure_election.Statement.{statement}
 use Rattle.measure.proofs.measure_election.Tie as tie
 
@@ -22,7 +22,7 @@ returns c =
     let e = c .before in
     let r = e .before in
     let s = r .before in
-    elected (s .args .edit) (s .args .edits .now) (s .args .constraints .now) (s .args .rivals .now) (s .args .rivalconstraints .now) (e .election .result)
+    measured-election (s .args .edit) (s .args .edits .now) (s .args .constraints .now) (s .args .rivals .now) (s .args .rivalconstraints .now) (e .election .result)
     (e .election .ensures equalSeats (r .equal-seats .ensures)) (c .bit .result) (c .bit .ensures)
 
 pub measure-election-spec : {M : Type 1} → statement M

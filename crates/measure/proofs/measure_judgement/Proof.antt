@@ -1,7 +1,7 @@
 -- `measure::measure_judgement` meets its contract. Assumes nothing.
 use mathlib.Core.Path.{ap}
 use borrow.Author.Needs.{needs}
-use Rattle.measure.specs.Measured.{judgedOf}
+use Rattle.measure.specs.Measured.{judgementNumbers}
 use Rattle.measure.proofs.measure_judgement.Statement.{statement}
 use Rattle.measure.proofs.measure_judgement.Tie as tie
 
@@ -9,7 +9,7 @@ judge-lent-requires : tie.Need-judge-lent-requires
 judge-lent-requires c κs = search needs
 
 returns : tie.Need-returns
-returns c = ap judgedOf (c .before .before .before .before .judge-lent .ensures)
+returns c = ap judgementNumbers (c .before .before .before .before .judge-lent .ensures)
 
 pub measure-judgement-spec : {M : Type 1} → statement M
 measure-judgement-spec = tie.close (tie.spec judge-lent-requires returns)

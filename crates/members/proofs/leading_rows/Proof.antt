@@ -8,7 +8,7 @@ use Rattle.record.specs.Record.{Record, names}
 use Rattle.links.proofs.Links.{linking-start, Growing, growing-start, growing-safe}
 use Rattle.links.specs.Marks.{placeIn}
 use Rattle.marks.specs.Resolved.{Resolved}
-use Rattle.members.proofs.Rowing.{keysOf, leftsOf, Rowing, growing-both, rowing-turn, rowing-end}
+use Rattle.members.proofs.Rowing.{memberKeysOf, memberLeftsOf, Rowing, growing-both, rowing-turn, rowing-end}
 use Rattle.indexes.proofs.Tables.{constraint-within, within-low}
 use Rattle.indexes.specs.Fit.{Fit}
 use borrow.Author.Needs.{needs}
@@ -28,7 +28,7 @@ within-requires c κs = search needs
 
 loop-holds : tie.Need-loop-holds Inv-loop μ-loop
 loop-holds c =
-    (growing-start, omega arith, within-low _ _ _ (c .within .ensures), λ R e f t g. (constraint-within _ R _ e f (c .within .ensures), linking-start (keysOf R) (leftsOf R)))
+    (growing-start, omega arith, within-low _ _ _ (c .within .ensures), λ R e f t g. (constraint-within _ R _ e f (c .within .ensures), linking-start (memberKeysOf R) (memberLeftsOf R)))
 
 mul-constraint : tie.Need-mul-constraint Inv-loop μ-loop
 mul-constraint c = search needs

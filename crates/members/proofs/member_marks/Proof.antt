@@ -8,7 +8,7 @@ use Rattle.record.specs.Record.{names, written}
 use Rattle.links.specs.Marks.{placeIn}
 use Rattle.links.proofs.Marks.{none-marked}
 use Rattle.members.specs.Rows.{leadsIn}
-use Rattle.members.proofs.Rowing.{leads-in-known, none-closed, start-low, members-marks}
+use Rattle.members.proofs.Rowing.{leads-in-known, none-leading, start-low, members-marks}
 use Rattle.indexes.proofs.Tables.{names-few}
 use Rattle.members.proofs.member_marks.Statement.{statement}
 use Rattle.members.proofs.member_marks.Tie as tie
@@ -27,7 +27,7 @@ returns c = let x = c .before .before .before .args .edit in (
   c .closed .ensures .0,
   λ R f t g i.
       let q = c .before .index-of .ensures ∙ (t _ ∙ ap (λ n. placeIn (names R) n) (c .before .before .wide16 .ensures)) in
-      c .closed .ensures .1 (leadsIn R) R (written R) [] g (leads-in-known R (f .formed) x i) (none-closed R) (start-low R f x i _ q) (nil-within (names R)) (none-marked R (names-few R f))
+      c .closed .ensures .1 (leadsIn R) R (written R) [] g (leads-in-known R (f .formed) x i) (none-leading R) (start-low R f x i _ q) (nil-within (names R)) (none-marked R (names-few R f))
       ∙ members-marks R f x i _ q,
 )
 

@@ -9,7 +9,7 @@ use Rattle.ledger.specs.Ledger.{start, fed}
 use Rattle.ledger.proofs.Valid.{start-valid, fed-valid}
 use Rattle.change.proofs.Scheduled.{change-made}
 use Rattle.merge.specs.Joins.{Joins}
-use Rattle.merge.proofs.Rows.{keeps-within, none, rows-refused, union-is, unsound-refused, joined-changes}
+use Rattle.merge.proofs.Rows.{keeps-within, none, merge-rows-refused, merge-union-is, merge-unsound-refused, joined-changes}
 use Rattle.merge.proofs.joined_bench.Statement.{statement}
 use Rattle.merge.proofs.joined_bench.Tie as tie
 
@@ -20,7 +20,7 @@ returns : tie.Need-returns
 unfolding Joins
 returns c =
     let s = c .before .before in
-    λ calls n U e j k keeps. c .refused .ensures ∙ rows-refused calls (s .args .bench) (s .args .joined) (s .args .election) n U e j (c .before .if1 .taken)
+    λ calls n U e j k keeps. c .refused .ensures ∙ merge-rows-refused calls (s .args .bench) (s .args .joined) (s .args .election) n U e j (c .before .if1 .taken)
 
 carried-requires : tie.Need-carried-requires
 carried-requires c κs = search needs
@@ -39,9 +39,9 @@ returns-2 c =
     λ calls n U e j k keeps.
     let z = p .before .before .before .before .before .if1 .left in
     let o = none calls (s .args .bench) (s .args .joined) (s .args .election) n U e j z in
-    let u = union-is calls (s .args .bench) (s .args .joined) (s .args .election) n U e j z in
+    let u = merge-union-is calls (s .args .bench) (s .args .joined) (s .args .election) n U e j z in
     let t : sound U ≡ false = sym (p .plan .ensures U u (checked-fit U (k o)) .0) ∙ not-true _ (c .before .if2 .taken) in
-    c .refused2 .ensures ∙ unsound-refused calls (s .args .bench) (s .args .joined) (s .args .election) n U e j z t
+    c .refused2 .ensures ∙ merge-unsound-refused calls (s .args .bench) (s .args .joined) (s .args .election) n U e j z t
 
 reschedule-requires : tie.Need-reschedule-requires
 reschedule-requires c κs = search needs
@@ -56,7 +56,7 @@ returns-3 c =
     let v = fed-valid start calls start-valid in
     let z = p .before .before .before .before .before .if1 .left in
     let o = none calls (s .args .bench) (s .args .joined) (s .args .election) n U e j z in
-    let u = union-is calls (s .args .bench) (s .args .joined) (s .args .election) n U e j z in
+    let u = merge-union-is calls (s .args .bench) (s .args .joined) (s .args .election) n U e j z in
     let t : sound U ≡ true = sym (p .plan .ensures U u (checked-fit U (k o)) .0) ∙ not-false _ (c .before .before .if2 .left) in
     joined-changes calls (s .args .bench) (s .args .joined) (s .args .election) n U e j z (p .before .carried .result) _ t (k o) (keeps o)
     (keeps-within L v U (keeps o))

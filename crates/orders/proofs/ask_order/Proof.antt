@@ -1,7 +1,7 @@
 -- `orders::ask_order` meets its contract. Assumes nothing.
 use borrow.Author.Needs.{needs}
 use Rattle.form.specs.Spelling.{bytes}
-use Rattle.orders.proofs.Letters.{is-text, is-report, is-hidden, is-schedule, is-catalogue, is-journal, is-page, no-question}
+use Rattle.orders.proofs.Letters.{is-text, is-report, is-hidden-order, is-schedule, is-catalogue, is-journal, is-page-order, no-question-order}
 use Rattle.orders.proofs.ask_order.Statement.{statement}
 use Rattle.orders.proofs.ask_order.Tie as tie
 
@@ -63,7 +63,7 @@ returns-2 c = is-report (c .before .before .before .before .before .args .bytes 
 
 returns-3 : tie.Need-returns-3
 unfolding bytes
-returns-3 c = is-hidden (c .before .before .before .before .before .args .bytes .now) (c .before .before .before .before .before .pre) (c .before .before .before .byte-at .ensures) (c .before .before .match .keys3) (c .order-as3 .ensures)
+returns-3 c = is-hidden-order (c .before .before .before .before .before .args .bytes .now) (c .before .before .before .before .before .pre) (c .before .before .before .byte-at .ensures) (c .before .before .match .keys3) (c .order-as3 .ensures)
 
 returns-4 : tie.Need-returns-4
 unfolding bytes
@@ -79,10 +79,10 @@ returns-6 c = is-journal (c .before .before .before .before .before .args .bytes
 
 returns-7 : tie.Need-returns-7
 unfolding bytes
-returns-7 c = is-page (c .before .before .before .before .before .args .bytes .now) (c .before .before .before .before .before .pre) (c .before .before .before .byte-at .ensures) (c .before .before .match .keys7) (c .order-as7 .ensures)
+returns-7 c = is-page-order (c .before .before .before .before .before .args .bytes .now) (c .before .before .before .before .before .pre) (c .before .before .before .byte-at .ensures) (c .before .before .match .keys7) (c .order-as7 .ensures)
 
 returns-8 : tie.Need-returns-8
-returns-8 c = no-question (c .before .before .before .before .args .bytes .now) (c .before .before .before .before .pre) (c .before .before .byte-at .ensures) (c .before .match .rest .0 .0 .0 .0 .0 .0 .1) (c .before .match .rest .0 .0 .0 .0 .0 .1) (c .before .match .rest .0 .0 .0 .0 .1) (c .before .match .rest .0 .0 .0 .1) (c .before .match .rest .0 .0 .1) (c .before .match .rest .0 .1) (c .before .match .rest .1) (c .no-order .ensures)
+returns-8 c = no-question-order (c .before .before .before .before .args .bytes .now) (c .before .before .before .before .pre) (c .before .before .byte-at .ensures) (c .before .match .rest .0 .0 .0 .0 .0 .0 .1) (c .before .match .rest .0 .0 .0 .0 .0 .1) (c .before .match .rest .0 .0 .0 .0 .1) (c .before .match .rest .0 .0 .0 .1) (c .before .match .rest .0 .0 .1) (c .before .match .rest .0 .1) (c .before .match .rest .1) (c .no-order .ensures)
 
 pub ask-order-spec : {M : Type 1} → statement M
 ask-order-spec =

@@ -1,6 +1,6 @@
 -- `orders::line_order` meets its contract. Assumes nothing.
 use borrow.Author.Needs.{needs}
-use Rattle.orders.proofs.Lines.{line-faulty, line-edit, line-constraint}
+use Rattle.orders.proofs.Lines.{line-faulty, order-edit, order-constraint}
 use Rattle.orders.proofs.line_order.Statement.{statement}
 use Rattle.orders.proofs.line_order.Tie as tie
 
@@ -14,13 +14,13 @@ edit-order-requires : tie.Need-edit-order-requires
 edit-order-requires c κs = search needs
 
 returns-2 : tie.Need-returns-2
-returns-2 c = line-edit (c .before .before .before .before .before .args .line) (c .before .before .before .if1 .left) (c .before .before .if2 .taken) (c .edit-order .ensures)
+returns-2 c = order-edit (c .before .before .before .before .before .args .line) (c .before .before .before .if1 .left) (c .before .before .if2 .taken) (c .edit-order .ensures)
 
 constraint-order-requires : tie.Need-constraint-order-requires
 constraint-order-requires c κs = search needs
 
 returns-3 : tie.Need-returns-3
-returns-3 c = line-constraint (c .before .before .before .before .before .args .line) (c .before .before .before .if1 .left) (c .before .before .if2 .left) (c .constraint-order .ensures)
+returns-3 c = order-constraint (c .before .before .before .before .before .args .line) (c .before .before .before .if1 .left) (c .before .before .if2 .left) (c .constraint-order .ensures)
 
 pub line-order-spec : {M : Type 1} → statement M
 line-order-spec =

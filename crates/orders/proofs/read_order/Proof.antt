@@ -1,7 +1,7 @@
 -- `orders::read_order` meets its contract. Assumes nothing.
 use borrow.Author.Needs.{needs}
 use Rattle.orders.proofs.Lines.{order-long, order-of-table, order-of-line}
-use Rattle.orders.proofs.Letters.{no-left, no-edit}
+use Rattle.orders.proofs.Letters.{no-left-order, no-edit}
 use Rattle.orders.proofs.read_order.Statement.{statement}
 use Rattle.orders.proofs.read_order.Tie as tie
 
@@ -24,7 +24,7 @@ read-by-table-requires : tie.Need-read-by-table-requires
 read-by-table-requires c κs = c .before .before .if1 .left
 
 returns-2 : tie.Need-returns-2
-returns-2 c = order-of-line (c .before .before .before .before .before .args .bytes .now) (c .before .before .before .if1 .left) (no-left _ (c .before .before .byte-at .ensures) (c .before .match .keys1)) (c .read-exchanged .ensures)
+returns-2 c = order-of-line (c .before .before .before .before .before .args .bytes .now) (c .before .before .before .if1 .left) (no-left-order _ (c .before .before .byte-at .ensures) (c .before .match .keys1)) (c .read-exchanged .ensures)
 
 returns-3 : tie.Need-returns-3
 returns-3 c = order-of-line (c .before .before .before .before .before .args .bytes .now) (c .before .before .before .if1 .left) (no-edit _ (c .before .before .byte-at .ensures) (c .before .match .keys2)) (c .read-exchanged2 .ensures)

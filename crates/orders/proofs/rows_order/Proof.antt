@@ -3,7 +3,7 @@ use native.Mathlib.Omega.{arith}
 use borrow.Author.Needs.{needs}
 use Rattle.form.specs.Spelling.{bytes}
 use Rattle.line.proofs.Signs.{name-near}
-use Rattle.orders.proofs.Letters.{is-none, is-bench, no-rows}
+use Rattle.orders.proofs.Letters.{is-none, is-bench, no-rows-order}
 use Rattle.orders.proofs.rows_order.Statement.{statement}
 use Rattle.orders.proofs.rows_order.Tie as tie
 
@@ -37,7 +37,7 @@ unfolding bytes
 returns-2 c = is-bench (c .before .before .before .before .before .args .bytes .now) (c .before .before .before .before .before .args .number) (c .before .before .before .before .before .pre .1) (c .before .before .before .before .before .pre .2) (c .before .before .before .before .before .pre .3) (c .before .before .before .byte-at .ensures) (c .before .before .match .keys2) (c .order-as2 .ensures)
 
 returns-3 : tie.Need-returns-3
-returns-3 c = no-rows (c .before .before .before .before .args .bytes .now) (c .before .before .before .before .args .number) (c .before .before .before .before .pre .1) (c .before .before .before .before .pre .2) (c .before .before .before .before .pre .3) (c .before .before .byte-at .ensures) (c .before .match .rest .0 .1) (c .before .match .rest .1) (c .no-order .ensures)
+returns-3 c = no-rows-order (c .before .before .before .before .args .bytes .now) (c .before .before .before .before .args .number) (c .before .before .before .before .pre .1) (c .before .before .before .before .pre .2) (c .before .before .before .before .pre .3) (c .before .before .byte-at .ensures) (c .before .match .rest .0 .1) (c .before .match .rest .1) (c .no-order .ensures)
 
 pub rows-order-spec : {M : Type 1} → statement M
 rows-order-spec =

@@ -4,19 +4,19 @@ use mathlib.Core.Path.{_≡_}
 use lib.ListN.{length, getD, take}
 use native.Mathlib.Omega.{arith}
 use Rattle.lists.proofs.Lists.{length-mapped}
-use Rattle.lists.specs.Lists.{sift}
+use Rattle.lists.specs.Lists.{filter}
 use Rattle.record.specs.Record.{Record, names}
 use Rattle.record.specs.Stored.{fillerConstraint}
 use Rattle.links.specs.Marks.{placeIn}
 use Rattle.marks.specs.Resolved.{Resolved}
-use Rattle.pairs.proofs.Unordered.{isUnordered, left-known, right-known, here, pairs-next, pairs-end, pairs-start, bit-low, held-constraints, within-limit}
+use Rattle.pairs.proofs.Unordered.{isUnordered, pair-left-known, pair-right-known, here, pairs-next, pairs-end, pairs-start, bit-low, held-constraints, within-limit}
 use borrow.Author.Needs.{needs}
 use Rattle.pairs.proofs.unordered_pairs.Statement.{statement}
 use Rattle.pairs.proofs.unordered_pairs.Tie as tie
 
 abbrev Inv-loop : tie.InvT-loop
 Inv-loop constraints n index resolved rows₀ count₀ i₀ rows count i = (i ≤ n) × (n ≤ 512) × (length constraints ≡ 512) × (count ≤ i) × (length rows ≡ 512)
-    × ((R : Record) → Resolved R resolved → ((x : ℕ) → getD index x 0 ≡ placeIn (names R) x) → take n constraints ≡ R .constraints → take count rows ≡ sift (isUnordered R) (take i (R .constraints)))
+    × ((R : Record) → Resolved R resolved → ((x : ℕ) → getD index x 0 ≡ placeIn (names R) x) → take n constraints ≡ R .constraints → take count rows ≡ filter (isUnordered R) (take i (R .constraints)))
 
 abbrev μ-loop : tie.MeasureT-loop
 μ-loop constraints n index resolved rows₀ count₀ i₀ rows count i = n - i
@@ -89,7 +89,7 @@ loop-again c =
       search needs,
       λ R g f e. let m = here _ _ w R e (l .i) fillerConstraint h in
           pairs-next _ _ w R e (l .rows) (l .i) (l .count) _ fillerConstraint (u .result) h (omega arith) (k .5 R g f e)
-          (u .ensures R g f (left-known R (g .formed) _ m) (right-known R (g .formed) _ m)) (b .0),
+          (u .ensures R g f (pair-left-known R (g .formed) _ m) (pair-right-known R (g .formed) _ m)) (b .0),
     )
 
 returns-2 : tie.Need-returns-2 Inv-loop μ-loop

@@ -60,7 +60,7 @@ use Rattle.adopt.proofs.adopt as adopted
 use Rattle.adopt.proofs.adopt.Symbol as adopted-def
 use Rattle.adopt.proofs.adopt.Symbol.{name as #adopt·adopt}
 use Rattle.adopt.proofs.adopt.Met as adopted-thm
-use Rattle.poll.proofs.Lent.{edits, constraints, roll, Eight, Lents, eight, eight-tells, eight-lawful, Rows, rowsVal, Gathered, to-gathered, goes-gathered, said-gathered}
+use Rattle.poll.proofs.Lent.{edits, constraints, roll, Eight, Lents, eight, eight-tells, eight-lawful, RollSlice, rowsVal, Gathered, to-gathered, goes-gathered, said-gathered}
 use Rattle.poll.proofs.adopt.Key.{name as #poll·adopt}
 use Rattle.poll.proofs.adopt as f
 use Rattle.poll.proofs.adopt.Statement as stated
@@ -119,10 +119,10 @@ module _ {M : Type 1} (𝓤 : URA M) (H : Heap 𝓤) (A : Atoms 𝓤) (W : Given
   said-adopted s r = exE 𝓤 _ (λ ws. snd∗ 𝓤 (sem 𝓤 H A (lasts adopted.ended (κ, (κ′, tt)) (bench, (n, (es, (cs, (s, tt))))) ws)) (fact 𝓤 (Adopts s r)))
 
   module _ (C : Calls 𝓤 H) (Λ : Loops 𝓤 H) (fm : FmC 𝓤 H (W .laws) C) (known-gathered : Triple 𝓤 (C #lent-roll·gathered) (Gathered 𝓤 H A mem run)) (known-adopted : Triple 𝓤 (C #adopt·adopt) (Adopted 𝓤 H A mem run)) where
-    walk : Is (Eight (named 0) κ 5) es (eight es ∷ []) → Is (Eight (named 1) κ′ 3) cs (eight cs ∷ []) → Is (Rows κ″) x (rowsVal x ∷ [])
+    walk : Is (Eight (named 0) κ 5) es (eight es ∷ []) → Is (Eight (named 1) κ′ 3) cs (eight cs ∷ []) → Is (RollSlice κ″) x (rowsVal x ∷ [])
         → ent 𝓤 (onEntry 𝓤 H A f.signature (κ, (κ′, (κ″, tt))) (q, (q′, (q″, tt))) a at) (WpFn 𝓤 H C Λ code.function (benchVal bench ∷ vint w32 n ∷ eight es ∷ eight cs ∷ rowsVal x ∷ []) Post)
     walk is-e is-c is-x =
-        qed W ((‵ (flft κ q) ⊛ ‵ (flft κ′ q′) ⊛ ‵ (flft κ″ q″) ⊛ ‵ ftrue) ∷ ‵ (owns (B.the-row ∷ u32 ∷ Eight (named 0) κ 5 ∷ Eight (named 1) κ′ 3 ∷ Rows κ″ ∷ []) a at) ∷ []) ∵ enter ! C Λ code.function (benchVal bench ∷ vint w32 n ∷ eight es ∷ eight cs ∷ rowsVal x ∷ []) _ $
+        qed W ((‵ (flft κ q) ⊛ ‵ (flft κ′ q′) ⊛ ‵ (flft κ″ q″) ⊛ ‵ ftrue) ∷ ‵ (owns (B.the-row ∷ u32 ∷ Eight (named 0) κ 5 ∷ Eight (named 1) κ′ 3 ∷ RollSlice κ″ ∷ []) a at) ∷ []) ∵ enter ! C Λ code.function (benchVal bench ∷ vint w32 n ∷ eight es ∷ eight cs ∷ rowsVal x ∷ []) _ $
         alloc1 ! (λ l₀. alloc1 ! (λ l₁. alloc1 ! (λ l₂. alloc1 ! (λ l₃. alloc1 ! (λ l₄. alloc1 ! (λ l₅. alloc1 ! (λ l₆. alloc1 ! (λ l₇. alloc1 ! (λ l₈. alloc0 ! $ params1 ! $
         pass1 ! (init ! 14 refl (LL.lawful B.the-type B′.the-laws 𝓤 H A W .typed bench _ is-b .0)) $ pass1 ! (init ! 12 refl (tt, record { fits = gn })) $ pass1 ! (init ! 10 refl (eight-lawful 𝓤 H A W (named 0) κ 5 .typed es (eight es ∷ []) is-e .0)) $
         pass1 ! (init ! 8 refl (eight-lawful 𝓤 H A W (named 1) κ′ 3 .typed cs (eight cs ∷ []) is-c .0)) $

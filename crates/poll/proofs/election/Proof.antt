@@ -56,7 +56,7 @@ use Rattle.count.proofs.election as counted
 use Rattle.count.proofs.election.Symbol as counted-def
 use Rattle.count.proofs.election.Symbol.{name as #count·election}
 use Rattle.count.proofs.election.Met as counted-thm
-use Rattle.poll.proofs.Lent.{edits, constraints, roll, Eight, Lents, eight, eight-tells, eight-lawful, Rows, rowsVal, Gathered, to-gathered, goes-gathered, said-gathered}
+use Rattle.poll.proofs.Lent.{edits, constraints, roll, Eight, Lents, eight, eight-tells, eight-lawful, RollSlice, rowsVal, Gathered, to-gathered, goes-gathered, said-gathered}
 use Rattle.poll.proofs.election.Key.{name as #poll·election}
 use Rattle.poll.proofs.election as f
 use Rattle.poll.proofs.election.Statement as stated
@@ -111,10 +111,10 @@ module _ {M : Type 1} (𝓤 : URA M) (H : Heap 𝓤) (A : Atoms 𝓤) (W : Given
   said-counted s r = exE 𝓤 _ (λ ws. snd∗ 𝓤 (sem 𝓤 H A (lasts counted.ended (κ, (κ′, tt)) (n, (es, (cs, (s, tt)))) ws)) (fact 𝓤 (Says s r)))
 
   module _ (C : Calls 𝓤 H) (Λ : Loops 𝓤 H) (fm : FmC 𝓤 H (W .laws) C) (known-gathered : Triple 𝓤 (C #lent-roll·gathered) (Gathered 𝓤 H A mem run)) (known-counted : Triple 𝓤 (C #count·election) (Counted 𝓤 H A mem run)) where
-    walk : Is (Eight (named 0) κ 5) es (eight es ∷ []) → Is (Eight (named 1) κ′ 3) cs (eight cs ∷ []) → Is (Rows κ″) x (rowsVal x ∷ [])
+    walk : Is (Eight (named 0) κ 5) es (eight es ∷ []) → Is (Eight (named 1) κ′ 3) cs (eight cs ∷ []) → Is (RollSlice κ″) x (rowsVal x ∷ [])
         → ent 𝓤 (onEntry 𝓤 H A f.signature (κ, (κ′, (κ″, tt))) (q, (q′, (q″, tt))) a at) (WpFn 𝓤 H C Λ code.function (vint w32 n ∷ eight es ∷ eight cs ∷ rowsVal x ∷ []) Post)
     walk is-e is-c is-x =
-        qed W ((‵ (flft κ q) ⊛ ‵ (flft κ′ q′) ⊛ ‵ (flft κ″ q″) ⊛ ‵ ftrue) ∷ ‵ (owns (u32 ∷ Eight (named 0) κ 5 ∷ Eight (named 1) κ′ 3 ∷ Rows κ″ ∷ []) a at) ∷ []) ∵ enter ! C Λ code.function (vint w32 n ∷ eight es ∷ eight cs ∷ rowsVal x ∷ []) _ $
+        qed W ((‵ (flft κ q) ⊛ ‵ (flft κ′ q′) ⊛ ‵ (flft κ″ q″) ⊛ ‵ ftrue) ∷ ‵ (owns (u32 ∷ Eight (named 0) κ 5 ∷ Eight (named 1) κ′ 3 ∷ RollSlice κ″ ∷ []) a at) ∷ []) ∵ enter ! C Λ code.function (vint w32 n ∷ eight es ∷ eight cs ∷ rowsVal x ∷ []) _ $
         alloc1 ! (λ l₀. alloc1 ! (λ l₁. alloc1 ! (λ l₂. alloc1 ! (λ l₃. alloc1 ! (λ l₄. alloc1 ! (λ l₅. alloc1 ! (λ l₆. alloc1 ! (λ l₇. alloc0 ! $ params1 ! $
         pass1 ! (init ! 12 refl (tt, record { fits = gn })) $ pass1 ! (init ! 10 refl (eight-lawful 𝓤 H A W (named 0) κ 5 .typed es (eight es ∷ []) is-e .0)) $
         pass1 ! (init ! 8 refl (eight-lawful 𝓤 H A W (named 1) κ′ 3 .typed cs (eight cs ∷ []) is-c .0)) $

@@ -6,7 +6,7 @@ use Rattle.table.specs.Table.{unite}
 use Rattle.fit.proofs.Fit.{checked-fit}
 use Rattle.proposal.specs.Proposal.{started, proposed}
 use Rattle.propose.specs.Propose.{draftFault}
-use Rattle.propose.proofs.Drafts.{stopped-is, made-is, unsound-old, no-place-before, start-checked, start-is, unsound-start, no-place-after, no-fault, last-is}
+use Rattle.propose.proofs.Drafts.{stopped-is, made-is, unsound-old, no-place-before, start-checked, start-is, unsound-start, no-place-after, propose-no-fault, last-is}
 use borrow.Author.Needs.{needs}
 use Rattle.propose.proofs.drafted.Statement.{statement}
 use Rattle.propose.proofs.drafted.Tie as tie
@@ -92,7 +92,7 @@ returns-5 c =
     let last = c .before .before .finished .result in
     let u = c .before .before .finished .ensures (started M Q) s w y in
     let v = c .before .if4 .left in
-    made-is (draftFault M Q) (proposed M Q) (no-fault M Q p first t q y last u v) (last-is M Q p first t q y last u v _ _ (c .with-table2 .ensures) s)
+    made-is (draftFault M Q) (proposed M Q) (propose-no-fault M Q p first t q y last u v) (last-is M Q p first t q y last u v _ _ (c .with-table2 .ensures) s)
 
 pub drafted-spec : {M : Type 1} → statement M
 drafted-spec =

@@ -1,6 +1,6 @@
 -- `propose::new_proposal` meets its contract. Assumes nothing.
 use Rattle.table.specs.Table.{decoded}
-use Rattle.propose.proofs.Answers.{rows-refused, own-stored, own-checked, old-refused, both-stored, both-checked, old-checked, old-few, made-rows}
+use Rattle.propose.proofs.Answers.{propose-rows-refused, own-stored, own-checked, old-refused, both-stored, both-checked, old-checked, old-few, made-rows}
 use borrow.Author.Needs.{needs}
 use Rattle.propose.proofs.new_proposal.Statement.{statement}
 use Rattle.propose.proofs.new_proposal.Tie as tie
@@ -14,7 +14,7 @@ stopped-requires c κs = search needs
 returns : tie.Need-returns
 returns c =
     let s = c .before .before .before .args in
-    rows-refused (s .edits .now) (s .constraints .now) (s .oldedits .now) (s .oldconstraints .now) _ (c .before .before .lent .ensures) (c .before .if1 .taken) (c .stopped .ensures)
+    propose-rows-refused (s .edits .now) (s .constraints .now) (s .oldedits .now) (s .oldconstraints .now) _ (c .before .before .lent .ensures) (c .before .if1 .taken) (c .stopped .ensures)
 
 merge-requires : tie.Need-merge-requires
 merge-requires c κs = search needs

@@ -1,5 +1,5 @@
 -- `propose::propose` meets its contract. Assumes nothing.
-use Rattle.propose.specs.Propose.{Lent}
+use Rattle.propose.specs.Propose.{LentToPropose}
 use Rattle.propose.proofs.Answers.{tables-refused, new-few, few-edits, few-constraints, written-is}
 use borrow.Author.Needs.{needs}
 use Rattle.propose.proofs.propose.Statement.{statement}
@@ -14,7 +14,7 @@ refused-requires c κs = search needs
 returns : tie.Need-returns
 returns c =
     let s = c .before .before .before .before .args in
-    let t : Lent = record { edits = s .edits .now; constraints = s .constraints .now; oldedits = s .oldedits .now; oldconstraints = s .oldconstraints .now; newedits = s .newedits .now; newconstraints = s .newconstraints .now } in
+    let t : LentToPropose = record { edits = s .edits .now; constraints = s .constraints .now; oldedits = s .oldedits .now; oldconstraints = s .oldconstraints .now; newedits = s .newedits .now; newconstraints = s .newconstraints .now } in
     let e = c .before .before .before .new-proposal .ensures in
     tables-refused t _ e (c .before .if1 .taken) (c .refused .ensures)
 
@@ -24,7 +24,7 @@ refused-requires-2 c κs = search needs
 returns-2 : tie.Need-returns-2
 returns-2 c =
     let s = c .before .before .before .before .before .before .args in
-    let t : Lent = record { edits = s .edits .now; constraints = s .constraints .now; oldedits = s .oldedits .now; oldconstraints = s .oldconstraints .now; newedits = s .newedits .now; newconstraints = s .newconstraints .now } in
+    let t : LentToPropose = record { edits = s .edits .now; constraints = s .constraints .now; oldedits = s .oldedits .now; oldconstraints = s .oldconstraints .now; newedits = s .newedits .now; newconstraints = s .newconstraints .now } in
     let e = c .before .before .before .before .before .new-proposal .ensures in
     few-edits t _ e (c .before .before .before .if1 .left) (c .before .if2 .taken) (c .refused2 .ensures)
 
@@ -34,21 +34,21 @@ refused-requires-3 c κs = search needs
 returns-3 : tie.Need-returns-3
 returns-3 c =
     let s = c .before .before .before .before .before .before .before .args in
-    let t : Lent = record { edits = s .edits .now; constraints = s .constraints .now; oldedits = s .oldedits .now; oldconstraints = s .oldconstraints .now; newedits = s .newedits .now; newconstraints = s .newconstraints .now } in
+    let t : LentToPropose = record { edits = s .edits .now; constraints = s .constraints .now; oldedits = s .oldedits .now; oldconstraints = s .oldconstraints .now; newedits = s .newedits .now; newconstraints = s .newconstraints .now } in
     let e = c .before .before .before .before .before .before .new-proposal .ensures in
     few-constraints t _ e (c .before .before .before .before .if1 .left) (c .before .before .if2 .left) (c .before .if3 .taken) (c .refused3 .ensures)
 
 write-edits-requires : tie.Need-write-edits-requires
 write-edits-requires c κs =
     let s = c .before .before .before .before .before .before .before .args in
-    let t : Lent = record { edits = s .edits .now; constraints = s .constraints .now; oldedits = s .oldedits .now; oldconstraints = s .oldconstraints .now; newedits = s .newedits .now; newconstraints = s .newconstraints .now } in
+    let t : LentToPropose = record { edits = s .edits .now; constraints = s .constraints .now; oldedits = s .oldedits .now; oldconstraints = s .oldconstraints .now; newedits = s .newedits .now; newconstraints = s .newconstraints .now } in
     let e = c .before .before .before .before .before .before .new-proposal .ensures in
     (new-few t _ e (c .before .before .before .before .if1 .left) .0, c .before .before .if2 .left)
 
 write-constraints-requires : tie.Need-write-constraints-requires
 write-constraints-requires c κs =
     let s = c .before .before .before .before .before .before .before .before .before .before .args in
-    let t : Lent = record { edits = s .edits .now; constraints = s .constraints .now; oldedits = s .oldedits .now; oldconstraints = s .oldconstraints .now; newedits = s .newedits .now; newconstraints = s .newconstraints .now } in
+    let t : LentToPropose = record { edits = s .edits .now; constraints = s .constraints .now; oldedits = s .oldedits .now; oldconstraints = s .oldconstraints .now; newedits = s .newedits .now; newconstraints = s .newconstraints .now } in
     let e = c .before .before .before .before .before .before .before .before .before .new-proposal .ensures in
     (new-few t _ e (c .before .before .before .before .before .before .before .if1 .left) .1, c .before .before .before .before .if3 .left)
 
@@ -61,7 +61,7 @@ same-length-2 c = search needs
 returns-4 : tie.Need-returns-4
 returns-4 c =
     let s = c .before .before .before .before .before .before .before .before .before .before .before .before .args in
-    let t : Lent = record { edits = s .edits .now; constraints = s .constraints .now; oldedits = s .oldedits .now; oldconstraints = s .oldconstraints .now; newedits = s .newedits .now; newconstraints = s .newconstraints .now } in
+    let t : LentToPropose = record { edits = s .edits .now; constraints = s .constraints .now; oldedits = s .oldedits .now; oldconstraints = s .oldconstraints .now; newedits = s .newedits .now; newconstraints = s .newconstraints .now } in
     let e = c .before .before .before .before .before .before .before .before .before .before .before .new-proposal .ensures in
     written-is t _ e (c .before .before .before .before .before .before .before .before .before .if1 .left) (c .before .before .before .before .before .before .before .if2 .left) (c .before .before .before .before .before .before .if3 .left)
     (c .before .before .before .before .write-edits .ensures) (c .before .write-constraints .ensures)

@@ -7,14 +7,14 @@ use native.Mathlib.Omega.{arith}
 use borrow.Author.Tests.{not-true, not-false}
 use Rattle.lists.proofs.Lists.{length-mapped}
 use Rattle.ground.proofs.Loop.{State, state-start, state-end, state-outside, state-late, state-goes, state-stops}
-use Rattle.table.specs.Checked.{Marked}
+use Rattle.table.specs.Checked.{MarksNames}
 use Rattle.table.proofs.Elements.{constraintElements, constraint-rows-ascend}
 use borrow.Author.Needs.{needs}
 use Rattle.refusal.proofs.constraint_fault.Statement.{statement}
 use Rattle.refusal.proofs.constraint_fault.Tie as tie
 
 abbrev Inv-loop : tie.InvT-loop
-Inv-loop t marks adding a n at₀ count₀ i₀ at count i = (at ≤ n) × (n ≤ 512) × (count ≤ 512) × (i ≤ length t) × (length a ≡ 512) × ((names : List ℕ) → Marked marks names → State (constraintElements names adding) a n t at count i)
+Inv-loop t marks adding a n at₀ count₀ i₀ at count i = (at ≤ n) × (n ≤ 512) × (count ≤ 512) × (i ≤ length t) × (length a ≡ 512) × ((names : List ℕ) → MarksNames marks names → State (constraintElements names adding) a n t at count i)
 
 abbrev μ-loop : tie.MeasureT-loop
 μ-loop t marks adding a n at₀ count₀ i₀ at count i = (n - at) + (length t - i)

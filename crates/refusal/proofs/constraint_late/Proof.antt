@@ -1,7 +1,7 @@
 -- `refusal::constraint_late` meets its contract. Assumes nothing.
 use mathlib.Core.Bool.{false}
 use mathlib.Core.List.{[]}
-use Rattle.ground.proofs.Loop.{late-is}
+use Rattle.ground.proofs.Loop.{late-fault-is}
 use Rattle.table.proofs.Elements.{constraintElements}
 use borrow.Author.Needs.{needs}
 use Rattle.refusal.proofs.constraint_late.Statement.{statement}
@@ -51,7 +51,7 @@ returns c = λ a.
     let p = j .before in
     let g = p .before in
     let s = g .before .before in
-    late-is (constraintElements [] false) (s .args .t1) (s .args .n) (s .args .t .now) (search needs) (s .args .count) (s .args .i) (p .constraint-place .ensures .1) a (p .constraint-place .result) (p .constraint-place .ensures .2) (j .slot .result) _ (j .slot .ensures .1) (x .constraint-row .ensures)
+    late-fault-is (constraintElements [] false) (s .args .t1) (s .args .n) (s .args .t .now) (search needs) (s .args .count) (s .args .i) (p .constraint-place .ensures .1) a (p .constraint-place .result) (p .constraint-place .ensures .2) (j .slot .result) _ (j .slot .ensures .1) (x .constraint-row .ensures)
     (m .result) (m .ensures .0) (g .constraint-repeated .result) (g .constraint-repeated .ensures) (c .late-number .ensures)
 
 pub constraint-late-spec : {M : Type 1} → statement M

@@ -1,5 +1,5 @@
 -- `refusal::edit_late` meets its contract. Assumes nothing.
-use Rattle.ground.proofs.Loop.{late-is}
+use Rattle.ground.proofs.Loop.{late-fault-is}
 use Rattle.table.proofs.Elements.{editElements}
 use borrow.Author.Needs.{needs}
 use Rattle.refusal.proofs.edit_late.Statement.{statement}
@@ -49,7 +49,7 @@ returns c = λ a.
     let p = j .before in
     let g = p .before in
     let s = g .before .before in
-    late-is editElements (s .args .t1) (s .args .n) (s .args .t .now) (search needs) (s .args .count) (s .args .i) (p .edit-place .ensures .1) a (p .edit-place .result) (p .edit-place .ensures .2) (j .slot .result) _ (j .slot .ensures .1) (x .edit-row .ensures)
+    late-fault-is editElements (s .args .t1) (s .args .n) (s .args .t .now) (search needs) (s .args .count) (s .args .i) (p .edit-place .ensures .1) a (p .edit-place .result) (p .edit-place .ensures .2) (j .slot .result) _ (j .slot .ensures .1) (x .edit-row .ensures)
     (m .result) (m .ensures .0) (g .edit-repeated .result) (g .edit-repeated .ensures) (c .late-number .ensures)
 
 pub edit-late-spec : {M : Type 1} → statement M

@@ -1,5 +1,5 @@
 -- `report::report_rows` meets its contract. Assumes nothing.
-use Rattle.report.proofs.Numbers.{rows-none, rows-next}
+use Rattle.report.proofs.Numbers.{rows-none, report-rows-next}
 use lib.ListN.{length-set, length, take}
 use Rattle.report.specs.Rows.{numbered}
 use Prim.Native.Nat.{_-_, _≤_}
@@ -43,7 +43,7 @@ loop-less : tie.Need-loop-less Inv-loop μ-loop
 loop-less c = search needs
 
 loop-again : tie.Need-loop-again Inv-loop μ-loop
-loop-again c = let l = c .before .before .before .loop in let s = c .before .before .before .before .args in (search needs, search needs, search needs, length-set (l .rows) (l .i) (c .edit-numbers .result) ∙ l .inv .3, rows-next (s .t1) (s .judged) (l .rows) (l .i) _ (search needs) (search needs) (l .inv .4) (c .edit-numbers .ensures))
+loop-again c = let l = c .before .before .before .loop in let s = c .before .before .before .before .args in (search needs, search needs, search needs, length-set (l .rows) (l .i) (c .edit-numbers .result) ∙ l .inv .3, report-rows-next (s .t1) (s .judged) (l .rows) (l .i) _ (search needs) (search needs) (l .inv .4) (c .edit-numbers .ensures))
 
 returns : tie.Need-returns Inv-loop μ-loop
 returns c = let l = c .before .loop in let s = c .before .before .args in let e : l .i ≡ s .n = omega (arith, l .inv .0, c .loop-test .left) in (rw e at (l .inv .4), l .inv .3)

@@ -3,7 +3,7 @@ use mathlib.Core.Path.{_∙_}
 use native.Mathlib.Omega.{arith}
 use lib.ListN.{take}
 use borrow.Author.Needs.{needs}
-use Rattle.roll.proofs.Rolls.{bench-low, bench-high, no-place, bench-twice}
+use Rattle.roll.proofs.Rolls.{bench-low, bench-high, no-roll-place, bench-twice}
 use Rattle.roll.proofs.is_faulty.Statement.{statement}
 use Rattle.roll.proofs.is_faulty.Tie as tie
 
@@ -14,7 +14,7 @@ returns-2 : tie.Need-returns-2
 returns-2 c = let s = c .before .before .before .before in bench-high (take (s .args .n) (s .args .rows)) (s .args .row) (s .args .n) (c .if2 .taken)
 
 returns-3 : tie.Need-returns-3
-returns-3 c = let s = c .before .before .before .before .before in no-place (take (s .args .n) (s .args .rows)) (s .args .row) (s .args .n) (c .if3 .taken)
+returns-3 c = let s = c .before .before .before .before .before in no-roll-place (take (s .args .n) (s .args .rows)) (s .args .row) (s .args .n) (c .if3 .taken)
 
 has-bench-requires : tie.Need-has-bench-requires
 has-bench-requires c κs = search needs

@@ -1,7 +1,7 @@
 -- `roll_array::adopt` meets its contract. Assumes nothing.
 use lib.ListN.{take}
 use borrow.Author.Needs.{needs}
-use Rattle.roll_array.proofs.Taken.{taken}
+use Rattle.roll_array.proofs.Taken.{first-rows-taken}
 use Rattle.roll_array.proofs.adopt.Statement.{statement}
 use Rattle.roll_array.proofs.adopt.Tie as tie
 
@@ -17,7 +17,7 @@ adopt-requires c κs = search needs
 returns : tie.Need-returns
 returns c =
     let s = c .before .before .before in
-    c .adopt .ensures (take (s .args .count) (s .args .rows)) (taken (s .args .rows) (s .args .count) (s .good .1 .1 .1 .1 .0 .1 .0 .1) (c .before .before .lesser .ensures) (c .before .first-rows .ensures))
+    c .adopt .ensures (take (s .args .count) (s .args .rows)) (first-rows-taken (s .args .rows) (s .args .count) (s .good .1 .1 .1 .1 .0 .1 .0 .1) (c .before .before .lesser .ensures) (c .before .first-rows .ensures))
 
 pub adopt-spec : {M : Type 1} → statement M
 adopt-spec = tie.close (tie.spec lesser-requires first-rows-requires adopt-requires returns)

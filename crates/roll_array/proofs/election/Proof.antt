@@ -1,7 +1,7 @@
 -- `roll_array::election` meets its contract. Assumes nothing.
 use lib.ListN.{take}
 use borrow.Author.Needs.{needs}
-use Rattle.roll_array.proofs.Taken.{taken}
+use Rattle.roll_array.proofs.Taken.{first-rows-taken}
 use Rattle.roll_array.proofs.election.Statement.{statement}
 use Rattle.roll_array.proofs.election.Tie as tie
 
@@ -17,7 +17,7 @@ election-requires c κs = search needs
 returns : tie.Need-returns
 returns c =
     let s = c .before .before .before .args in
-    c .election .ensures (take (s .count) (s .rows)) (taken (s .rows) (s .count) (search needs) (c .before .before .lesser .ensures) (c .before .first-rows .ensures))
+    c .election .ensures (take (s .count) (s .rows)) (first-rows-taken (s .rows) (s .count) (search needs) (c .before .before .lesser .ensures) (c .before .first-rows .ensures))
 
 pub election-spec : {M : Type 1} → statement M
 election-spec = tie.close (tie.spec lesser-requires first-rows-requires election-requires returns)

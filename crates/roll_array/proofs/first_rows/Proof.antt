@@ -54,12 +54,12 @@ use Rattle.vote.proofs.RollRow as T
 use Rattle.vote.proofs.RollRow.Laws as T′
 use Rattle.roll.proofs.Roll as S
 use Rattle.roll.proofs.Roll.Laws as S′
-use Rattle.poll.proofs.Lent.{Rows, rowsVal, Gathered, to-gathered, goes-gathered, said-gathered}
+use Rattle.poll.proofs.Lent.{RollSlice, rowsVal, Gathered, to-gathered, goes-gathered, said-gathered}
 use Rattle.lent_roll.proofs.gathered as gathered
 use Rattle.lent_roll.proofs.gathered.Symbol as gathered-def
 use Rattle.lent_roll.proofs.gathered.Symbol.{name as #lent-roll·gathered}
 use Rattle.lent_roll.proofs.gathered.Met as gathered-thm
-use Rattle.roll_array.proofs.Rows.{arr, rest, cut, paste, lies-in, lies-out, roomy}
+use Rattle.roll_array.proofs.Rows.{arr, rest, cut, paste, roll-lies-in, roll-lies-out, roomy}
 use Rattle.roll_array.proofs.first_rows.Key.{name as #roll-array·first-rows}
 use Rattle.roll_array.proofs.first_rows as f
 use Rattle.roll_array.proofs.first_rows.Statement as stated
@@ -118,11 +118,11 @@ module _ {M : Type 1} (𝓤 : URA M) (H : Heap 𝓤) (A : Atoms 𝓤) (W : Given
         assigns ! (agg ! (and-then ! (load ! (from ! (stop !)) (look ! 2 refl)) (and-then ! (load ! (from ! (stop !)) (look ! 6 refl)) (no-more !)))) (from ! (stop !)) (init ! 0 refl (tt, (tt, (record { fits = gk }, tt)))) $
         rewrite ! 0 (λ (m : ℕ). ‵ (fat fullShare slice l₅ 0 (sliceVal (l₃, 0) m))) (counted ok) refl $
         -- the first k rows are lent for a lifetime α of the call
-        move ! (4 ∷ []) $ use1 W (‵ (partAt (Array T.the-row 9) fullShare xs l₃ 0)) (lies-in 𝓤 H A W 9 xs l₃ 0 is-xs) $
+        move ! (4 ∷ []) $ use1 W (‵ (partAt (Array T.the-row 9) fullShare xs l₃ 0)) (roll-lies-in 𝓤 H A W 9 xs l₃ 0 is-xs) $
         use1 W (‵ (arr-parts (shares T.the-row) 9 .part fullShare xs l₃ 0)) (array-apart 𝓤 H A W T.the-row fullShare tt 9 xs l₃ 0) $ fsplit ! $ drop ! $
         use1 W (‵ (row T.the-row fullShare ys l₃ 0) ⊛ ‵ (rest fullShare k xs l₃ 0)) (cut 𝓤 H A W fullShare k xs l₃ 0) $ split ! $ feqI ! ℕ (length ys) (length ys) refl $ fjoin ! $
         lft-new ! tt (λ α. move ! (1 ∷ []) $
-        use1 W (later (some (λ (δ : GName). ‵ (Rows (α ∷ []) .own (x l₃ δ) (rowsVal (x l₃ δ) ∷ [])) ⊛ ‵ (flent (α ∷ []) (arr-parts (shares T.the-row) (length ys) .part fullShare ys l₃ 0)))))
+        use1 W (later (some (λ (δ : GName). ‵ (RollSlice (α ∷ []) .own (x l₃ δ) (rowsVal (x l₃ δ) ∷ [])) ⊛ ‵ (flent (α ∷ []) (arr-parts (shares T.the-row) (length ys) .part fullShare ys l₃ 0)))))
         (lends-shr-slice 𝓤 H A W T.the-row (named 2) (α ∷ []) fullShare ys l₃ 0 (roomy (length ys) (subst (λ (m : ℕ). m ≤ 9) (counted ok) ok))) $ await ! tt $ pick ! (λ δ. split ! $
         -- [the slice; the lender's part; α; the other rows; _5; …; _4; …; _3's end; _2; …; _1; …; _0; …]
         move ! (2 ∷ 0 ∷ []) $ use2 W (raw (Gathered 𝓤 H A mem run .pre (to-gathered 𝓤 H A mem run (α ∷ []) fullShare (x l₃ δ)))) (goes-gathered 𝓤 H A mem run (α ∷ []) fullShare (x l₃ δ) W) $
@@ -136,7 +136,7 @@ module _ {M : Type 1} (𝓤 : URA M) (H : Heap 𝓤) (A : Atoms 𝓤) (W : Given
         -- the lifetime is ended, and the array is whole again
         move ! (1 ∷ []) $ split ! $ lft-end ! tt $ move ! (0 ∷ 3 ∷ []) $ lent-back ! tt $ fsplit ! $ drop ! $ move ! (0 ∷ 3 ∷ []) $
         use2 W (‵ (row T.the-row fullShare xs l₃ 0)) (paste 𝓤 H A W fullShare k xs l₃ 0) $ feqI ! ℕ (length xs) 9 nine $ fjoin ! $
-        use1 W (‵ (partAt (Array T.the-row 9) fullShare xs l₃ 0)) (array-whole 𝓤 H A W T.the-row fullShare 9 xs l₃ 0) $ use1 W (‵ (fat fullShare (tyArray T′.mir 9) l₃ 0 (arr xs))) (lies-out 𝓤 H A W 9 xs l₃ 0) $
+        use1 W (‵ (partAt (Array T.the-row 9) fullShare xs l₃ 0)) (array-whole 𝓤 H A W T.the-row fullShare 9 xs l₃ 0) $ use1 W (‵ (fat fullShare (tyArray T′.mir 9) l₃ 0 (arr xs))) (roll-lies-out 𝓤 H A W 9 xs l₃ 0) $
         -- [_3; true; the result; _5; …; _4; …; _3's end; _2; …; _1; …; _0; …]
         returns ! (look ! 12 refl) $ forget ! 0 refl $ forget ! 3 refl $ forget ! 5 refl $ forget ! 8 refl $ forget ! 10 refl $ forget ! 12 refl $
         move ! (12 ∷ 13 ∷ []) $ free1 ! $ move ! (10 ∷ 11 ∷ []) $ free1 ! $ move ! (8 ∷ 9 ∷ []) $ free1 ! $ move ! (0 ∷ 7 ∷ []) $ free1 ! $ move ! (4 ∷ 5 ∷ []) $ free1 ! $ move ! (2 ∷ 3 ∷ []) $ free1 ! $ free0 ! $

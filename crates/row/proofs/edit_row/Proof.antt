@@ -1,5 +1,5 @@
 -- `row::edit_row` meets its contract. Assumes nothing.
-use Rattle.row.proofs.Cells.{row-is, row-set-is}
+use Rattle.row.proofs.Cells.{edit-row-is, row-set-is}
 use borrow.Author.Needs.{needs}
 use Rattle.row.proofs.edit_row.Statement.{statement}
 use Rattle.row.proofs.edit_row.Tie as tie
@@ -29,13 +29,13 @@ cast-t13 : tie.Need-cast-t13
 cast-t13 c = search needs
 
 returns : tie.Need-returns
-returns c = row-is (c .before .before .before .before .args .e) (c .before .body .given .1)
+returns c = edit-row-is (c .before .before .before .before .args .e) (c .before .body .given .1)
 
 returns-2 : tie.Need-returns-2
 returns-2 c = row-set-is (c .before .before .before .before .before .args .e) (c .before .before .body2 .given .1) (c .field-number .ensures)
 
 returns-3 : tie.Need-returns-3
-returns-3 c = row-is (c .before .before .before .before .args .e) (c .before .body3 .given .1)
+returns-3 c = edit-row-is (c .before .before .before .before .args .e) (c .before .body3 .given .1)
 
 pub edit-row-spec : {M : Type 1} → statement M
 edit-row-spec =

@@ -13,7 +13,7 @@ use Rattle.record.specs.Judgement.{fits}
 use Rattle.lists.specs.Lists.{all}
 use Rattle.record.specs.Record.{Record}
 use Rattle.record.specs.Stored.{stored}
-use Rattle.rowtest.proofs.Fitting.{left-seat, right-seat, fitting-step, fitting-stop, fitting-end}
+use Rattle.rowtest.proofs.Fitting.{left-seat, right-seat, fitting-step, fitting-stop, row-fitting-end}
 use Rattle.rowtest.proofs.all_fit.Tie as tie
 
 abbrev Inv-loop : tie.InvT-loop
@@ -106,7 +106,7 @@ loop-again c =
 returns-2 : tie.Need-returns-2 Inv-loop μ-loop
 returns-2 c =
     let l = c .before .loop in
-    λ R row e f t u. let k = l .inv .2 R row e f t u in fitting-end R row (l .j) (omega arith) ∙ sym (k .1)
+    λ R row e f t u. let k = l .inv .2 R row e f t u in row-fitting-end R row (l .j) (omega arith) ∙ sym (k .1)
 
 pub all-fit-spec : {M : Type 1} → statement M
 all-fit-spec =

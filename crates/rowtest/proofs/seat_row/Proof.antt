@@ -6,10 +6,10 @@ use native.Mathlib.Omega.{arith}
 use borrow.Author.Needs.{needs}
 use Rattle.rowtest.proofs.seat_row.Statement.{statement}
 use Rattle.rowtest.specs.Seats.{Indexed}
-use Rattle.rowtest.proofs.Seating.{Seating, seating-start, unknown-not, repeated-not, seating-step, seating-end, index-unknown, index-known}
+use Rattle.rowtest.proofs.Seating.{Seating, seating-start, unknown-not, repeated-not, seating-step, seating-end, row-index-unknown, row-index-known}
 use Rattle.indexes.specs.Fit.{Fit}
 use Rattle.record.specs.Record.{Record}
-use Rattle.lists.specs.Lists.{at}
+use Rattle.lists.specs.Lists.{indexOf}
 use Rattle.lists.proofs.Lists.{clash}
 use Rattle.rowtest.proofs.seat_row.Tie as tie
 
@@ -41,7 +41,7 @@ returns : tie.Need-returns Inv-loop μ-loop
 returns c =
     let s = c .before .before .before .before .before .before .before in
     let l = c .before .before .before .before .before .loop in
-    (l .inv .1, λ R f t. (unknown-not R f (s .args .row .now) (l .places) (l .q) (omega arith) (index-unknown R f _ _ (rw (c .before .before .wide32 .ensures) at (c .before .known-index .ensures R f t)) (c .if1 .taken)), λ e. clash e refl))
+    (l .inv .1, λ R f t. (unknown-not R f (s .args .row .now) (l .places) (l .q) (omega arith) (row-index-unknown R f _ _ (rw (c .before .before .wide32 .ensures) at (c .before .known-index .ensures R f t)) (c .if1 .taken)), λ e. clash e refl))
 
 mul-if2 : tie.Need-mul-if2 Inv-loop μ-loop
 mul-if2 c = search needs
@@ -54,7 +54,7 @@ returns-2 c =
     let s = c .before .before .before .before .before .before .before .before in
     let l = c .before .before .before .before .before .before .loop in (
       l .inv .1,
-      λ R f t. let i = index-known R f _ _ (rw (c .before .before .before .wide32 .ensures) at (c .before .before .known-index .ensures R f t)) (omega arith) in
+      λ R f t. let i = row-index-known R f _ _ (rw (c .before .before .before .wide32 .ensures) at (c .before .before .known-index .ensures R f t)) (omega arith) in
           (repeated-not R f (s .args .row .now) (l .places) (l .q) (omega arith) (l .inv .1) (l .inv .2 R f t) (i .0) (rw (← i .1) (c .if2 .taken)), λ e. clash e refl),
     )
 
@@ -79,7 +79,7 @@ loop-again c =
     let l = c .before .before .before .before .before .before .loop in (
       omega arith,
       length-set (l .places) (c .before .before .known-index .result) (l .q + 1) ∙ l .inv .1,
-      λ R f t. let i = index-known R f _ _ (rw (c .before .before .before .wide32 .ensures) at (c .before .before .known-index .ensures R f t)) (omega arith) in
+      λ R f t. let i = row-index-known R f _ _ (rw (c .before .before .before .wide32 .ensures) at (c .before .before .known-index .ensures R f t)) (omega arith) in
           rw (i .1) (seating-step R f (s .args .row .now) (l .places) (l .q) (omega arith) (l .inv .1) (l .inv .2 R f t) (i .0) (rw (← i .1) (c .if2 .left))),
     )
 

@@ -2,7 +2,7 @@
 use Prim.Native.Nat.{_-_}
 use mathlib.Core.Path.{sym, _∙_}
 use borrow.Author.Needs.{needs}
-use Rattle.suggest.proofs.Advised.{first-refused, second-refused, case-refused, accepted}
+use Rattle.suggest.proofs.Advised.{first-refused, second-refused, case-refused, suggestion-accepted}
 use borrow.Author.Tests.{not-true, not-false}
 use Rattle.suggest.proofs.suggest.Statement.{statement}
 use Rattle.suggest.proofs.suggest.Tie as tie
@@ -44,7 +44,7 @@ rows-requires : tie.Need-rows-requires
 rows-requires c κs = search needs
 
 returns-4 : tie.Need-returns-4
-returns-4 c = accepted (c .before .before .before .before .before .before .before .args .t1) (c .before .before .before .before .before .before .before .args .t2) (c .before .before .before .before .before .before .before .args .kind) (sym (c .before .before .before .before .before .before .edit-in-range .ensures .0) ∙ not-false _ (c .before .before .before .before .before .if1 .left)) (sym (c .before .before .before .before .edit-in-range2 .ensures .0) ∙ not-false _ (c .before .before .before .if2 .left)) (c .before .before .if3 .left) (c .before .advise .ensures) (c .rows .ensures)
+returns-4 c = suggestion-accepted (c .before .before .before .before .before .before .before .args .t1) (c .before .before .before .before .before .before .before .args .t2) (c .before .before .before .before .before .before .before .args .kind) (sym (c .before .before .before .before .before .before .edit-in-range .ensures .0) ∙ not-false _ (c .before .before .before .before .before .if1 .left)) (sym (c .before .before .before .before .edit-in-range2 .ensures .0) ∙ not-false _ (c .before .before .before .if2 .left)) (c .before .before .if3 .left) (c .before .advise .ensures) (c .rows .ensures)
 
 pub suggest-spec : {M : Type 1} → statement M
 suggest-spec =

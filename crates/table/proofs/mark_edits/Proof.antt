@@ -9,14 +9,14 @@ use lib.Seq.{length-take-le}
 use Rattle.lists.specs.Lists.{all}
 use Rattle.record.specs.Record.{nameOf}
 use Rattle.row.specs.Row.{editInRange, editRow}
-use Rattle.table.specs.Checked.{Marked}
+use Rattle.table.specs.Checked.{MarksNames}
 use Rattle.table.proofs.Marks.{marks-start, marks-front, marks-end, edit-small}
 use borrow.Author.Needs.{needs}
 use Rattle.table.proofs.mark_edits.Statement.{statement}
 use Rattle.table.proofs.mark_edits.Tie as tie
 
 abbrev Inv-loop : tie.InvT-loop
-Inv-loop n a marks₀ i₀ marks i = (i ≤ n) × (n ≤ 127) × (length marks ≡ 2304) × (all (λ e. editInRange (editRow e)) (take n a) ≡ true → Marked marks (map nameOf (take i (take n a))))
+Inv-loop n a marks₀ i₀ marks i = (i ≤ n) × (n ≤ 127) × (length marks ≡ 2304) × (all (λ e. editInRange (editRow e)) (take n a) ≡ true → MarksNames marks (map nameOf (take i (take n a))))
 
 abbrev μ-loop : tie.MeasureT-loop
 μ-loop n a marks₀ i₀ marks i = n - i

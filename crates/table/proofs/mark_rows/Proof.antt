@@ -8,14 +8,14 @@ use mathlib.Core.Bool.{true}
 use Rattle.lists.specs.Lists.{all}
 use Rattle.row.specs.Row.{cell, editInRange}
 use Rattle.table.specs.Table.{namesOf}
-use Rattle.table.specs.Checked.{Marked}
+use Rattle.table.specs.Checked.{MarksNames}
 use Rattle.table.proofs.Marks.{marks-start, marks-next, marks-end, row-small}
 use borrow.Author.Needs.{needs}
 use Rattle.table.proofs.mark_rows.Statement.{statement}
 use Rattle.table.proofs.mark_rows.Tie as tie
 
 abbrev Inv-loop : tie.InvT-loop
-Inv-loop t marks₀ i₀ marks i = (i ≤ length t) × (length marks ≡ 2304) × (all editInRange t ≡ true → Marked marks (namesOf (take i t)))
+Inv-loop t marks₀ i₀ marks i = (i ≤ length t) × (length marks ≡ 2304) × (all editInRange t ≡ true → MarksNames marks (namesOf (take i t)))
 
 abbrev μ-loop : tie.MeasureT-loop
 μ-loop t marks₀ i₀ marks i = length t - i

@@ -1,6 +1,6 @@
 -- `table::marked` meets its contract. Assumes nothing.
 use mathlib.Core.Path.{refl}
-use Rattle.table.proofs.Further.{past}
+use Rattle.table.proofs.Further.{past-unmarked}
 use borrow.Author.Needs.{needs}
 use Rattle.table.proofs.marked.Statement.{statement}
 use Rattle.table.proofs.marked.Tie as tie
@@ -12,7 +12,7 @@ returns : tie.Need-returns
 returns c = refl
 
 returns-2 : tie.Need-returns-2
-returns-2 c = past (c .before .args .marks .now) (c .before .args .n) (c .if1 .left)
+returns-2 c = past-unmarked (c .before .args .marks .now) (c .before .args .n) (c .if1 .left)
 
 pub marked-spec : {M : Type 1} → statement M
 marked-spec = tie.close (tie.spec shared-slice-read-result returns returns-2)

@@ -10,7 +10,7 @@ use Rattle.record.specs.Stored.{stored}
 use Rattle.record.specs.Record.{Record}
 use Rattle.vote.specs.Tally.{Ballot}
 use Rattle.tally.specs.Groups.{groupIn, place}
-use Rattle.tally.proofs.Steps.{none-yet, bundle-at, place-hit, place-miss, place-end}
+use Rattle.tally.proofs.Steps.{none-yet, bundle-at, place-hit, place-miss, group-place-end}
 use Rattle.tally.proofs.place_of.Statement.{statement}
 use Rattle.tally.proofs.place_of.Tie as tie
 
@@ -61,7 +61,7 @@ returns-2 : tie.Need-returns-2 Inv-loop μ-loop
 returns-2 c = let l = c .before in
     let s = l .before in
     let z : length (s .args .t1) ≡ 8 = search (needs, length-mapped) in
-    (search needs, λ k t C g p. place-end (s .args .t1) (s .args .n) (omega arith) k t C g (l .loop .i) (c .loop-test .left) (l .loop .inv .2 k t C g p))
+    (search needs, λ k t C g p. group-place-end (s .args .t1) (s .args .n) (omega arith) k t C g (l .loop .i) (c .loop-test .left) (l .loop .inv .2 k t C g p))
 
 pub place-of-spec : {M : Type 1} → statement M
 place-of-spec =

@@ -3,7 +3,7 @@ use mathlib.Core.Path.{ap, _∙_}
 use native.Mathlib.Omega.{arith}
 use lib.ListN.{set}
 use borrow.Author.Needs.{needs}
-use Rattle.tally.proofs.Steps.{total-is, room, placed, weight-within, bundle-step}
+use Rattle.tally.proofs.Steps.{total-is, tally-room, placed, weight-within, bundle-step}
 use Rattle.tally.proofs.with_bundle.Statement.{statement}
 use Rattle.tally.proofs.with_bundle.Tie as tie
 
@@ -11,7 +11,7 @@ plus-requires : tie.Need-plus-requires
 plus-requires c κs = search needs
 
 returns : tie.Need-returns
-returns c = (c .before .plus .ensures .0, λ l C e h t p. let s = c .before .before .before in absurd (omega (arith, room (s .args .tally) l (s .args .weight) e C h)))
+returns c = (c .before .plus .ensures .0, λ l C e h t p. let s = c .before .before .before in absurd (omega (arith, tally-room (s .args .tally) l (s .args .weight) e C h)))
 
 place-of-requires : tie.Need-place-of-requires
 place-of-requires c κs = search needs

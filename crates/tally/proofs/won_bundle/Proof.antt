@@ -3,7 +3,7 @@ use mathlib.Core.Path.{_∙_}
 use native.Mathlib.Omega.{arith}
 use borrow.Author.Needs.{needs}
 use Rattle.tally.proofs.Winners.{no-winner, the-winner}
-use Rattle.tally.proofs.Steps.{count-is}
+use Rattle.tally.proofs.Steps.{tally-count-is}
 use Rattle.tally.proofs.Counts.{bundles-length}
 use Rattle.tally.proofs.won_bundle.Statement.{statement}
 use Rattle.tally.proofs.won_bundle.Tie as tie
@@ -12,7 +12,7 @@ empty-requires : tie.Need-empty-requires
 empty-requires c κs = search needs
 
 returns : tie.Need-returns
-returns c = λ l e h. absurd (omega (arith, count-is (c .before .before .args .tally) l 0 e, bundles-length l))
+returns c = λ l e h. absurd (omega (arith, tally-count-is (c .before .before .args .tally) l 0 e, bundles-length l))
 
 winning-place-requires : tie.Need-winning-place-requires
 winning-place-requires c κs = search needs

@@ -66,7 +66,7 @@ stayed = (stay-ref (0 ∷ []) tt (plain (λ _. T.the-row)), (stay-none (λ _. i3
 abbrev Step : {M : Type 1} (𝓤 : URA M) (H : Heap 𝓤) (A : Atoms 𝓤) (mem : Memory → SProp 𝓤) (run : Routine → Fun 𝓤) → Contract 𝓤
 Step 𝓤 H A mem run = tripleOf 𝓤 H A step.signature (step.spec 𝓤 H A mem run)
 
-module _ {M : Type 1} (𝓤 : URA M) (H : Heap 𝓤) (A : Atoms 𝓤) (W : Given 𝓤 H A) (at-mem : Memory → SProp 𝓤) (run : Routine → Fun 𝓤) (κ : Lft) (q : Share) (b o : ℕ) (γ : GName) (h : Turner) (z : ℤ) where
+module _ {M : Type 1} (𝓤 : URA M) (H : Heap 𝓤) (A : Atoms 𝓤) (W : Given 𝓤 H A) (index-mem : Memory → SProp 𝓤) (run : Routine → Fun 𝓤) (κ : Lft) (q : Share) (b o : ℕ) (γ : GName) (h : Turner) (z : ℤ) where
   abbrev x : RefT Turner × (ℤ × Unit {0})
   x = (record { ptr = (b, o); name = γ; now = h }, (z, tt))
 
@@ -92,30 +92,30 @@ module _ {M : Type 1} (𝓤 : URA M) (H : Heap 𝓤) (A : Atoms 𝓤) (W : Given
   made m ok was = LL.owes T.the-type T′.the-laws (h′ m) ((refl, ok), LL.owed T.the-type T′.the-laws h _ was .1)
 
   abbrev Post : Val → SProp 𝓤
-  Post = walkOf 𝓤 H A f.ended stayed (f.clauses 𝓤 H A at-mem run) .post (((κ, tt), (q, tt), tt, x, at), tt)
+  Post = walkOf 𝓤 H A f.ended stayed (f.clauses 𝓤 H A index-mem run) .post (((κ, tt), (q, tt), tt, x, at), tt)
 
   exits : mag z < 2 ^ hbits w32 → (r : TurnAnswer) → r .number < 2 ^ 8 → r ≡ turnAnswerOf (h .opened) (h .last) z
       → ent 𝓤 (sep 𝓤 (A .obs γ (T.the-row .coded .code (h′ (r .opened)))) (sep 𝓤 (A .bor κ (Body (mem T.the-row) b o γ)) (A .lft κ q))) (Post (vint w8 (r .number)))
   exits gz r gr e =
       qed W (‵ (fobs γ (T.the-row .coded .code (h′ (r .opened)))) ∷ ‵ (fbor κ (Body (mem T.the-row) b o γ)) ∷ ‵ (flft κ q) ∷ []) ∵
-      suffices ! _ (ends-at 𝓤 H A f.ended stayed (f.clauses 𝓤 H A at-mem run) W (((κ, tt), (q, tt), tt, x, at), tt) (vint w8 (r .number)) (r .number) (h′ (r .opened), (tt, tt)) (tt, (tt, tt))) $
+      suffices ! _ (ends-at 𝓤 H A f.ended stayed (f.clauses 𝓤 H A index-mem run) W (((κ, tt), (q, tt), tt, x, at), tt) (vint w8 (r .number)) (r .number) (h′ (r .opened), (tt, tt)) (tt, (tt, tt))) $
       says ! (ap (λ (t : TurnAnswer). t .number) e, ap (λ (t : TurnAnswer). h′ (t .opened)) e) $ nothing ! $ move ! (3 ∷ 0 ∷ []) $ join ! $
       frame ! $ feqI ! (List Val) (vptr b o ∷ []) (vptr b o ∷ []) refl $ fjoin3 ! $ nothing ! $ owned ! i32 (Is i32) (sint-makes 𝓤 H A W w32) z _ (refl, gz) $ fjoin ! $ move ! (1 ∷ 0 ∷ []) $ fjoin ! $
       frame ! $ owned ! u8 (Is u8) (uint-makes 𝓤 H A W w8) (r .number) _ (refl, gr) $ done !
 
   -- what `step`'s triple binds outside
-  abbrev to-step : Step 𝓤 H A at-mem run .Ghost
+  abbrev to-step : Step 𝓤 H A index-mem run .Ghost
   to-step = ((tt, tt, tt, (h .opened, (h .last, (z, tt))), (vint w64 (h .opened) ∷ [], (vint w64 (h .last) ∷ [], (vint w32 (ofZ w32 z) ∷ [], tt)))), tt)
 
-  goes : h .opened < 2 ^ 64 → h .last < 2 ^ 64 → mag z < 2 ^ hbits w32 → ent 𝓤 (emp 𝓤) (Step 𝓤 H A at-mem run .pre to-step)
+  goes : h .opened < 2 ^ 64 → h .last < 2 ^ 64 → mag z < 2 ^ hbits w32 → ent 𝓤 (emp 𝓤) (Step 𝓤 H A index-mem run .pre to-step)
   goes g₁ g₂ gz =
       qed W [] ∵ nothing ! $ owned ! i32 (Is i32) (sint-makes 𝓤 H A W w32) z _ (refl, gz) $ fjoin ! $ owned ! usize (Is usize) (uint-makes 𝓤 H A W w64) (h .last) _ (refl, g₂) $ fjoin ! $
       owned ! usize (Is usize) (uint-makes 𝓤 H A W w64) (h .opened) _ (refl, g₁) $ fjoin ! $ nothing ! $ join ! $ frame ! $ done !
 
-  said : (r : TurnAnswer) → ent 𝓤 (ensured 𝓤 H A step.ended (step.clauses 𝓤 H A at-mem run) tt (h .opened, (h .last, (z, tt))) tt r) (fact 𝓤 (r ≡ turnAnswerOf (h .opened) (h .last) z))
+  said : (r : TurnAnswer) → ent 𝓤 (ensured 𝓤 H A step.ended (step.clauses 𝓤 H A index-mem run) tt (h .opened, (h .last, (z, tt))) tt r) (fact 𝓤 (r ≡ turnAnswerOf (h .opened) (h .last) z))
   said r = exE 𝓤 _ (λ ws. snd∗ 𝓤 (sem 𝓤 H A (lasts step.ended tt (h .opened, (h .last, (z, tt))) ws)) (fact 𝓤 (r ≡ turnAnswerOf (h .opened) (h .last) z)))
 
-  module _ (C : Calls 𝓤 H) (Λ : Loops 𝓤 H) (fm : FmC 𝓤 H (W .laws) C) (known : Triple 𝓤 (C #turning·step) (Step 𝓤 H A at-mem run)) where
+  module _ (C : Calls 𝓤 H) (Λ : Loops 𝓤 H) (fm : FmC 𝓤 H (W .laws) C) (known : Triple 𝓤 (C #turning·step) (Step 𝓤 H A index-mem run)) where
     walk : mag z < 2 ^ hbits w32 → ent 𝓤 (onEntry 𝓤 H A f.signature (κ, tt) (q, tt) x at) (WpFn 𝓤 H C Λ code.function (vptr b o ∷ vint w32 (ofZ w32 z) ∷ []) Post)
     walk gz =
         qed W ((‵ (flft κ q) ⊛ ‵ ftrue) ∷ ‵ (owns (MutRef (named 0) κ T.the-row ∷ i32 ∷ []) x at) ∷ []) ∵ split ! $ move ! (2 ∷ []) $ fsplit ! $ fsplit3 ! $ drop ! $ move ! (0 ∷ 1 ∷ 3 ∷ []) $
@@ -127,9 +127,9 @@ module _ {M : Type 1} (𝓤 : URA M) (H : Heap 𝓤) (A : Atoms 𝓤) (W : Given
         -- [the struct's cell; what a Turner owns; the open borrow; obs; auth; _5; …; _4; …; _3; …; _2; …; _1; …; room for _0; …]
         assigns ! (of-opd ! (load ! (from ! (hop ! (look ! 13 refl) (fld ! refl (stop !)))) (look-in ! 0 (sub ! 0 refl (whole !))))) (from ! (stop !)) (init ! 7 refl (tt, record { fits = opened-fits was })) $
         assigns ! (of-opd ! (load ! (from ! (hop ! (look ! 13 refl) (fld ! refl (stop !)))) (look-in ! 0 (sub ! 1 refl (whole !))))) (from ! (stop !)) (init ! 5 refl (tt, record { fits = last-fits was })) $
-        use0 W (raw (Step 𝓤 H A at-mem run .pre to-step)) (goes (opened-fits was) (last-fits was) gz) $
-        calls-at ! fm (Step 𝓤 H A at-mem run) known to-step (and-then ! (load ! (from ! (stop !)) (look ! 8 refl)) (and-then ! (load ! (from ! (stop !)) (look ! 6 refl)) (and-then ! (load ! (from ! (stop !)) (look ! 12 refl)) (no-more !)))) (λ v.
-        use1 W (later (some (λ (r : TurnAnswer). (‵ ftrue ⊛ ‵ (R.the-row .own r (v ∷ []))) ⊛ raw (ensured 𝓤 H A step.ended (step.clauses 𝓤 H A at-mem run) tt (h .opened, (h .last, (z, tt))) tt r)))) (id⊢ 𝓤 _) $ await ! tt $ pick ! (λ r.
+        use0 W (raw (Step 𝓤 H A index-mem run .pre to-step)) (goes (opened-fits was) (last-fits was) gz) $
+        calls-at ! fm (Step 𝓤 H A index-mem run) known to-step (and-then ! (load ! (from ! (stop !)) (look ! 8 refl)) (and-then ! (load ! (from ! (stop !)) (look ! 6 refl)) (and-then ! (load ! (from ! (stop !)) (look ! 12 refl)) (no-more !)))) (λ v.
+        use1 W (later (some (λ (r : TurnAnswer). (‵ ftrue ⊛ ‵ (R.the-row .own r (v ∷ []))) ⊛ raw (ensured 𝓤 H A step.ended (step.clauses 𝓤 H A index-mem run) tt (h .opened, (h .last, (z, tt))) tt r)))) (id⊢ 𝓤 _) $ await ! tt $ pick ! (λ r.
         split ! $ move ! (1 ∷ []) $ use1 W (raw (fact 𝓤 (r ≡ turnAnswerOf (h .opened) (h .last) z))) (said r) $ heard ! (r ≡ turnAnswerOf (h .opened) (h .last) z) (λ e. split ! $ drop ! $
         peeks ! R.the-row (Is R.the-row) (shows 𝓤 H A R.the-row) r (v ∷ []) (λ is.
         -- [what the result owns; the struct's cell; …]: the result is stored as it is, and its machine value is then written out

@@ -66,7 +66,7 @@ stayed = (stay-none (λ _. T.the-row) yes, (stay-none (λ _. i32) yes, tt))
 abbrev Turn : {M : Type 1} (𝓤 : URA M) (H : Heap 𝓤) (A : Atoms 𝓤) (mem : Memory → SProp 𝓤) (run : Routine → Fun 𝓤) → Contract 𝓤
 Turn 𝓤 H A mem run = tripleOf 𝓤 H A turn.signature (turn.spec 𝓤 H A mem run)
 
-module _ {M : Type 1} (𝓤 : URA M) (H : Heap 𝓤) (A : Atoms 𝓤) (W : Given 𝓤 H A) (at-mem : Memory → SProp 𝓤) (run : Routine → Fun 𝓤) (h : Turner) (z : ℤ) (is-h : Is T.the-row h (T′.lowered h ∷ [])) (gz : mag z < 2 ^ hbits w32) where
+module _ {M : Type 1} (𝓤 : URA M) (H : Heap 𝓤) (A : Atoms 𝓤) (W : Given 𝓤 H A) (index-mem : Memory → SProp 𝓤) (run : Routine → Fun 𝓤) (h : Turner) (z : ℤ) (is-h : Is T.the-row h (T′.lowered h ∷ [])) (gz : mag z < 2 ^ hbits w32) where
   abbrev a : Turner × (ℤ × Unit {0})
   a = (h, (z, tt))
 
@@ -81,11 +81,11 @@ module _ {M : Type 1} (𝓤 : URA M) (H : Heap 𝓤) (A : Atoms 𝓤) (W : Given
   made-res t w gt is-w = LL.owes R.the-type R′.the-laws (res t w) ((refl, gt), (is-w, tt))
 
   abbrev Post : Val → SProp 𝓤
-  Post = walkOf 𝓤 H A f.ended stayed (f.clauses 𝓤 H A at-mem run) .post ((tt, tt, tt, a, at), tt)
+  Post = walkOf 𝓤 H A f.ended stayed (f.clauses 𝓤 H A index-mem run) .post ((tt, tt, tt, a, at), tt)
 
   exits : (t : ℕ) (w : Turner) → t < 2 ^ 8 → Is T.the-row w (T′.lowered w ∷ []) → res t w ≡ turningOf h z → ent 𝓤 (emp 𝓤) (Post (R′.lowered (res t w)))
   exits t w gt is-w e =
-      qed W [] ∵ suffices ! _ (ends-at 𝓤 H A f.ended stayed (f.clauses 𝓤 H A at-mem run) W ((tt, tt, tt, a, at), tt) (R′.lowered (res t w)) (res t w) (tt, (tt, tt)) (tt, (tt, tt))) $ says ! e $
+      qed W [] ∵ suffices ! _ (ends-at 𝓤 H A f.ended stayed (f.clauses 𝓤 H A index-mem run) W ((tt, tt, tt, a, at), tt) (R′.lowered (res t w)) (res t w) (tt, (tt, tt)) (tt, (tt, tt))) $ says ! e $
       owned ! R.the-row (Is R.the-row) (LL.makes R.the-type R′.the-plain 𝓤 H A) (res t w) _ (made-res t w gt is-w) $ nothing ! $ owned ! i32 (Is i32) (sint-makes 𝓤 H A W w32) z _ (refl, gz) $ fjoin ! $
       owned ! T.the-row (Is T.the-row) (LL.makes T.the-type T′.the-plain 𝓤 H A) h _ is-h $ fjoin ! $ nothing ! $ done !
 
@@ -93,10 +93,10 @@ module _ {M : Type 1} (𝓤 : URA M) (H : Heap 𝓤) (A : Atoms 𝓤) (W : Given
   abbrev x : ℕ → GName → RefT Turner
   x l δ = record { ptr = (l, 0); name = δ; now = h }
 
-  abbrev to-turn : ℕ → GName → ℕ → Turn 𝓤 H A at-mem run .Ghost
+  abbrev to-turn : ℕ → GName → ℕ → Turn 𝓤 H A index-mem run .Ghost
   to-turn α δ l = (((α ∷ [], tt), (fullShare, tt), tt, (x l δ, (z, tt)), (vptr l 0 ∷ [], (vint w32 (ofZ w32 z) ∷ [], tt))), tt)
 
-  goes : (α : ℕ) (δ : GName) (l : ℕ) → ent 𝓤 (sep 𝓤 (A .lft (α ∷ []) fullShare) (sem 𝓤 H A (MutRef (named 0) (α ∷ []) T.the-row .own (x l δ) (vptr l 0 ∷ [])))) (Turn 𝓤 H A at-mem run .pre (to-turn α δ l))
+  goes : (α : ℕ) (δ : GName) (l : ℕ) → ent 𝓤 (sep 𝓤 (A .lft (α ∷ []) fullShare) (sem 𝓤 H A (MutRef (named 0) (α ∷ []) T.the-row .own (x l δ) (vptr l 0 ∷ [])))) (Turn 𝓤 H A index-mem run .pre (to-turn α δ l))
   goes α δ l =
       qed W (‵ (flft (α ∷ []) fullShare) ∷ ‵ (MutRef (named 0) (α ∷ []) T.the-row .own (x l δ) (vptr l 0 ∷ [])) ∷ []) ∵ nothing ! $ owned ! i32 (Is i32) (sint-makes 𝓤 H A W w32) z _ (refl, gz) $ fjoin ! $ move ! (2 ∷ 0 ∷ []) $ fjoin ! $
       nothing ! $ move ! (2 ∷ 0 ∷ []) $ join ! $ join ! $ frame ! $ done !
@@ -104,7 +104,7 @@ module _ {M : Type 1} (𝓤 : URA M) (H : Heap 𝓤) (A : Atoms 𝓤) (W : Given
   abbrev Said : ℕ → Turner → Type 0
   Said t w = (t ≡ turnAnswerOf (h .opened) (h .last) z .number) × (w ≡ afterTurn h z)
 
-  module _ (C : Calls 𝓤 H) (Λ : Loops 𝓤 H) (fm : FmC 𝓤 H (W .laws) C) (known : Triple 𝓤 (C #turning·turn) (Turn 𝓤 H A at-mem run)) where
+  module _ (C : Calls 𝓤 H) (Λ : Loops 𝓤 H) (fm : FmC 𝓤 H (W .laws) C) (known : Triple 𝓤 (C #turning·turn) (Turn 𝓤 H A index-mem run)) where
     walk : ent 𝓤 (onEntry 𝓤 H A f.signature tt tt a at) (WpFn 𝓤 H C Λ code.function (T′.lowered h ∷ vint w32 (ofZ w32 z) ∷ []) Post)
     walk =
         qed W (raw (onEntry 𝓤 H A f.signature tt tt a at) ∷ []) ∵ enter ! C Λ code.function (T′.lowered h ∷ vint w32 (ofZ w32 z) ∷ []) _ $
@@ -116,10 +116,10 @@ module _ {M : Type 1} (𝓤 : URA M) (H : Heap 𝓤) (A : Atoms 𝓤) (W : Given
         -- the turner is lent for a lifetime α of the call
         move ! (6 ∷ []) $ use1 W (‵ (partAt T.the-row fullShare h l₃ 0)) (lies-in 𝓤 H A W h l₃ 0 is-h) $ lft-new ! tt (λ α. move ! (1 ∷ []) $
         use1 W (later (some (λ (δ : GName). ‵ (MutRef (named 0) (α ∷ []) T.the-row .own (x l₃ δ) (vptr l₃ 0 ∷ [])) ⊛ ‵ (flent (α ∷ []) (Body (mem T.the-row) l₃ 0 δ))))) (lends-ref 𝓤 H A W T.the-row (named 0) (α ∷ []) h l₃ 0) $ await ! tt $ pick ! (λ δ. split ! $
-        move ! (2 ∷ 0 ∷ []) $ use2 W (raw (Turn 𝓤 H A at-mem run .pre (to-turn α δ l₃))) (goes α δ l₃) $
+        move ! (2 ∷ 0 ∷ []) $ use2 W (raw (Turn 𝓤 H A index-mem run .pre (to-turn α δ l₃))) (goes α δ l₃) $
         -- [what `turn` asks; the lender's part; _6; …; _5; …; _4; …; _3's end; _2; …; _1; …; _0; …]
-        calls-at ! fm (Turn 𝓤 H A at-mem run) known (to-turn α δ l₃) (and-then ! (load ! (from ! (stop !)) (look ! 4 refl)) (and-then ! (load ! (from ! (stop !)) (look ! 9 refl)) (no-more !))) (λ v.
-        use1 W (later (some (λ (t : ℕ). ((‵ (flft (α ∷ []) fullShare) ⊛ ‵ ftrue) ⊛ ‵ (u8 .own t (v ∷ []))) ⊛ raw (ensured 𝓤 H A turn.ended (turn.clauses 𝓤 H A at-mem run) (α ∷ [], tt) (x l₃ δ, (z, tt)) tt t)))) (id⊢ 𝓤 _) $ await ! tt $ pick ! (λ t.
+        calls-at ! fm (Turn 𝓤 H A index-mem run) known (to-turn α δ l₃) (and-then ! (load ! (from ! (stop !)) (look ! 4 refl)) (and-then ! (load ! (from ! (stop !)) (look ! 9 refl)) (no-more !))) (λ v.
+        use1 W (later (some (λ (t : ℕ). ((‵ (flft (α ∷ []) fullShare) ⊛ ‵ ftrue) ⊛ ‵ (u8 .own t (v ∷ []))) ⊛ raw (ensured 𝓤 H A turn.ended (turn.clauses 𝓤 H A index-mem run) (α ∷ [], tt) (x l₃ δ, (z, tt)) tt t)))) (id⊢ 𝓤 _) $ await ! tt $ pick ! (λ t.
         -- what `turn` ensures, at some last turner
         split ! $ move ! (1 ∷ []) $ use1 W (some (λ (ws : Turner × (Unit {0} × Unit {0})). ‵ (lasts turn.ended (α ∷ [], tt) (x l₃ δ, (z, tt)) ws) ⊛ raw (fact 𝓤 (Said t (ws .0))))) (id⊢ 𝓤 _) $ pick ! (λ ws.
         split ! $ move ! (1 ∷ []) $ heard ! (Said t (ws .0)) (λ e. fsplit ! $ move ! (2 ∷ []) $ split ! $ move ! (1 ∷ []) $

@@ -7,13 +7,13 @@ use Rattle.lists.specs.Keyed.{united}
 use Rattle.lists.proofs.Lists.{length-mapped}
 use Rattle.record.specs.Stored.{fillerEdit}
 use Rattle.table.specs.Table.{editKey}
-use Rattle.unite.proofs.Joining.{Walk, walk-start, walk-next, walk-end, united-edits-is}
+use Rattle.unite.proofs.Joining.{UnionWalk, union-walk-start, walk-next, walk-end, united-edits-is}
 use borrow.Author.Needs.{needs}
 use Rattle.unite.proofs.unite_edits.Statement.{statement}
 use Rattle.unite.proofs.unite_edits.Tie as tie
 
 abbrev Inv-loop : tie.InvT-loop
-Inv-loop joined a n b m out₀ p₀ j₀ q₀ out p j q = Walk editKey (λ x y. refl) 127 fillerEdit a n b m out p j q
+Inv-loop joined a n b m out₀ p₀ j₀ q₀ out p j q = UnionWalk editKey (λ x y. refl) 127 fillerEdit a n b m out p j q
 
 abbrev μ-loop : tie.MeasureT-loop
 μ-loop joined a n b m out₀ p₀ j₀ q₀ out p j q = (n + m) - (p + j)
@@ -28,7 +28,7 @@ edit-filler-requires : tie.Need-edit-filler-requires Inv-loop μ-loop
 edit-filler-requires c κs = search needs
 
 loop-holds : tie.Need-loop-holds Inv-loop μ-loop
-loop-holds c = walk-start editKey (λ x y. refl) 127 fillerEdit _ _ _ _ (c .edit-filler .ensures) (search needs) (search needs) (search (needs, length-mapped)) (search (needs, length-mapped))
+loop-holds c = union-walk-start editKey (λ x y. refl) 127 fillerEdit _ _ _ _ (c .edit-filler .ensures) (search needs) (search needs) (search (needs, length-mapped)) (search (needs, length-mapped))
 
 add-loop : tie.Need-add-loop Inv-loop μ-loop
 add-loop c = omega arith

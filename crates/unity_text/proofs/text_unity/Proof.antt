@@ -5,12 +5,12 @@ use borrow.Author.Needs.{needs}
 use borrow.Author.Tests.{not-true, not-false}
 use lib.ListN.{length}
 use Rattle.line.proofs.Ends.{next-line}
-use Rattle.unity_text.proofs.Lines.{Upto, upto-start, upto-left, upto-few, upto-end, upto-unformed, upto-faulty, upto-next}
+use Rattle.unity_text.proofs.Lines.{SummedUpto, summed-start, upto-left, upto-few, summed-end, upto-unformed, upto-faulty, summed-next}
 use Rattle.unity_text.proofs.text_unity.Statement.{statement}
 use Rattle.unity_text.proofs.text_unity.Tie as tie
 
 abbrev Inv-loop : tie.InvT-loop
-Inv-loop text s₀ at₀ s at = Upto text s at
+Inv-loop text s₀ at₀ s at = SummedUpto text s at
 
 abbrev μ-loop : tie.MeasureT-loop
 μ-loop text s₀ at₀ s at = length text - at
@@ -19,7 +19,7 @@ nothing-summed-requires : tie.Need-nothing-summed-requires Inv-loop μ-loop
 nothing-summed-requires c κs = search needs
 
 loop-holds : tie.Need-loop-holds Inv-loop μ-loop
-loop-holds c = upto-start (c .before .before .args .text .now) (c .nothing-summed .ensures)
+loop-holds c = summed-start (c .before .before .args .text .now) (c .nothing-summed .ensures)
 
 line-end-requires : tie.Need-line-end-requires Inv-loop μ-loop
 line-end-requires c κs = search needs
@@ -73,13 +73,13 @@ loop-again c =
     let w = c .before .before in
     let a = w .before .before .before .before in
     let l = a .before .before .before .before in
-    upto-next (l .before .before .before .args .text .now) (l .loop .inv) (a .before .before .before .loop-test .taken) (a .before .before .line-end .ensures) (a .read-answer .ensures) (not-false _ (w .before .before .if1 .left)) (w .with-answer .ensures) (c .if2 .left)
+    summed-next (l .before .before .before .args .text .now) (l .loop .inv) (a .before .before .before .loop-test .taken) (a .before .before .line-end .ensures) (a .read-answer .ensures) (not-false _ (w .before .before .if1 .left)) (w .with-answer .ensures) (c .if2 .left)
 
 finished-requires : tie.Need-finished-requires Inv-loop μ-loop
 finished-requires c κs = upto-left (c .before .before .before .before .args .text .now) (c .before .loop .inv)
 
 returns-3 : tie.Need-returns-3 Inv-loop μ-loop
-returns-3 c = upto-end (c .before .before .before .before .before .args .text .now) (c .before .before .loop .inv) (c .before .loop-test .left) (c .finished .ensures)
+returns-3 c = summed-end (c .before .before .before .before .before .args .text .now) (c .before .before .loop .inv) (c .before .loop-test .left) (c .finished .ensures)
 
 pub text-unity-spec : {M : Type 1} → statement M
 text-unity-spec =

@@ -1,4 +1,4 @@
--- `bundle::sift_edits` meets its contract. Assumes nothing.
+-- `bundle::filter_edits` meets its contract. Assumes nothing.
 use mathlib.Core.Path.{_≡_, ap, sym, _∙_}
 use mathlib.Core.Bool.{Bool}
 use Prim.Native.Nat.{ℕ, _+_, _-_, _≤_, _<_}
@@ -10,12 +10,12 @@ use borrow.Author.Needs.{needs}
 use Rattle.lists.proofs.Lists.{length-mapped}
 use Rattle.record.specs.Stored.{fillerEdit}
 use Rattle.record.specs.declared.Edit.{Edit}
-use Rattle.bundle.proofs.Sifting.{Sifting, sifting-start, sifting-kept, sifting-skip}
-use Rattle.bundle.proofs.sift_edits.Statement.{statement}
-use Rattle.bundle.proofs.sift_edits.Tie as tie
+use Rattle.bundle.proofs.Filtering.{Filtering, filtering-start, filtering-kept, filtering-skip}
+use Rattle.bundle.proofs.filter_edits.Statement.{statement}
+use Rattle.bundle.proofs.filter_edits.Tie as tie
 
 abbrev Inv-loop : tie.InvT-loop
-Inv-loop n marks edits rows₀ count₀ i₀ rows count i = (i ≤ n) × (n ≤ 127) × (count ≤ i) × (length rows ≡ 127) × ((p : Edit → Bool) → ((k : ℕ) → k < n → eqb (getD marks (k + 1) 0) 1 ≡ p (getD edits k fillerEdit)) → Sifting 127 fillerEdit p edits i rows count)
+Inv-loop n marks edits rows₀ count₀ i₀ rows count i = (i ≤ n) × (n ≤ 127) × (count ≤ i) × (length rows ≡ 127) × ((p : Edit → Bool) → ((k : ℕ) → k < n → eqb (getD marks (k + 1) 0) 1 ≡ p (getD edits k fillerEdit)) → Filtering 127 fillerEdit p edits i rows count)
 
 abbrev μ-loop : tie.MeasureT-loop
 μ-loop n marks edits rows₀ count₀ i₀ rows count i = n - i
@@ -25,7 +25,7 @@ empty-requires c κs = search needs
 
 loop-holds : tie.Need-loop-holds Inv-loop μ-loop
 loop-holds c = let e = ap (λ r. r .edits) (c .before .empty .ensures) in
-    (search needs, search needs, search needs, ap length e, λ p f. sifting-start 127 fillerEdit p (c .before .before .args .t1) _ e)
+    (search needs, search needs, search needs, ap length e, λ p f. filtering-start 127 fillerEdit p (c .before .before .args .t1) _ e)
 
 mul-edit : tie.Need-mul-edit Inv-loop μ-loop
 mul-edit c = search needs
@@ -60,7 +60,7 @@ loop-again c = let l = c .before .before .before .before .loop in
       search needs,
       search needs,
       simp length-set (l .inv .3),
-      λ p f. sifting-kept 127 fillerEdit p (s .args .t1) (l .i) (l .rows) (l .count) _ (omega arith) (l .inv .4 p f) (omega arith) (sym (f (l .i) lt) ∙ eq-eqb _ _ (c .if1 .taken)),
+      λ p f. filtering-kept 127 fillerEdit p (s .args .t1) (l .i) (l .rows) (l .count) _ (omega arith) (l .inv .4 p f) (omega arith) (sym (f (l .i) lt) ∙ eq-eqb _ _ (c .if1 .taken)),
     )
 
 loop-less-2 : tie.Need-loop-less-2 Inv-loop μ-loop
@@ -75,7 +75,7 @@ loop-again-2 c = let l = c .before .before .before .before .loop in
       search needs,
       search needs,
       l .inv .3,
-      λ p f. sifting-skip 127 fillerEdit p (s .args .t1) (l .i) (l .rows) (l .count) fillerEdit (omega arith) (l .inv .4 p f) (sym (f (l .i) lt) ∙ ne-eqb _ _ (c .if1 .left)),
+      λ p f. filtering-skip 127 fillerEdit p (s .args .t1) (l .i) (l .rows) (l .count) fillerEdit (omega arith) (l .inv .4 p f) (sym (f (l .i) lt) ∙ ne-eqb _ _ (c .if1 .left)),
     )
 
 returns : tie.Need-returns Inv-loop μ-loop
@@ -85,8 +85,8 @@ returns c = λ p f.
     let w = rw e at (l .inv .4 p f) in
     λ i. record { rows = w .rows-are i; count = w .count-is i }
 
-pub sift-edits-spec : {M : Type 1} → statement M
-sift-edits-spec =
+pub filter-edits-spec : {M : Type 1} → statement M
+filter-edits-spec =
     tie.close
     (tie.spec
     Inv-loop

@@ -1,4 +1,4 @@
--- `bundle::sift_constraints` meets its contract. Assumes nothing.
+-- `bundle::filter_constraints` meets its contract. Assumes nothing.
 use mathlib.Core.Path.{_≡_, ap, sym, _∙_}
 use mathlib.Core.List.{List}
 use Prim.Native.Nat.{ℕ, _-_, _≤_, _<_}
@@ -12,14 +12,14 @@ use Rattle.lists.specs.Lists.{mem, _among_}
 use Rattle.record.specs.declared.Constraint.{Constraint}
 use Rattle.links.specs.Marks.{marksOf, placeIn}
 use Rattle.vote.specs.Bundle.{between}
-use Rattle.bundle.proofs.Sifting.{Sifting, sifting-start, sifting-kept, sifting-skip, getD-swap}
-use Rattle.bundle.proofs.sift_constraints.Statement.{statement}
-use Rattle.bundle.proofs.sift_constraints.Tie as tie
+use Rattle.bundle.proofs.Filtering.{Filtering, filtering-start, filtering-kept, filtering-skip, getD-swap}
+use Rattle.bundle.proofs.filter_constraints.Statement.{statement}
+use Rattle.bundle.proofs.filter_constraints.Tie as tie
 
 abbrev Inv-loop : tie.InvT-loop
 Inv-loop n table marks constraints rows₀ count₀ i₀ rows count i = (i ≤ n) × (n ≤ 512) × (count ≤ i) × (length rows ≡ 512) × ((R : Record) (m : List ℕ) → ((x : ℕ) → getD table x 0 ≡ placeIn (names R) x) → marks ≡ marksOf R (λ y. mem y m)
     → ((k : ℕ) → k < n → (getD constraints k fillerConstraint .left among names R) × (getD constraints k fillerConstraint .right among names R))
-    → Sifting 512 fillerConstraint (λ c. between m (c .left) (c .right)) constraints i rows count)
+    → Filtering 512 fillerConstraint (λ c. between m (c .left) (c .right)) constraints i rows count)
 
 abbrev μ-loop : tie.MeasureT-loop
 μ-loop n table marks constraints rows₀ count₀ i₀ rows count i = n - i
@@ -29,7 +29,7 @@ empty-requires c κs = search needs
 
 loop-holds : tie.Need-loop-holds Inv-loop μ-loop
 loop-holds c = let e = ap (λ r. r .constraints) (c .before .empty .ensures) in
-    (search needs, search needs, search needs, ap length e, λ R m t g k. sifting-start 512 fillerConstraint (λ c. between m (c .left) (c .right)) (c .before .before .args .t1) _ e)
+    (search needs, search needs, search needs, ap length e, λ R m t g k. filtering-start 512 fillerConstraint (λ c. between m (c .left) (c .right)) (c .before .before .args .t1) _ e)
 
 mul-constraint : tie.Need-mul-constraint Inv-loop μ-loop
 mul-constraint c = search needs
@@ -69,7 +69,7 @@ loop-again c = let l = c .before .before .before .before .loop in
           let ke = k (l .i) lt in
           let r = getD-swap (λ (x : Constraint). c .before .is-between .result ≡ between m (x .left) (x .right)) (s .args .t1) (l .i) _ fillerConstraint li
           (c .before .is-between .ensures R m t e (getD-swap (λ (x : Constraint). x .left among names R) (s .args .t1) (l .i) fillerConstraint _ li (ke .0)) (getD-swap (λ (x : Constraint). x .right among names R) (s .args .t1) (l .i) fillerConstraint _ li (ke .1))) in
-          sifting-kept 512 fillerConstraint (λ c. between m (c .left) (c .right)) (s .args .t1) (l .i) (l .rows) (l .count) _ li (l .inv .4 R m t e k) (omega arith) (sym r ∙ c .if1 .taken),
+          filtering-kept 512 fillerConstraint (λ c. between m (c .left) (c .right)) (s .args .t1) (l .i) (l .rows) (l .count) _ li (l .inv .4 R m t e k) (omega arith) (sym r ∙ c .if1 .taken),
     )
 
 loop-less-2 : tie.Need-loop-less-2 Inv-loop μ-loop
@@ -89,7 +89,7 @@ loop-again-2 c = let l = c .before .before .before .before .loop in
           let ke = k (l .i) lt in
           let r = getD-swap (λ (x : Constraint). c .before .is-between .result ≡ between m (x .left) (x .right)) (s .args .t1) (l .i) _ fillerConstraint li
           (c .before .is-between .ensures R m t e (getD-swap (λ (x : Constraint). x .left among names R) (s .args .t1) (l .i) fillerConstraint _ li (ke .0)) (getD-swap (λ (x : Constraint). x .right among names R) (s .args .t1) (l .i) fillerConstraint _ li (ke .1))) in
-          sifting-skip 512 fillerConstraint (λ c. between m (c .left) (c .right)) (s .args .t1) (l .i) (l .rows) (l .count) fillerConstraint li (l .inv .4 R m t e k) (sym r ∙ c .if1 .left),
+          filtering-skip 512 fillerConstraint (λ c. between m (c .left) (c .right)) (s .args .t1) (l .i) (l .rows) (l .count) fillerConstraint li (l .inv .4 R m t e k) (sym r ∙ c .if1 .left),
     )
 
 returns : tie.Need-returns Inv-loop μ-loop
@@ -99,8 +99,8 @@ returns c = λ R m t e k.
     let w = rw q at (l .inv .4 R m t e k) in
     λ i. record { rows = w .rows-are i; count = w .count-is i }
 
-pub sift-constraints-spec : {M : Type 1} → statement M
-sift-constraints-spec =
+pub filter-constraints-spec : {M : Type 1} → statement M
+filter-constraints-spec =
     tie.close
     (tie.spec
     Inv-loop
