@@ -10,7 +10,7 @@ fn main() {
         None => here.join("../target/staticlib"),
     };
     println!("cargo::rerun-if-env-changed=CATALOGUE_LIBRARY");
-    for archive in ["libexport.a", "libmeasure.a"] {
+    for archive in ["libc_library.a", "libbenchmark_entry.a"] {
         let path = directory.join(archive);
         println!("cargo::rerun-if-changed={}", path.display());
         println!("cargo::rustc-link-arg-bin=benchmark={}", path.display());

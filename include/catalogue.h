@@ -1,9 +1,9 @@
 /* The chip catalogue for programs in other languages: exchanged texts, reports and call logs, as bytes in and bytes out, and tables of election
  * answers.
  *
- * `rt staticlib export` proves the library and writes target/staticlib/libexport.a, which links into x86-64 programs:
+ * `rt staticlib c_library` proves the library and writes target/staticlib/libc_library.a, which links into x86-64 programs:
  *
- *     gcc -Iinclude program.c target/staticlib/libexport.a -o program
+ *     gcc -Iinclude program.c target/staticlib/libc_library.a -o program
  *
  * What every function here does and needs:
  * - It answers every input. Text and log may be any bytes of any size, with or without an end of line, and no byte of them is changed.
@@ -13,7 +13,7 @@
  * - It keeps nothing between calls, allocates nothing and uses no global state, so that threads may call it at once.
  * - It needs up to 600 KiB of stack.
  *
- * The contracts are proved: crates/export/src/lib.rt states them; crates/export/specs/Replies.antt and crates/unity_table/specs/Unity.antt define
+ * The contracts are proved: crates/c_library/src/lib.rt states them; crates/c_library/specs/Replies.antt and crates/unity_table/specs/Unity.antt define
  * what they speak of.
  */
 #ifndef CATALOGUE_H

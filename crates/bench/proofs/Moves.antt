@@ -19,17 +19,17 @@ use Rattle.record.specs.Record.{Record, nameOf, written}
 use Rattle.record.specs.Stored.{stored, editNamed, fillerEdit}
 use Rattle.record.specs.Schedule.{schedule}
 use Rattle.record.specs.Judgement.{sound}
-use Rattle.links.specs.Marks.{marksOf}
-use Rattle.table.specs.Checked.{Checked}
-use Rattle.vote.specs.declared.Election.{Election}
-use Rattle.turner.specs.declared.Turned.{Turned}
-use Rattle.turner.specs.declared.Turned.the-variants.{To, Refused}
-use Rattle.turner.specs.declared.TurnAnswer.{TurnAnswer}
-use Rattle.turner.specs.Turn.{turned, turnedAnswer}
-use Rattle.turner.proofs.Signed.{turn-is}
-use Rattle.turner.proofs.Landed.{turned-lands}
-use Rattle.turning.specs.declared.Turning.{Turning}
-use Rattle.turning.specs.Turning.{turnAnswerOf, turningOf}
+use Rattle.graph.specs.links.Marks.{marksOf}
+use Rattle.record_tables.specs.Checked.{Checked}
+use Rattle.voting.specs.declared.Election.{Election}
+use Rattle.pages_turner.specs.declared.Turned.{Turned}
+use Rattle.pages_turner.specs.declared.Turned.the-variants.{To, Refused}
+use Rattle.pages_turner.specs.declared.TurnAnswer.{TurnAnswer}
+use Rattle.pages_turner.specs.Turn.{turned, turnedAnswer}
+use Rattle.pages_turner.proofs.Signed.{turn-is}
+use Rattle.pages_turner.proofs.Landed.{turned-lands}
+use Rattle.pages_turner.specs.declared.turning.Turning.{Turning}
+use Rattle.pages_turner.specs.turning.Turning.{turnAnswerOf, turningOf}
 use Rattle.pages.specs.Steps.{commonBeginning, Agree}
 use Rattle.record.proofs.Padded.{take-padded}
 use Rattle.catalogue.specs.declared.View.{View}

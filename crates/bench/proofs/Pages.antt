@@ -15,8 +15,8 @@ use Rattle.record.specs.Schedule.{schedule}
 use Rattle.record.specs.Judgement.{sound}
 use Rattle.lists.proofs.Lists.{by, clash, mem-head, mem-tail, or-by}
 use Rattle.record.proofs.Scheduled.{schedule-length, schedule-pages}
-use Rattle.table.specs.Checked.{Checked}
-use Rattle.table.proofs.Records.{checked-wellformed}
+use Rattle.record_tables.specs.Checked.{Checked}
+use Rattle.record_tables.proofs.Records.{checked-wellformed}
 use Rattle.pages.specs.Steps.{Agree}
 use Rattle.catalogue.specs.Chips.{rows}
 use Rattle.ledger.specs.Ledger.{Ledger, pages, last}

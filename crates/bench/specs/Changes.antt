@@ -11,10 +11,10 @@ use Rattle.record.specs.Record.{Record, written}
 use Rattle.record.specs.Stored.{stored, editNamed}
 use Rattle.record.specs.Schedule.{schedule}
 use Rattle.record.specs.Judgement.{sound}
-use Rattle.links.specs.Marks.{marksOf}
-use Rattle.table.specs.Checked.{Checked}
-use Rattle.vote.specs.declared.Election.{Election}
-use Rattle.turning.specs.declared.Turning.{Turning}
+use Rattle.graph.specs.links.Marks.{marksOf}
+use Rattle.record_tables.specs.Checked.{Checked}
+use Rattle.voting.specs.declared.Election.{Election}
+use Rattle.pages_turner.specs.declared.turning.Turning.{Turning}
 use Rattle.catalogue.specs.Chips.{chipsView, scheduleOf}
 use Rattle.ledger.specs.declared.Answer.{Answer}
 use Rattle.ledger.specs.declared.Bench.{Bench}

@@ -1,12 +1,16 @@
 // The empty bench, a turn, and what the other calls share: a refusal and a change (document 01, "Entries and pages").
+pub mod change;
+pub mod hidden;
+
 use catalogue::View;
 use ledger::Answer;
 use ledger::Bench;
 use ledger::Outcome;
+use pages_turner::Turner;
+use pages_turner::turning;
 use record::Record;
 use record::Schedule;
-use turner::Turner;
-use vote::Election;
+use voting::Election;
 ghost use mathlib.Core.Path.{_≡_};
 ghost use Rattle.ledger.specs.Ledger.{Call, noElection, start};
 ghost use Rattle.ledger.specs.Bench.{Answers, benchOf};

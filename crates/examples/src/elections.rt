@@ -1,9 +1,10 @@
 // Document 01, "Proposals and votes" and "What is turned away", run with a roll that is lent: P9, each fault of a roll, and adoptions on a bench.
 use crate::print;
+use bench_elections::roll_array;
 use ledger::Bench;
 use ledger::Outcome;
-use vote::Election;
-use vote::RollRow;
+use voting::Election;
+use voting::RollRow;
 
 fn row(bench: u8, weight: u16) -> RollRow {
     RollRow {

@@ -1,5 +1,6 @@
 // Printing of answers.
-use lent::Judgement;
+use judgement::lent_record;
+use judgement::lent_record::Judgement;
 use libc::STDOUT_FILENO;
 
 pub fn text(bytes: &[u8]) {
@@ -30,7 +31,7 @@ fn edit(judgement: Judgement, index: usize) {
 
 // The judgement of a lent record: its number, and some of its edits.
 pub fn judgement(label: &[u8], edits: &[[u32; 5]], constraints: &[[u32; 3]]) {
-    let answer = lent::judge_lent(edits, constraints);
+    let answer = lent_record::judge_lent(edits, constraints);
     let count = answer.count;
     text(label);
     number(b": number=", numbers::wide32(answer.number));
@@ -52,7 +53,7 @@ pub fn judgement(label: &[u8], edits: &[[u32; 5]], constraints: &[[u32; 3]]) {
 
 // The number of a lent record.
 pub fn refusal(label: &[u8], edits: &[[u32; 5]], constraints: &[[u32; 3]]) {
-    let answer = lent::judge_lent(edits, constraints);
+    let answer = lent_record::judge_lent(edits, constraints);
     text(label);
     number(b": number=", numbers::wide32(answer.number));
     text(b"\n");
@@ -60,7 +61,7 @@ pub fn refusal(label: &[u8], edits: &[[u32; 5]], constraints: &[[u32; 3]]) {
 
 // Whether the names are a sound schedule of a lent record.
 pub fn row(label: &[u8], edits: &[[u32; 5]], constraints: &[[u32; 3]], names: &[u32]) {
-    let answer = lent::test_row(edits, constraints, names);
+    let answer = lent_record::test_row(edits, constraints, names);
     text(label);
     number(b": number=", numbers::wide32(answer.number));
     number(b" sound=", bit(answer.sound));

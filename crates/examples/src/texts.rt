@@ -1,10 +1,11 @@
 // Document 01, "Text" and "What is turned away", run: what is printed of small texts, the specimens P1 to P7 and one text for each fault
 // among them, and the writer at a place.
 use crate::print;
+use stdio::text_input;
 
 fn tell(label: &[u8], text: &[u8]) {
     print::text(label);
-    console::show(text);
+    text_input::show(text);
 }
 
 fn specimens() {
@@ -109,10 +110,10 @@ fn faults_of_order() {
 
 // Reads a text and writes it at a place of an output of 40 bytes.
 fn tell_written(label: &[u8], text: &[u8], at: usize) {
-    let reading = reader::read_text(text);
+    let reading = text_reader::read_text(text);
     let content = reading.content;
     let mut out = [b'.'; 40];
-    let written = writer::write_text(content, &mut out, at);
+    let written = text_writer::write_text(content, &mut out, at);
     let end = written.end;
     print::number(label, end as u64);
     print::text(b" ");

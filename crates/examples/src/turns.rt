@@ -10,7 +10,7 @@ use record::Schedule;
 
 // A turn at page 3 of three pages.
 fn tell_turn(label: &[u8], by: i32) {
-    let answer = turner::turn_answer(3, turner::turn_step(3, 3, by));
+    let answer = pages_turner::turn_answer(3, pages_turner::turn_step(3, 3, by));
     let number = answer.number;
     let page = answer.opened;
     print::text(label);

@@ -18,18 +18,18 @@ use Rattle.record.specs.Judgement.{must}
 use Rattle.lists.proofs.Lists.{by, clash, is-by, mem-head, mem-tail, or-no-r}
 use Rattle.record.proofs.Scheduled.{schedule-sound}
 use Rattle.lists.proofs.Union.{united-old}
-use Rattle.ground.proofs.Grounds.{orelse-none, given-none}
-use Rattle.row.specs.Row.{Row, isName, editOf}
-use Rattle.ground.specs.Ground.{_given_, _orelse_}
-use Rattle.table.specs.Table.{editKey, unite}
-use Rattle.table.proofs.Records.{joining-kept}
-use Rattle.vote.specs.declared.Election.{Election}
-use Rattle.vote.specs.Tally.{winner}
-use Rattle.election.specs.Election.{cast, counted}
-use Rattle.turner.specs.declared.Turned.{Turned}
-use Rattle.turner.specs.declared.Turned.the-variants.{To, Refused}
-use Rattle.turner.specs.Turn.{landed, turned, turnedAnswer}
-use Rattle.turner.proofs.Landed.{turned-lands}
+use Rattle.record_rows.proofs.ground.Grounds.{orelse-none, given-none}
+use Rattle.record_rows.specs.row.Row.{Row, isName, editOf}
+use Rattle.record_rows.specs.ground.Ground.{_given_, _orelse_}
+use Rattle.record_tables.specs.Table.{editKey, unite}
+use Rattle.record_tables.proofs.Records.{joining-kept}
+use Rattle.voting.specs.declared.Election.{Election}
+use Rattle.voting.specs.Tally.{winner}
+use Rattle.voting_roll.specs.Election.{cast, counted}
+use Rattle.pages_turner.specs.declared.Turned.{Turned}
+use Rattle.pages_turner.specs.declared.Turned.the-variants.{To, Refused}
+use Rattle.pages_turner.specs.Turn.{landed, turned, turnedAnswer}
+use Rattle.pages_turner.proofs.Landed.{turned-lands}
 use Rattle.pages.specs.Pages.{run, emptyCatalogue}
 use Rattle.pages.proofs.Pages.{catalogue-of}
 use Rattle.catalogue.specs.Chips.{chips, places, rows, chipsView}

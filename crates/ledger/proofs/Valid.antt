@@ -14,22 +14,22 @@ use Rattle.record.specs.Record.{Record, names, written, has, WellFormed}
 use Rattle.record.specs.Schedule.{needs, musts, ready, order, admits, scheduled, schedule}
 use Rattle.record.specs.Judgement.{sound, must}
 use Rattle.lists.proofs.Lists.{by, clash, and-l, and-r, or-by, or-no-l, cons-by, nil-no, cons-within, filter-mem}
-use Rattle.ground.proofs.Grounds.{orelse-none, given-none}
+use Rattle.record_rows.proofs.ground.Grounds.{orelse-none, given-none}
 use Rattle.record.proofs.Scheduled.{schedule-length, schedule-pages}
-use Rattle.row.specs.Row.{Row, isName}
-use Rattle.ground.specs.Ground.{Rows, _given_, _orelse_}
-use Rattle.table.specs.Table.{emptyTables, decoded, lentFault, addEditFault, addConstraintFault, recordJoinFault, unite}
-use Rattle.table.specs.Checked.{Checked}
-use Rattle.table.proofs.Unions.{united-extends}
-use Rattle.table.proofs.Records.{empty-checked, empty-sound, joined-checked, added-edit-checked, added-constraint-checked, record-checked, checked-wellformed}
-use Rattle.vote.specs.declared.RollRow.{RollRow}
-use Rattle.vote.specs.declared.Election.{Election}
-use Rattle.vote.specs.Tally.{winner}
-use Rattle.election.specs.Election.{Proposals, electionFault, cast, counted}
-use Rattle.turner.specs.declared.Turned.{Turned}
-use Rattle.turner.specs.declared.Turned.the-variants.{To, Refused}
-use Rattle.turner.specs.Turn.{turned, turnedAnswer}
-use Rattle.turner.proofs.Landed.{turned-lands}
+use Rattle.record_rows.specs.row.Row.{Row, isName}
+use Rattle.record_rows.specs.ground.Ground.{Rows, _given_, _orelse_}
+use Rattle.record_tables.specs.Table.{emptyTables, decoded, lentFault, addEditFault, addConstraintFault, recordJoinFault, unite}
+use Rattle.record_tables.specs.Checked.{Checked}
+use Rattle.record_tables.proofs.Unions.{united-extends}
+use Rattle.record_tables.proofs.Records.{empty-checked, empty-sound, joined-checked, added-edit-checked, added-constraint-checked, record-checked, checked-wellformed}
+use Rattle.voting.specs.declared.RollRow.{RollRow}
+use Rattle.voting.specs.declared.Election.{Election}
+use Rattle.voting.specs.Tally.{winner}
+use Rattle.voting_roll.specs.Election.{Proposals, electionFault, cast, counted}
+use Rattle.pages_turner.specs.declared.Turned.{Turned}
+use Rattle.pages_turner.specs.declared.Turned.the-variants.{To, Refused}
+use Rattle.pages_turner.specs.Turn.{turned, turnedAnswer}
+use Rattle.pages_turner.proofs.Landed.{turned-lands}
 use Rattle.ledger.specs.Ledger.{Ledger, Call, addEdit, addConstraint, merge, hide, show, turn, adopt, Reply, start, pages, last, bundleFault, judge, noElection, change, shown, adopted, act, refusal, step, fed}
 
 -- the ledger's record is as every stored record is, and sound; hidden edits are written; the schedule is the record's; the open page is one of it

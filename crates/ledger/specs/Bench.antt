@@ -7,7 +7,7 @@ use Rattle.record.specs.declared.Edit.{Edit}
 use Rattle.lists.specs.Lists.{mem}
 use Rattle.record.specs.Record.{Record}
 use Rattle.record.specs.Stored.{stored, editNamed}
-use Rattle.links.specs.Marks.{marksOf}
+use Rattle.graph.specs.links.Marks.{marksOf}
 use Rattle.pages.specs.Pages.{run, emptyCatalogue}
 use Rattle.catalogue.specs.Chips.{chips, places, chipsView, scheduleOf}
 use Rattle.ledger.specs.declared.Answer.{Answer}

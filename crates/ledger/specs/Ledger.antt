@@ -10,14 +10,14 @@ use Rattle.lists.specs.Lists.{filter, mem}
 use Rattle.record.specs.Record.{Record, written}
 use Rattle.record.specs.Schedule.{schedule}
 use Rattle.record.specs.Judgement.{sound, must}
-use Rattle.row.specs.Row.{Row, isName}
-use Rattle.ground.specs.Ground.{Rows, _given_, _orelse_}
-use Rattle.table.specs.Table.{emptyTables, decoded, lentFault, addEditFault, addConstraintFault, recordJoinFault, unite}
-use Rattle.vote.specs.declared.RollRow.{RollRow}
-use Rattle.vote.specs.declared.Election.{Election}
-use Rattle.vote.specs.Tally.{winner}
-use Rattle.election.specs.Election.{Proposals, electionFault, cast, counted, refusedElection}
-use Rattle.turner.specs.Turn.{turned, turnedAnswer}
+use Rattle.record_rows.specs.row.Row.{Row, isName}
+use Rattle.record_rows.specs.ground.Ground.{Rows, _given_, _orelse_}
+use Rattle.record_tables.specs.Table.{emptyTables, decoded, lentFault, addEditFault, addConstraintFault, recordJoinFault, unite}
+use Rattle.voting.specs.declared.RollRow.{RollRow}
+use Rattle.voting.specs.declared.Election.{Election}
+use Rattle.voting.specs.Tally.{winner}
+use Rattle.voting_roll.specs.Election.{Proposals, electionFault, cast, counted, refusedElection}
+use Rattle.pages_turner.specs.Turn.{turned, turnedAnswer}
 use Rattle.pages.specs.Steps.{commonBeginning}
 use Rattle.ledger.specs.declared.Answer.{Answer}
 

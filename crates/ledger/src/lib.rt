@@ -1,9 +1,9 @@
 // The bench in memory and the answers of its calls (document 01, "Entries and pages"). The specs hold the ledger, the promise that every call
 // makes, and the undo rule; the calls' code stands in crates above.
 use catalogue::View;
+use pages_turner::Turner;
 use record::Record;
 use record::Schedule;
-use turner::Turner;
 
 // A bench: its record, the marks of its hidden edits, its schedule, its open and last page, and what the open pages make.
 pub struct Bench {

@@ -7,7 +7,7 @@ use lib.Dec.{eqb}
 use Rattle.lists.proofs.Lists.{by}
 use Rattle.ledger.specs.Ledger.{Ledger, Call, start, fed, judge, step, refusal}
 use Rattle.ledger.specs.Bench.{benchOf}
-use Rattle.desk.specs.Desk.{Desk, ledgerOf, benchIn}
+use Rattle.log_session.specs.Desk.{Desk, ledgerOf, benchIn}
 use Rattle.log.specs.Log.{logRun, accepted}
 
 refused-stays : (L : Ledger) (call : Call) → eqb (judge L call) 0 ≡ false → step L call .after ≡ L

@@ -8,22 +8,22 @@ use native.Mathlib.Omega.{arith}
 use lib.Dec.{eqb, ltb}
 use lib.ListN.{List·getD-eq-default}
 use borrow.Author.Tests.{lt-ltb, le-ltb, eq-eqb, ne-eqb, eqb-true, eqb-false, ltb-true, ltb-false}
-use Rattle.ground.specs.Ground.{Rows}
+use Rattle.record_rows.specs.ground.Ground.{Rows}
 use Rattle.ledger.specs.declared.Bench.{Bench}
 use Rattle.ledger.specs.declared.Outcome.{Outcome}
-use Rattle.forms.specs.declared.Order.{Order}
-use Rattle.forms.specs.Printed.{Printed}
-use Rattle.answers.specs.Answers.{answerLine}
-use Rattle.lending.specs.declared.Lending.{Lending}
+use Rattle.log_forms.specs.declared.Order.{Order}
+use Rattle.log_forms.specs.Printed.{Printed}
+use Rattle.log_answers.specs.Answers.{answerLine}
+use Rattle.log_lent.specs.declared.Lending.{Lending}
 use Rattle.lists.proofs.Lists.{by, is-by, clash, and-l, and-r, or-by}
-use Rattle.lending.specs.Kept.{Kept}
-use Rattle.desk.specs.Desk.{Desk, Cells, Effect, Request, outside, ledgerOf, benchIn, requested, replied, printedOf, tells}
-use Rattle.desk.specs.Lends.{lendingOf}
-use Rattle.desk.specs.Requests.{requests, requestOf, noRequest, isTurn}
-use Rattle.desk_calls.specs.Lines.{Holds, callOf, outcomeText}
-use Rattle.desk_calls.proofs.Telling.{call-held, call-printed}
-use Rattle.desk_votes.specs.Votes.{votes, voteOf, electEdit, askBundle, makeProposal, askSuggestion, testRow}
-use Rattle.desk_asks.specs.Questions.{askText, askOf}
+use Rattle.log_lent.specs.Kept.{Kept}
+use Rattle.log_session.specs.Desk.{Desk, Cells, Effect, Request, outside, ledgerOf, benchIn, requested, replied, printedOf, tells}
+use Rattle.log_session.specs.Lends.{lendingOf}
+use Rattle.log_session.specs.Requests.{requests, requestOf, noRequest, isTurn}
+use Rattle.log_session.specs.calls.Lines.{Holds, callOf, outcomeText}
+use Rattle.log_session.proofs.calls.Telling.{call-held, call-printed}
+use Rattle.log_session.specs.votes.Votes.{votes, voteOf, electEdit, askBundle, makeProposal, askSuggestion, testRow}
+use Rattle.log_session.specs.questions.Questions.{askText, askOf}
 use Rattle.log.specs.Effects.{effectOf, orderEffect, requestPlace, paging, mayLend}
 
 no-request : (which : ℕ) (D : Desk) (c : Cells) → 8 ≤ which → callOf which D c ≡ tells D 2 []

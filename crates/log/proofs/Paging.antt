@@ -7,27 +7,27 @@ use Prim.Native.Nat.{ℕ, suc, _+_, _-_, _≤_, _<_}
 use native.Mathlib.Omega.{arith}
 use lib.ListN.{length, take, drop}
 use Rattle.lists.proofs.Lists.{is-by, clash}
-use Rattle.row.specs.Row.{cell}
-use Rattle.ground.specs.Ground.{Rows}
-use Rattle.turner.specs.declared.Turner.{Turner}
-use Rattle.turning.specs.declared.Turning.{Turning}
+use Rattle.record_rows.specs.row.Row.{cell}
+use Rattle.record_rows.specs.ground.Ground.{Rows}
+use Rattle.pages_turner.specs.declared.Turner.{Turner}
+use Rattle.pages_turner.specs.declared.turning.Turning.{Turning}
 use Rattle.ledger.specs.declared.Answer.{Answer}
 use Rattle.ledger.specs.declared.Bench.{Bench}
 use Rattle.ledger.specs.Bench.{benchOf}
 use Rattle.bench.specs.Changes.{plainAnswer, openAt, turnReply, Opens}
 use Rattle.bench.proofs.Moves.{open-same}
-use Rattle.forms.specs.declared.Order.{Order}
-use Rattle.forms.specs.Printed.{Printed}
-use Rattle.line.specs.Lines.{firstLine}
-use Rattle.line.proofs.Ends.{first-taken}
-use Rattle.orders.specs.Orders.{orderRead}
-use Rattle.asks.specs.Asks.{pageText}
-use Rattle.lending.specs.declared.Lending.{Lending}
-use Rattle.desk.specs.Desk.{Desk, Cells, ledgerOf, benchIn, replied}
-use Rattle.desk.specs.Requests.{isTurn, turnRequest}
-use Rattle.desk.proofs.Cases.{ledger-valid, turn-reply}
-use Rattle.desk_calls.specs.Lines.{Holds, outcomeText}
-use Rattle.desk_asks.proofs.Answered.{page-asked}
+use Rattle.log_forms.specs.declared.Order.{Order}
+use Rattle.log_forms.specs.Printed.{Printed}
+use Rattle.text_lines.specs.Lines.{firstLine}
+use Rattle.text_lines.proofs.Ends.{first-taken}
+use Rattle.log_forms.specs.orders.Orders.{orderRead}
+use Rattle.log_answers.specs.bench_answers.Asks.{pageText}
+use Rattle.log_lent.specs.declared.Lending.{Lending}
+use Rattle.log_session.specs.Desk.{Desk, Cells, ledgerOf, benchIn, replied}
+use Rattle.log_session.specs.Requests.{isTurn, turnRequest}
+use Rattle.log_session.proofs.Cases.{ledger-valid, turn-reply}
+use Rattle.log_session.specs.calls.Lines.{Holds, outcomeText}
+use Rattle.log_session.proofs.questions.Answered.{page-asked}
 use Rattle.log.specs.Effects.{orderEffect, requestPlace, paging}
 use Rattle.log.specs.Running.{Running}
 use Rattle.log.proofs.Orders.{Performed, done-as, asked-done, ask-effect, call-done, line-done, call-place, paging-in-form, paging-turns, turn-paging}

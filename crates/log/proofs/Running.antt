@@ -4,17 +4,17 @@ use mathlib.Core.List.{List, [], _∷_, _++_}
 use Prim.Native.Nat.{ℕ, suc, _+_, _-_, _≤_, _<_}
 use native.Mathlib.Omega.{arith}
 use lib.ListN.{length, take, drop}
-use Rattle.ground.specs.Ground.{Rows}
+use Rattle.record_rows.specs.ground.Ground.{Rows}
 use Rattle.lists.proofs.Lists.{is-by}
 use Rattle.ledger.specs.declared.Bench.{Bench}
-use Rattle.line.specs.Lines.{lines, firstLine}
-use Rattle.line.proofs.Ends.{next-line, no-lines}
-use Rattle.forms.specs.Printed.{Printed}
-use Rattle.forms.proofs.Printing.{printed-nothing, printed-both, printed-end}
-use Rattle.orders.specs.Orders.{orderRead}
-use Rattle.lending.specs.declared.Lending.{Lending}
-use Rattle.desk.specs.Desk.{Desk, printedOf}
-use Rattle.desk_calls.specs.Lines.{Holds}
+use Rattle.text_lines.specs.Lines.{lines, firstLine}
+use Rattle.text_lines.proofs.Ends.{next-line, no-lines}
+use Rattle.log_forms.specs.Printed.{Printed}
+use Rattle.log_forms.proofs.Printing.{printed-nothing, printed-both, printed-end}
+use Rattle.log_forms.specs.orders.Orders.{orderRead}
+use Rattle.log_lent.specs.declared.Lending.{Lending}
+use Rattle.log_session.specs.Desk.{Desk, printedOf}
+use Rattle.log_session.specs.calls.Lines.{Holds}
 use Rattle.log.specs.Effects.{orderEffect}
 use Rattle.log.specs.Log.{Run, begun, runLine, runLines}
 use Rattle.log.specs.Running.{Running, Stops}

@@ -3,12 +3,12 @@ use mathlib.Core.Bool.{Bool, _&&_, _||_, cond}
 use mathlib.Core.List.{[]}
 use Prim.Native.Nat.{ℕ, _-_}
 use lib.Dec.{eqb, ltb}
-use Rattle.forms.specs.declared.Order.{Order}
-use Rattle.desk.specs.Desk.{Desk, Cells, Effect, tells}
-use Rattle.desk.specs.Lends.{lendingOf}
-use Rattle.desk_calls.specs.Lines.{callOf}
-use Rattle.desk_votes.specs.Votes.{voteOf}
-use Rattle.desk_asks.specs.Questions.{askOf}
+use Rattle.log_forms.specs.declared.Order.{Order}
+use Rattle.log_session.specs.Desk.{Desk, Cells, Effect, tells}
+use Rattle.log_session.specs.Lends.{lendingOf}
+use Rattle.log_session.specs.calls.Lines.{callOf}
+use Rattle.log_session.specs.votes.Votes.{voteOf}
+use Rattle.log_session.specs.questions.Questions.{askOf}
 
 -- 0 to 7 lend; 8 to 13 call; 14 to 18 are about votes; 19 to 25 ask; 26 and 27 are the adds, the last two requests
 unfoldable pub effectOf : Desk → ℕ → Cells → Effect

@@ -3,10 +3,10 @@ use mathlib.Core.Bool.{cond}
 use mathlib.Core.List.{List, [], _∷_, _++_}
 use Prim.Native.Nat.{ℕ, suc}
 use lib.Dec.{eqb}
-use Rattle.line.specs.Lines.{lines}
+use Rattle.text_lines.specs.Lines.{lines}
 use Rattle.ledger.specs.Ledger.{Ledger, Call, judge, step}
-use Rattle.orders.specs.Orders.{orderRead}
-use Rattle.desk.specs.Desk.{Desk, emptyDesk, printedOf}
+use Rattle.log_forms.specs.orders.Orders.{orderRead}
+use Rattle.log_session.specs.Desk.{Desk, emptyDesk, printedOf}
 use Rattle.log.specs.Effects.{orderEffect}
 
 -- a desk, how many lines were run, and all that was printed

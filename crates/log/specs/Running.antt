@@ -3,13 +3,13 @@ use mathlib.Core.Path.{_≡_}
 use mathlib.Core.List.{List}
 use Prim.Native.Nat.{ℕ, _+_, _-_, _≤_, _<_}
 use lib.ListN.{length, drop}
-use Rattle.ground.specs.Ground.{Rows}
+use Rattle.record_rows.specs.ground.Ground.{Rows}
 use Rattle.ledger.specs.declared.Bench.{Bench}
-use Rattle.line.specs.Lines.{lines}
-use Rattle.forms.specs.Printed.{Printed}
-use Rattle.lending.specs.declared.Lending.{Lending}
-use Rattle.desk.specs.Desk.{Desk}
-use Rattle.desk_calls.specs.Lines.{Holds}
+use Rattle.text_lines.specs.Lines.{lines}
+use Rattle.log_forms.specs.Printed.{Printed}
+use Rattle.log_lent.specs.declared.Lending.{Lending}
+use Rattle.log_session.specs.Desk.{Desk}
+use Rattle.log_session.specs.calls.Lines.{Holds}
 use Rattle.log.specs.Log.{Run, begun, runLines}
 
 -- The lines before a place, from, were run: what is in memory, the count and what is printed are those of a run from which the lines that are left

@@ -1,25 +1,30 @@
 // A call log, run line by line on a desk.
-use desk::Told;
-use forms::Order;
 use ledger::Bench;
-use lending::Lending;
-use turner::Turner;
+use log_answers::bench_answers;
+use log_forms::Order;
+use log_forms::orders;
+use log_lent::Lending;
+use log_session::Told;
+use log_session::calls;
+use log_session::questions;
+use log_session::votes;
+use pages_turner::Turner;
 ghost use mathlib.Core.Path.{_≡_};
 ghost use mathlib.Core.Bool.{true, false};
 ghost use Prim.Native.Nat.{ℕ, suc, _+_, _<_, _≤_};
 ghost use lib.ListN.{length, drop};
-ghost use Rattle.forms.specs.Printed.{Printed};
-ghost use Rattle.line.specs.Lines.{lines, firstLine};
-ghost use Rattle.orders.specs.Orders.{orderRead};
+ghost use Rattle.log_forms.specs.Printed.{Printed};
+ghost use Rattle.text_lines.specs.Lines.{lines, firstLine};
+ghost use Rattle.log_forms.specs.orders.Orders.{orderRead};
 ghost use mathlib.Core.List.{List};
-ghost use Rattle.ground.specs.Ground.{Rows};
+ghost use Rattle.record_rows.specs.ground.Ground.{Rows};
 ghost use Rattle.ledger.specs.declared.Bench.{Bench};
-ghost use Rattle.lending.specs.declared.Lending.{Lending};
+ghost use Rattle.log_lent.specs.declared.Lending.{Lending};
 ghost use Rattle.bench.specs.Changes.{openAt};
-ghost use Rattle.desk.specs.Desk.{Desk, printedOf};
-ghost use Rattle.desk.specs.Requests.{isTurn};
-ghost use Rattle.desk_calls.specs.Lines.{Holds};
-ghost use Rattle.desk_votes.specs.Votes.{voteOf};
+ghost use Rattle.log_session.specs.Desk.{Desk, printedOf};
+ghost use Rattle.log_session.specs.Requests.{isTurn};
+ghost use Rattle.log_session.specs.calls.Lines.{Holds};
+ghost use Rattle.log_session.specs.votes.Votes.{voteOf};
 ghost use Rattle.log.specs.Effects.{requestPlace, orderEffect, paging, mayLend};
 ghost use Rattle.log.specs.Log.{begun, runLines};
 ghost use Rattle.log.specs.Running.{Running, Stops};
@@ -57,17 +62,17 @@ fn run_page(turner: Turner, order: Order, line: usize, out: &mut [u8], at: usize
     let kind = order.kind;
     let cells = order.cells;
     if kind == 25 {
-        let place = asks::print_page(&mut out[..], at, turner);
+        let place = bench_answers::print_page(&mut out[..], at, turner);
         return Paged {
             turner: turner,
             at: place,
         };
     }
     let which = kind - 8;
-    let turning = desk::turn_by(turner, which, cells[0]);
+    let turning = log_session::turn_by(turner, which, cells[0]);
     let after = turning.turner;
     let answer = bench::plain_answer(turning.number as u32);
-    let place = desk_calls::print_outcome(answer, after, which, line, &mut out[..], at);
+    let place = calls::print_outcome(answer, after, which, line, &mut out[..], at);
     Paged {
         turner: after,
         at: place,
@@ -107,7 +112,7 @@ fn run_lending(
     let kind = order.kind;
     let cells = order.cells;
     if kind < 8 {
-        return desk_calls::run_lend(
+        return calls::run_lend(
             bench,
             lending,
             &mut edits[..],
@@ -119,7 +124,7 @@ fn run_lending(
             at,
         );
     }
-    desk_votes::print_proposal(
+    votes::print_proposal(
         lending,
         &mut edits[..],
         &mut constraints[..],
@@ -146,7 +151,7 @@ fn print_vote(
         → Printed (printedOf (voteOf which D cells) line) (now (out .entry)) at (now (out .exit)) r) ⌝ }
 {
     let multilog = bench.multilog;
-    desk_votes::print_vote(
+    votes::print_vote(
         lending,
         edits,
         constraints,
@@ -178,7 +183,7 @@ fn print_told(
     let kind = order.kind;
     let cells = order.cells;
     if order.number != 0 {
-        return answers::print_refusal(order.number, line, &mut out[..], at);
+        return log_answers::print_refusal(order.number, line, &mut out[..], at);
     }
     if kind < 19 {
         return print_vote(
@@ -194,9 +199,9 @@ fn print_told(
         );
     }
     if kind < 26 {
-        return desk_asks::print_ask(bench, kind - 19, &mut out[..], at);
+        return questions::print_ask(bench, kind - 19, &mut out[..], at);
     }
-    answers::print_refusal(2, line, &mut out[..], at)
+    log_answers::print_refusal(2, line, &mut out[..], at)
 }
 
 // The place among the requests of the call that an order makes; 8 or more where it makes none.
@@ -270,7 +275,7 @@ fn run_turns(
     let mut place = at;
     let mut from = start;
     while from < log.len() && place <= limit {
-        let end = line::line_end(log, from);
+        let end = text_lines::line_end(log, from);
         let order = orders::read_order(&log[from..end]);
         if !is_paging(order) {
             break;
@@ -322,7 +327,7 @@ pub fn run_some(
     let mut place = at;
     let mut from = 0;
     while from < log.len() && place <= limit {
-        let end = line::line_end(log, from);
+        let end = text_lines::line_end(log, from);
         let order = orders::read_order(&log[from..end]);
         let which = request_of(order);
         if is_turn(which) {
@@ -339,11 +344,18 @@ pub fn run_some(
             from = end;
             if which < 8 {
                 let cells = order.cells;
-                let outcome = desk::call(held, lent, &edits[..], &constraints[..], which, cells);
+                let outcome = log_session::call(
+                    held,
+                    lent,
+                    &edits[..],
+                    &constraints[..],
+                    which,
+                    cells,
+                );
                 let answer = outcome.answer;
                 held = outcome.bench;
                 let turner = held.turner;
-                place = desk_calls::print_outcome(answer, turner, which, n, &mut out[..], place);
+                place = calls::print_outcome(answer, turner, which, n, &mut out[..], place);
             } else if is_lending(order) {
                 let told = run_lending(
                     held,

@@ -1,4 +1,6 @@
 // Prints the report of the text on standard input, or its refusal (document 01, "Text").
+use stdio::text_input;
+
 fn main() {
-    console::show_input();
+    text_input::show_input();
 }

@@ -11,13 +11,13 @@ use Rattle.record.specs.Record.{Record, names, written, is, has, WellFormed}
 use Rattle.record.specs.Sound.{Sound, SoundRecord, Must, Never, Settled}
 use Rattle.record.specs.Schedule.{needs, musts, ready, order, ring, barred, admit, admits, scheduled, schedule}
 use Rattle.record.specs.Judgement.{fits, soundRow, sound, must, never, ordered, serialised, settled, wellFormed}
-use Rattle.row.specs.Row.{same, editRow, constraintRow}
-use Rattle.vote.specs.Bundle.{leads, members, between, bundle, eligible, vote}
-use Rattle.vote.specs.Tally.{sameEdit, sameConstraint, sameList, sameBundle, ballots, total, weigh, greatestOf, greatest, silent, won}
-use Rattle.turner.specs.Turn.{landed, turned, turnedAnswer}
+use Rattle.record_rows.specs.row.Row.{same, editRow, constraintRow}
+use Rattle.voting.specs.Bundle.{leads, members, between, bundle, eligible, vote}
+use Rattle.voting.specs.Tally.{sameEdit, sameConstraint, sameList, sameBundle, ballots, total, weigh, greatestOf, greatest, silent, won}
+use Rattle.pages_turner.specs.Turn.{landed, turned, turnedAnswer}
 use Rattle.lists.proofs.Lists.{by, clash, and-l, and-r, mem-filter, filter-mem}
 use Rattle.lists.proofs.Logic.{all-has}
-use Rattle.row.proofs.Compared.{same-eq}
+use Rattle.record_rows.proofs.row.Compared.{same-eq}
 use Rattle.record.proofs.Records.{well-formed}
 use Rattle.record.proofs.Judged.{sound-is, must-is, never-is, settled-is, row-is}
 use Rattle.record.proofs.Scheduled.{schedule-sound}

@@ -12,15 +12,15 @@ use lib.ListN.{length, length-append}
 use Rattle.lists.proofs.Lists.{by, or-no-l, or-no-r}
 use Rattle.lists.specs.Lists.{mem}
 use Rattle.record.specs.Judgement.{sound}
-use Rattle.row.specs.Row.{Row, cell}
-use Rattle.ground.specs.Ground.{Rows, TableKind, noPlace, otherBody, misplaced, rowFault, _given_, _orelse_}
-use Rattle.table.specs.Table.{emptyTables, namesOf, unknown, pairNotAllowed, constraintFurther, editKind, constraintKind}
-use Rattle.table.proofs.Records.{empty-checked, joining-editplaces, joining-constraintplaces}
-use Rattle.line.specs.declared.Line.{Line}
-use Rattle.line.specs.Line.{lineRead, lineLimit}
-use Rattle.line.specs.Lines.{lines, joined}
-use Rattle.line.proofs.Ends.{ended-line}
-use Rattle.line.proofs.RoundTrip.{line-back, Saying, fault-one, fault-two, an-edit, a-constraint, line-saying}
+use Rattle.record_rows.specs.row.Row.{Row, cell}
+use Rattle.record_rows.specs.ground.Ground.{Rows, TableKind, noPlace, otherBody, misplaced, rowFault, _given_, _orelse_}
+use Rattle.record_tables.specs.Table.{emptyTables, namesOf, unknown, pairNotAllowed, constraintFurther, editKind, constraintKind}
+use Rattle.record_tables.proofs.Records.{empty-checked, joining-editplaces, joining-constraintplaces}
+use Rattle.text_lines.specs.declared.Line.{Line}
+use Rattle.text_lines.specs.Line.{lineRead, lineLimit}
+use Rattle.text_lines.specs.Lines.{lines, joined}
+use Rattle.text_lines.proofs.Ends.{ended-line}
+use Rattle.text_lines.proofs.RoundTrip.{line-back, Saying, fault-one, fault-two, an-edit, a-constraint, line-saying}
 use Rattle.text.specs.Text.{editFault, constraintFault, lineFault, editsWith, constraintsWith, Answer, Accepted, Refused, readFrom, readRows, judged, readText}
 use Rattle.text.proofs.Rows.{line-fault-none, Given, given-none-yet, given-edit, given-constraint, given-faultless}
 use Rattle.text.proofs.RoundTrip.{rows-took}

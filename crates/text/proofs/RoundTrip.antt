@@ -13,19 +13,19 @@ use Rattle.record.specs.Record.{Record}
 use Rattle.record.specs.Judgement.{sound}
 use Rattle.lists.specs.Lists.{Has}
 use Rattle.lists.proofs.Logic.{has-mapped, all-has, all-by}
-use Rattle.row.specs.Row.{Row, cell, editInRange, constraintInRange, editOf, constraintOf, editRow, constraintRow}
-use Rattle.row.proofs.Cells.{edit-back, constraint-back}
-use Rattle.ground.specs.Ground.{Rows, rowFault}
-use Rattle.ground.proofs.Grounds.{Clean, clean}
-use Rattle.ground.proofs.Accepted.{accepted-range}
-use Rattle.table.specs.Table.{editRows, constraintRows, decoded, emptyTables, namesOf, editKind, constraintKind}
-use Rattle.table.specs.Checked.{Checked}
-use Rattle.table.proofs.Records.{both, empty-checked, lent-checked, checked-faultless, checked-decoded}
-use Rattle.line.specs.Line.{editLine, constraintLine, lineRead, fitsWord}
-use Rattle.line.specs.Lines.{lines}
-use Rattle.line.specs.Row.{isEditRow, isConstraintRow}
-use Rattle.line.proofs.Ends.{concat, lines-all}
-use Rattle.line.proofs.RoundTrip.{line-back, edit-line-read, constraint-line-read, edit-line-first, constraint-line-first}
+use Rattle.record_rows.specs.row.Row.{Row, cell, editInRange, constraintInRange, editOf, constraintOf, editRow, constraintRow}
+use Rattle.record_rows.proofs.row.Cells.{edit-back, constraint-back}
+use Rattle.record_rows.specs.ground.Ground.{Rows, rowFault}
+use Rattle.record_rows.proofs.ground.Grounds.{Clean, clean}
+use Rattle.record_rows.proofs.ground.Accepted.{accepted-range}
+use Rattle.record_tables.specs.Table.{editRows, constraintRows, decoded, emptyTables, namesOf, editKind, constraintKind}
+use Rattle.record_tables.specs.Checked.{Checked}
+use Rattle.record_tables.proofs.Records.{both, empty-checked, lent-checked, checked-faultless, checked-decoded}
+use Rattle.text_lines.specs.Line.{editLine, constraintLine, lineRead, fitsWord}
+use Rattle.text_lines.specs.Lines.{lines}
+use Rattle.text_lines.specs.Row.{isEditRow, isConstraintRow}
+use Rattle.text_lines.proofs.Ends.{concat, lines-all}
+use Rattle.text_lines.proofs.RoundTrip.{line-back, edit-line-read, constraint-line-read, edit-line-first, constraint-line-first}
 use Rattle.text.specs.Text.{joinedLines, rowsText, textOf, editFault, constraintFault, lineFault, editsWith, constraintsWith, Answer, Accepted, Refused, readFrom, readRows, judged, readText, valuesFit}
 use Rattle.text.proofs.Rows.{edit-in-form, constraint-in-form, value-fits, edit-fault-none, line-fault-none, Given, given-none-yet, given-edit, given-constraint, given-faultless, text-edit, text-constraint}
 

@@ -9,14 +9,14 @@ use lib.Dec.{eqb, ltb}
 use lib.ListN.{length, getD}
 use Rattle.lists.proofs.Lists.{clash, and-l, and-r}
 use Rattle.lists.specs.Lists.{all}
-use Rattle.row.specs.Row.{Row, cell, bodyInRange, editInRange, constraintInRange}
-use Rattle.row.proofs.Cells.{edit-in-range, constraint-in-range, name-small, constraint-bounds}
-use Rattle.ground.specs.Ground.{Rows, TableKind, rowFault, firstFault, tableFault, _given_}
-use Rattle.ground.proofs.Grounds.{orelse-none, orelse-second, given-none, Clean, clean, clean-is}
-use Rattle.table.specs.Table.{emptyTables, namesOf, editKind, constraintKind, joinFault, lentFault}
-use Rattle.line.specs.declared.Line.{Line}
-use Rattle.line.specs.Line.{fitsWord, editLine, constraintLine}
-use Rattle.line.specs.Row.{isEditRow, isConstraintRow}
+use Rattle.record_rows.specs.row.Row.{Row, cell, bodyInRange, editInRange, constraintInRange}
+use Rattle.record_rows.proofs.row.Cells.{edit-in-range, constraint-in-range, name-small, constraint-bounds}
+use Rattle.record_rows.specs.ground.Ground.{Rows, TableKind, rowFault, firstFault, tableFault, _given_}
+use Rattle.record_rows.proofs.ground.Grounds.{orelse-none, orelse-second, given-none, Clean, clean, clean-is}
+use Rattle.record_tables.specs.Table.{emptyTables, namesOf, editKind, constraintKind, joinFault, lentFault}
+use Rattle.text_lines.specs.declared.Line.{Line}
+use Rattle.text_lines.specs.Line.{fitsWord, editLine, constraintLine}
+use Rattle.text_lines.specs.Row.{isEditRow, isConstraintRow}
 use Rattle.text.specs.Text.{editFault, constraintFault, lineFault, joinedLines, rowsText}
 
 -- a row in range whose value fits 32 bits has a line of its own

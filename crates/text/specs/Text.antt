@@ -7,12 +7,12 @@ use lib.ListN.{length}
 use Rattle.lists.specs.Lists.{all}
 use Rattle.record.specs.Record.{Record}
 use Rattle.record.specs.Judgement.{sound}
-use Rattle.row.specs.Row.{Row, cell, editRow}
-use Rattle.ground.specs.Ground.{Rows, rowFault, _given_, _orelse_}
-use Rattle.table.specs.Table.{editRows, constraintRows, decoded, namesOf, editKind, constraintKind}
-use Rattle.line.specs.declared.Line.{Line}
-use Rattle.line.specs.Line.{editLine, constraintLine, lineRead, fitsWord}
-use Rattle.line.specs.Lines.{lines}
+use Rattle.record_rows.specs.row.Row.{Row, cell, editRow}
+use Rattle.record_rows.specs.ground.Ground.{Rows, rowFault, _given_, _orelse_}
+use Rattle.record_tables.specs.Table.{editRows, constraintRows, decoded, namesOf, editKind, constraintKind}
+use Rattle.text_lines.specs.declared.Line.{Line}
+use Rattle.text_lines.specs.Line.{editLine, constraintLine, lineRead, fitsWord}
+use Rattle.text_lines.specs.Lines.{lines}
 
 unfoldable pub joinedLines : List (List ℕ) → List ℕ
 joinedLines [] = []

@@ -11,7 +11,7 @@ use lib.Dec.{leb}
 use lib.ListN.{length}
 use Rattle.lists.specs.Lists.{filter}
 use Rattle.lists.proofs.Lists.{by}
-use Rattle.ground.specs.Ground.{_given_}
+use Rattle.record_rows.specs.ground.Ground.{_given_}
 use Rattle.fraction.specs.declared.Fraction.{Fraction}
 use Rattle.fraction.specs.declared.BoundedFraction.{BoundedFraction}
 use Rattle.fraction.specs.Divisor.{gcd}

@@ -9,7 +9,7 @@ use borrow.Author.Tests.{eqb-true, eqb-false, eq-eqb, ne-eqb, leb-false, lt-leb}
 use lib.Dec.{eqb, leb}
 use lib.ListN.{length, length-append}
 use Rattle.lists.proofs.Lists.{by}
-use Rattle.ground.specs.Ground.{_given_, _orelse_}
+use Rattle.record_rows.specs.ground.Ground.{_given_, _orelse_}
 use Rattle.unity_table.specs.declared.Weights.{Weights}
 use Rattle.unity_table.specs.Unity.{electionLimit, outOfRange, tooWide, weightsFault, Fault, isLast, decidingFault, NoneFaulty, FirstFaulty, summary, refusedUnity, unityBy, unityOf}
 use Rattle.unity_table.proofs.Faults.{noFault}

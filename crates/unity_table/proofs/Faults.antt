@@ -9,7 +9,7 @@ use borrow.Author.Tests.{eqb-true, eqb-false}
 use lib.Dec.{eqb}
 use lib.ListN.{length, length-append}
 use Rattle.lists.proofs.Lists.{by}
-use Rattle.ground.specs.Ground.{_given_}
+use Rattle.record_rows.specs.ground.Ground.{_given_}
 use Rattle.unity_table.specs.Unity.{Fault, decidingFault}
 
 abbrev pub noFault : Fault

@@ -8,7 +8,7 @@ use Prim.Native.Nat.{ℕ, suc, _+_, _*_}
 use lib.Dec.{leb, ltb, eqb}
 use lib.ListN.{length, getD}
 use Rattle.lists.specs.Lists.{filter}
-use Rattle.ground.specs.Ground.{_given_, _orelse_}
+use Rattle.record_rows.specs.ground.Ground.{_given_, _orelse_}
 use Rattle.fraction.specs.declared.Fraction.{Fraction}
 use Rattle.fraction.specs.Fraction.{lowestTerms, sumOf, noFraction, mean, leastFraction, greatestFraction}
 use Rattle.fraction.specs.Bounded.{fits64}

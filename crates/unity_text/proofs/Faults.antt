@@ -11,7 +11,7 @@ use lib.ListN.{length, length-map}
 use Rattle.lists.specs.Lists.{all}
 use Rattle.lists.proofs.Lists.{by, and-l, and-r}
 use Rattle.lists.proofs.Front.{all-append}
-use Rattle.line.specs.Lines.{lines}
+use Rattle.text_lines.specs.Lines.{lines}
 use Rattle.unity_table.specs.declared.Weights.{Weights}
 use Rattle.unity_table.specs.Unity.{electionLimit, weightsFault, Fault, isLast, decidingFault, refusedUnity, unityOf}
 use Rattle.unity_table.specs.Summed.{runningFault, running}

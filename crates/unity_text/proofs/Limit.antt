@@ -10,14 +10,14 @@ use native.Mathlib.Omega.{arith}
 use borrow.Author.Tests.{eqb-true, eqb-false, ltb-false}
 use lib.Dec.{eqb, ltb}
 use lib.ListN.{length, length-append}
-use Rattle.line.specs.Line.{lineLimit}
+use Rattle.text_lines.specs.Line.{lineLimit}
 use Rattle.lists.specs.Lists.{mem}
 use Rattle.lists.proofs.Lists.{by, clash, mem-snoc}
-use Rattle.form.specs.Spelling.{bytes}
-use Rattle.form.specs.Form.{taken}
-use Rattle.form.proofs.Forms.{spelled-all, fill-taken, oneLine, fill-ended}
-use Rattle.line.specs.Lines.{joined, lines}
-use Rattle.line.proofs.Ends.{ended-line}
+use Rattle.text_forms.specs.Spelling.{bytes}
+use Rattle.text_forms.specs.Form.{taken}
+use Rattle.text_forms.proofs.Forms.{spelled-all, fill-taken, oneLine, fill-ended}
+use Rattle.text_lines.specs.Lines.{joined, lines}
+use Rattle.text_lines.proofs.Ends.{ended-line}
 use Rattle.text.proofs.Limit.{FirstEnd, first-end, begins}
 use Rattle.unity_table.specs.Unity.{electionLimit, Fault, isLast, decidingFault}
 use Rattle.unity_text.specs.Text.{weightsForm, numbersIn, isSome, inForm, weightsLineFault, textUnity}

@@ -8,8 +8,8 @@ use native.Mathlib.Omega.{arith}
 use lib.ListN.{length, take, drop, length-map}
 use Rattle.lists.specs.Lists.{all}
 use Rattle.lists.proofs.Front.{all-append}
-use Rattle.line.specs.Lines.{lines, firstLine}
-use Rattle.line.proofs.Ends.{NextLine, next-line, no-lines}
+use Rattle.text_lines.specs.Lines.{lines, firstLine}
+use Rattle.text_lines.proofs.Ends.{NextLine, next-line, no-lines}
 use Rattle.unity_table.specs.declared.Summed.{Summed}
 use Rattle.unity_table.specs.declared.Unity.{Unity}
 use Rattle.unity_table.specs.Unity.{electionLimit, weightsOf, Fault, decidingFault, refusedUnity}

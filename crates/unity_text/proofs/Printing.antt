@@ -4,10 +4,10 @@ use mathlib.Core.Logic.{_≢_}
 use mathlib.Core.List.{List}
 use Prim.Native.Nat.{ℕ}
 use borrow.Author.Tests.{eq-eqb, ne-eqb}
-use Rattle.form.specs.Form.{fill}
-use Rattle.writer.specs.declared.Written.{Written}
-use Rattle.writer.specs.Placed.{placed, placing}
-use Rattle.report.specs.Report.{refusalLine}
+use Rattle.text_forms.specs.Form.{fill}
+use Rattle.text_writer.specs.declared.Written.{Written}
+use Rattle.text_writer.specs.Placed.{placed, placing}
+use Rattle.text_report.specs.Report.{refusalLine}
 use Rattle.unity_table.specs.declared.Unity.{Unity}
 use Rattle.unity_text.specs.Text.{unityForm, textUnity, unityNumbers, printedUnity}
 

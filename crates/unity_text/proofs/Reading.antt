@@ -7,12 +7,12 @@ use Prim.Native.Nat.{ℕ, _+_, _≤_, _<_}
 use native.Mathlib.Omega.{arith}
 use borrow.Author.Tests.{lt-ltb, le-ltb}
 use lib.ListN.{length, getD, take, replicate}
-use Rattle.line.specs.Line.{lineLimit}
+use Rattle.text_lines.specs.Line.{lineLimit}
 use Rattle.lists.proofs.Lists.{by}
-use Rattle.decimal.specs.Decimal.{saturated}
-use Rattle.form.specs.declared.Filled.{Filled}
-use Rattle.form.specs.Form.{taken, filledOf}
-use Rattle.line.proofs.Says.{kept-first, kept-second, kept-third, no-fit, fit}
+use Rattle.text_forms.specs.decimal.Decimal.{saturated}
+use Rattle.text_forms.specs.declared.Filled.{Filled}
+use Rattle.text_forms.specs.Form.{taken, filledOf}
+use Rattle.text_lines.proofs.Says.{kept-first, kept-second, kept-third, no-fit, fit}
 use Rattle.unity_table.specs.declared.Weights.{Weights}
 use Rattle.unity_table.specs.declared.Summed.{Summed}
 use Rattle.unity_table.specs.Unity.{weightsOf, outOfRange}

@@ -7,14 +7,14 @@ use Prim.Native.Nat.{ℕ, zero, suc, _+_, _≤_, _<_}
 use native.Mathlib.Omega.{arith}
 use borrow.Author.Tests.{leb-true, le-leb, le-ltb}
 use lib.ListN.{length, getD}
-use Rattle.line.specs.Line.{lineLimit}
+use Rattle.text_lines.specs.Line.{lineLimit}
 use Rattle.lists.specs.Lists.{all}
 use Rattle.lists.proofs.Lists.{by, and-l, and-r}
-use Rattle.form.specs.Spelling.{bytes, numberSpelling}
-use Rattle.form.specs.Form.{isMark, spelling}
-use Rattle.form.proofs.Forms.{slots, separate, spelled-all, taken-fill, fill-ended, room, fill-room}
-use Rattle.line.specs.Lines.{lines}
-use Rattle.line.proofs.Ends.{line-of-ended}
+use Rattle.text_forms.specs.Spelling.{bytes, numberSpelling}
+use Rattle.text_forms.specs.Form.{isMark, spelling}
+use Rattle.text_forms.proofs.Forms.{slots, separate, spelled-all, taken-fill, fill-ended, room, fill-room}
+use Rattle.text_lines.specs.Lines.{lines}
+use Rattle.text_lines.proofs.Ends.{line-of-ended}
 use Rattle.text.specs.Text.{joinedLines}
 use Rattle.unity_table.specs.declared.Weights.{Weights}
 use Rattle.unity_table.specs.Unity.{weightsOf, outOfRange, weightsFault, unityOf}

@@ -15,13 +15,13 @@ use Rattle.fraction.specs.declared.Fraction.{Fraction}
 use Rattle.fraction.specs.Divisor.{gcd}
 use Rattle.fraction.specs.Fraction.{lowestTerms, sumOf, mean}
 use Rattle.fraction.specs.Bounded.{limit64, fits64}
-use Rattle.form.specs.Spelling.{bytes}
-use Rattle.form.proofs.Forms.{fill-wide}
-use Rattle.line.specs.Lines.{lines}
+use Rattle.text_forms.specs.Spelling.{bytes}
+use Rattle.text_forms.proofs.Forms.{fill-wide}
+use Rattle.text_lines.specs.Lines.{lines}
 use Rattle.text.proofs.Limit.{given-small, first-small}
-use Rattle.writer.specs.Placed.{placing}
-use Rattle.writer.proofs.Placing.{start-enough}
-use Rattle.report.specs.Report.{refusalForm, refusalLine}
+use Rattle.text_writer.specs.Placed.{placing}
+use Rattle.text_writer.proofs.Placing.{start-enough}
+use Rattle.text_report.specs.Report.{refusalForm, refusalLine}
 use Rattle.unity_table.specs.declared.Weights.{Weights}
 use Rattle.unity_table.specs.Unity.{electionLimit, isEmpty, isWon, shares, outOfRange, tooWide, weightsFault, Fault, isLast, decidingFault, countBy, summary}
 use Rattle.unity_table.specs.Summed.{running}

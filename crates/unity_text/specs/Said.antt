@@ -2,7 +2,7 @@
 use mathlib.Core.List.{List}
 use mathlib.Core.Option.{Option}
 use Prim.Native.Nat.{ℕ}
-use Rattle.decimal.specs.Decimal.{saturated}
+use Rattle.text_forms.specs.decimal.Decimal.{saturated}
 use Rattle.unity_table.specs.declared.Weights.{Weights}
 use Rattle.unity_text.specs.declared.Said.{Said}
 use Rattle.unity_text.specs.Text.{isSome, weightsBy}

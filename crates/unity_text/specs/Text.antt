@@ -5,13 +5,13 @@ use mathlib.Core.Option.{Option, none, some}
 use Prim.Native.Nat.{ℕ}
 use lib.Dec.{leb, ltb, eqb}
 use lib.ListN.{length}
-use Rattle.ground.specs.Ground.{_given_, _orelse_}
-use Rattle.form.specs.Spelling.{bytes}
-use Rattle.form.specs.Form.{fill, taken}
-use Rattle.line.specs.Lines.{lines}
+use Rattle.record_rows.specs.ground.Ground.{_given_, _orelse_}
+use Rattle.text_forms.specs.Spelling.{bytes}
+use Rattle.text_forms.specs.Form.{fill, taken}
+use Rattle.text_lines.specs.Lines.{lines}
 use Rattle.text.specs.Text.{joinedLines}
-use Rattle.report.specs.Report.{refusalLine}
-use Rattle.line.specs.Line.{lineLimit}
+use Rattle.text_report.specs.Report.{refusalLine}
+use Rattle.text_lines.specs.Line.{lineLimit}
 use Rattle.unity_table.specs.declared.Weights.{Weights}
 use Rattle.unity_table.specs.declared.Unity.{Unity}
 use Rattle.unity_table.specs.Unity.{weightsOf, weightsFault, decidingFault, unityBy}

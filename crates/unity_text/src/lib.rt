@@ -1,10 +1,10 @@
 // The answers of elections as lines (document 02, A9): read line by line, and what they come to as one line.
+use text_writer::Written;
 use unity_table::Unity;
 use unity_table::Weights;
-use writer::Written;
 ghost use mathlib.Core.Path.{_≡_};
 ghost use mathlib.Core.Option.{none};
-ghost use Rattle.writer.specs.Placed.{placed, placing};
+ghost use Rattle.text_writer.specs.Placed.{placed, placing};
 ghost use Rattle.unity_text.specs.Text.{numbersIn, textUnity, printedUnity};
 ghost use Rattle.unity_text.specs.Said.{saidOf};
 
@@ -32,10 +32,10 @@ fn no_answer() -> Said
 fn read_answer(line: &[u8]) -> Said
     ensures { λ r. ⌜ r ≡ saidOf (numbersIn (now (line .entry))) ⌝ }
 {
-    if line::LINE_LIMIT < line.len() {
+    if text_lines::LINE_LIMIT < line.len() {
         return no_answer();
     }
-    let filled = form::read_form(b"greatest=# silent=# total=#\n", line);
+    let filled = text_forms::read_form(b"greatest=# silent=# total=#\n", line);
     if !filled.fits {
         return no_answer();
     }
@@ -58,7 +58,7 @@ pub fn text_unity(text: &[u8]) -> Unity
     let mut s = unity_table::nothing_summed();
     let mut at = 0;
     while at < text.len() {
-        let end = line::line_end(text, at);
+        let end = text_lines::line_end(text, at);
         let said = read_answer(&text[at..end]);
         if !said.fits {
             return unity_table::refused(1, s.row + 1);
@@ -80,7 +80,7 @@ pub fn print_unity(text: &[u8], out: &mut [u8]) -> Written
 {
     let unity = text_unity(text);
     if unity.number != 0 {
-        return report::refusal_line(unity.number, unity.row, &mut out[..]);
+        return text_report::refusal_line(unity.number, unity.row, &mut out[..]);
     }
     let mean = unity.mean;
     let least = unity.least;
@@ -95,7 +95,7 @@ pub fn print_unity(text: &[u8], out: &mut [u8]) -> Written
         unity.won as u64,
         unity.empty as u64,
     ];
-    writer::place_form(
+    text_writer::place_form(
         b"mean=#/# least=#/# greatest=#/# won=# empty=#\n",
         &numbers,
         &mut out[..],

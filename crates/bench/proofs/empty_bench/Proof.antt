@@ -2,7 +2,7 @@ use borrow.Author.Needs.{needs}
 use Rattle.lists.specs.Lists.{mem}
 use Rattle.record.specs.Record.{names, written}
 use Rattle.record.specs.Stored.{padded}
-use Rattle.links.specs.Marks.{valuesOf, marksOf}
+use Rattle.graph.specs.links.Marks.{valuesOf, marksOf}
 use Rattle.catalogue.specs.Chips.{scheduleOf}
 use Rattle.ledger.specs.Ledger.{start, pages, last}
 use Rattle.ledger.specs.Bench.{benchOf, pageEdits, openEdits}

@@ -1,4 +1,4 @@
--- `catalogue::back_to` meets its contract. The invariant: the pages that are left, undone from here, come to what all of them come to.
+-- `back_to` meets its contract. The invariant: the pages that are left, undone from here, come to what all of them come to.
 use Prim.Native.Nat.{_≤_}
 use mathlib.Core.Path.{_≡_, refl, ap}
 use lib.ListN.{length}

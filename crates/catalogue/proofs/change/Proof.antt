@@ -1,4 +1,4 @@
--- `catalogue::change` meets its contract.
+-- `change` meets its contract.
 use native.Mathlib.Omega.{arith}
 use borrow.Author.Needs.{needs}
 use Rattle.catalogue.proofs.Moves.{common-le, change-moves, change-opens}

@@ -1,4 +1,4 @@
--- `catalogue::common_beginning` meets its contract. The invariant: the names passed are the same.
+-- `common_beginning` meets its contract. The invariant: the names passed are the same.
 use Prim.Native.Nat.{ℕ, _-_, _≤_, _<_, min}
 use mathlib.Core.Path.{_≡_, ap, _∙_}
 use lib.ListN.{length, getD}

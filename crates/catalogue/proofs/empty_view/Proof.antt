@@ -1,4 +1,4 @@
--- `catalogue::empty_view` meets its contract.
+-- `empty_view` meets its contract.
 use borrow.Author.Needs.{needs}
 use Rattle.catalogue.proofs.Entries.{empty-view-stored}
 use Rattle.catalogue.proofs.empty_view.Statement.{statement}

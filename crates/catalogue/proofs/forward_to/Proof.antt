@@ -1,4 +1,4 @@
--- `catalogue::forward_to` meets its contract. The invariant: the pages that are left, run from here, come to what all of them come to.
+-- `forward_to` meets its contract. The invariant: the pages that are left, run from here, come to what all of them come to.
 use Prim.Native.Nat.{_-_, _≤_}
 use mathlib.Core.Path.{_≡_, refl, ap}
 use lib.ListN.{length}

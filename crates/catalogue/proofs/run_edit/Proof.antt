@@ -1,4 +1,4 @@
--- `catalogue::run_edit` meets its contract: a place in range, and one past the last.
+-- `run_edit` meets its contract: a place in range, and one past the last.
 use Prim.Native.Nat.{_≤_, _<_}
 use mathlib.Core.Path.{_≡_, ap}
 use lib.ListN.{length}

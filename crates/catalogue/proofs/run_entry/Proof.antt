@@ -1,4 +1,4 @@
--- `catalogue::run_entry` meets its contract.
+-- `run_entry` meets its contract.
 use native.Mathlib.Omega.{arith}
 use borrow.Author.Needs.{needs}
 use Rattle.catalogue.proofs.Entries.{cell-within, ran-insert, ran-set, left-absent}

@@ -1,4 +1,4 @@
--- `catalogue::turn_to` meets its contract: forward and back.
+-- `turn_to` meets its contract: forward and back.
 use borrow.Author.Needs.{needs}
 use Rattle.catalogue.proofs.Moves.{turned-on, turned-back, view-turn-opens}
 use Rattle.catalogue.proofs.turn_to.Statement.{statement}

@@ -1,4 +1,4 @@
--- `fraction::fraction_of` meets its contract. Assumes nothing.
+-- `fraction_of` meets its contract. Assumes nothing.
 use native.Mathlib.Omega.{arith}
 use Rattle.fraction.proofs.Bounds.{fraction-fits}
 use Rattle.fraction.proofs.fraction_of.Statement.{statement}

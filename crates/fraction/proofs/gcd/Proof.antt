@@ -1,4 +1,4 @@
--- `fraction::gcd` meets its contract: Euclid's step leaves the greatest common divisor. Assumes nothing.
+-- `gcd` meets its contract: Euclid's step leaves the greatest common divisor. Assumes nothing.
 use mathlib.Core.Path.{_≡_, refl, ap, sym, _∙_}
 use native.Mathlib.Omega.{arith}
 use native.Mathlib.Nat.{mod-lt}

@@ -1,4 +1,4 @@
--- `fraction::is_below` meets its contract. Assumes nothing.
+-- `is_below` meets its contract. Assumes nothing.
 use borrow.Author.Needs.{needs}
 use Rattle.fraction.specs.Fraction.{isBelow}
 use Rattle.fraction.proofs.is_below.Statement.{statement}

@@ -1,4 +1,4 @@
--- `fraction::least_common_multiple` meets its contract. Assumes nothing.
+-- `least_common_multiple` meets its contract. Assumes nothing.
 use borrow.Author.Needs.{needs}
 use Rattle.fraction.proofs.Bounds.{multiple-is}
 use Rattle.fraction.proofs.least_common_multiple.Statement.{statement}

@@ -1,4 +1,4 @@
--- `fraction::lowest_terms` meets its contract. Assumes nothing.
+-- `lowest_terms` meets its contract. Assumes nothing.
 use borrow.Author.Needs.{needs}
 use Rattle.fraction.proofs.Bounds.{lowest-none, lowest-some}
 use Rattle.fraction.proofs.lowest_terms.Statement.{statement}

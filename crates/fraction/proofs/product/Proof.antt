@@ -1,4 +1,4 @@
--- `fraction::product` meets its contract. Assumes nothing.
+-- `product` meets its contract. Assumes nothing.
 use native.Mathlib.Omega.{arith}
 use borrow.Author.Needs.{needs}
 use Rattle.fraction.proofs.Bounds.{bounded-fits, product-none, product-wide, product-small}

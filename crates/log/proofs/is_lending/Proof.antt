@@ -1,4 +1,4 @@
--- `log::is_lending` meets its contract. Assumes nothing.
+-- `is_lending` meets its contract. Assumes nothing.
 use Rattle.log.proofs.Orders.{lend-refused, lend-below, lend-above}
 use Rattle.log.proofs.is_lending.Statement.{statement}
 use Rattle.log.proofs.is_lending.Tie as tie

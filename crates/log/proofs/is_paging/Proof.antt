@@ -1,4 +1,4 @@
--- `log::is_paging` meets its contract. Assumes nothing.
+-- `is_paging` meets its contract. Assumes nothing.
 use mathlib.Core.Path.{sym}
 use Rattle.log.proofs.Orders.{paging-refused, paging-of, paging-none}
 use Rattle.log.proofs.is_paging.Statement.{statement}

@@ -1,6 +1,6 @@
--- `log::is_turn` meets its contract. Assumes nothing.
+-- `is_turn` meets its contract. Assumes nothing.
 use mathlib.Core.Path.{sym}
-use Rattle.desk.specs.Requests.{isTurn}
+use Rattle.log_session.specs.Requests.{isTurn}
 use Rattle.log.proofs.Orders.{turn-of, turn-none}
 use Rattle.log.proofs.is_turn.Statement.{statement}
 use Rattle.log.proofs.is_turn.Tie as tie

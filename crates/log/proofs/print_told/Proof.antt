@@ -1,4 +1,4 @@
--- `log::print_told` meets its contract. Assumes nothing.
+-- `print_told` meets its contract. Assumes nothing.
 use native.Mathlib.Omega.{arith}
 use borrow.Author.Needs.{needs}
 use Rattle.log.proofs.Orders.{told-kind, none-kind, lend-some, lend-no-proposal, refused-effect, vote-effect, ask-effect, no-effect, done-as, refused-done, asked-done, vote-told}

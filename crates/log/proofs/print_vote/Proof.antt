@@ -1,4 +1,4 @@
--- `log::print_vote` meets its contract. Assumes nothing.
+-- `print_vote` meets its contract. Assumes nothing.
 use mathlib.Core.Path.{ap}
 use borrow.Author.Needs.{needs}
 use Rattle.ledger.specs.declared.Bench.{Bench}

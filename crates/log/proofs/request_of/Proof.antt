@@ -1,4 +1,4 @@
--- `log::request_of` meets its contract. Assumes nothing.
+-- `request_of` meets its contract. Assumes nothing.
 use borrow.Author.Needs.{needs}
 use Rattle.log.proofs.Orders.{refused-place, lend-place, call-place, told-place, add-place}
 use Rattle.log.proofs.request_of.Statement.{statement}

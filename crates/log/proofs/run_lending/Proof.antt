@@ -1,4 +1,4 @@
--- `log::run_lending` meets its contract. Assumes nothing.
+-- `run_lending` meets its contract. Assumes nothing.
 use native.Mathlib.Omega.{arith}
 use borrow.Author.Needs.{needs}
 use Rattle.log.proofs.Orders.{lend-in-form, lend-proposal, lend-effect, vote-effect, vote-made, done-as}

@@ -1,4 +1,4 @@
--- `log::run_log` meets its contract. Assumes nothing.
+-- `run_log` meets its contract. Assumes nothing.
 use native.Mathlib.Omega.{arith}
 use borrow.Author.Needs.{needs}
 use Rattle.log.proofs.Running.{running-place, running-end}

@@ -1,4 +1,4 @@
--- `log::run_page` meets its contract. Assumes nothing.
+-- `run_page` meets its contract. Assumes nothing.
 use mathlib.Core.Path.{refl}
 use mathlib.Core.Logic.{⊎-elim}
 use native.Mathlib.Omega.{arith}

@@ -1,4 +1,4 @@
--- `log::run_some` meets its contract. Assumes nothing.
+-- `run_some` meets its contract. Assumes nothing.
 use Prim.Native.Nat.{suc, _+_, _-_, _≤_}
 use mathlib.Core.Path.{_≡_, refl, sym, _∙_}
 use lib.ListN.{length}
@@ -9,9 +9,9 @@ use Rattle.log.proofs.Running.{running-start, running-few, running-next
 use Rattle.log.proofs.Orders.{call-done, line-done}
 use Rattle.log.proofs.Paging.{first-paging, opened-there}
 use Rattle.log.specs.Running.{Running}
-use Rattle.desk_calls.specs.Lines.{Holds}
-use Rattle.desk.specs.Desk.{Desk}
-use Rattle.line.proofs.Ends.{next-line}
+use Rattle.log_session.specs.calls.Lines.{Holds}
+use Rattle.log_session.specs.Desk.{Desk}
+use Rattle.text_lines.proofs.Ends.{next-line}
 use Rattle.log.proofs.run_some.Statement.{statement}
 use Rattle.log.proofs.run_some.Tie as tie
 

@@ -1,4 +1,4 @@
--- `log::run_turns` meets its contract. Assumes nothing.
+-- `run_turns` meets its contract. Assumes nothing.
 use Prim.Native.Nat.{ℕ, _+_, _-_, _≤_}
 use mathlib.Core.Path.{_≡_, refl, sym, ap, _∙_}
 use mathlib.Core.List.{List}
@@ -7,13 +7,13 @@ use native.Mathlib.Omega.{arith}
 use borrow.Author.Needs.{needs}
 use borrow.Author.Tests.{leb-false, not-true, not-false}
 use Rattle.lists.proofs.Lists.{is-by}
-use Rattle.ground.specs.Ground.{Rows}
-use Rattle.turner.specs.declared.Turner.{Turner}
+use Rattle.record_rows.specs.ground.Ground.{Rows}
+use Rattle.pages_turner.specs.declared.Turner.{Turner}
 use Rattle.ledger.specs.declared.Bench.{Bench}
-use Rattle.lending.specs.declared.Lending.{Lending}
+use Rattle.log_lent.specs.declared.Lending.{Lending}
 use Rattle.bench.specs.Changes.{openAt}
-use Rattle.line.proofs.Ends.{next-line}
-use Rattle.desk.specs.Desk.{Desk}
+use Rattle.text_lines.proofs.Ends.{next-line}
+use Rattle.log_session.specs.Desk.{Desk}
 use Rattle.log.specs.Running.{Running}
 use Rattle.log.proofs.Running.{running-few}
 use Rattle.log.proofs.Paging.{running-open, paged-next, stopped-after}

@@ -1,8 +1,8 @@
--- `unity::main` meets its contract. Assumes nothing.
+-- `main` meets its contract. Assumes nothing.
 use mathlib.Core.Path.{sym}
 use borrow.Author.Needs.{needs}
 use lib.Seq.{length-take-le}
-use Rattle.writer.proofs.Placing.{placed-inside}
+use Rattle.text_writer.proofs.Placing.{placed-inside}
 use Rattle.unity.proofs.main.Statement.{statement}
 use Rattle.unity.proofs.main.Tie as tie
 

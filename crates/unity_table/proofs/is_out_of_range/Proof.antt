@@ -1,4 +1,4 @@
--- `unity_table::is_out_of_range` meets its contract. Assumes nothing.
+-- `is_out_of_range` meets its contract. Assumes nothing.
 use Rattle.unity_table.proofs.Steps.{range-total, range-group, range-rest}
 use Rattle.unity_table.proofs.is_out_of_range.Statement.{statement}
 use Rattle.unity_table.proofs.is_out_of_range.Tie as tie

@@ -1,4 +1,4 @@
--- `unity_table::nothing_summed` meets its contract. Assumes nothing.
+-- `nothing_summed` meets its contract. Assumes nothing.
 use mathlib.Core.Path.{refl}
 use Rattle.lists.specs.Lists.{filter}
 use Rattle.fraction.specs.Fraction.{commonDenominator, numeratorOver, sumOf, leastFraction, greatestFraction}

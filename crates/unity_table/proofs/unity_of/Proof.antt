@@ -1,4 +1,4 @@
--- `unity_table::unity_of` meets its contract. Assumes nothing.
+-- `unity_of` meets its contract. Assumes nothing.
 use Prim.Native.Nat.{_≤_, _-_}
 use native.Mathlib.Omega.{arith}
 use borrow.Author.Needs.{needs}

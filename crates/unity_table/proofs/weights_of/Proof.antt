@@ -1,4 +1,4 @@
--- `unity_table::weights_of` meets its contract. Assumes nothing.
+-- `weights_of` meets its contract. Assumes nothing.
 use borrow.Author.Needs.{needs}
 use Rattle.unity_table.proofs.Rows.{answer-told}
 use Rattle.unity_table.proofs.weights_of.Statement.{statement}

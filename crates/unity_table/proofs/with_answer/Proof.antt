@@ -1,4 +1,4 @@
--- `unity_table::with_answer` meets its contract. Assumes nothing.
+-- `with_answer` meets its contract. Assumes nothing.
 use mathlib.Core.Path.{sym, _∙_}
 use native.Mathlib.Nat.{pos-of-ne-zero}
 use borrow.Author.Needs.{needs}

@@ -1,4 +1,4 @@
--- `unity_table::with_share` meets its contract. Assumes nothing.
+-- `with_share` meets its contract. Assumes nothing.
 use mathlib.Core.Path.{ap, _∙_}
 use borrow.Author.Needs.{needs}
 use borrow.Author.Tests.{not-true, not-false}

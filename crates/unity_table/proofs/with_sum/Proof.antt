@@ -1,4 +1,4 @@
--- `unity_table::with_sum` meets its contract. Assumes nothing.
+-- `with_sum` meets its contract. Assumes nothing.
 use borrow.Author.Needs.{needs}
 use Rattle.unity_table.proofs.Steps.{small-product, won-fits, sum-told}
 use Rattle.unity_table.proofs.with_sum.Statement.{statement}

@@ -1,6 +1,6 @@
--- `unity_text::print_unity` meets its contract. Assumes nothing.
+-- `print_unity` meets its contract. Assumes nothing.
 use borrow.Author.Needs.{needs}
-use Rattle.form.specs.Spelling.{bytes}
+use Rattle.text_forms.specs.Spelling.{bytes}
 use Rattle.unity_text.specs.Text.{unityForm}
 use Rattle.unity_text.proofs.Printing.{print-refused, print-accepted}
 use Rattle.unity_text.proofs.print_unity.Statement.{statement}

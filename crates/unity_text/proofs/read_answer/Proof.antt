@@ -1,7 +1,7 @@
--- `unity_text::read_answer` meets its contract. Assumes nothing.
+-- `read_answer` meets its contract. Assumes nothing.
 use borrow.Author.Needs.{needs}
 use borrow.Author.Tests.{not-true, not-false}
-use Rattle.form.specs.Spelling.{bytes}
+use Rattle.text_forms.specs.Spelling.{bytes}
 use Rattle.unity_text.specs.Text.{weightsForm}
 use Rattle.unity_text.proofs.Reading.{said-long, said-other, said-answer}
 use Rattle.unity_text.proofs.read_answer.Statement.{statement}

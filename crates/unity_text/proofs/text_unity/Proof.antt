@@ -1,10 +1,10 @@
--- `unity_text::text_unity` meets its contract. Assumes nothing.
+-- `text_unity` meets its contract. Assumes nothing.
 use Prim.Native.Nat.{_-_}
 use native.Mathlib.Omega.{arith}
 use borrow.Author.Needs.{needs}
 use borrow.Author.Tests.{not-true, not-false}
 use lib.ListN.{length}
-use Rattle.line.proofs.Ends.{next-line}
+use Rattle.text_lines.proofs.Ends.{next-line}
 use Rattle.unity_text.proofs.Lines.{SummedUpto, summed-start, upto-left, upto-few, summed-end, upto-unformed, upto-faulty, summed-next}
 use Rattle.unity_text.proofs.text_unity.Statement.{statement}
 use Rattle.unity_text.proofs.text_unity.Tie as tie

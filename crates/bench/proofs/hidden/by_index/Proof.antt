@@ -1,0 +1,87 @@
+use Prim.Native.Nat.{ℕ, _-_, _≤_}
+use mathlib.Core.Path.{_≡_}
+use mathlib.Core.Bool.{Bool, false, cond}
+use lib.ListN.{length, getD}
+use native.Mathlib.Omega.{arith}
+use borrow.Author.Needs.{needs}
+use Rattle.lists.specs.Lists.{_among_}
+use Rattle.record.specs.Record.{Record, written}
+use Rattle.bench.proofs.hidden.Index.{StoredRows, stored-rows, count-room}
+use Rattle.bench.proofs.hidden.Named.{Indexed, indexed-none, indexed-next, indexed-end}
+use Rattle.bench.proofs.hidden.by_index.Statement.{statement}
+use Rattle.bench.proofs.hidden.by_index.Tie as tie
+
+abbrev Inv-loop : tie.InvT-loop
+Inv-loop names edits count marks₀ i₀ marks i =
+    (i ≤ count) × (count ≤ 127) × (length marks ≡ 128)
+    × ((R : Record) (test : ℕ → Bool) (h : StoredRows R edits count) → test 0 ≡ false → ((x : ℕ) → x among written R → getD names x 0 ≡ cond (test x) 1 0) → Indexed R edits count test h marks i)
+
+abbrev μ-loop : tie.MeasureT-loop
+μ-loop names edits count marks₀ i₀ marks i = count - i
+
+returns : tie.Need-returns Inv-loop μ-loop
+returns c = let s = c .before .before in λ R test e k. absurd (omega (arith, c .if1 .taken, count-room R _ _ (stored-rows R (s .args .multilog) e k)))
+
+loop-holds : tie.Need-loop-holds Inv-loop μ-loop
+loop-holds c = (search needs, search needs, search needs, λ R test h z f. indexed-none R _ _ test h z)
+
+mul-edit : tie.Need-mul-edit Inv-loop μ-loop
+mul-edit c = search needs
+
+array-copy-out-edit : tie.Need-array-copy-out-edit Inv-loop μ-loop
+array-copy-out-edit c = search needs
+
+cast-slot : tie.Need-cast-slot Inv-loop μ-loop
+cast-slot c = search needs
+
+slot-requires : tie.Need-slot-requires Inv-loop μ-loop
+slot-requires c κs = search needs
+
+add-i : tie.Need-add-i Inv-loop μ-loop
+add-i c = search needs
+
+array-read-marks : tie.Need-array-read-marks Inv-loop μ-loop
+array-read-marks c = search needs
+
+array-write-marks : tie.Need-array-write-marks Inv-loop μ-loop
+array-write-marks c = search needs
+
+loop-less : tie.Need-loop-less Inv-loop μ-loop
+loop-less c = search needs
+
+loop-again : tie.Need-loop-again Inv-loop μ-loop
+loop-again c =
+    let l = c .before .before .before .before in
+    let s = l .before .before .before in (
+      search needs,
+      search needs,
+      search needs,
+      λ R test h z f. indexed-next R _ _ test h (s .args .t2) (l .loop .marks) (l .loop .i) (c .slot .result) (c .before .before .before .loop-test .taken) (l .loop .inv .2) (c .slot .ensures .1) f (l .loop .inv .3 R test h z f),
+    )
+
+returns-2 : tie.Need-returns-2 Inv-loop μ-loop
+returns-2 c =
+    let l = c .before in
+    let s = l .before .before .before in
+    λ R test e k z f.
+    let h = stored-rows R (s .args .multilog) e k in
+    indexed-end R _ _ test h (l .loop .marks) (l .loop .i) (l .loop .inv .0) (c .loop-test .left) (l .loop .inv .2) (l .loop .inv .3 R test h z f)
+
+pub by-index-spec : {M : Type 1} → statement M
+by-index-spec =
+    tie.close
+    (tie.spec
+    Inv-loop
+    μ-loop
+    returns
+    loop-holds
+    mul-edit
+    array-copy-out-edit
+    cast-slot
+    slot-requires
+    add-i
+    array-read-marks
+    array-write-marks
+    loop-less
+    loop-again
+    returns-2)

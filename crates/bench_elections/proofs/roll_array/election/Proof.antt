@@ -1,0 +1,23 @@
+-- `roll_array::election` meets its contract. Assumes nothing.
+use lib.ListN.{take}
+use borrow.Author.Needs.{needs}
+use Rattle.bench_elections.proofs.roll_array.Taken.{first-rows-taken}
+use Rattle.bench_elections.proofs.roll_array.election.Statement.{statement}
+use Rattle.bench_elections.proofs.roll_array.election.Tie as tie
+
+lesser-requires : tie.Need-lesser-requires
+lesser-requires c κs = search needs
+
+first-rows-requires : tie.Need-first-rows-requires
+first-rows-requires c κs = search needs
+
+election-requires : tie.Need-election-requires
+election-requires c κs = search needs
+
+returns : tie.Need-returns
+returns c =
+    let s = c .before .before .before .args in
+    c .election .ensures (take (s .count) (s .rows)) (first-rows-taken (s .rows) (s .count) (search needs) (c .before .before .lesser .ensures) (c .before .first-rows .ensures))
+
+pub election-spec : {M : Type 1} → statement M
+election-spec = tie.close (tie.spec lesser-requires first-rows-requires election-requires returns)

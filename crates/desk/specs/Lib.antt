@@ -1,3 +1,0 @@
-pub mod Desk
-pub mod Lends
-pub mod Requests

@@ -1,1 +1,0 @@
-// Elections (document 01, "Proposals and votes" and "What is turned away"): the definitions. The crate count has the code.

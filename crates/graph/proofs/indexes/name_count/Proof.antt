@@ -1,0 +1,19 @@
+-- `indexes::name_count` meets its contract. Assumes nothing.
+use native.Mathlib.Omega.{arith}
+use borrow.Author.Needs.{needs}
+use Rattle.graph.proofs.indexes.Tables.{length-names, count-within, within-low}
+use Rattle.graph.proofs.indexes.name_count.Statement.{statement}
+use Rattle.graph.proofs.indexes.name_count.Tie as tie
+
+within-requires : tie.Need-within-requires
+within-requires c κs = search needs
+
+add-result : tie.Need-add-result
+add-result c = search needs
+
+returns : tie.Need-returns
+returns c =
+    (omega (arith, within-low _ _ _ (c .within .ensures)), λ R e f. omega (arith, count-within _ R _ e f (c .within .ensures), length-names R))
+
+pub name-count-spec : {M : Type 1} → statement M
+name-count-spec = tie.close (tie.spec within-requires add-result returns)

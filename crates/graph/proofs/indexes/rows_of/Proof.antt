@@ -1,0 +1,106 @@
+-- `indexes::rows_of` meets its contract. Assumes nothing.
+use Prim.Native.Nat.{ℕ, _-_, _≤_}
+use mathlib.Core.Path.{_≡_}
+use lib.ListN.{length, getD}
+use native.Mathlib.Omega.{arith}
+use Rattle.graph.specs.indexes.Fit.{Fit}
+use Rattle.graph.proofs.indexes.Resolving.{keysOf, leftsOf, resolving-end, turn-resolving}
+use Rattle.graph.proofs.indexes.Tables.{constraint-within, within-low}
+use Rattle.graph.specs.links.Marks.{placeIn}
+use Rattle.graph.proofs.links.Links.{Linking, linking-start, Growing, growing-start, growing-step, growing-safe}
+use Rattle.record.specs.Record.{Record, names}
+use Rattle.record.specs.Stored.{stored}
+use borrow.Author.Needs.{needs}
+use Rattle.graph.proofs.indexes.rows_of.Statement.{statement}
+use Rattle.graph.proofs.indexes.rows_of.Tie as tie
+
+abbrev Inv-loop : tie.InvT-loop
+Inv-loop table multilog rows₀ count j₀ rows j =
+    Growing rows j × (j ≤ count) × (count ≤ 512) × ((R : Record) → multilog ≡ stored R → Fit R → ((x : ℕ) → getD table x 0 ≡ placeIn (names R) x)
+    → (count ≡ length (R .constraints)) × Linking (keysOf R) (leftsOf R) rows j)
+
+abbrev μ-loop : tie.MeasureT-loop
+μ-loop table multilog rows₀ count j₀ rows j = count - j
+
+within-requires : tie.Need-within-requires Inv-loop μ-loop
+within-requires c κs = search needs
+
+loop-holds : tie.Need-loop-holds Inv-loop μ-loop
+loop-holds c =
+    (growing-start, omega arith, within-low _ _ _ (c .within .ensures), λ R e f t. (constraint-within _ R _ e f (c .within .ensures), linking-start (keysOf R) (leftsOf R)))
+
+mul-constraint : tie.Need-mul-constraint Inv-loop μ-loop
+mul-constraint c = search needs
+
+element-copy-out-constraint : tie.Need-element-copy-out-constraint Inv-loop μ-loop
+element-copy-out-constraint c = search needs
+
+wide16-requires : tie.Need-wide16-requires Inv-loop μ-loop
+wide16-requires c κs = search needs
+
+index-of-requires : tie.Need-index-of-requires Inv-loop μ-loop
+index-of-requires c κs = c .before .before .before .before .before .pre .0
+
+wide16-requires-2 : tie.Need-wide16-requires-2 Inv-loop μ-loop
+wide16-requires-2 c κs = search needs
+
+index-of-requires-2 : tie.Need-index-of-requires-2 Inv-loop μ-loop
+index-of-requires-2 c κs = c .before .before .before .before .before .before .before .pre .0
+
+key-of-requires : tie.Need-key-of-requires Inv-loop μ-loop
+key-of-requires c κs = omega (arith, c .before .index-of2 .ensures, c .before .before .before .before .before .before .before .before .before .pre .1 (c .before .before .wide162 .result))
+
+link-row-requires : tie.Need-link-row-requires Inv-loop μ-loop
+link-row-requires c κs =
+    let l = c .before .before .before .before .before .before .before .before .loop in
+    (l .inv .0 .size, omega arith, c .key-of .ensures .0, omega (arith, c .before .before .before .before .index-of .ensures, c .before .before .before .before .before .before .before .before .before .before .pre .1 (c .before .before .before .before .before .wide16 .result)))
+
+add-j : tie.Need-add-j Inv-loop μ-loop
+add-j c = search needs
+
+loop-less : tie.Need-loop-less Inv-loop μ-loop
+loop-less c = search needs
+
+loop-again : tie.Need-loop-again Inv-loop μ-loop
+loop-again c =
+    let s = c .before .before .before .before .before .before .before .before .before .before .before in
+    let l = c .before .before .before .before .before .before .before .before .before .loop in
+    let k = c .before .key-of in
+    let a = c .before .before .before .before .before .index-of in
+    let b = c .before .before .before .index-of2 in
+    rw (c .link-row .ensures) (
+      growing-step (l .rows) (l .j) (k .result) (a .result) (omega arith) (k .ensures .0) (omega (arith, a .ensures, s .pre .1 (c .before .before .before .before .before .before .wide16 .result))) (l .inv .0),
+      omega arith,
+      l .inv .2,
+      λ R e f t. let w = l .inv .3 R e f t in (
+        w .0,
+        turn-resolving (s .args .t1) (s .args .table .now) (l .rows) (l .j) _ (k .result) (b .result) (a .result) R e f t (omega arith)
+            (rw (← c .before .before .before .before .wide162 .ensures) (b .ensures)) (rw (← c .before .before .before .before .before .before .wide16 .ensures) (a .ensures)) (k .ensures .1) (l .inv .0 .size) (omega arith) (k .ensures .0) (w .1),
+      ),
+    )
+
+returns : tie.Need-returns Inv-loop μ-loop
+returns c =
+    let l = c .before .loop in
+    (growing-safe (l .rows) (l .j) (omega arith) (l .inv .0), λ R e f t. let w = l .inv .3 R e f t in resolving-end R f (l .rows) (l .j) (omega arith) (w .1))
+
+pub rows-of-spec : {M : Type 1} → statement M
+rows-of-spec =
+    tie.close
+    (tie.spec
+    Inv-loop
+    μ-loop
+    within-requires
+    loop-holds
+    mul-constraint
+    element-copy-out-constraint
+    wide16-requires
+    index-of-requires
+    wide16-requires-2
+    index-of-requires-2
+    key-of-requires
+    link-row-requires
+    add-j
+    loop-less
+    loop-again
+    returns)

@@ -1,0 +1,2 @@
+pub mod indexes
+pub mod links

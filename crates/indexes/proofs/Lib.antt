@@ -1,2 +1,0 @@
-pub mod Tables
-pub mod Resolving

@@ -1,0 +1,117 @@
+-- `edits_of` meets its contract. Assumes nothing.
+use Prim.Native.Nat.{ℕ, _-_, _≤_, _<_}
+use mathlib.Core.Path.{_≡_, refl, sym, _∙_}
+use mathlib.Core.List.{List}
+use lib.ListN.{length, length-set}
+use native.Mathlib.Omega.{arith}
+use borrow.Author.Needs.{needs}
+use Rattle.judgement.proofs.Listing.{Listing, listing-start, listing-init, listing-step, listing-end}
+use Rattle.graph.specs.indexes.Fit.{Fit}
+use Rattle.judgement_marks.specs.schedules.Rows.{RowIs}
+use Rattle.record.specs.Record.{Record}
+use Rattle.record.specs.Schedule.{schedule}
+use Rattle.record.specs.Stored.{stored}
+use Rattle.judgement.proofs.edits_of.Statement.{statement}
+use Rattle.judgement.proofs.edits_of.Tie as tie
+
+abbrev Inv-loop : tie.InvT-loop
+Inv-loop multilog row edits₀ q₀ edits q =
+    (1 ≤ q) × (q - 1 ≤ row .count - 1) × (length edits ≡ 127) × ((R : Record) (hidden : List ℕ) → multilog ≡ stored R → Fit R → RowIs R row (schedule R hidden) → Listing R (schedule R hidden) edits q)
+
+abbrev μ-loop : tie.MeasureT-loop
+μ-loop multilog row edits₀ q₀ edits q = row .count - q
+
+filler-requires : tie.Need-filler-requires Inv-loop μ-loop
+filler-requires c κs = search needs
+
+loop-holds : tie.Need-loop-holds Inv-loop μ-loop
+loop-holds c = (omega arith, omega arith, refl, λ R h e f g. listing-start R (schedule R h) _ (c .filler .ensures))
+
+element-copy-out-wide8 : tie.Need-element-copy-out-wide8 Inv-loop μ-loop
+element-copy-out-wide8 c = search needs
+
+wide8-requires : tie.Need-wide8-requires Inv-loop μ-loop
+wide8-requires c κs = search needs
+
+sub-t16 : tie.Need-sub-t16 Inv-loop μ-loop
+sub-t16 c = search needs
+
+returns : tie.Need-returns Inv-loop μ-loop
+returns c =
+    let s = c .before .before .before .before .before .before in
+    let l = c .before .before .before .before .loop in
+    λ R h e f g. listing-init R f (s .args .t1) e (s .args .t2) (s .pre .0) (s .pre .1) h g (l .q) (omega arith) (omega arith) (sym (c .before .wide8 .ensures) ∙ c .if1 .taken)
+
+sub-next : tie.Need-sub-next Inv-loop μ-loop
+sub-next c = omega (arith, c .if1 .left)
+
+mul-next : tie.Need-mul-next Inv-loop μ-loop
+mul-next c =
+    let s = c .before .before .before .before .before .before in
+    let l = c .before .before .before .before .loop in
+    omega (arith, c .before .wide8 .ensures, s .pre .2 (l .q))
+
+element-copy-out-next : tie.Need-element-copy-out-next Inv-loop μ-loop
+element-copy-out-next c =
+    let s = c .before .before .before .before .before .before in
+    let l = c .before .before .before .before .loop in
+    let k : c .before .wide8 .result - 1 < 127 = omega (arith, c .if1 .left, c .before .wide8 .ensures, s .pre .2 (l .q)) in
+    search needs
+
+sub-edits : tie.Need-sub-edits Inv-loop μ-loop
+sub-edits c = search needs
+
+mul-edits : tie.Need-mul-edits Inv-loop μ-loop
+mul-edits c = search needs
+
+array-set-from-edits : tie.Need-array-set-from-edits Inv-loop μ-loop
+array-set-from-edits c = search needs
+
+add-q : tie.Need-add-q Inv-loop μ-loop
+add-q c = search needs
+
+loop-less : tie.Need-loop-less Inv-loop μ-loop
+loop-less c = search needs
+
+loop-again : tie.Need-loop-again Inv-loop μ-loop
+loop-again c =
+    let s = c .before .before .before .before .before .before .before in
+    let l = c .before .before .before .before .before .loop in (
+      omega arith,
+      omega arith,
+      length-set (l .edits) (l .q - 1) _ ∙ l .inv .2,
+      λ R h e f g. rw (c .before .before .wide8 .ensures) (listing-step R f (s .args .t1) e (s .args .t2) (s .pre .0) (s .pre .1) h g (l .edits) (l .q) _ (omega arith) (omega arith) (omega (arith, c .before .if1 .left, c .before .before .wide8 .ensures)) (l .inv .3 R h e f g)),
+    )
+
+sub-t24 : tie.Need-sub-t24 Inv-loop μ-loop
+sub-t24 c = search needs
+
+returns-2 : tie.Need-returns-2 Inv-loop μ-loop
+returns-2 c =
+    let s = c .before .before .before in
+    let l = c .before .loop in
+    λ R h e f g. listing-end R f (s .args .t1) e (s .args .t2) (s .pre .0) (s .pre .1) h g (l .edits) (l .q) (omega arith) (l .inv .3 R h e f g)
+
+pub edits-of-spec : {M : Type 1} → statement M
+edits-of-spec =
+    tie.close
+    (tie.spec
+    Inv-loop
+    μ-loop
+    filler-requires
+    loop-holds
+    element-copy-out-wide8
+    wide8-requires
+    sub-t16
+    returns
+    sub-next
+    mul-next
+    element-copy-out-next
+    sub-edits
+    mul-edits
+    array-set-from-edits
+    add-q
+    loop-less
+    loop-again
+    sub-t24
+    returns-2)

@@ -1,0 +1,49 @@
+-- `judge` meets its contract. Assumes nothing.
+use mathlib.Core.List.{[]}
+use borrow.Author.Needs.{needs}
+use Rattle.judgement.proofs.Judging.{none-hides, judged-is}
+use Rattle.judgement.proofs.judge.Statement.{statement}
+use Rattle.judgement.proofs.judge.Tie as tie
+
+name-count-requires : tie.Need-name-count-requires
+name-count-requires c κs = search needs
+
+resolved-requires : tie.Need-resolved-requires
+resolved-requires c κs = search needs
+
+must-marks-requires : tie.Need-must-marks-requires
+must-marks-requires c κs = search needs
+
+never-marks-requires : tie.Need-never-marks-requires
+never-marks-requires c κs = search needs
+
+settled-marks-requires : tie.Need-settled-marks-requires
+settled-marks-requires c κs = search needs
+
+schedule-row-requires : tie.Need-schedule-row-requires
+schedule-row-requires c κs = search needs
+
+page-values-requires : tie.Need-page-values-requires
+page-values-requires c κs = search needs
+
+returns : tie.Need-returns
+returns c =
+    λ R e f. let g = c .before .before .before .before .before .before .before .before .before .before .resolved .ensures .1 R e f in
+    let n = c .before .before .before .before .before .before .before .before .before .before .before .name-count .ensures .1 R e f in
+    let m = c .before .before .before .before .before .before .before .before .must-marks .ensures .1 R g in
+    let v = c .before .before .before .before .before .before .never-marks .ensures .1 R g n m in
+    judged-is R m v (c .before .before .before .before .settled-marks .ensures .1 R g n m v)
+    (c .page-values .ensures .1 R _ (g .notafters .apart) (g .notafters .few) (c .before .schedule-row .ensures .3 R [] g n m (none-hides R)))
+
+pub judge-spec : {M : Type 1} → statement M
+judge-spec =
+    tie.close
+    (tie.spec
+    name-count-requires
+    resolved-requires
+    must-marks-requires
+    never-marks-requires
+    settled-marks-requires
+    schedule-row-requires
+    page-values-requires
+    returns)

@@ -1,0 +1,3 @@
+pub mod Judged
+pub mod lent_record
+pub mod row_test

@@ -1,0 +1,66 @@
+-- `open_pairs` meets its contract. Assumes nothing.
+use Prim.Native.Nat.{_≤_}
+use native.Mathlib.Omega.{arith}
+use Rattle.judgement_marks.proofs.Opening.{Opening, opening-start, opening-step, opening-end}
+use borrow.Author.Needs.{needs}
+use Rattle.judgement_marks.proofs.open_pairs.Statement.{statement}
+use Rattle.judgement_marks.proofs.open_pairs.Tie as tie
+
+abbrev Inv-loop : tie.InvT-loop
+Inv-loop rows nevermarks openmarks₀ b j₀ openmarks j = (j ≤ 1024) × Opening rows nevermarks openmarks₀ b j openmarks
+
+abbrev μ-loop : tie.MeasureT-loop
+μ-loop rows nevermarks openmarks₀ b j₀ openmarks j = j
+
+add-first-row : tie.Need-add-first-row Inv-loop μ-loop
+add-first-row c = search needs
+
+first-row-requires : tie.Need-first-row-requires Inv-loop μ-loop
+first-row-requires c κs = search needs
+
+loop-holds : tie.Need-loop-holds Inv-loop μ-loop
+loop-holds c =
+    let s = c .before in
+    (c .first-row .ensures .1, opening-start (s .args .rows .now) (s .args .nevermarks .now) (s .args .openmarks .now) (s .args .b) _ (s .pre .2) (s .pre .1) (c .first-row .ensures))
+
+row-left-requires : tie.Need-row-left-requires Inv-loop μ-loop
+row-left-requires c κs = search needs
+
+open-pair-requires : tie.Need-open-pair-requires Inv-loop μ-loop
+open-pair-requires c κs =
+    let s = c .before .before .before .before .before in
+    (s .pre .0, c .row-left .ensures .1, s .pre .1, c .before .before .before .loop .inv .1 .size)
+
+next-row-requires : tie.Need-next-row-requires Inv-loop μ-loop
+next-row-requires c κs = search needs
+
+loop-less : tie.Need-loop-less Inv-loop μ-loop
+loop-less c = search needs
+
+loop-again : tie.Need-loop-again Inv-loop μ-loop
+loop-again c =
+    let s = c .before .before .before .before .before .before .before in
+    let l = c .before .before .before .before .before .loop in
+    (search needs, opening-step (s .args .rows .now) (s .args .nevermarks .now) (s .args .openmarks .now) (s .args .b) (l .j) _ (l .openmarks) _ (omega arith) (c .next-row .ensures) (c .before .open-pair .ensures .0) (rw (← c .before .before .row-left .ensures .0) (c .before .open-pair .ensures .1)) (l .inv .1))
+
+returns : tie.Need-returns Inv-loop μ-loop
+returns c =
+    let s = c .before .before .before in
+    let l = c .before .loop in
+    (l .inv .1 .size, opening-end (s .args .rows .now) (s .args .nevermarks .now) (s .args .openmarks .now) (s .args .b) (l .j) (l .openmarks) (c .loop-test .left) (l .inv .1))
+
+pub open-pairs-spec : {M : Type 1} → statement M
+open-pairs-spec =
+    tie.close
+    (tie.spec
+    Inv-loop
+    μ-loop
+    add-first-row
+    first-row-requires
+    loop-holds
+    row-left-requires
+    open-pair-requires
+    next-row-requires
+    loop-less
+    loop-again
+    returns)

@@ -1,0 +1,78 @@
+-- `schedules::page_values` meets its contract. Assumes nothing.
+use Prim.Native.Nat.{ℕ, _-_, _≤_}
+use mathlib.Core.Path.{_≡_, refl, _∙_}
+use mathlib.Core.Bool.{true}
+use mathlib.Core.List.{List}
+use lib.ListN.{length, length-set}
+use native.Mathlib.Omega.{arith}
+use borrow.Author.Needs.{needs}
+use Rattle.judgement_marks.specs.schedules.Rows.{RowIs}
+use Rattle.judgement_marks.proofs.schedules.Paging.{Paging, paging-start, paging-step, paging-end, back, zero-left}
+use Rattle.lists.specs.Lists.{indexOf, distinct}
+use Rattle.record.specs.Record.{Record, names}
+use Rattle.judgement_marks.proofs.schedules.page_values.Statement.{statement}
+use Rattle.judgement_marks.proofs.schedules.page_values.Tie as tie
+
+abbrev Inv-loop : tie.InvT-loop
+Inv-loop row pages₀ k₀ pages k =
+    (k ≤ row .count) × (length pages ≡ 128) × ((R : Record) (list : List ℕ) → distinct (names R) ≡ true → length (names R) ≤ 128 → RowIs R row list → Paging R list pages k)
+
+abbrev μ-loop : tie.MeasureT-loop
+μ-loop row pages₀ k₀ pages k = k
+
+loop-holds : tie.Need-loop-holds Inv-loop μ-loop
+loop-holds c =
+    let s = c in
+    (omega arith, refl, λ R list d few k. paging-start R d few (s .args .t1) list (omega arith) k)
+
+sub-k : tie.Need-sub-k Inv-loop μ-loop
+sub-k c = search needs
+
+cast-pages : tie.Need-cast-pages Inv-loop μ-loop
+cast-pages c = search needs
+
+element-copy-out-wide8 : tie.Need-element-copy-out-wide8 Inv-loop μ-loop
+element-copy-out-wide8 c = search needs
+
+wide8-requires : tie.Need-wide8-requires Inv-loop μ-loop
+wide8-requires c κs = search needs
+
+array-write-pages : tie.Need-array-write-pages Inv-loop μ-loop
+array-write-pages c =
+    let s = c .before .before .before .before in
+    let l = c .before .before .before .loop in
+    omega (arith, c .wide8 .ensures, s .pre .2 (l .k - 1))
+
+loop-less : tie.Need-loop-less Inv-loop μ-loop
+loop-less c = search needs
+
+loop-again : tie.Need-loop-again Inv-loop μ-loop
+loop-again c =
+    let s = c .before .before .before .before in
+    let l = c .before .before .before .loop in (
+      omega arith,
+      length-set (l .pages) (c .wide8 .result) (l .k - 1) ∙ l .inv .1,
+      λ R list d few k. rw (c .wide8 .ensures) (paging-step R d few (s .args .t1) list (omega arith) k (l .pages) (l .k - 1) (l .inv .1) (omega arith) (rw (back (l .k) (omega arith)) (l .inv .2 R list d few k))),
+    )
+
+returns : tie.Need-returns Inv-loop μ-loop
+returns c =
+    let s = c .before .before in
+    let l = c .before .loop in
+    (l .inv .1, λ R list d few k. paging-end R d few (s .args .t1) list (omega arith) k (l .pages) (l .inv .1) (rw (zero-left (l .k) (omega arith)) at (l .inv .2 R list d few k)))
+
+pub page-values-spec : {M : Type 1} → statement M
+page-values-spec =
+    tie.close
+    (tie.spec
+    Inv-loop
+    μ-loop
+    loop-holds
+    sub-k
+    cast-pages
+    element-copy-out-wide8
+    wide8-requires
+    array-write-pages
+    loop-less
+    loop-again
+    returns)

@@ -1,0 +1,153 @@
+-- What each line that lends leaves. Assumes nothing.
+use mathlib.Core.Path.{_≡_, refl, sym, ap, _∙_}
+use mathlib.Core.Bool.{Bool, true, false, not, _&&_, cond, and-false}
+use mathlib.Core.List.{List, [], _∷_, _++_, map}
+use Prim.Native.Nat.{ℕ, zero, suc, _+_, _-_, _*_, _≤_, _<_}
+use native.Mathlib.Omega.{arith}
+use lib.Dec.{eqb, leb, ltb}
+use lib.ListN.{length, getD, set, take, replicate, length-replicate, length-set}
+use lib.Seq.{take-suc-set, take-append-seam, length-take-le}
+use borrow.Author.Tests.{lt-ltb, le-ltb, le-leb, lt-leb}
+use Rattle.record.specs.declared.Record as declared
+use Rattle.record.specs.Record.{Record}
+use Rattle.record.specs.Stored.{stored, padded}
+use Rattle.lists.proofs.Lists.{is-by}
+use Rattle.lists.proofs.Arrays.{getD-zeros}
+use Rattle.record_rows.specs.row.Row.{Row, editRow, constraintRow}
+use Rattle.record_rows.specs.ground.Ground.{Rows, _given_, _orelse_}
+use Rattle.record_tables.specs.Table.{editRows, constraintRows}
+use Rattle.voting.specs.declared.RollRow.{RollRow}
+use Rattle.voting_roll.specs.declared.Roll.{Roll}
+use Rattle.voting_roll.specs.Roll.{rollOf}
+use Rattle.log_lent.specs.declared.Lending.{Lending}
+use Rattle.log_lent.specs.Lent.{Lent, nothingLent, with, rowsFault, added, withEdit, withConstraint, withRecord, recordNumber, seatNumber, withSeat, withoutRoll, nameNumber, withName, withoutRow}
+use Rattle.log_lent.specs.Kept.{Tables, Kept}
+use Rattle.log_lent.proofs.Rows.{with-same, with-other, tables-same}
+
+pub none-kept : {seats : Roll} → seats ≡ rollOf [] → (edits constraints : Rows) → length edits ≡ 1152 → length constraints ≡ 4617
+    → Kept nothingLent (record { editcounts = replicate 9 0; constraintcounts = replicate 9 0; roll = seats; row = replicate 129 0; rowcount = 0 }) edits constraints
+unfolding nothingLent
+none-kept s edits constraints e c = record {
+  edits = record { size = e; nine = refl; few = λ k. zeros k; rows = λ k h. rw (no-count k) refl };
+  constraints = record { size = c; nine = refl; few = λ k. zeros k; rows = λ k h. rw (no-count k) refl };
+  roll = s;
+  row = refl;
+  rowsize = refl;
+  rowfew = omega arith;
+}
+  where
+    no-count : (k : ℕ) → _≡_ {A = ℕ} (getD (replicate 9 0) k 0) 0
+    no-count k = getD-zeros 9 k
+
+    zeros : {places : ℕ} (k : ℕ) → getD (replicate 9 0) k 0 ≤ places
+    zeros k = rw (no-count k) (omega arith)
+
+module _ {L : Lent} {lending : Lending} {edits constraints : Rows} (K : Kept L lending edits constraints) where
+  pub edit-lent : (k : ℕ) (row : Row) {number : ℕ} {counts : List ℕ} {after : Rows}
+      → (number ≡ rowsFault 128 (L .edits) k) × Tables 128 (added 128 (L .edits) k row) counts after
+      → (number ≡ rowsFault 128 (L .edits) k) × Kept (withEdit L k row) (record { editcounts = counts; constraintcounts = lending .constraintcounts; roll = lending .roll; row = lending .row; rowcount = lending .rowcount }) after constraints
+  unfolding withEdit
+  edit-lent k row p = (p .0, record { edits = p .1; constraints = K .constraints; roll = K .roll; row = K .row; rowsize = K .rowsize; rowfew = K .rowfew })
+
+  pub constraint-lent : (k : ℕ) (row : Row) {number : ℕ} {counts : List ℕ} {after : Rows}
+      → (number ≡ rowsFault 513 (L .constraints) k) × Tables 513 (added 513 (L .constraints) k row) counts after
+      → (number ≡ rowsFault 513 (L .constraints) k) × Kept (withConstraint L k row) (record { editcounts = lending .editcounts; constraintcounts = counts; roll = lending .roll; row = lending .row; rowcount = lending .rowcount }) edits after
+  unfolding withConstraint
+  constraint-lent k row p = (p .0, record { edits = K .edits; constraints = p .1; roll = K .roll; row = K .row; rowsize = K .rowsize; rowfew = K .rowfew })
+
+  module _ (k : ℕ) (R : Record) where
+    pub no-such-record : 8 < k → (2 ≡ recordNumber k) × Kept (withRecord L k R) lending edits constraints
+    unfolding withRecord
+    no-such-record h = let e : ltb k 9 ≡ false = le-ltb k 9 (omega arith) in rw e (refl, K)
+
+    module _ (multilog : declared.Record) (q : multilog ≡ stored R) where
+      pub edits-many {ℓ} : {P : Type ℓ} → length (R .edits) ≤ 127 → 127 < multilog .editcount → P
+      edits-many a b = absurd (let e : multilog .editcount ≡ length (R .edits) = ap (λ (x : declared.Record). x .editcount) q in omega arith)
+
+      pub constraints-many {ℓ} : {P : Type ℓ} → length (R .constraints) ≤ 512 → 512 < multilog .constraintcount → P
+      constraints-many a b = absurd (let e : multilog .constraintcount ≡ length (R .constraints) = ap (λ (x : declared.Record). x .constraintcount) q in omega arith)
+
+      edits-held : take (multilog .editcount) (multilog .edits) ≡ R .edits
+      unfolding padded
+      edits-held = rw q (take-append-seam (R .edits) _)
+
+      constraints-held : take (multilog .constraintcount) (multilog .constraints) ≡ R .constraints
+      unfolding padded
+      constraints-held = rw q (take-append-seam (R .constraints) _)
+
+      twice : (f : ℕ → Rows) (rows rows′ : Rows) → rows ≡ rows′ → (j : ℕ) → j < 9 → with k rows (with k [] f) j ≡ with k rows′ f j
+      twice f rows rows′ e j h = is-by j k
+          (λ m. rw (m, with-same k rows (with k [] f), with-same k rows′ f) e)
+          (λ m. rw (with-other k j rows (with k [] f) m, with-other k j [] f m, with-other k j rows′ f m) refl)
+
+      pub record-lent : k ≤ 8 → {editcounts constraintcounts : List ℕ} {editrows constraintrows : Rows}
+          → Tables 128 (with k (map editRow (take (multilog .editcount) (multilog .edits))) (with k [] (L .edits))) editcounts editrows
+          → Tables 513 (with k (map constraintRow (take (multilog .constraintcount) (multilog .constraints))) (with k [] (L .constraints))) constraintcounts constraintrows
+          → (0 ≡ recordNumber k) × Kept (withRecord L k R) (record { editcounts = editcounts; constraintcounts = constraintcounts; roll = lending .roll; row = lending .row; rowcount = lending .rowcount }) editrows constraintrows
+      unfolding withRecord
+      record-lent h S T =
+          let e : ltb k 9 ≡ true = lt-ltb k 9 (omega arith) in
+          rw e (
+            refl,
+            record {
+              edits = tables-same (twice (L .edits) _ (editRows R) (ap (map editRow) edits-held)) S;
+              constraints = tables-same (twice (L .constraints) _ (constraintRows R) (ap (map constraintRow) constraints-held)) T;
+              roll = K .roll;
+              row = K .row;
+              rowsize = K .rowsize;
+              rowfew = K .rowfew;
+            },
+          )
+
+  module _ (bench weight : ℕ) where
+    pub seat-bench : 255 < bench → (2 ≡ seatNumber bench weight) × Kept (withSeat L bench weight) lending edits constraints
+    unfolding withSeat seatNumber
+    seat-bench h = let e : ltb bench 256 ≡ false = le-ltb bench 256 (omega arith) in rw e (refl, K)
+
+    pub seat-weight : 65535 < weight → (2 ≡ seatNumber bench weight) × Kept (withSeat L bench weight) lending edits constraints
+    unfolding withSeat seatNumber
+    seat-weight h = let e : ltb weight 65536 ≡ false = le-ltb weight 65536 (omega arith) in rw (e, and-false (ltb bench 256)) (refl, K)
+
+    pub seat-lent : bench ≤ 255 → weight ≤ 65535 → {seats : Roll}
+        → ((rows : List RollRow) → lending .roll ≡ rollOf rows → seats ≡ rollOf (rows ++ (record { bench = bench; weight = weight } ∷ [])))
+        → (0 ≡ seatNumber bench weight) × Kept (withSeat L bench weight) (record { editcounts = lending .editcounts; constraintcounts = lending .constraintcounts; roll = seats; row = lending .row; rowcount = lending .rowcount }) edits constraints
+    unfolding withSeat seatNumber
+    seat-lent a b f =
+        let d : ltb bench 256 ≡ true = lt-ltb bench 256 (omega arith) in
+        let e : ltb weight 65536 ≡ true = lt-ltb weight 65536 (omega arith) in
+        rw (d, e) (refl, record { edits = K .edits; constraints = K .constraints; roll = f (L .roll) (K .roll); row = K .row; rowsize = K .rowsize; rowfew = K .rowfew })
+
+  pub no-roll-lent : {seats : Roll} → seats ≡ rollOf []
+      → Kept (withoutRoll L) (record { editcounts = lending .editcounts; constraintcounts = lending .constraintcounts; roll = seats; row = lending .row; rowcount = lending .rowcount }) edits constraints
+  unfolding withoutRoll
+  no-roll-lent e = record { edits = K .edits; constraints = K .constraints; roll = e; row = K .row; rowsize = K .rowsize; rowfew = K .rowfew }
+
+  pub no-row-lent : Kept (withoutRow L) (record { editcounts = lending .editcounts; constraintcounts = lending .constraintcounts; roll = lending .roll; row = lending .row; rowcount = 0 }) edits constraints
+  unfolding withoutRow
+  no-row-lent = record { edits = K .edits; constraints = K .constraints; roll = K .roll; row = refl; rowsize = K .rowsize; rowfew = omega arith }
+
+  row-length : length (L .row) ≡ lending .rowcount
+  row-length = rw (sym (K .row)) (length-take-le (lending .rowcount) (lending .row) (rw (K .rowsize) (K .rowfew)))
+
+  module _ (name : ℕ) where
+    pub row-full : 129 ≤ lending .rowcount → (3 ≡ nameNumber L) × Kept (withName L name) lending edits constraints
+    unfolding withName nameNumber
+    row-full h = let e : leb 129 (length (L .row)) ≡ true = rw row-length (le-leb 129 (lending .rowcount) h) in rw e (refl, K)
+
+    pub name-lent : lending .rowcount < 129 → (0 ≡ nameNumber L)
+        × Kept (withName L name) (record { editcounts = lending .editcounts; constraintcounts = lending .constraintcounts; roll = lending .roll; row = set (lending .row) (lending .rowcount) name; rowcount = lending .rowcount + 1 }) edits constraints
+    unfolding withName nameNumber
+    name-lent h =
+        let e : leb 129 (length (L .row)) ≡ false = rw row-length (lt-leb 129 (lending .rowcount) h) in
+        rw e (
+          refl,
+          record {
+            edits = K .edits;
+            constraints = K .constraints;
+            roll = K .roll;
+            row = let n : lending .rowcount + 1 ≡ suc (lending .rowcount) = omega arith in
+                rw (n, take-suc-set (lending .row) (lending .rowcount) name (rw (K .rowsize) h), K .row) refl;
+            rowsize = length-set (lending .row) (lending .rowcount) name ∙ K .rowsize;
+            rowfew = omega arith;
+          },
+        )

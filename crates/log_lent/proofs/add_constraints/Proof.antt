@@ -1,0 +1,79 @@
+-- `add_constraints` meets its contract. Assumes nothing.
+use Prim.Native.Nat.{ℕ, _-_, _≤_, _<_}
+use mathlib.Core.Path.{_≡_}
+use mathlib.Core.List.{[]}
+use lib.ListN.{length, take}
+use native.Mathlib.Omega.{arith}
+use borrow.Author.Needs.{needs}
+use mathlib.Core.List.{map}
+use Rattle.record.specs.Stored.{fillerConstraint}
+use Rattle.record_rows.specs.row.Row.{constraintRow}
+use Rattle.record_rows.specs.ground.Ground.{Rows}
+use Rattle.log_lent.specs.Lent.{with}
+use Rattle.log_lent.specs.Kept.{Tables}
+use Rattle.log_lent.proofs.Rows.{lent-rows-none, lent-rows-next}
+use Rattle.log_lent.proofs.add_constraints.Statement.{statement}
+use Rattle.log_lent.proofs.add_constraints.Tie as tie
+
+abbrev Inv-loop : tie.InvT-loop
+Inv-loop kept₀ k n constraints more₀ i₀ kept more i =
+    (i ≤ n) × (n ≤ 512) × (length constraints ≡ 512) × (length kept ≡ length kept₀)
+    × ((tables : ℕ → Rows) → Tables 513 tables more₀ kept₀ → tables k ≡ [] → k < 9 → Tables 513 (with k (map constraintRow (take i constraints)) tables) more kept)
+
+abbrev μ-loop : tie.MeasureT-loop
+μ-loop kept₀ k n constraints more₀ i₀ kept more i = n - i
+
+loop-holds : tie.Need-loop-holds Inv-loop μ-loop
+loop-holds c = (search needs, c .pre, search needs, search needs, λ tables T e h. lent-rows-none constraintRow [] tables _ h e T)
+
+mul-c : tie.Need-mul-c Inv-loop μ-loop
+mul-c c = search needs
+
+array-copy-out-c : tie.Need-array-copy-out-c Inv-loop μ-loop
+array-copy-out-c c = search needs
+
+constraint-row-requires : tie.Need-constraint-row-requires Inv-loop μ-loop
+constraint-row-requires c κs = search needs
+
+add-constraint-requires : tie.Need-add-constraint-requires Inv-loop μ-loop
+add-constraint-requires c κs = search needs
+
+add-i : tie.Need-add-i Inv-loop μ-loop
+add-i c = search needs
+
+loop-less : tie.Need-loop-less Inv-loop μ-loop
+loop-less c = search needs
+
+loop-again : tie.Need-loop-again Inv-loop μ-loop
+loop-again c =
+    let o = c .before .before .before .before .before .before .before in
+    let v = o .loop .inv in (
+      search needs,
+      v .1,
+      v .2,
+      search needs,
+      λ tables T e h. lent-rows-next constraintRow _ tables _ h (o .loop .i) fillerConstraint (omega arith) (omega arith) (c .before .before .before .before .constraint-row .ensures) (c .before .before .add-constraint .ensures _ (v .4 tables T e h) .1),
+    )
+
+same-length : tie.Need-same-length Inv-loop μ-loop
+same-length c = c .before .loop .inv .3
+
+returns : tie.Need-returns Inv-loop μ-loop
+returns c = let v = c .before .loop .inv in λ tables T e h. let q : c .before .loop .i ≡ c .before .before .args .n = omega arith in rw q at (v .4 tables T e h)
+
+pub add-constraints-spec : {M : Type 1} → statement M
+add-constraints-spec =
+    tie.close
+    (tie.spec
+    Inv-loop
+    μ-loop
+    loop-holds
+    mul-c
+    array-copy-out-c
+    constraint-row-requires
+    add-constraint-requires
+    add-i
+    loop-less
+    loop-again
+    same-length
+    returns)

@@ -1,0 +1,79 @@
+-- `add_edits` meets its contract. Assumes nothing.
+use Prim.Native.Nat.{ℕ, _-_, _≤_, _<_}
+use mathlib.Core.Path.{_≡_}
+use mathlib.Core.List.{[]}
+use lib.ListN.{length, take}
+use native.Mathlib.Omega.{arith}
+use borrow.Author.Needs.{needs}
+use mathlib.Core.List.{map}
+use Rattle.record.specs.Stored.{fillerEdit}
+use Rattle.record_rows.specs.row.Row.{editRow}
+use Rattle.record_rows.specs.ground.Ground.{Rows}
+use Rattle.log_lent.specs.Lent.{with}
+use Rattle.log_lent.specs.Kept.{Tables}
+use Rattle.log_lent.proofs.Rows.{lent-rows-none, lent-rows-next}
+use Rattle.log_lent.proofs.add_edits.Statement.{statement}
+use Rattle.log_lent.proofs.add_edits.Tie as tie
+
+abbrev Inv-loop : tie.InvT-loop
+Inv-loop kept₀ k n edits more₀ i₀ kept more i =
+    (i ≤ n) × (n ≤ 127) × (length edits ≡ 127) × (length kept ≡ length kept₀)
+    × ((tables : ℕ → Rows) → Tables 128 tables more₀ kept₀ → tables k ≡ [] → k < 9 → Tables 128 (with k (map editRow (take i edits)) tables) more kept)
+
+abbrev μ-loop : tie.MeasureT-loop
+μ-loop kept₀ k n edits more₀ i₀ kept more i = n - i
+
+loop-holds : tie.Need-loop-holds Inv-loop μ-loop
+loop-holds c = (search needs, c .pre, search needs, search needs, λ tables T e h. lent-rows-none editRow [] tables _ h e T)
+
+mul-e : tie.Need-mul-e Inv-loop μ-loop
+mul-e c = search needs
+
+array-copy-out-e : tie.Need-array-copy-out-e Inv-loop μ-loop
+array-copy-out-e c = search needs
+
+edit-row-requires : tie.Need-edit-row-requires Inv-loop μ-loop
+edit-row-requires c κs = search needs
+
+add-edit-requires : tie.Need-add-edit-requires Inv-loop μ-loop
+add-edit-requires c κs = search needs
+
+add-i : tie.Need-add-i Inv-loop μ-loop
+add-i c = search needs
+
+loop-less : tie.Need-loop-less Inv-loop μ-loop
+loop-less c = search needs
+
+loop-again : tie.Need-loop-again Inv-loop μ-loop
+loop-again c =
+    let o = c .before .before .before .before .before .before .before in
+    let v = o .loop .inv in (
+      search needs,
+      v .1,
+      v .2,
+      search needs,
+      λ tables T e h. lent-rows-next editRow _ tables _ h (o .loop .i) fillerEdit (omega arith) (omega arith) (c .before .before .before .before .edit-row .ensures) (c .before .before .add-edit .ensures _ (v .4 tables T e h) .1),
+    )
+
+same-length : tie.Need-same-length Inv-loop μ-loop
+same-length c = c .before .loop .inv .3
+
+returns : tie.Need-returns Inv-loop μ-loop
+returns c = let v = c .before .loop .inv in λ tables T e h. let q : c .before .loop .i ≡ c .before .before .args .n = omega arith in rw q at (v .4 tables T e h)
+
+pub add-edits-spec : {M : Type 1} → statement M
+add-edits-spec =
+    tie.close
+    (tie.spec
+    Inv-loop
+    μ-loop
+    loop-holds
+    mul-e
+    array-copy-out-e
+    edit-row-requires
+    add-edit-requires
+    add-i
+    loop-less
+    loop-again
+    same-length
+    returns)

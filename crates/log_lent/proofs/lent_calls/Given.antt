@@ -1,0 +1,62 @@
+-- Calls with what is lent, where it is kept. Assumes nothing.
+use mathlib.Core.Path.{_≡_, refl, sym, ap, _∙_}
+use mathlib.Core.Bool.{Bool, true, false, cond}
+use mathlib.Core.List.{List, [], _∷_, map}
+use Prim.Native.Nat.{ℕ, _+_, _-_, _≤_, _<_}
+use native.Mathlib.Omega.{arith}
+use lib.Dec.{ltb}
+use lib.ListN.{length, take, drop}
+use borrow.Author.Tests.{lt-ltb, le-ltb}
+use Rattle.record.specs.Stored.{emptyRecord}
+use Rattle.record_rows.specs.ground.Ground.{Rows}
+use Rattle.voting.specs.declared.RollRow.{RollRow}
+use Rattle.voting.specs.declared.Election.{Election}
+use Rattle.voting_roll.specs.Election.{electionOf, benches}
+use Rattle.voting_count.specs.Count.{lentProposals}
+use Rattle.voting_bundles.specs.declared.BundleAnswer.{BundleAnswer}
+use Rattle.voting_bundles.specs.Bundles.{bundleAnswer, refusedBundle}
+use Rattle.judgement.specs.declared.lent_record.RowAnswer.{RowAnswer}
+use Rattle.judgement.specs.lent_record.Lent.{rowAnswerOf}
+use Rattle.ledger.specs.declared.Bench.{Bench}
+use Rattle.ledger.specs.declared.Outcome.{Outcome}
+use Rattle.ledger.specs.Ledger.{merge, adopt}
+use Rattle.ledger.specs.Bench.{Answers}
+use Rattle.log_lent.specs.Lent.{Lent}
+use Rattle.log_lent.specs.lent_calls.Calls.{proposalsOf, bundleIn, rowIn}
+
+pub merge-given : (bench : Bench) {E C : Rows} (r : Outcome) → Answers bench (merge E C) r → {F D : Rows} → E ≡ F → C ≡ D → Answers bench (merge F D) r
+merge-given bench r a e f = rw (e, f) at a
+
+-- eight tables, each the one that is lent
+pub eight-lent : {A : Type 0} (f : ℕ → A) {a b c d e g h i : A} → a ≡ f 1 → b ≡ f 2 → c ≡ f 3 → d ≡ f 4 → e ≡ f 5 → g ≡ f 6 → h ≡ f 7 → i ≡ f 8
+    → a ∷ b ∷ c ∷ d ∷ e ∷ g ∷ h ∷ i ∷ [] ≡ map f benches
+eight-lent f p q r s t u v w = rw (p, q, r, s, t, u, v, w) refl
+
+module _ (L : Lent) where
+  pub election-given : {r : Election} (x : ℕ) {E C : List Rows} → E ≡ map (L .edits) benches → C ≡ map (L .constraints) benches
+      → r ≡ electionOf x (lentProposals E C) (L .roll) → r ≡ electionOf x (proposalsOf L) (L .roll)
+  election-given x e f q = rw (e, f) at q
+
+  pub adoption-given : (bench : Bench) (r : Outcome) (x : ℕ) {E C : List Rows} → E ≡ map (L .edits) benches → C ≡ map (L .constraints) benches
+      → Answers bench (adopt x (lentProposals E C) (L .roll)) r → Answers bench (adopt x (proposalsOf L) (L .roll)) r
+  adoption-given bench r x e f a = rw (e, f) at a
+
+  module _ (k : ℕ) where
+    pub bundle-elsewhere : (x : ℕ) → 8 < k → {R : _} → R ≡ emptyRecord → record { number = 2; eligible = false; bundle = R } ≡ bundleIn L k x
+    unfolding bundleIn
+    bundle-elsewhere x h q = let e : ltb k 9 ≡ false = le-ltb k 9 (omega arith) in rw (e, q) refl
+
+    pub bundle-given : {r : BundleAnswer} {E C : Rows} (x : ℕ) → k ≤ 8 → r ≡ bundleAnswer E C x → E ≡ L .edits k → C ≡ L .constraints k → r ≡ bundleIn L k x
+    unfolding bundleIn
+    bundle-given x h q e f = let d : ltb k 9 ≡ true = lt-ltb k 9 (omega arith) in rw d (rw (e, f) at q)
+
+    pub row-elsewhere : 8 < k → record { number = 2; sound = false } ≡ rowIn L k
+    unfolding rowIn
+    row-elsewhere h = let e : ltb k 9 ≡ false = le-ltb k 9 (omega arith) in rw e refl
+
+    pub row-given : {r : RowAnswer} {E C : Rows} {s : List ℕ} → k ≤ 8 → r ≡ rowAnswerOf E C s → E ≡ L .edits k → C ≡ L .constraints k → s ≡ L .row → r ≡ rowIn L k
+    unfolding rowIn
+    row-given h q e f g = let d : ltb k 9 ≡ true = lt-ltb k 9 (omega arith) in rw d (rw (e, f, g) at q)
+
+pub names-taken : {r : RowAnswer} (E C : Rows) (s : List ℕ) (n : ℕ) → r ≡ rowAnswerOf E C (take (n - 0) s) → r ≡ rowAnswerOf E C (take n s)
+names-taken E C s n q = let e : n - 0 ≡ n = omega arith in rw e at q

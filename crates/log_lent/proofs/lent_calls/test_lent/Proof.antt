@@ -1,0 +1,35 @@
+-- `lent_calls::test_lent` meets its contract. Assumes nothing.
+use native.Mathlib.Omega.{arith}
+use borrow.Author.Needs.{needs}
+use Rattle.log_lent.proofs.lent_calls.Given.{row-elsewhere, row-given}
+use Rattle.log_lent.proofs.lent_calls.test_lent.Statement.{statement}
+use Rattle.log_lent.proofs.lent_calls.test_lent.Tie as tie
+
+returns : tie.Need-returns
+returns c = λ L K. row-elsewhere L _ (c .if1 .taken)
+
+returns-2 : tie.Need-returns-2
+returns-2 c = λ L K. absurd (let h = c .if2 .taken in let g = K .rowfew in omega arith)
+
+edits-of-requires : tie.Need-edits-of-requires
+edits-of-requires c κs = search needs
+
+constraints-of-requires : tie.Need-constraints-of-requires
+constraints-of-requires c κs = search needs
+
+test-names-requires : tie.Need-test-names-requires
+test-names-requires c κs = search needs
+
+returns-3 : tie.Need-returns-3
+returns-3 c = λ L K. let h = c .before .before .before .before .before .before .before .if1 .left in row-given L _ h (c .test-names .ensures) (c .before .before .edits-of .ensures (L .edits) (K .edits) (omega arith)) (c .before .constraints-of .ensures (L .constraints) (K .constraints) (omega arith)) (K .row)
+
+pub test-lent-spec : {M : Type 1} → statement M
+test-lent-spec =
+    tie.close
+    (tie.spec
+    returns
+    returns-2
+    edits-of-requires
+    constraints-of-requires
+    test-names-requires
+    returns-3)

@@ -1,0 +1,20 @@
+-- `calls::print_setting` meets its contract. Assumes nothing.
+use borrow.Author.Needs.{needs}
+use Rattle.log_session.proofs.calls.Telling.{setting-none, setting-some}
+use Rattle.log_session.proofs.calls.print_setting.Statement.{statement}
+use Rattle.log_session.proofs.calls.print_setting.Tie as tie
+
+returns : tie.Need-returns
+returns c = λ h. setting-none _ _ (c .if1 .taken) h
+
+print-refusal-requires : tie.Need-print-refusal-requires
+print-refusal-requires c κs = search needs
+
+same-length : tie.Need-same-length
+same-length c = search needs
+
+returns-2 : tie.Need-returns-2
+returns-2 c = λ h. setting-some _ _ (c .before .before .before .before .if1 .left) (c .before .before .print-refusal .ensures)
+
+pub print-setting-spec : {M : Type 1} → statement M
+print-setting-spec = tie.close (tie.spec returns print-refusal-requires same-length returns-2)

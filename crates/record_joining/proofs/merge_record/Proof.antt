@@ -1,0 +1,73 @@
+-- `merge_record` meets its contract. Assumes nothing.
+use mathlib.Core.Path.{_≡_}
+use lib.ListN.{length}
+use native.Mathlib.Omega.{arith}
+use Rattle.lists.proofs.Lists.{length-mapped}
+use Rattle.record.proofs.Padded.{edits-within, constraints-within}
+use Rattle.record_joining.proofs.Answers.{front, joined-record-is}
+use borrow.Author.Needs.{needs}
+use Rattle.record_joining.proofs.merge_record.Statement.{statement}
+use Rattle.record_joining.proofs.merge_record.Tie as tie
+
+returns : tie.Need-returns
+returns c = λ R S e k f.
+    let s = c .before in
+    let w : length (s .args .joining .edits) ≡ 127 = search (needs, length-mapped) in
+    absurd (omega (arith, edits-within (s .args .joining) S f w))
+
+returns-2 : tie.Need-returns-2
+returns-2 c = λ R S e k f.
+    let s = c .before .before in
+    let w : length (s .args .joining .constraints) ≡ 512 = search (needs, length-mapped) in
+    absurd (omega (arith, constraints-within (s .args .joining) S f w))
+
+edit-rows-requires : tie.Need-edit-rows-requires
+edit-rows-requires c κs = search needs
+
+constraint-rows-requires : tie.Need-constraint-rows-requires
+constraint-rows-requires c κs = search needs
+
+sub-merge : tie.Need-sub-merge
+sub-merge c = search needs
+
+part-merge-start : tie.Need-part-merge-start
+part-merge-start c = search needs
+
+part-merge-end : tie.Need-part-merge-end
+part-merge-end c = search needs
+
+sub-merge-2 : tie.Need-sub-merge-2
+sub-merge-2 c = search needs
+
+part-merge-start-2 : tie.Need-part-merge-start-2
+part-merge-start-2 c = search needs
+
+part-merge-end-2 : tie.Need-part-merge-end-2
+part-merge-end-2 c = search needs
+
+merge-requires : tie.Need-merge-requires
+merge-requires c κs = search needs
+
+returns-3 : tie.Need-returns-3
+returns-3 c = λ R S e k f.
+    let s = c .before .before .before .before .before .before .before .before .before .before .before .args in
+    let es = c .before .before .before .before .before .before .edit-rows in
+    let cs = c .before .before .before .before .before .constraint-rows in
+    joined-record-is R S k (s .joining) f _ _ (front (s .joining .editcount) (es .result) (es .ensures)) (front (s .joining .constraintcount) (cs .result) (cs .ensures)) (c .merge .ensures R e k)
+
+pub merge-record-spec : {M : Type 1} → statement M
+merge-record-spec =
+    tie.close
+    (tie.spec
+    returns
+    returns-2
+    edit-rows-requires
+    constraint-rows-requires
+    sub-merge
+    part-merge-start
+    part-merge-end
+    sub-merge-2
+    part-merge-start-2
+    part-merge-end-2
+    merge-requires
+    returns-3)

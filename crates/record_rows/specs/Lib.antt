@@ -1,0 +1,2 @@
+pub mod ground
+pub mod row

@@ -1,0 +1,37 @@
+-- `refusal::fault` meets its contract. Assumes nothing.
+use Rattle.record_tables.proofs.Tables.{lent-first, lent-second}
+use borrow.Author.Needs.{needs}
+use Rattle.record_union.proofs.refusal.fault.Statement.{statement}
+use Rattle.record_union.proofs.refusal.fault.Tie as tie
+
+edit-fault-requires : tie.Need-edit-fault-requires
+edit-fault-requires c κs = search needs
+
+returns : tie.Need-returns
+returns c = λ R e k. let s = c .before .before .args in lent-first (s .joined) R e k (s .edits .now) (c .before .edit-fault .ensures) (s .constraints .now) (c .if1 .taken)
+
+mark-rows-requires : tie.Need-mark-rows-requires
+mark-rows-requires c κs = search needs
+
+slice-aggregate-constraint-fault : tie.Need-slice-aggregate-constraint-fault
+slice-aggregate-constraint-fault c = search needs
+
+constraint-fault-requires : tie.Need-constraint-fault-requires
+constraint-fault-requires c κs = search needs
+
+returns-2 : tie.Need-returns-2
+returns-2 c = λ R e k.
+    let s = c .before .before .before .before .before .args in
+    let m = c .before .before .mark-rows in
+    lent-second (s .joined) R e k (s .edits .now) (c .before .before .before .before .edit-fault .ensures) (s .constraints .now) (c .before .before .before .if1 .left) (m .result) (m .ensures) (c .constraint-fault .ensures)
+
+pub fault-spec : {M : Type 1} → statement M
+fault-spec =
+    tie.close
+    (tie.spec
+    edit-fault-requires
+    returns
+    mark-rows-requires
+    slice-aggregate-constraint-fault
+    constraint-fault-requires
+    returns-2)

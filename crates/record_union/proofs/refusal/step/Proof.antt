@@ -1,0 +1,27 @@
+-- `refusal::step` meets its contract. Assumes nothing.
+use Rattle.record_rows.proofs.ground.Loop.{step-of}
+use borrow.Author.Needs.{needs}
+use Rattle.record_union.proofs.refusal.step.Statement.{statement}
+use Rattle.record_union.proofs.refusal.step.Tie as tie
+
+below-requires : tie.Need-below-requires
+below-requires c κs = search needs
+
+below-requires-2 : tie.Need-below-requires-2
+below-requires-2 c κs = search needs
+
+alike-requires : tie.Need-alike-requires
+alike-requires c κs = search needs
+
+advance-requires : tie.Need-advance-requires
+advance-requires c κs = search needs
+
+returns : tie.Need-returns
+returns c =
+    let compared = c .before in
+    let s = compared .before .before .before .before .before in
+    step-of (s .args .key) (s .args .at) (s .args .n) (s .args .count) (s .args .limit) (s .args .x .now) (s .args .row .now) (search needs) (search needs) (search needs)
+    (compared .before .before .below .ensures) (compared .before .below2 .ensures) (compared .alike .ensures) (c .advance .ensures)
+
+pub step-spec : {M : Type 1} → statement M
+step-spec = tie.close (tie.spec below-requires below-requires-2 alike-requires advance-requires returns)

@@ -1,0 +1,37 @@
+-- `read_mark` meets its contract. Assumes nothing.
+use Prim.Native.Nat.{_-_}
+use borrow.Author.Needs.{needs}
+use Rattle.text_forms.proofs.Marks.{numeral-as, spells-answers, spells-names, spells-numbers}
+use Rattle.text_forms.specs.Spelling.{bytes, numberSpelling}
+use Rattle.text_forms.proofs.read_mark.Statement.{statement}
+use Rattle.text_forms.proofs.read_mark.Tie as tie
+
+read-answer-requires : tie.Need-read-answer-requires
+read-answer-requires c κs = search needs
+
+read-name-requires : tie.Need-read-name-requires
+read-name-requires c κs = search needs
+
+read-number-requires : tie.Need-read-number-requires
+read-number-requires c κs = search needs
+
+returns : tie.Need-returns
+returns c = numeral-as (c .before .before .before .args .mark) (c .before .before .before .args .bytes .now) (spells-answers (c .before .before .before .args .mark) (c .before .match .keys1)) (c .read-answer .ensures)
+
+returns-2 : tie.Need-returns-2
+returns-2 c = numeral-as (c .before .before .before .args .mark) (c .before .before .before .args .bytes .now) (spells-names (c .before .before .before .args .mark) (c .before .match .keys2)) (c .read-name .ensures)
+
+returns-3 : tie.Need-returns-3
+unfolding numberSpelling
+returns-3 c = numeral-as (c .before .before .before .args .mark) (c .before .before .before .args .bytes .now) (spells-numbers (c .before .before .before .args .mark) (c .before .match .rest .0 .1) (c .before .match .rest .1)) (c .read-number .ensures)
+
+pub read-mark-spec : {M : Type 1} → statement M
+read-mark-spec =
+    tie.close
+    (tie.spec
+    read-answer-requires
+    read-name-requires
+    read-number-requires
+    returns
+    returns-2
+    returns-3)

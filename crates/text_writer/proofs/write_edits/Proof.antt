@@ -1,0 +1,77 @@
+-- `write_edits` meets its contract. Assumes nothing.
+use Rattle.text_writer.proofs.Writing.{Writes, writes-none, writes-inside, writes-room, writes-next, writes-at, writes-same, writes-end}
+use Rattle.text_writer.specs.Placed.{editText}
+use Prim.Native.Nat.{_-_}
+use native.Mathlib.Omega.{arith}
+use borrow.Author.Needs.{needs}
+use Rattle.text_writer.proofs.write_edits.Statement.{statement}
+use Rattle.text_writer.proofs.write_edits.Tie as tie
+
+abbrev Inv-loop : tie.InvT-loop
+Inv-loop out₀ n a at₀ i₀ out at i = Writes editText a n out₀ out at i
+
+abbrev μ-loop : tie.MeasureT-loop
+μ-loop out₀ n a at₀ i₀ out at i = n - i
+
+loop-holds : tie.Need-loop-holds Inv-loop μ-loop
+loop-holds c = let s = c .before .args in writes-none editText (s .t2) (s .n) (s .out .now) (search needs) (c .before .pre .1)
+
+mul-e : tie.Need-mul-e Inv-loop μ-loop
+mul-e c = search needs
+
+array-copy-out-e : tie.Need-array-copy-out-e Inv-loop μ-loop
+array-copy-out-e c = search needs
+
+sub-write-edit-line : tie.Need-sub-write-edit-line Inv-loop μ-loop
+sub-write-edit-line c = omega (arith, writes-inside editText (c .before .before .before .before .args .t2) (c .before .before .before .before .args .n) (c .before .before .before .before .args .out .now) (c .before .before .loop .inv))
+
+part-write-edit-line-start : tie.Need-part-write-edit-line-start Inv-loop μ-loop
+part-write-edit-line-start c = omega (arith, writes-inside editText (c .before .before .before .before .args .t2) (c .before .before .before .before .args .n) (c .before .before .before .before .args .out .now) (c .before .before .loop .inv))
+
+part-write-edit-line-end : tie.Need-part-write-edit-line-end Inv-loop μ-loop
+part-write-edit-line-end c = search needs
+
+edit-row-requires : tie.Need-edit-row-requires Inv-loop μ-loop
+edit-row-requires c κs = search needs
+
+write-edit-line-requires : tie.Need-write-edit-line-requires Inv-loop μ-loop
+write-edit-line-requires c κs = rw (c .edit-row .ensures) (writes-room editText (c .before .before .before .before .before .before .args .t2) (c .before .before .before .before .before .before .args .n) (c .before .before .before .before .before .before .args .out .now) (c .before .before .before .before .loop .inv) _ (c .before .before .before .loop-test .taken))
+
+add-at : tie.Need-add-at Inv-loop μ-loop
+add-at c = omega (arith, writes-at editText (c .before .before .before .before .before .before .before .before .before .args .t2) (c .before .before .before .before .before .before .before .before .before .args .n) (c .before .before .before .before .before .before .before .before .before .args .out .now) (c .before .before .before .before .before .before .before .loop .inv) _ (c .before .before .before .before .before .before .loop-test .taken) (rw (c .before .before .before .edit-row .ensures) at (c .before .before .write-edit-line .ensures)))
+
+add-i : tie.Need-add-i Inv-loop μ-loop
+add-i c = search needs
+
+loop-less : tie.Need-loop-less Inv-loop μ-loop
+loop-less c = search needs
+
+loop-again : tie.Need-loop-again Inv-loop μ-loop
+loop-again c = writes-next editText (c .before .before .before .before .before .before .before .before .before .args .t2) (c .before .before .before .before .before .before .before .before .before .args .n) (c .before .before .before .before .before .before .before .before .before .args .out .now) (c .before .before .before .before .before .before .before .loop .inv) _ (c .before .before .before .before .before .before .loop-test .taken) (rw (c .before .before .before .edit-row .ensures) at (c .before .before .write-edit-line .ensures))
+
+same-length : tie.Need-same-length Inv-loop μ-loop
+same-length c = writes-same editText (c .before .before .before .args .t2) (c .before .before .before .args .n) (c .before .before .before .args .out .now) (c .before .loop .inv)
+
+returns : tie.Need-returns Inv-loop μ-loop
+returns c = writes-end editText (c .before .before .before .args .t2) (c .before .before .before .args .n) (c .before .before .before .args .out .now) (c .before .loop .inv) (c .loop-test .left)
+
+pub write-edits-spec : {M : Type 1} → statement M
+write-edits-spec =
+    tie.close
+    (tie.spec
+    Inv-loop
+    μ-loop
+    loop-holds
+    mul-e
+    array-copy-out-e
+    sub-write-edit-line
+    part-write-edit-line-start
+    part-write-edit-line-end
+    edit-row-requires
+    write-edit-line-requires
+    add-at
+    add-i
+    loop-less
+    loop-again
+    same-length
+    returns)

@@ -1,0 +1,53 @@
+-- The keys of a constraint's rows by its rule. Assumes nothing.
+use mathlib.Core.Path.{_≡_, refl}
+use mathlib.Core.Bool.{true, false}
+use Prim.Native.Nat.{ℕ, zero, suc}
+use borrow.Author.Tests.{ne-eqb}
+use Rattle.record.specs.Record.{Record, notafter}
+use Rattle.graph.specs.links.Marks.{nameAt}
+use Rattle.voting_bundles.specs.members.Rows.{rivalKey, enabledKey, forwardKey, backwardKey}
+
+module _ (R : Record) (a k b : ℕ) where
+  pub forward-notafter : k ≡ 0 → b ≡ forwardKey R a k b
+  unfolding forwardKey
+  forward-notafter e = rw e
+
+  pub forward-enables : k ≡ 1 → enabledKey b ≡ forwardKey R a k b
+  unfolding forwardKey
+  forward-enables e = rw e
+
+  pub backward-notafter : k ≡ 0 → 128 ≡ backwardKey R a k b
+  unfolding backwardKey
+  backward-notafter e = rw e
+
+  pub backward-enables : k ≡ 1 → 128 ≡ backwardKey R a k b
+  unfolding backwardKey
+  backward-enables e = rw e
+
+pub forward-rival : (R : Record) (a k b : ℕ) → (k ≡ 0 → ⊥) → (k ≡ 1 → ⊥) → rivalKey R a b ≡ forwardKey R a k b
+unfolding forwardKey
+forward-rival R a zero b f g = absurd (f refl)
+forward-rival R a (suc zero) b f g = absurd (g refl)
+forward-rival R a (suc (suc k)) b f g = refl
+
+pub backward-rival : (R : Record) (a k b : ℕ) → (k ≡ 0 → ⊥) → (k ≡ 1 → ⊥) → rivalKey R b a ≡ backwardKey R a k b
+unfolding backwardKey
+backward-rival R a zero b f g = absurd (f refl)
+backward-rival R a (suc zero) b f g = absurd (g refl)
+backward-rival R a (suc (suc k)) b f g = refl
+
+pub rival-ordered : (R : Record) (a b : ℕ) → true ≡ notafter R (nameAt R b) (nameAt R a) → 128 ≡ rivalKey R a b
+unfolding rivalKey
+rival-ordered R a b e = rw (← e)
+
+pub rival-open : (R : Record) (a b : ℕ) → false ≡ notafter R (nameAt R b) (nameAt R a) → b ≡ rivalKey R a b
+unfolding rivalKey
+rival-open R a b e = rw (← e)
+
+pub enabled-init : (b : ℕ) → b ≡ 0 → 128 ≡ enabledKey b
+unfolding enabledKey
+enabled-init b e = rw e
+
+pub enabled-written : (b : ℕ) → (b ≡ 0 → ⊥) → b ≡ enabledKey b
+unfolding enabledKey
+enabled-written b e = rw (ne-eqb b 0 e)
