@@ -8,7 +8,7 @@ use record_tables::lookup;
 ghost use mathlib.Core.Path.{_≡_};
 ghost use mathlib.Core.Bool.{Bool, false, cond};
 ghost use mathlib.Core.List.{List};
-ghost use Prim.Native.Nat.{ℕ, _≤_, _<_};
+ghost use Prim.Native.Nat.{ℕ, _<_};
 ghost use lib.ListN.{length, getD};
 ghost use Rattle.lists.specs.Lists.{mem, _among_, _within_};
 ghost use Rattle.record_rows.specs.row.Row.{nameLimit};

@@ -2,7 +2,6 @@
 pub mod change;
 pub mod hidden;
 
-use catalogue::View;
 use ledger::Answer;
 use ledger::Bench;
 use ledger::Outcome;

@@ -1,15 +1,15 @@
 -- What the library answers, return by return. Assumes nothing.
 use mathlib.Core.Path.{_≡_, refl, sym, ap, _∙_}
-use mathlib.Core.Bool.{Bool, true, false, _&&_, cond, and-false}
-use mathlib.Core.List.{List, [], _∷_, _++_}
+use mathlib.Core.Bool.{true, false, cond, and-false}
+use mathlib.Core.List.{List, _++_}
 use Prim.Native.Nat.{ℕ, suc, _+_, _≤_, _<_}
 use native.Mathlib.Omega.{arith}
 use lib.Dec.{leb}
-use lib.ListN.{length, getD, set, take, drop, length-set}
-use lib.Seq.{take-suc, set-split, take-append-le, take-at, take-all, drop-append-add, set-at, drop-cons, length-take-le, append-snoc}
+use lib.ListN.{length, getD, set, take, drop}
+use lib.Seq.{take-suc, take-at, set-at, drop-cons, length-take-le, append-snoc}
 use borrow.Author.Tests.{le-leb, lt-leb}
 use Rattle.lists.proofs.Lists.{le-by}
-use Rattle.record.specs.Stored.{stored, recordOf}
+use Rattle.record.specs.Stored.{recordOf}
 use Rattle.record.specs.Record.{Record}
 use Rattle.record_tables.proofs.Tables.{stored-back}
 use Rattle.text_lines.specs.Lines.{lines}
@@ -20,15 +20,6 @@ use Rattle.text_writer.specs.declared.Written.{Written}
 use Rattle.text_writer.specs.Placed.{placed, placing}
 use Rattle.text_report.proofs.Reports.{refused, report-accepted}
 use Rattle.log_forms.specs.Printed.{Printed}
-use Rattle.record_rows.specs.ground.Ground.{Rows}
-use Rattle.ledger.specs.declared.Bench.{Bench}
-use Rattle.ledger.specs.Ledger.{start, fed}
-use Rattle.ledger.specs.Bench.{benchOf}
-use Rattle.log_lent.specs.declared.Lending.{Lending}
-use Rattle.log_lent.specs.Lent.{nothingLent}
-use Rattle.log_lent.specs.Kept.{Kept}
-use Rattle.log_session.specs.Desk.{Desk, emptyDesk, ledgerOf, benchIn}
-use Rattle.log_session.specs.calls.Lines.{Holds}
 use Rattle.c_library.specs.declared.Reply.{Reply}
 use Rattle.c_library.specs.Replies.{checkedReply, rewrittenReply, rewrittenOut, answeredReply, answeredOut, Worked}
 

@@ -3,7 +3,7 @@
 use unity_table::Unity;
 ghost use mathlib.Core.Path.{_≡_};
 ghost use mathlib.Core.List.{_++_, map};
-ghost use Prim.Native.Nat.{ℕ, _+_, _≤_};
+ghost use Prim.Native.Nat.{_+_, _≤_};
 ghost use lib.ListN.{length, take, drop};
 ghost use Rattle.text.specs.Text.{readText};
 ghost use Rattle.text_report.specs.Report.{reported, reportedOut};

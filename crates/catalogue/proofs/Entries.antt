@@ -1,10 +1,10 @@
 -- Entries and catalogues run by edits, as the code writes it. For any number of cells and places.
-use mathlib.Core.Path.{_≡_, refl}
+use mathlib.Core.Path.{_≡_}
 use mathlib.Core.Bool.{true, false}
-use mathlib.Core.List.{List, _∷_, map}
-use Prim.Native.Nat.{ℕ, zero, suc, _<_, _≤_, suc-le-suc}
+use mathlib.Core.List.{List}
+use Prim.Native.Nat.{ℕ, _<_, _≤_}
 use native.Mathlib.Omega.{arith}
-use lib.ListN.{length, getD, set, replicate, length-map, List·getD-eq-default}
+use lib.ListN.{length, getD, set, replicate, List·getD-eq-default}
 use lib.Seq.{set-out}
 use Rattle.lists.proofs.Arrays.{getD-any}
 use Rattle.record.specs.declared.Field.{Field}

@@ -3,7 +3,7 @@ use mathlib.Core.Path.{_≡_, refl}
 use mathlib.Core.Bool.{Bool, true, false, _||_, cond}
 use mathlib.Core.Logic.{inl, inr, ⊎-elim}
 use mathlib.Core.List.{List, [], _∷_, _++_}
-use Prim.Native.Nat.{suc, _+_, _*_, _≤_, _<_}
+use Prim.Native.Nat.{suc, _*_, _≤_, _<_}
 use native.Mathlib.Omega.{arith}
 use native.Mathlib.Nat.{mul-right-comm, mul-le-mul-right, le-of-mul-le-mul-right}
 use borrow.Author.Tests.{ne-eqb, le-ltb, ltb-true, ltb-false}

@@ -3,7 +3,7 @@
 ghost use mathlib.Core.Path.{_≡_};
 ghost use mathlib.Core.Bool.{Bool, true, false};
 ghost use mathlib.Core.List.{List, _∷_};
-ghost use Prim.Native.Nat.{ℕ, max, _<_, _≤_, _+_};
+ghost use Prim.Native.Nat.{ℕ, max, _<_, _≤_};
 ghost use lib.ListN.{length, getD, take};
 ghost use Rattle.lists.specs.Lists.{mem, _among_, _within_, closure};
 ghost use Rattle.record.specs.Record.{Record, names, notafter};

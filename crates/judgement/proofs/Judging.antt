@@ -5,7 +5,7 @@ use mathlib.Core.List.{List, []}
 use Prim.Native.Nat.{ℕ, _≤_}
 use lib.Dec.{eqb}
 use lib.ListN.{length, getD, replicate, List·getD-eq-default}
-use Rattle.lists.specs.Lists.{mem, indexOf, _among_}
+use Rattle.lists.specs.Lists.{mem, indexOf}
 use Rattle.record.specs.Record.{Record, names}
 use Rattle.record.specs.Schedule.{musts, ring, schedule}
 use Rattle.record.specs.Judgement.{sound, must, never, settled}

@@ -7,7 +7,7 @@ use record_rows::row::NAMES;
 ghost use mathlib.Core.Path.{_≡_};
 ghost use mathlib.Core.Bool.{true, cond};
 ghost use mathlib.Core.List.{List};
-ghost use Prim.Native.Nat.{ℕ, _≤_, _<_};
+ghost use Prim.Native.Nat.{ℕ, _<_};
 ghost use lib.ListN.{length, getD};
 ghost use Rattle.record.specs.Record as theory;
 ghost use Rattle.lists.specs.Lists.{all, mem, indexOf};

@@ -6,7 +6,6 @@ use Prim.Native.Nat.{ℕ, _≤_}
 use native.Mathlib.Omega.{arith}
 use native.Mathlib.Nat.{min-eq-left, min-eq-right, max-eq-left, max-eq-right}
 use borrow.Author.Tests.{not-true, not-false}
-use Rattle.lists.specs.Lists.{indexOf}
 use Rattle.record.specs.Record.{Record, written, has, notafter, noncommuting, WellFormed}
 use Rattle.record.specs.Judgement.{never, ordered, serialised}
 use Rattle.lists.proofs.Lists.{by, clash, or-l, or-r, or-no-l, or-no-r, any-by, not-any-all, all-in}

@@ -11,7 +11,7 @@ use lib.IntN.{ℤ, pos, _+ℤ_, +ℤ-assoc, +ℤ-idr}
 use lib.ListN.{length, drop}
 use borrow.Author.Tests.{eqb-true, eq-eqb, ne-eqb, le-leb}
 use Rattle.record.specs.declared.Edit.{Edit}
-use Rattle.lists.specs.Lists.{filter, mem, indexOf, _among_, _within_, Has}
+use Rattle.lists.specs.Lists.{filter, mem, _among_, Has}
 use Rattle.record.specs.Record.{Record, written, notafter, enables}
 use Rattle.record.specs.Schedule.{schedule}
 use Rattle.record.specs.Judgement.{must}
@@ -20,7 +20,7 @@ use Rattle.record.proofs.Scheduled.{schedule-sound}
 use Rattle.lists.proofs.Union.{united-old}
 use Rattle.record_rows.proofs.ground.Grounds.{orelse-none, given-none}
 use Rattle.record_rows.specs.row.Row.{Row, isName, editOf}
-use Rattle.record_rows.specs.ground.Ground.{_given_, _orelse_}
+use Rattle.record_rows.specs.ground.Ground.{_given_}
 use Rattle.record_tables.specs.Table.{editKey, unite}
 use Rattle.record_tables.proofs.Records.{joining-kept}
 use Rattle.voting.specs.declared.Election.{Election}

@@ -1,36 +1,33 @@
 -- What holds of every ledger that calls lead to. Assumes nothing.
-use mathlib.Core.Path.{_≡_, refl, sym, ap, _∙_}
-use mathlib.Core.Bool.{Bool, true, false, not, _&&_, _||_, cond}
-use mathlib.Core.List.{List, [], _∷_, map}
+use mathlib.Core.Path.{_≡_, refl, sym}
+use mathlib.Core.Bool.{true, not}
+use mathlib.Core.List.{List, [], _∷_}
 use mathlib.Core.Option.{Option, none, some}
-use Prim.Native.Nat.{ℕ, zero, suc, _+_, _≤_, _<_}
+use Prim.Native.Nat.{ℕ, _≤_}
 use native.Mathlib.Omega.{arith}
 use lib.Dec.{eqb}
 use lib.IntN.{ℤ}
-use lib.ListN.{length, take, drop, length-map}
-use borrow.Author.Tests.{eqb-true, eqb-false, eq-eqb, not-true, not-false}
-use Rattle.lists.specs.Lists.{any, mem, _among_, _within_, find, grown, closure}
+use borrow.Author.Tests.{eqb-true, not-false}
+use Rattle.lists.specs.Lists.{any, mem, _within_, find, grown, closure}
 use Rattle.record.specs.Record.{Record, names, written, has, WellFormed}
 use Rattle.record.specs.Schedule.{needs, musts, ready, order, admits, scheduled, schedule}
-use Rattle.record.specs.Judgement.{sound, must}
-use Rattle.lists.proofs.Lists.{by, clash, and-l, and-r, or-by, or-no-l, cons-by, nil-no, cons-within, filter-mem}
+use Rattle.record.specs.Judgement.{sound}
+use Rattle.lists.proofs.Lists.{by, and-r, nil-no, cons-within, filter-mem}
 use Rattle.record_rows.proofs.ground.Grounds.{orelse-none, given-none}
-use Rattle.record.proofs.Scheduled.{schedule-length, schedule-pages}
-use Rattle.record_rows.specs.row.Row.{Row, isName}
-use Rattle.record_rows.specs.ground.Ground.{Rows, _given_, _orelse_}
+use Rattle.record_rows.specs.row.Row.{isName}
+use Rattle.record_rows.specs.ground.Ground.{_given_}
 use Rattle.record_tables.specs.Table.{emptyTables, decoded, lentFault, addEditFault, addConstraintFault, recordJoinFault, unite}
 use Rattle.record_tables.specs.Checked.{Checked}
 use Rattle.record_tables.proofs.Unions.{united-extends}
 use Rattle.record_tables.proofs.Records.{empty-checked, empty-sound, joined-checked, added-edit-checked, added-constraint-checked, record-checked, checked-wellformed}
-use Rattle.voting.specs.declared.RollRow.{RollRow}
 use Rattle.voting.specs.declared.Election.{Election}
 use Rattle.voting.specs.Tally.{winner}
-use Rattle.voting_roll.specs.Election.{Proposals, electionFault, cast, counted}
+use Rattle.voting_roll.specs.Election.{electionFault, cast, counted}
 use Rattle.pages_turner.specs.declared.Turned.{Turned}
 use Rattle.pages_turner.specs.declared.Turned.the-variants.{To, Refused}
 use Rattle.pages_turner.specs.Turn.{turned, turnedAnswer}
 use Rattle.pages_turner.proofs.Landed.{turned-lands}
-use Rattle.ledger.specs.Ledger.{Ledger, Call, addEdit, addConstraint, merge, hide, show, turn, adopt, Reply, start, pages, last, bundleFault, judge, noElection, change, shown, adopted, act, refusal, step, fed}
+use Rattle.ledger.specs.Ledger.{Ledger, Call, addEdit, addConstraint, merge, hide, show, turn, adopt, start, pages, last, bundleFault, judge, noElection, change, shown, adopted, act, refusal, step, fed}
 
 -- the ledger's record is as every stored record is, and sound; hidden edits are written; the schedule is the record's; the open page is one of it
 pub record Valid (L : Ledger) : Type 0 where

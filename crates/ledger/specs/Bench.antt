@@ -1,11 +1,9 @@
 -- Document 01, "Entries and pages": what the bench in memory is for a ledger, what is promised of a call, and the undo rule. Assumes nothing.
 use mathlib.Core.Path.{_≡_}
 use mathlib.Core.List.{List, [], _∷_, map}
-use Prim.Native.Nat.{ℕ}
 use lib.ListN.{take}
 use Rattle.record.specs.declared.Edit.{Edit}
 use Rattle.lists.specs.Lists.{mem}
-use Rattle.record.specs.Record.{Record}
 use Rattle.record.specs.Stored.{stored, editNamed}
 use Rattle.graph.specs.links.Marks.{marksOf}
 use Rattle.pages.specs.Pages.{run, emptyCatalogue}

@@ -10,7 +10,7 @@ use borrow.Author.Tests.{not-false}
 use Rattle.lists.proofs.Lists.{by, clash, or-no-l, or-no-r}
 use Rattle.lists.specs.Lists.{any, Has}
 use Rattle.lists.specs.Keyed.{precedes, Below, Ascending, inserted, united}
-use Rattle.lists.proofs.Logic.{any-append, any-none, any-no}
+use Rattle.lists.proofs.Logic.{any-append, any-no}
 use Rattle.lists.proofs.Order.{less-irrefl, less-trans, less-total}
 
 module _ {A : Type 0} (key : A → List ℕ) where

@@ -1,13 +1,13 @@
 -- The bench after a log is the ledger's fed the accepted calls. Assumes nothing.
-use mathlib.Core.Path.{_≡_, refl, sym, ap, _∙_}
-use mathlib.Core.Bool.{true, false, cond}
+use mathlib.Core.Path.{_≡_, refl, ap, _∙_}
+use mathlib.Core.Bool.{true, false}
 use mathlib.Core.List.{List, [], _∷_}
 use Prim.Native.Nat.{ℕ}
 use lib.Dec.{eqb}
 use Rattle.lists.proofs.Lists.{by}
 use Rattle.ledger.specs.Ledger.{Ledger, Call, start, fed, judge, step, refusal}
 use Rattle.ledger.specs.Bench.{benchOf}
-use Rattle.log_session.specs.Desk.{Desk, ledgerOf, benchIn}
+use Rattle.log_session.specs.Desk.{ledgerOf, benchIn}
 use Rattle.log.specs.Log.{logRun, accepted}
 
 refused-stays : (L : Ledger) (call : Call) → eqb (judge L call) 0 ≡ false → step L call .after ≡ L

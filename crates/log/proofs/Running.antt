@@ -1,6 +1,6 @@
 -- The loop over the lines of a log. Assumes nothing.
-use mathlib.Core.Path.{_≡_, refl, sym, ap, _∙_}
-use mathlib.Core.List.{List, [], _∷_, _++_}
+use mathlib.Core.Path.{_≡_, refl, ap, _∙_}
+use mathlib.Core.List.{List}
 use Prim.Native.Nat.{ℕ, suc, _+_, _-_, _≤_, _<_}
 use native.Mathlib.Omega.{arith}
 use lib.ListN.{length, take, drop}
@@ -16,7 +16,7 @@ use Rattle.log_lent.specs.declared.Lending.{Lending}
 use Rattle.log_session.specs.Desk.{Desk, printedOf}
 use Rattle.log_session.specs.calls.Lines.{Holds}
 use Rattle.log.specs.Effects.{orderEffect}
-use Rattle.log.specs.Log.{Run, begun, runLine, runLines}
+use Rattle.log.specs.Log.{begun, runLine, runLines}
 use Rattle.log.specs.Running.{Running, Stops}
 
 module _ (log : List ℕ) (D : Desk) (count : ℕ) (before : List ℕ) (start : ℕ) where

@@ -1,18 +1,18 @@
 -- The nine tables of a kind, one row more in one of them. Assumes nothing.
 use mathlib.Core.Path.{_≡_, refl, sym, ap, _∙_}
-use mathlib.Core.Bool.{Bool, true, false, not, cond}
+use mathlib.Core.Bool.{true, false}
 use mathlib.Core.List.{List, [], _∷_, _++_, map, map-append}
-use Prim.Native.Nat.{ℕ, zero, suc, _+_, _-_, _*_, _≤_, _<_, min}
+use Prim.Native.Nat.{ℕ, suc, _+_, _-_, _*_, _≤_, _<_}
 use native.Mathlib.Omega.{arith}
 use native.Mathlib.Nat.{mul-le-mul-right}
 use lib.Dec.{eqb, leb, ltb}
 use lib.ListN.{length, getD, set, take, drop, length-drop, length-set, length-map}
 use lib.Seq.{take-suc, take-set-le, drop-set-lt, drop-set-add, take-suc-set, getD-set-same, getD-set-other, length-take-le}
-use borrow.Author.Tests.{eq-eqb, ne-eqb, eqb-true, eqb-false, lt-ltb, le-ltb, le-leb, lt-leb}
-use Rattle.lists.proofs.Lists.{by, is-by, le-by}
+use borrow.Author.Tests.{eq-eqb, ne-eqb, lt-ltb, le-ltb, le-leb, lt-leb}
+use Rattle.lists.proofs.Lists.{is-by, le-by}
 use Rattle.record_rows.specs.row.Row.{Row}
-use Rattle.record_rows.specs.ground.Ground.{Rows, _given_, _orelse_}
-use Rattle.log_lent.specs.Lent.{isLent, with, rowsFault, added}
+use Rattle.record_rows.specs.ground.Ground.{Rows}
+use Rattle.log_lent.specs.Lent.{with, rowsFault, added}
 use Rattle.log_lent.specs.Kept.{Tables}
 
 pub with-same : (k : ℕ) (rows : Rows) (tables : ℕ → Rows) → with k rows tables k ≡ rows

@@ -1,11 +1,11 @@
 -- What each line that lends leaves. Assumes nothing.
 use mathlib.Core.Path.{_≡_, refl, sym, ap, _∙_}
-use mathlib.Core.Bool.{Bool, true, false, not, _&&_, cond, and-false}
+use mathlib.Core.Bool.{true, false, and-false}
 use mathlib.Core.List.{List, [], _∷_, _++_, map}
-use Prim.Native.Nat.{ℕ, zero, suc, _+_, _-_, _*_, _≤_, _<_}
+use Prim.Native.Nat.{ℕ, suc, _+_, _≤_, _<_}
 use native.Mathlib.Omega.{arith}
-use lib.Dec.{eqb, leb, ltb}
-use lib.ListN.{length, getD, set, take, replicate, length-replicate, length-set}
+use lib.Dec.{leb, ltb}
+use lib.ListN.{length, getD, set, take, replicate, length-set}
 use lib.Seq.{take-suc-set, take-append-seam, length-take-le}
 use borrow.Author.Tests.{lt-ltb, le-ltb, le-leb, lt-leb}
 use Rattle.record.specs.declared.Record as declared
@@ -14,7 +14,7 @@ use Rattle.record.specs.Stored.{stored, padded}
 use Rattle.lists.proofs.Lists.{is-by}
 use Rattle.lists.proofs.Arrays.{getD-zeros}
 use Rattle.record_rows.specs.row.Row.{Row, editRow, constraintRow}
-use Rattle.record_rows.specs.ground.Ground.{Rows, _given_, _orelse_}
+use Rattle.record_rows.specs.ground.Ground.{Rows}
 use Rattle.record_tables.specs.Table.{editRows, constraintRows}
 use Rattle.voting.specs.declared.RollRow.{RollRow}
 use Rattle.voting_roll.specs.declared.Roll.{Roll}

@@ -11,7 +11,7 @@ use suggestions::Suggested;
 use voting::Election;
 use voting_bundles::BundleAnswer;
 ghost use mathlib.Core.Path.{_≡_};
-ghost use Prim.Native.Nat.{ℕ, _<_, _≤_};
+ghost use Prim.Native.Nat.{_<_, _≤_};
 ghost use lib.ListN.{take};
 ghost use Rattle.record.specs.Record as theory;
 ghost use Rattle.lists.specs.Lists.{_among_};

@@ -2,7 +2,6 @@
 use crate::Lending;
 use record_joining::Joined;
 ghost use mathlib.Core.Path.{_≡_};
-ghost use Prim.Native.Nat.{ℕ};
 ghost use Rattle.log_lent.specs.Lent.{Lent};
 ghost use Rattle.log_lent.specs.Kept.{Kept};
 ghost use Rattle.log_lent.specs.lent_proposals.Made.{proposalIn};

@@ -9,7 +9,6 @@ use mir.Syntax.{w32}
 use mir.Val.{toZ, ofZ}
 use mir.Facts.{toZ-ofZ}
 use borrow.Author.Tests.{lt-ltb, le-ltb, eqb-true, eqb-false}
-use Rattle.record.specs.declared.Record as declared
 use Rattle.record.specs.Stored.{stored}
 use Rattle.lists.proofs.Lists.{le-by, or-by, or-no-l, or-no-r}
 use Rattle.record_rows.specs.row.Row.{cell}

@@ -4,7 +4,7 @@ use Prim.Native.Nat.{ℕ}
 use lib.ListN.{getD}
 use Rattle.record_rows.specs.row.Row.{Row, cell}
 use Rattle.record_tables.specs.Table.{emptyTables}
-use Rattle.log_lent.specs.Lent.{Lent, editPlaces, constraintPlaces, rowsFault, withEdit, withConstraint, withRecord, recordNumber, seatNumber, withSeat, withoutRoll, nameNumber, withName, withoutRow}
+use Rattle.log_lent.specs.Lent.{editPlaces, constraintPlaces, rowsFault, withEdit, withConstraint, withRecord, recordNumber, seatNumber, withSeat, withoutRoll, nameNumber, withName, withoutRow}
 use Rattle.log_session.specs.Desk.{Desk, Cells, Effect, ledgerOf, lends, noEffect}
 
 abbrev pub lentEditCells : Cells → Row

@@ -14,7 +14,7 @@ use Rattle.lists.proofs.Lists.{by}
 use Rattle.record.specs.declared.Record as declared
 use Rattle.record.specs.declared.Constraint.{Constraint}
 use Rattle.record.specs.Record.{Record, written}
-use Rattle.record.specs.Stored.{padded, stored, recordOf, fillerEdit, fillerConstraint}
+use Rattle.record.specs.Stored.{stored, recordOf}
 use Rattle.lists.specs.Keyed.{Ascending, inserted, united}
 use Rattle.record_rows.specs.row.Row.{Row, constraintOf}
 use Rattle.record_rows.specs.ground.Ground.{Rows}

@@ -5,7 +5,7 @@ use record::Constraint;
 use record::Edit;
 use record::Field;
 ghost use mathlib.Core.Path.{_≡_};
-ghost use Prim.Native.Nat.{_<_, _≤_};
+ghost use Prim.Native.Nat.{_≤_};
 ghost use lib.ListN.{length, take};
 ghost use Rattle.lists.specs.Keyed.{precedes};
 ghost use Rattle.record_rows.specs.row.Row.{same, isName, bodyInRange, editInRange, isSide, constraintInRange, fieldOf, bodyOf, editOf, constraintOf, fieldNumber, editRow, constraintRow, editCells, constraintCells};

@@ -4,10 +4,9 @@ use mathlib.Core.Bool.{Bool}
 use mathlib.Core.List.{List, map}
 use Prim.Native.Nat.{ℕ}
 use native.Mathlib.Omega.{arith}
-use lib.ListN.{length, take, length-map}
+use lib.ListN.{take}
 use Rattle.record.specs.declared.Edit.{Edit}
 use Rattle.record.specs.declared.Constraint.{Constraint}
-use Rattle.record.specs.declared.Record as declared
 use Rattle.lists.specs.Keyed.{Ascending}
 use Rattle.lists.proofs.Union.{ascending-map}
 use Rattle.record_rows.specs.row.Row.{editRow, constraintRow, editOf, constraintOf}

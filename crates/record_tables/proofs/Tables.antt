@@ -3,18 +3,15 @@ use mathlib.Core.Path.{_≡_, refl, ap, sym, _∙_}
 use mathlib.Core.Bool.{true, false}
 use mathlib.Core.List.{List, [], _∷_, map}
 use Prim.Native.Nat.{ℕ, _-_}
-use borrow.Author.Tests.{eqb-true}
-use lib.Dec.{eqb}
 use lib.ListN.{length, replicate}
 use lib.Seq.{take-append-seam}
-use Rattle.lists.proofs.Lists.{by}
 use Rattle.record.specs.declared.Record as declared
 use Rattle.lists.specs.Lists.{all}
 use Rattle.record.specs.Record.{Record, written, nameOf}
 use Rattle.record.specs.Stored.{padded, recordOf, stored, emptyRecord, fillerEdit, fillerConstraint}
 use Rattle.lists.proofs.Logic.{all-by}
 use Rattle.record_rows.specs.row.Row.{Row, editInRange, editRow}
-use Rattle.record_rows.specs.ground.Ground.{Rows, tableFault, firstFault, _orelse_}
+use Rattle.record_rows.specs.ground.Ground.{Rows, tableFault, firstFault}
 use Rattle.record_rows.proofs.ground.Grounds.{orelse-first, orelse-second, orelse-zero}
 use Rattle.record_rows.proofs.ground.Accepted.{accepted-range}
 use Rattle.record_tables.specs.Table.{editKind, constraintKind, editRows, constraintRows, namesOf, emptyTables, joinFault, lentFault, addEditFault, addConstraintFault}

@@ -11,7 +11,7 @@ use record_rows::row::CONSTRAINT_CELLS;
 use record_rows::row::EDIT_CELLS;
 use record_rows::row::NAMES;
 ghost use mathlib.Core.Path.{_≡_};
-ghost use mathlib.Core.Bool.{true, false, not};
+ghost use mathlib.Core.Bool.{true, not};
 ghost use mathlib.Core.List.{List, [], map};
 ghost use Prim.Native.Nat.{ℕ, _<_, _≤_};
 ghost use lib.Dec.{eqb};

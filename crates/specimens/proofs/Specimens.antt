@@ -1,21 +1,21 @@
 -- The specimens' test is computed once, over the whole table, and one law turns it into facts. Assumes nothing.
-use mathlib.Core.Path.{_≡_, refl, sym, ap, _∙_}
-use mathlib.Core.Bool.{Bool, true, false, not, _&&_, cond}
-use mathlib.Core.Logic.{_↔_, inl, inr}
+use mathlib.Core.Path.{_≡_, refl, sym}
+use mathlib.Core.Bool.{Bool, true, false, not, _&&_}
+use mathlib.Core.Logic.{_↔_}
 use mathlib.Core.List.{List, [], _∷_}
 use Prim.Native.Nat.{ℕ}
 use lib.Dec.{eqb}
 use borrow.Author.Tests.{eqb-true, not-true}
 use Rattle.lists.specs.Lists.{any, all, filter, mem, indexOf, _among_, distinct, find, grown, closure, Has}
 use Rattle.record.specs.Record.{Record, names, written, is, has, WellFormed}
-use Rattle.record.specs.Sound.{Sound, SoundRecord, Must, Never, Settled}
+use Rattle.record.specs.Sound.{Sound}
 use Rattle.record.specs.Schedule.{needs, musts, ready, order, ring, barred, admit, admits, scheduled, schedule}
 use Rattle.record.specs.Judgement.{fits, soundRow, sound, must, never, ordered, serialised, settled, wellFormed}
 use Rattle.record_rows.specs.row.Row.{same, editRow, constraintRow}
 use Rattle.voting.specs.Bundle.{leads, members, between, bundle, eligible, vote}
 use Rattle.voting.specs.Tally.{sameEdit, sameConstraint, sameList, sameBundle, ballots, total, weigh, greatestOf, greatest, silent, won}
 use Rattle.pages_turner.specs.Turn.{landed, turned, turnedAnswer}
-use Rattle.lists.proofs.Lists.{by, clash, and-l, and-r, mem-filter, filter-mem}
+use Rattle.lists.proofs.Lists.{clash, and-l, and-r, mem-filter, filter-mem}
 use Rattle.lists.proofs.Logic.{all-has}
 use Rattle.record_rows.proofs.row.Compared.{same-eq}
 use Rattle.record.proofs.Records.{well-formed}

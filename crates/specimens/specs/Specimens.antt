@@ -7,9 +7,8 @@ use Prim.Native.Nat.{ℕ}
 use lib.Dec.{eqb}
 use lib.IntN.{ℤ, pos, negsuc}
 use Rattle.record.specs.declared.Body.the-variants.{Insert}
-use Rattle.record.specs.declared.Edit.{Edit}
 use Rattle.record.specs.declared.Constraint.{Constraint}
-use Rattle.lists.specs.Lists.{all, filter, mem, _among_, Has}
+use Rattle.lists.specs.Lists.{all, filter, _among_, Has}
 use Rattle.record_rows.specs.row.Row.{same}
 use Rattle.record.specs.Record.{Record, written}
 use Rattle.record.specs.Sound.{Sound, SoundRecord, Must, Never, Settled}
@@ -17,7 +16,6 @@ use Rattle.record.specs.Schedule.{schedule}
 use Rattle.record.specs.Judgement.{sound, must, never, settled, soundRow, wellFormed}
 use Rattle.voting.specs.declared.RollRow.{RollRow}
 use Rattle.voting.specs.Tally.{Ballot, ballots, total, greatest, silent, won}
-use Rattle.pages_turner.specs.declared.TurnAnswer.{TurnAnswer}
 use Rattle.pages_turner.specs.Turn.{turned, turnedAnswer}
 
 -- A record: its edits and constraints, what is hidden; what is expected: is it sound, those that can never stand, must stand and are settled,

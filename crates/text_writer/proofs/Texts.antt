@@ -1,5 +1,5 @@
 -- The text of a record by its stored tables, whatever their counts. Assumes nothing.
-use mathlib.Core.Path.{_≡_, ap, sym, _∙_}
+use mathlib.Core.Path.{_≡_, sym, _∙_}
 use mathlib.Core.Bool.{true, false}
 use mathlib.Core.List.{List, _++_, map, map-map}
 use Prim.Native.Nat.{ℕ, _+_, _-_, _≤_, _<_, min}

@@ -3,7 +3,7 @@ use mathlib.Core.Path.{_≡_, refl, ap, sym, _∙_}
 use mathlib.Core.Bool.{Bool, true, false, not, cond, and-true}
 use mathlib.Core.Logic.{_≢_}
 use mathlib.Core.List.{List, [], _∷_, _++_}
-use Prim.Native.Nat.{_+_, _*_, _/_, _<_}
+use Prim.Native.Nat.{_*_, _/_, _<_}
 use native.Mathlib.Omega.{arith}
 use native.Mathlib.Nat.{div-le-self}
 use borrow.Author.Tests.{ne-eqb, ltb-true, lt-ltb, lt-leb}

@@ -1,22 +1,20 @@
 -- Theorems on bundles: the closure computes the smallest set; the small record of a sound proposal is sound; eligible is its meaning. Assumes nothing.
-use mathlib.Core.Path.{_≡_, refl, sym, ap, _∙_}
-use mathlib.Core.Bool.{Bool, true, false, not, _&&_, _||_, cond, or-true}
-use mathlib.Core.Logic.{_↔_, _⊎_, inl, inr}
+use mathlib.Core.Path.{_≡_, refl, ap}
+use mathlib.Core.Bool.{Bool, true, false, not, _&&_, _||_, or-true}
+use mathlib.Core.Logic.{_↔_, inl, inr}
 use mathlib.Core.List.{List, [], _∷_, map}
-use mathlib.Core.Option.{Option, none, some}
 use Prim.Native.Nat.{ℕ}
 use lib.Dec.{eqb}
-use borrow.Author.Tests.{eqb-true, not-true, not-false}
+use borrow.Author.Tests.{not-true}
 use Rattle.record.specs.declared.Edit.{Edit}
-use Rattle.lists.specs.Lists.{all, filter, mem, _among_, _within_, closure}
+use Rattle.lists.specs.Lists.{filter, mem, _among_, _within_}
 use Rattle.record.specs.Record.{Record, nameOf, written, has, notafter, enables, noncommuting, WellFormed, Extends}
-use Rattle.record.specs.Sound.{Settled}
 use Rattle.record.specs.Judgement.{sound, settled}
-use Rattle.lists.proofs.Lists.{by, clash, and-l, and-r, and-i, or-by, or-l, or-r, mem-head, mem-tail, cons-by, nil-no, filter-mem, mem-filter, all-in, in-all, closure-holds, closure-least, closure-closed}
-use Rattle.record.proofs.Records.{filter-has, has-filter, pair-by, not-init, noncommuting-left}
+use Rattle.lists.proofs.Lists.{by, clash, and-l, and-r, or-by, mem-head, cons-by, nil-no, filter-mem, mem-filter, all-in, in-all, closure-holds, closure-least, closure-closed}
+use Rattle.record.proofs.Records.{filter-has, has-filter, not-init, noncommuting-left}
 use Rattle.record.proofs.Judged.{settled-is}
 use Rattle.record.proofs.Extended.{sound-extended}
-use Rattle.voting.specs.Bundle.{Member, itself, earlier, enabler, rival, leads, members, between, bundle, Eligible, eligible, vote}
+use Rattle.voting.specs.Bundle.{Member, itself, earlier, enabler, rival, leads, members, between, bundle, Eligible, eligible}
 
 -- the names of filtered edits
 pub filter-names : (p : ℕ → Bool) (l : List Edit) → map nameOf (filter (λ x. p (x .name)) l) ≡ filter p (map nameOf l)

@@ -1,21 +1,20 @@
 -- Theorems on elections. Assumes nothing.
 use mathlib.Core.Path.{_≡_, refl, sym, ap, _∙_}
-use mathlib.Core.Bool.{Bool, true, false, not, _&&_, _||_, cond}
-use mathlib.Core.Logic.{_↔_, _⊎_, inl, inr}
+use mathlib.Core.Bool.{Bool, true, false, cond}
+use mathlib.Core.Logic.{_↔_}
 use mathlib.Core.List.{List, [], _∷_, map}
 use mathlib.Core.Option.{Option, none, some}
-use Prim.Native.Nat.{ℕ, zero, suc, _+_, _*_, _≤_, _<_, max}
+use Prim.Native.Nat.{ℕ, _+_, _*_, _≤_, _<_, max}
 use native.Mathlib.Omega.{arith}
-use lib.Dec.{eqb, ltb}
-use borrow.Author.Tests.{eqb-true, eq-eqb, ltb-true, ltb-false, lt-ltb}
+use lib.Dec.{ltb}
+use borrow.Author.Tests.{ltb-true, ltb-false, lt-ltb}
 use Rattle.record.specs.declared.Field.{Field}
-use Rattle.record.specs.declared.Field.the-variants.{Id, Size, Erase, Page}
 use Rattle.record.specs.declared.Body.{Body}
 use Rattle.record.specs.declared.Body.the-variants.{Insert, Set, Remove}
 use Rattle.record.specs.declared.Edit.{Edit}
 use Rattle.record.specs.declared.Constraint.{Constraint}
 use Rattle.record.specs.Record.{Record}
-use Rattle.lists.proofs.Lists.{by, clash, and-l, and-r, and-i, le-by}
+use Rattle.lists.proofs.Lists.{by, clash, and-l, and-r, and-i}
 use Rattle.record_rows.proofs.row.Cells.{field-again}
 use Rattle.record_rows.specs.row.Row.{fieldOf, fieldNumber, bodyCells, editRow, constraintRow}
 use Rattle.record_rows.proofs.row.Compared.{same-eq, same-refl}

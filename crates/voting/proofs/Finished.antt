@@ -1,30 +1,30 @@
 -- Theorems on a finished proposal: its schedule is a sound row of it, every edit of it is settled, and finishing it again changes nothing. Assumes nothing.
-use mathlib.Core.Path.{_≡_, refl, sym, ap, subst, _∙_}
-use mathlib.Core.Bool.{Bool, true, false, not, _&&_, _||_, cond}
+use mathlib.Core.Path.{_≡_, refl, sym, subst, _∙_}
+use mathlib.Core.Bool.{true, false, not, _&&_, _||_, cond}
 use mathlib.Core.Logic.{_⊎_, inl, inr, ⊎-elim}
-use mathlib.Core.List.{List, [], _∷_, _++_, map, append-nil}
-use Prim.Native.Nat.{ℕ, zero, suc, _≤_, _<_, min, max}
+use mathlib.Core.List.{List, [], _∷_, append-nil}
+use Prim.Native.Nat.{ℕ, _<_, min, max}
 use native.Mathlib.Omega.{arith}
 use lib.Dec.{eqb, ltb}
-use borrow.Author.Tests.{eqb-true, eqb-false, eq-eqb, not-true, not-false, ltb-true, ltb-false}
+use borrow.Author.Tests.{eqb-true, eq-eqb, not-true, ltb-true, ltb-false}
 use Rattle.record.specs.declared.Constraint.{Constraint}
-use Rattle.lists.specs.Lists.{any, all, filter, mem, indexOf, _among_, _within_, Has}
-use Rattle.record.specs.Record.{Record, names, written, is, has, notafter, enables, noncommuting, WellFormed, Extends}
+use Rattle.lists.specs.Lists.{any, mem, indexOf, _among_, Has}
+use Rattle.record.specs.Record.{Record, names, written, is, has, notafter, noncommuting, WellFormed, Extends}
 use Rattle.record.specs.Sound.{Sound, Must, Never, Ordered, earlier, later, right-never, Serialised, Settled}
 use Rattle.record.specs.Schedule.{schedule}
 use Rattle.record.specs.Judgement.{sound, settled}
-use Rattle.lists.proofs.Lists.{by, clash, is-by, and-l, and-r, and-i, or-by, or-l, or-r, or-no-l, or-no-r, mem-head, mem-tail, cons-by, nil-no, mem-index}
-use Rattle.record.proofs.Records.{filter-has, has-filter, pair-by, written-names, noncommuting-right, right-written, init-known}
+use Rattle.lists.proofs.Lists.{by, clash, is-by, and-l, and-r, and-i, or-by, or-l, or-r, or-no-l, or-no-r, mem-head, mem-tail, cons-by, nil-no}
+use Rattle.record.proofs.Records.{pair-by, noncommuting-right, right-written}
 use Rattle.record.proofs.Records as records
 use Rattle.record.proofs.Order.{sound-init}
-use Rattle.record.proofs.Judged.{sound-is, must-is, never-is, settled-is}
-use Rattle.record.proofs.Scheduled.{schedule-sound, musts-scheduled, schedule-members}
+use Rattle.record.proofs.Judged.{sound-is, settled-is}
+use Rattle.record.proofs.Scheduled.{schedule-sound}
 use Rattle.lists.specs.Keyed.{Ascending}
 use Rattle.lists.proofs.Union.{ascending-united}
 use Rattle.lists.proofs.Logic.{filter-from, filter-into}
 use Rattle.record_tables.specs.Table.{constraintKey}
 use Rattle.voting.specs.Proposal.{joinedConstraints, before, unordered, decisions, orders, finished, Paired}
-use Rattle.voting.proofs.Joined.{con, has-in, in-has, has-append, has-with, written-with, extends-with, with-well-formed, with-part}
+use Rattle.voting.proofs.Joined.{con, has-in, in-has, has-append, has-with, written-with, extends-with, with-part}
 
 -- two names of a row at one place are one
 at-same : (a b : ℕ) (row : List ℕ) → a among row → b among row → indexOf a row ≡ indexOf b row → a ≡ b

@@ -1,19 +1,16 @@
 -- Laws of records that are joined: what the union and the added constraints hold. Assumes nothing.
-use mathlib.Core.Path.{_≡_, refl, sym, ap, _∙_}
-use mathlib.Core.Bool.{Bool, true, false, not, _&&_, _||_, cond}
+use mathlib.Core.Path.{_≡_, refl, sym, _∙_}
+use mathlib.Core.Bool.{true, _||_}
 use mathlib.Core.Logic.{_⊎_, inl, inr, ⊎-elim}
-use mathlib.Core.List.{List, [], _∷_, _++_, map}
-use Prim.Native.Nat.{ℕ, _<_}
-use native.Mathlib.Omega.{arith}
-use lib.Dec.{eqb}
-use borrow.Author.Tests.{eqb-true, eq-eqb}
+use mathlib.Core.List.{List, [], _∷_, _++_}
+use Prim.Native.Nat.{ℕ}
 use Rattle.record.specs.declared.Edit.{Edit}
 use Rattle.record.specs.declared.Constraint.{Constraint}
-use Rattle.lists.specs.Lists.{any, all, mem, _among_, Has}
-use Rattle.record.specs.Record.{Record, nameOf, written, is, has, WellFormed, Extends}
-use Rattle.lists.proofs.Lists.{by, clash, or-by, or-l, or-r, same-by, mem-head, mem-tail, cons-by, nil-no}
-use Rattle.record.proofs.Records.{constraint-by, is-self, has-head, has-tail}
-use Rattle.lists.specs.Keyed.{precedes, Ascending, united}
+use Rattle.lists.specs.Lists.{any, mem, _among_, Has}
+use Rattle.record.specs.Record.{Record, written, is, has, WellFormed, Extends}
+use Rattle.lists.proofs.Lists.{by, clash, or-by, or-l, or-r, same-by}
+use Rattle.record.proofs.Records.{constraint-by, has-head, has-tail}
+use Rattle.lists.specs.Keyed.{Ascending, united}
 use Rattle.lists.proofs.Order.{less-total}
 use Rattle.lists.proofs.Union.{Agree, united-has, united-old, united-new, united-comm, united-part}
 use Rattle.record_tables.specs.Table.{editKey, constraintKey, unite}

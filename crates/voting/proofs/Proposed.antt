@@ -1,17 +1,16 @@
 -- Theorems on proposals: an accepted one is sound, contains M and Q, settles every edit, and proposing again from it changes nothing; keeping is
 -- transitive. Assumes nothing.
-use mathlib.Core.Path.{_≡_, refl, sym, ap, subst, _∙_}
-use mathlib.Core.Bool.{Bool, true, false, not, _&&_, _||_, cond}
+use mathlib.Core.Path.{_≡_, refl, sym, ap, _∙_}
+use mathlib.Core.Bool.{Bool, true, false, not, _&&_, _||_}
 use mathlib.Core.Logic.{_↔_, _⊎_, inl, inr, ⊎-elim}
-use mathlib.Core.List.{List, [], _∷_, _++_}
-use Prim.Native.Nat.{ℕ, _<_}
+use mathlib.Core.List.{List, [], _∷_}
+use Prim.Native.Nat.{ℕ}
 use native.Mathlib.Omega.{arith}
-use Rattle.record.specs.declared.Edit.{Edit}
 use Rattle.record.specs.declared.Constraint.{Constraint}
-use Rattle.lists.specs.Lists.{all, mem, _among_, _within_, Has}
-use Rattle.record.specs.Record.{Record, written, has, notafter, WellFormed, Extends}
+use Rattle.lists.specs.Lists.{_among_, Has}
+use Rattle.record.specs.Record.{Record, written, has, WellFormed, Extends}
 use Rattle.record.specs.Judgement.{sound, settled}
-use Rattle.lists.proofs.Lists.{by, clash, and-l, and-r, and-i, or-by, or-l, or-r, all-in, in-all}
+use Rattle.lists.proofs.Lists.{by, and-l, and-r, and-i, or-by, all-in, in-all}
 use Rattle.record.proofs.Records.{right-written}
 use Rattle.lists.specs.Keyed.{Ascending, united}
 use Rattle.lists.proofs.Union.{ascending-united, agree-self}

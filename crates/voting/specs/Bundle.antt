@@ -6,7 +6,7 @@ use mathlib.Core.List.{List, [], _∷_}
 use mathlib.Core.Option.{Option, none, some}
 use Prim.Native.Nat.{ℕ}
 use lib.Dec.{eqb}
-use Rattle.lists.specs.Lists.{all, filter, mem, _among_, closure}
+use Rattle.lists.specs.Lists.{all, filter, mem, closure}
 use Rattle.record.specs.Record.{Record, written, notafter, enables, noncommuting}
 use Rattle.record.specs.Sound.{Settled}
 use Rattle.record.specs.Judgement.{settled}

@@ -1,9 +1,8 @@
 -- Document 01, "Proposals and votes": the election. Left out, as the document says: 000's win by plurality. Assumes nothing.
-use mathlib.Core.Path.{_≡_}
 use mathlib.Core.Bool.{Bool, true, false, _&&_, cond}
 use mathlib.Core.List.{List, [], _∷_, map}
 use mathlib.Core.Option.{Option, none, some}
-use Prim.Native.Nat.{ℕ, _+_, _*_, _<_, max}
+use Prim.Native.Nat.{ℕ, _+_, _*_, max}
 use lib.Dec.{ltb}
 use Rattle.record.specs.declared.Edit.{Edit}
 use Rattle.record.specs.declared.Constraint.{Constraint}

@@ -1,5 +1,5 @@
 -- Document 01, "Proposals and votes" and "What is turned away": how the parts of a bundle are stored, and the answer about an edit's bundle in a lent record. Assumes nothing.
-use mathlib.Core.Bool.{Bool, true, false, not, cond}
+use mathlib.Core.Bool.{false, not, cond}
 use mathlib.Core.List.{List}
 use Prim.Native.Nat.{ℕ}
 use lib.Dec.{eqb}

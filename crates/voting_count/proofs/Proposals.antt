@@ -9,7 +9,6 @@ use lib.ListN.{length, take, getD, length-map}
 use borrow.Author.Tests.{leb-true}
 use Rattle.record.specs.declared.Record as declared
 use Rattle.lists.specs.Lists.{any, all}
-use Rattle.record.specs.Record.{Record}
 use Rattle.record.specs.Stored.{stored}
 use Rattle.lists.proofs.Lists.{and-l, and-r}
 use Rattle.record_rows.specs.row.Row.{editOf, constraintOf}

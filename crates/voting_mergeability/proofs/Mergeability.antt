@@ -5,7 +5,7 @@ use mathlib.Core.Logic.{inl, inr}
 use mathlib.Core.List.{List, [], _∷_}
 use mathlib.Core.Option.{Option, none, some}
 use Prim.Native.Nat.{ℕ}
-use Rattle.lists.specs.Lists.{mem, _among_, find, Has}
+use Rattle.lists.specs.Lists.{mem, _among_, Has}
 use Rattle.record.specs.Record.{Record, written, has, WellFormed}
 use Rattle.record.specs.Judgement.{sound, settled}
 use Rattle.lists.proofs.Lists.{by, clash}

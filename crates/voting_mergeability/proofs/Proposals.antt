@@ -4,7 +4,7 @@ use mathlib.Core.Bool.{not}
 use borrow.Author.Tests.{eq-eqb, not-false}
 use Rattle.record.specs.Record.{Record}
 use Rattle.record.proofs.Judged.{sound-is}
-use Rattle.record_rows.specs.ground.Ground.{_given_, _orelse_}
+use Rattle.record_rows.specs.ground.Ground.{_given_}
 use Rattle.record_rows.proofs.ground.Grounds.{orelse-none, given-none}
 use Rattle.record_tables.specs.Table.{emptyTables, lentFault, unite}
 use Rattle.record_tables.specs.Checked.{Checked}

@@ -1,11 +1,10 @@
 -- Document 01, "Proposals and votes" and "What is turned away": the election on an edit over eight lent proposals and a roll. Assumes nothing.
-use mathlib.Core.Bool.{Bool, true, false, not, _&&_, _||_, cond}
-use mathlib.Core.List.{List, [], _∷_, map}
-use mathlib.Core.Option.{Option, none, some}
+use mathlib.Core.Bool.{false, not, cond}
+use mathlib.Core.List.{List, [], _∷_}
 use Prim.Native.Nat.{ℕ, _-_}
-use lib.Dec.{eqb, leb, ltb}
-use lib.ListN.{length, getD}
-use Rattle.lists.specs.Lists.{any, all, mem, distinct}
+use lib.Dec.{eqb}
+use lib.ListN.{getD}
+use Rattle.lists.specs.Lists.{any, all, mem}
 use Rattle.record.specs.Record.{Record, written}
 use Rattle.record.specs.Judgement.{sound}
 use Rattle.record_rows.specs.row.Row.{isName}
@@ -13,7 +12,7 @@ use Rattle.record_rows.specs.ground.Ground.{Rows, _given_, _orelse_}
 use Rattle.record_tables.specs.Table.{emptyTables, decoded, lentFault}
 use Rattle.voting.specs.declared.RollRow.{RollRow}
 use Rattle.voting.specs.declared.Election.{Election}
-use Rattle.voting.specs.Tally.{Ballot, ballots, winner}
+use Rattle.voting.specs.Tally.{Ballot, ballots}
 pub use Rattle.voting.specs.Tally.{counted}
 use Rattle.voting_roll.specs.Roll.{rollFaulty}
 

@@ -2,7 +2,7 @@
 use voting::RollRow;
 ghost use mathlib.Core.Path.{_≡_};
 ghost use mathlib.Core.List.{List, [], _∷_, _++_, map};
-ghost use Prim.Native.Nat.{ℕ, _≤_};
+ghost use Prim.Native.Nat.{_≤_};
 ghost use lib.ListN.{take};
 ghost use Rattle.voting.specs.declared.RollRow.{RollRow};
 ghost use Rattle.lists.specs.Lists.{mem};

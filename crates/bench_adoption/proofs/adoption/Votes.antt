@@ -17,7 +17,7 @@ use Rattle.record_joining.specs.declared.Joined.{Joined}
 use Rattle.record_joining.specs.Join as join
 use Rattle.voting.specs.declared.RollRow.{RollRow}
 use Rattle.voting.specs.declared.Election.{Election}
-use Rattle.voting.specs.Tally.{won, winner}
+use Rattle.voting.specs.Tally.{winner}
 use Rattle.voting.proofs.Elections.{winner-wins, open-is}
 use Rattle.voting_roll.specs.Election.{Proposals, electionFault, cast, counted, electionOf}
 use Rattle.ledger.specs.declared.Bench.{Bench}

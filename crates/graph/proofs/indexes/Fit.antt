@@ -1,22 +1,19 @@
 -- Checked tables are what a judgement asks for. Assumes nothing.
-use mathlib.Core.Path.{_≡_, refl, sym, ap, _∙_}
-use mathlib.Core.Bool.{Bool, true, false, not, _&&_, _||_}
-use mathlib.Core.Logic.{inl, inr}
-use mathlib.Core.List.{List, [], _∷_, map}
-use Prim.Native.Nat.{ℕ, _+_, _*_, _/_, _%_, _≤_, _<_}
+use mathlib.Core.Path.{_≡_, refl}
+use mathlib.Core.Bool.{Bool, true, false, not, _&&_}
+use mathlib.Core.List.{[], _∷_}
+use Prim.Native.Nat.{ℕ, _<_}
 use native.Mathlib.Omega.{arith}
-use lib.Dec.{eqb, ltb, leb}
-use lib.ListN.{length, getD}
-use borrow.Author.Tests.{eqb-true, eqb-false, ltb-true, ltb-false, leb-true, not-true}
+use lib.Dec.{eqb, ltb}
+use lib.ListN.{length}
+use borrow.Author.Tests.{eqb-false, ltb-true, ltb-false, not-true}
 use Rattle.record.specs.declared.Edit.{Edit}
-use Rattle.record.specs.declared.Constraint.{Constraint}
-use Rattle.lists.specs.Lists.{all, mem, _among_, Has}
-use Rattle.record.specs.Record.{Record, nameOf, written, names, has}
-use Rattle.lists.proofs.Lists.{by, clash, and-l, and-r, or-no-l, or-no-r, cons-by, is-by}
+use Rattle.record.specs.Record.{Record, written, names}
+use Rattle.lists.proofs.Lists.{and-l, and-r, or-no-l, or-no-r, cons-by}
 use Rattle.record.proofs.Records.{all-constraints}
 use Rattle.lists.proofs.Logic as logic
 use Rattle.record_rows.proofs.row.Cells.{name-small}
-use Rattle.record_rows.specs.row.Row.{cell, bodyCells, isName, isSide, editInRange, constraintInRange, editRow, constraintRow}
+use Rattle.record_rows.specs.row.Row.{bodyCells, isName, isSide, editInRange, constraintInRange, editRow, constraintRow}
 use Rattle.record_tables.specs.Table.{pairNotAllowed}
 use Rattle.record_tables.specs.Checked.{Checked}
 use Rattle.record_tables.proofs.Unions.{mem-by}

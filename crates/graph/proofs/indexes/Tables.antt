@@ -11,7 +11,7 @@ use borrow.Author.Tests.{eq-eqb, ne-eqb}
 use Rattle.record.specs.declared.Edit.{Edit}
 use Rattle.record.specs.declared.Constraint.{Constraint}
 use Rattle.record.specs.declared.Record as declared
-use Rattle.lists.specs.Lists.{mem, indexOf, _among_}
+use Rattle.lists.specs.Lists.{mem, indexOf}
 use Rattle.record.specs.Record.{Record, nameOf, written, names}
 use Rattle.record.specs.Stored.{padded, fillerEdit, fillerConstraint, stored}
 use Rattle.lists.proofs.Lists.{is-by, getD-mapped}

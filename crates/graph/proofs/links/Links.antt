@@ -12,7 +12,7 @@ use borrow.Author.Tests.{eqb-true, eqb-false, eq-eqb, ne-eqb}
 use Rattle.lists.proofs.Lists.{by, is-by, le-by}
 use Rattle.record.specs.Record.{Record, names}
 use Rattle.graph.specs.links.Marks.{nameAt}
-use Rattle.graph.specs.links.Links.{lastRow, headAt, linkAt, leftAt, withRow, Safe, FirstRow, NextRow, LeftEnd, LinkedByKey, NoRow, SomeRow, Leads}
+use Rattle.graph.specs.links.Links.{lastRow, headAt, linkAt, leftAt, withRow, Safe, FirstRow, NextRow, LinkedByKey, NoRow, SomeRow, Leads}
 use Rattle.graph.proofs.links.Names.{place-getD}
 use Rattle.graph.proofs.links.Marks.{zeros-get}
 

@@ -2,14 +2,14 @@
 use mathlib.Core.Path.{_≡_, refl, sym, ap, _∙_}
 use mathlib.Core.Bool.{true, false, not, cond, or-true}
 use mathlib.Core.List.{List, [], _∷_, _++_}
-use Prim.Native.Nat.{ℕ, zero, suc, _+_, _<_}
+use Prim.Native.Nat.{ℕ, zero, suc, _<_}
 use native.Mathlib.Omega.{arith}
 use lib.Dec.{eqb}
 use lib.ListN.{length, getD, take, drop, take-append-drop}
 use lib.Seq.{length-take-le}
 use borrow.Author.Tests.{eqb-true, eq-eqb, ne-eqb, not-true}
 use Rattle.lists.specs.Lists.{mem, indexOf, _among_, distinct, ascending}
-use Rattle.lists.proofs.Lists.{by, clash, is-by, and-l, and-r, mem-append, mem-index, index-append, index-left, ascending-tail, ascending-head, index-snoc}
+use Rattle.lists.proofs.Lists.{by, clash, and-l, and-r, mem-index, index-left, ascending-tail, ascending-head, index-snoc}
 use Rattle.graph.specs.links.Marks.{placeIn}
 
 -- what stands at a place is a member

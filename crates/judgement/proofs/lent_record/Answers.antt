@@ -1,21 +1,20 @@
 -- Laws of a lent record that is taken: one for each way in which an operation returns. Assumes nothing.
 use mathlib.Core.Path.{_≡_, refl, sym, ap, _∙_}
-use mathlib.Core.Bool.{Bool, true, false, not, cond}
+use mathlib.Core.Bool.{Bool, true, false}
 use mathlib.Core.List.{List, [], _∷_}
-use Prim.Native.Nat.{ℕ, zero, suc, _<_}
+use Prim.Native.Nat.{ℕ}
 use native.Mathlib.Omega.{arith}
 use lib.Dec.{eqb}
 use lib.ListN.{length, getD, replicate}
 use borrow.Author.Tests.{ne-eqb, eq-eqb}
 use Rattle.record.specs.declared.Record as declared
 use Rattle.record.specs.declared.Schedule.{Schedule}
-use Rattle.lists.specs.Lists.{filter, indexOf, mem, _among_}
+use Rattle.lists.specs.Lists.{filter, indexOf}
 use Rattle.record.specs.Record.{Record, names}
 use Rattle.record.specs.Stored.{stored}
 use Rattle.record.specs.Judgement.{sound, soundRow}
-use Rattle.lists.proofs.Lists.{by, clash}
 use Rattle.lists.proofs.Arrays.{getD-zeros}
-use Rattle.record_rows.specs.ground.Ground.{Rows, _given_, _orelse_}
+use Rattle.record_rows.specs.ground.Ground.{Rows}
 use Rattle.record_tables.specs.Table.{emptyTables, decoded, lentFault}
 use Rattle.record_tables.specs.Checked.{Checked}
 use Rattle.record_tables.proofs.Records.{lent-checked}
@@ -28,7 +27,7 @@ use Rattle.judgement.specs.Judged.{judgedOf, storedSchedule, markedEdits
 use Rattle.judgement.specs.declared.lent_record.Judgement.{Judgement}
 use Rattle.judgement.specs.declared.lent_record.RowAnswer.{RowAnswer}
 use Rattle.judgement.specs.declared.lent_record.ScheduleAnswer.{ScheduleAnswer}
-use Rattle.judgement.specs.lent_record.Lent.{recordFault, Taking, refusedJudgement, judgementIs, judgementOf, rowAnswerOf, emptySchedule, scheduleAnswerOf}
+use Rattle.judgement.specs.lent_record.Lent.{recordFault, Taking, refusedJudgement, judgementOf, rowAnswerOf, emptySchedule, scheduleAnswerOf}
 
 module _ (es cs : Rows) (j : Joined) (e : j ≡ joinedOf (lentFault emptyTables es cs) emptyTables (decoded es cs)) where
   pub lent-refused : (j .number ≡ 0 → ⊥) → (j .number ≡ recordFault es cs) × (j .number ≡ 0 → Taking es cs (j .after))

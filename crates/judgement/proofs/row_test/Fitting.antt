@@ -1,6 +1,6 @@
 -- The demands of the rules by seats, and the loop over the constraints. Assumes nothing.
 use mathlib.Core.Path.{_≡_, refl, sym, ap, _∙_}
-use mathlib.Core.Bool.{Bool, true, false, not, _&&_, _||_, and-false}
+use mathlib.Core.Bool.{Bool, true, false, not, _&&_, and-false}
 use mathlib.Core.List.{List, [], _∷_}
 use Prim.Native.Nat.{ℕ, zero, suc, _+_, _≤_, _<_}
 use native.Mathlib.Omega.{arith}
@@ -11,12 +11,11 @@ use lib.Seq.{drop-cons}
 use borrow.Author.Tests.{ltb-true, lt-ltb, eq-eqb, ne-eqb}
 use Rattle.record.specs.declared.Constraint.{Constraint}
 use Rattle.record.specs.declared.Record as declared
-use Rattle.lists.specs.Lists.{all, mem, indexOf, _among_}
+use Rattle.lists.specs.Lists.{all, mem, indexOf}
 use Rattle.record.specs.Record.{Record, names}
 use Rattle.record.specs.Stored.{stored}
 use Rattle.record.specs.Judgement.{fits, startsWithInit, soundRow}
-use Rattle.lists.proofs.Lists.{by, is-by, same-by}
-use Rattle.graph.specs.links.Marks.{placeIn}
+use Rattle.lists.proofs.Lists.{is-by, same-by}
 use Rattle.graph.proofs.links.Names.{place-known}
 use Rattle.graph.specs.indexes.Fit.{Fit}
 use Rattle.graph.proofs.indexes.Tables.{constraint-at}

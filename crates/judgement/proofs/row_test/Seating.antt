@@ -1,6 +1,6 @@
 -- The seats of a row: what the loop over the row keeps, and what a name that is unknown or repeated means. Assumes nothing.
 use mathlib.Core.Path.{_≡_, refl, sym, ap, _∙_}
-use mathlib.Core.Bool.{Bool, true, false, not, _&&_, cond, and-false}
+use mathlib.Core.Bool.{true, false, cond, and-false}
 use mathlib.Core.List.{List, [], _∷_, _++_}
 use Prim.Native.Nat.{ℕ, suc, _+_, _≤_, _<_}
 use native.Mathlib.Omega.{arith}
@@ -11,9 +11,9 @@ use lib.Seq.{getD-set-same, getD-set-other, take-suc, take-all, length-take-le}
 use borrow.Author.Tests.{eq-eqb, ne-eqb}
 use Rattle.lists.specs.Lists.{all, mem, indexOf, distinct, _among_}
 use Rattle.record.specs.Record.{Record, names}
-use Rattle.lists.proofs.Lists.{by, clash, is-by, mem-append, index-append, mem-index, snoc-by, all-in, in-all, distinct-snoc, index-snoc}
+use Rattle.lists.proofs.Lists.{by, clash, is-by, mem-index, snoc-by, all-in, in-all, distinct-snoc, index-snoc}
 use Rattle.record.proofs.Records.{init-known}
-use Rattle.graph.specs.links.Marks.{nameAt, placeIn}
+use Rattle.graph.specs.links.Marks.{nameAt}
 use Rattle.graph.proofs.links.Names.{getD-among, getD-place, place-getD, later-not, ascending-distinct, place-known, place-unknown}
 use Rattle.graph.proofs.links.Marks.{zeros-get}
 use Rattle.graph.specs.indexes.Fit.{Fit}

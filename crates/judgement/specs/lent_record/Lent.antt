@@ -1,6 +1,6 @@
 -- Document 01, "Sound, must, never, settled", "The bench schedule" and "What is turned away": what is answered of a lent record. Assumes nothing.
 use mathlib.Core.Path.{_≡_}
-use mathlib.Core.Bool.{Bool, true, false, not, cond}
+use mathlib.Core.Bool.{true, false, not, cond}
 use mathlib.Core.List.{List, []}
 use Prim.Native.Nat.{ℕ}
 use lib.Dec.{eqb}

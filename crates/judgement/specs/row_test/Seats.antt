@@ -1,9 +1,9 @@
 -- Inner: document 01, "A row of names is a sound schedule": the place of each edit in the row that is tested. Assumes nothing.
 use mathlib.Core.Path.{_≡_}
-use mathlib.Core.Bool.{Bool, true, _&&_, cond}
+use mathlib.Core.Bool.{Bool, _&&_, cond}
 use mathlib.Core.List.{List}
-use Prim.Native.Nat.{ℕ, suc, _<_}
-use lib.ListN.{length, getD}
+use Prim.Native.Nat.{ℕ, suc}
+use lib.ListN.{getD}
 use Rattle.lists.specs.Lists.{all, mem, indexOf, distinct, _among_}
 use Rattle.record.specs.Record.{Record, names}
 use Rattle.graph.specs.links.Marks.{placeIn}

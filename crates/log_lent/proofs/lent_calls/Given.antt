@@ -1,20 +1,19 @@
 -- Calls with what is lent, where it is kept. Assumes nothing.
-use mathlib.Core.Path.{_≡_, refl, sym, ap, _∙_}
-use mathlib.Core.Bool.{Bool, true, false, cond}
+use mathlib.Core.Path.{_≡_, refl}
+use mathlib.Core.Bool.{true, false}
 use mathlib.Core.List.{List, [], _∷_, map}
-use Prim.Native.Nat.{ℕ, _+_, _-_, _≤_, _<_}
+use Prim.Native.Nat.{ℕ, _-_, _≤_, _<_}
 use native.Mathlib.Omega.{arith}
 use lib.Dec.{ltb}
-use lib.ListN.{length, take, drop}
+use lib.ListN.{take}
 use borrow.Author.Tests.{lt-ltb, le-ltb}
 use Rattle.record.specs.Stored.{emptyRecord}
 use Rattle.record_rows.specs.ground.Ground.{Rows}
-use Rattle.voting.specs.declared.RollRow.{RollRow}
 use Rattle.voting.specs.declared.Election.{Election}
 use Rattle.voting_roll.specs.Election.{electionOf, benches}
 use Rattle.voting_count.specs.Count.{lentProposals}
 use Rattle.voting_bundles.specs.declared.BundleAnswer.{BundleAnswer}
-use Rattle.voting_bundles.specs.Bundles.{bundleAnswer, refusedBundle}
+use Rattle.voting_bundles.specs.Bundles.{bundleAnswer}
 use Rattle.judgement.specs.declared.lent_record.RowAnswer.{RowAnswer}
 use Rattle.judgement.specs.lent_record.Lent.{rowAnswerOf}
 use Rattle.ledger.specs.declared.Bench.{Bench}

@@ -1,8 +1,8 @@
 -- What two edits of a record suggest, found by their names. Assumes nothing.
-use mathlib.Core.Path.{_≡_, refl, sym, ap, _∙_}
-use mathlib.Core.Bool.{Bool, true, false, not, _&&_, _||_, cond, and-false}
-use mathlib.Core.List.{List, [], _∷_, _++_, map}
-use Prim.Native.Nat.{ℕ, suc, _+_, _-_, _≤_, _<_}
+use mathlib.Core.Path.{_≡_, refl, ap, _∙_}
+use mathlib.Core.Bool.{true, false}
+use mathlib.Core.List.{List, [], _∷_, map}
+use Prim.Native.Nat.{ℕ, _-_, _≤_, _<_}
 use native.Mathlib.Omega.{arith}
 use lib.Dec.{eqb, ltb}
 use lib.ListN.{length, getD, replicate, length-map, List·getD-append}
@@ -14,7 +14,6 @@ use Rattle.record.specs.Record.{Record, nameOf, written}
 use Rattle.record.specs.Stored.{stored, padded, fillerEdit, editNamed}
 use Rattle.lists.proofs.Lists.{by, mem-index}
 use Rattle.record_rows.specs.row.Row.{Row, isName, editRow}
-use Rattle.record_rows.specs.ground.Ground.{_given_, _orelse_}
 use Rattle.record_tables.specs.Checked.{Checked}
 use Rattle.suggestions.specs.declared.Suggested.{Suggested}
 use Rattle.suggestions.specs.Suggest.{suggested, noRow}

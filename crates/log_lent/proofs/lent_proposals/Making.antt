@@ -1,19 +1,17 @@
 -- The new proposal from what is lent, return by return. Assumes nothing.
 use mathlib.Core.Path.{_≡_, refl, sym, ap, _∙_}
-use mathlib.Core.Bool.{Bool, true, false, _&&_, cond, and-false}
-use mathlib.Core.List.{List, []}
+use mathlib.Core.Bool.{true, false, and-false}
+use mathlib.Core.List.{[]}
 use Prim.Native.Nat.{ℕ, _≤_, _<_}
 use native.Mathlib.Omega.{arith}
 use lib.Dec.{eqb, ltb}
-use lib.ListN.{length, replicate, length-replicate}
-use borrow.Author.Tests.{lt-ltb, le-ltb, eq-eqb, ne-eqb}
-use Rattle.record.specs.declared.Record as declared
+use lib.ListN.{length, length-replicate}
+use borrow.Author.Tests.{lt-ltb, le-ltb, ne-eqb}
 use Rattle.record.specs.Stored.{stored}
-use Rattle.record_rows.specs.ground.Ground.{Rows, _given_, _orelse_}
+use Rattle.record_rows.specs.ground.Ground.{Rows}
 use Rattle.record_rows.proofs.ground.Grounds.{orelse-first, orelse-second}
 use Rattle.record_tables.specs.Table.{emptyTables}
 use Rattle.record_joining.specs.declared.Joined.{Joined}
-use Rattle.record_joining.specs.Join.{joinedOf}
 use Rattle.voting_proposals.specs.Propose as proposal
 use Rattle.voting_proposals.specs.Propose.{proposeFault, newProposal, newOutcome, tooShort}
 use Rattle.voting_proposals.proofs.Answers.{fault, new, short, fault-is, number-is, none-new, new-held, editcount-is, constraintcount-is, proposal-accepted, given-new}

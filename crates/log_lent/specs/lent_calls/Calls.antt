@@ -1,6 +1,6 @@
 -- Calls whose records, roll and row are what the lines of a call log lend. Assumes nothing.
-use mathlib.Core.Bool.{Bool, false, not, _&&_, cond}
-use mathlib.Core.List.{List, map}
+use mathlib.Core.Bool.{false, not, _&&_, cond}
+use mathlib.Core.List.{map}
 use Prim.Native.Nat.{ℕ}
 use lib.Dec.{eqb, ltb}
 use Rattle.lists.specs.Lists.{mem}

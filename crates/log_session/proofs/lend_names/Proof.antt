@@ -1,6 +1,5 @@
 -- `lend_names` meets its contract. Assumes nothing.
 use mathlib.Core.Path.{refl}
-use lib.ListN.{set}
 use borrow.Author.Needs.{needs}
 use Rattle.log_session.specs.Lends.{lendSeat, lendNoRoll, lendName, lendNoRow}
 use Rattle.log_session.proofs.Cases.{lent-seat, lent-no-roll, lent-name, lent-no-row, last-kind}

@@ -1,13 +1,13 @@
 -- What a question prints, by its place among the questions. Assumes nothing.
-use mathlib.Core.Path.{_≡_, refl, sym, ap, _∙_}
-use mathlib.Core.List.{List, []}
+use mathlib.Core.Path.{_≡_, refl, ap}
+use mathlib.Core.List.{List}
 use Prim.Native.Nat.{ℕ, _≤_, _<_}
 use native.Mathlib.Omega.{arith}
 use Rattle.text_report.specs.Report.{reportOf}
 use Rattle.ledger.specs.declared.Bench.{Bench}
 use Rattle.log_forms.specs.Printed.{Printed}
 use Rattle.log_session.specs.Desk.{Desk, ledgerOf, benchIn}
-use Rattle.log_session.specs.questions.Questions.{questions, askText, textIn, hiddenIn, scheduleIn, catalogueIn, journalIn, pageIn, reportIn}
+use Rattle.log_session.specs.questions.Questions.{questions, askText, textIn, hiddenIn, scheduleIn, catalogueIn, journalIn, pageIn}
 
 module _ {before after : List ℕ} {at end : ℕ} (D : Desk) (which : ℕ) where
   asked : (n : ℕ) → which ≡ n → {text : List ℕ} → text ≡ askText n D → Printed text before at after end → Printed (askText which D) before at after end

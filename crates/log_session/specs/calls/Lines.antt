@@ -8,11 +8,11 @@ use Rattle.record_rows.specs.ground.Ground.{Rows}
 use Rattle.pages_turner.specs.declared.Turner.{Turner}
 use Rattle.ledger.specs.declared.Answer.{Answer}
 use Rattle.ledger.specs.declared.Bench.{Bench}
-use Rattle.ledger.specs.Ledger.{Ledger, last}
+use Rattle.ledger.specs.Ledger.{last}
 use Rattle.log_answers.specs.Answers.{answerLine, bit, answeredText}
 use Rattle.log_lent.specs.declared.Lending.{Lending}
 use Rattle.log_lent.specs.Kept.{Kept}
-use Rattle.log_session.specs.Desk.{Desk, Cells, Effect, benchIn, requested, printedOf}
+use Rattle.log_session.specs.Desk.{Desk, Cells, Effect, benchIn, requested}
 use Rattle.log_session.specs.Requests.{requestOf}
 
 -- what is in memory for a desk

@@ -1,12 +1,12 @@
 -- The questions of a call log, in the order of its forms. Assumes nothing.
-use mathlib.Core.List.{List, [], _∷_, _++_}
+use mathlib.Core.List.{List, [], _∷_}
 use Prim.Native.Nat.{ℕ}
 use lib.ListN.{getD, take}
 use Rattle.text_report.specs.Report.{reportOf}
 use Rattle.ledger.specs.declared.Bench.{Bench}
 use Rattle.log_answers.specs.Answers.{recordText}
 use Rattle.log_answers.specs.bench_answers.Asks.{hiddenText, scheduleText, catalogueText, journalText, pageText}
-use Rattle.log_session.specs.Desk.{Desk, Cells, Effect, ledgerOf, benchIn, tells, noEffect}
+use Rattle.log_session.specs.Desk.{Desk, Cells, Effect, ledgerOf, benchIn, tells}
 
 -- the counts of the record and its text
 abbrev pub textIn : Bench → List ℕ

@@ -16,7 +16,7 @@ use Rattle.record_rows.specs.row.Row.{Row, same}
 use Rattle.record_rows.specs.declared.ground.Step.{Step}
 use Rattle.record_rows.specs.ground.Ground.{Rows, TableKind, alike, known, noPlace, otherBody, misplaced, rowFault, firstFault, tableFault, _given_, _orelse_}
 use Rattle.record_rows.specs.ground.Walk.{stepped, stepAt, lateNumber, laterNumber, PlaceOf, lateFault, lateFurther}
-use Rattle.record_rows.proofs.ground.Grounds.{given-orelse, scan-here, scan-end, orelse-zero}
+use Rattle.record_rows.proofs.ground.Grounds.{given-orelse, scan-here, scan-end}
 use Rattle.record_rows.proofs.ground.Walks.{Walk, StepTold, told, walk-start, bounds}
 use Rattle.record_rows.proofs.ground.Lates.{table-length, table-at, late-number, walk-goes, walk-stops}
 

@@ -10,7 +10,7 @@ use borrow.Author.Tests.{eq-eqb, ne-eqb, ltb-true, ltb-false, lt-ltb, le-ltb}
 use lib.Dec.{eqb, ltb}
 use lib.ListN.{length, take, getD, set, length-map}
 use lib.Seq.{take-suc, take-suc-set}
-use Rattle.lists.proofs.Lists.{by, and-l, and-r, ascending-head, ascending-tail, has-among}
+use Rattle.lists.proofs.Lists.{by, ascending-head, ascending-tail, has-among}
 use Rattle.record.specs.declared.Edit.{Edit}
 use Rattle.record.specs.declared.Record as declared
 use Rattle.lists.specs.Lists.{indexOf, mem, ascending}

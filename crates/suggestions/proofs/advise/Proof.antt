@@ -1,5 +1,4 @@
 -- `advise` meets its contract. Assumes nothing.
-use Prim.Native.Nat.{_-_}
 use mathlib.Core.Bool.{true, false}
 use borrow.Author.Needs.{needs}
 use Rattle.suggestions.proofs.Advised.{one-name, other-place, advise-after, advise-concurrent}

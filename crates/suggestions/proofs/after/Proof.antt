@@ -1,5 +1,4 @@
 -- `after` meets its contract. Assumes nothing.
-use Prim.Native.Nat.{_-_}
 use Rattle.suggestions.proofs.Advised.{after-00, after-0, after-11, after-11-other, after-1, after-20, after-2}
 use Rattle.suggestions.proofs.after.Statement.{statement}
 use Rattle.suggestions.proofs.after.Tie as tie

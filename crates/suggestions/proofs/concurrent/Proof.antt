@@ -1,5 +1,4 @@
 -- `concurrent` meets its contract. Assumes nothing.
-use Prim.Native.Nat.{_-_}
 use mathlib.Core.Path.{refl}
 use Rattle.suggestions.specs.Suggest.{concurrentTable}
 use Rattle.suggestions.proofs.Advised.{beside, remove-kind}

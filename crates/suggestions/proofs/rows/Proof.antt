@@ -1,5 +1,4 @@
 -- `rows` meets its contract. Assumes nothing.
-use Prim.Native.Nat.{_-_}
 use borrow.Author.Needs.{needs}
 use Rattle.suggestions.proofs.Advised.{rows-nothing, rows-notafter, rows-enables, rows-noncommuting}
 use Rattle.suggestions.proofs.rows.Statement.{statement}

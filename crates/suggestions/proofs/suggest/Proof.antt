@@ -1,5 +1,4 @@
 -- `suggest` meets its contract. Assumes nothing.
-use Prim.Native.Nat.{_-_}
 use mathlib.Core.Path.{sym, _∙_}
 use borrow.Author.Needs.{needs}
 use Rattle.suggestions.proofs.Advised.{first-refused, second-refused, case-refused, suggestion-accepted}

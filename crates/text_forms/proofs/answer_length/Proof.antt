@@ -1,5 +1,4 @@
 -- `answer_length` meets its contract. Assumes nothing.
-use Prim.Native.Nat.{_-_}
 use mathlib.Core.Path.{sym}
 use Rattle.text_forms.proofs.Marks.{no-length, yes-length}
 use Rattle.text_forms.proofs.answer_length.Statement.{statement}

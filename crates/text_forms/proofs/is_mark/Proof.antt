@@ -1,5 +1,4 @@
 -- `is_mark` meets its contract. Assumes nothing.
-use Prim.Native.Nat.{_-_}
 use Rattle.text_forms.proofs.Marks.{mark-number, mark-name, mark-answer, mark-none, mark-above}
 use Rattle.text_forms.proofs.is_mark.Statement.{statement}
 use Rattle.text_forms.proofs.is_mark.Tie as tie

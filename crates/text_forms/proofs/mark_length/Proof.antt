@@ -1,5 +1,4 @@
 -- `mark_length` meets its contract. Assumes nothing.
-use Prim.Native.Nat.{_-_}
 use borrow.Author.Needs.{needs}
 use Rattle.text_forms.proofs.Marks.{length-as, spells-answers, spells-names, spells-numbers}
 use Rattle.text_forms.specs.Spelling.{numberSpelling}

@@ -1,5 +1,4 @@
 -- `name_length` meets its contract. Assumes nothing.
-use Prim.Native.Nat.{_-_}
 use borrow.Author.Needs.{needs}
 use Rattle.text_forms.specs.Spelling.{numberSpelling, nameSpelling}
 use Rattle.text_forms.proofs.name_length.Statement.{statement}

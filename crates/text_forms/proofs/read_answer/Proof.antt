@@ -1,5 +1,4 @@
 -- `read_answer` meets its contract. Assumes nothing.
-use Prim.Native.Nat.{_-_}
 use mathlib.Core.Path.{sym, _∙_}
 use borrow.Author.Needs.{needs}
 use Rattle.text_forms.proofs.Marks.{read-yes, read-no, read-neither}

@@ -1,8 +1,7 @@
 -- `read_mark` meets its contract. Assumes nothing.
-use Prim.Native.Nat.{_-_}
 use borrow.Author.Needs.{needs}
 use Rattle.text_forms.proofs.Marks.{numeral-as, spells-answers, spells-names, spells-numbers}
-use Rattle.text_forms.specs.Spelling.{bytes, numberSpelling}
+use Rattle.text_forms.specs.Spelling.{numberSpelling}
 use Rattle.text_forms.proofs.read_mark.Statement.{statement}
 use Rattle.text_forms.proofs.read_mark.Tie as tie
 

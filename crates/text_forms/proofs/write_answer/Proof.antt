@@ -1,5 +1,4 @@
 -- `write_answer` meets its contract. Assumes nothing.
-use Prim.Native.Nat.{_-_}
 use native.Mathlib.Omega.{arith}
 use Rattle.text_forms.proofs.Marks.{no-length, yes-length, no-written, yes-written}
 use lib.ListN.{length-set}

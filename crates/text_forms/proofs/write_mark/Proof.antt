@@ -1,5 +1,4 @@
 -- `write_mark` meets its contract. Assumes nothing.
-use Prim.Native.Nat.{_-_}
 use borrow.Author.Needs.{needs}
 use Rattle.text_forms.proofs.Marks.{fits-as, written-as, spells-answers, spells-names, spells-numbers}
 use Rattle.text_forms.specs.Spelling.{numberSpelling}

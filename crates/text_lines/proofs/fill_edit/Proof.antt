@@ -1,5 +1,5 @@
 -- `fill_edit` meets its contract. Assumes nothing.
-use Prim.Native.Nat.{ℕ, _-_}
+use Prim.Native.Nat.{ℕ}
 use mathlib.Core.Path.{ap}
 use borrow.Author.Needs.{needs}
 use Rattle.text_lines.proofs.Says.{filled-as, kind-rest}

@@ -1,5 +1,4 @@
 -- `fill_rule` meets its contract. Assumes nothing.
-use Prim.Native.Nat.{_-_}
 use mathlib.Core.Path.{ap}
 use borrow.Author.Needs.{needs}
 use Rattle.text_lines.proofs.Says.{filled-as, rule-rest}

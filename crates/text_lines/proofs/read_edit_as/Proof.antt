@@ -1,10 +1,8 @@
 -- `read_edit_as` meets its contract. Assumes nothing.
-use Prim.Native.Nat.{_-_}
 use mathlib.Core.Path.{_∙_}
 use borrow.Author.Needs.{needs}
 use Rattle.text_lines.proofs.Says.{not-said, edit-slots, first-large, second-large, third-large, edit-said}
 use Rattle.text_lines.specs.Line.{editShape}
-use Rattle.text_forms.specs.Spelling.{bytes}
 use borrow.Author.Tests.{not-true, not-false}
 use Rattle.text_lines.proofs.read_edit_as.Statement.{statement}
 use Rattle.text_lines.proofs.read_edit_as.Tie as tie

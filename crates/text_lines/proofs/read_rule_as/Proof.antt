@@ -1,11 +1,9 @@
 -- `read_rule_as` meets its contract. Assumes nothing.
-use Prim.Native.Nat.{_-_}
 use mathlib.Core.Path.{_∙_}
 use native.Mathlib.Omega.{arith}
 use borrow.Author.Needs.{needs}
 use Rattle.text_lines.proofs.Says.{not-said, rule-slots, first-large, second-large, rule-said}
 use Rattle.text_lines.specs.Line.{ruleShape}
-use Rattle.text_forms.specs.Spelling.{bytes}
 use borrow.Author.Tests.{not-true, not-false}
 use Rattle.text_lines.proofs.read_rule_as.Statement.{statement}
 use Rattle.text_lines.proofs.read_rule_as.Tie as tie

@@ -2,15 +2,15 @@
 use mathlib.Core.Path.{_≡_, refl, sym, ap, _∙_}
 use mathlib.Core.Bool.{Bool, true, false, and-false}
 use mathlib.Core.List.{List, [], _∷_, _++_}
-use Prim.Native.Nat.{ℕ, zero, suc, _+_, _-_, _≤_, _<_}
+use Prim.Native.Nat.{ℕ, zero, suc, _+_, _≤_, _<_}
 use native.Mathlib.Omega.{arith}
-use lib.ListN.{length, take, getD, replicate, length-append}
+use lib.ListN.{length, take, getD}
 use lib.Seq.{take-all, take-length}
 use Rattle.record.specs.declared.Edit.{Edit}
 use Rattle.record.specs.declared.Constraint.{Constraint}
 use Rattle.record.specs.declared.Record as declared
 use Rattle.record.specs.Record.{Record}
-use Rattle.record.specs.Stored.{padded, stored, fillerEdit, fillerConstraint}
+use Rattle.record.specs.Stored.{stored, fillerEdit, fillerConstraint}
 use Rattle.lists.proofs.Lists.{by, clash, and-l, and-r, and-i}
 use Rattle.record.proofs.Padded.{take-padded}
 use Rattle.record_rows.specs.row.Row.{same, editRow, constraintRow}

@@ -3,7 +3,7 @@ use mathlib.Core.Path.{_≡_, refl, sym, ap, _∙_}
 use mathlib.Core.Bool.{Bool, true, false, not, cond}
 use mathlib.Core.List.{List, [], _∷_, _++_, map, map-append}
 use mathlib.Core.Option.{Option, none, some}
-use Prim.Native.Nat.{ℕ, zero, suc, _+_, _-_, _≤_, _<_, max}
+use Prim.Native.Nat.{ℕ, _+_, _-_, _≤_, _<_, max}
 use native.Mathlib.Omega.{arith}
 use native.Mathlib.Numerals.{add-one}
 use lib.Dec.{ltb}
@@ -18,7 +18,7 @@ use Rattle.lists.proofs.Lists.{by, clash, and-l, and-r, or-no-l, or-no-r, getD-
 use Rattle.lists.proofs.Arrays.{getD-any}
 use Rattle.record.proofs.Padded.{length-padded, take-padded, padded-more, getD-padded, padded-past}
 use Rattle.voting.specs.declared.Election.{Election}
-use Rattle.voting.specs.Tally.{Ballot, sameBundle, total, weigh, isSilent, votesFor, group, greatestOf, greatest, silent, won, counted}
+use Rattle.voting.specs.Tally.{Ballot, sameBundle, total, weigh, isSilent, votesFor, greatestOf, greatest, silent, won, counted}
 use Rattle.voting.proofs.Elections.{same-bundle, same-is}
 use Rattle.voting_count.specs.declared.tally.Vote.the-variants.{Silent, Bundle}
 use Rattle.voting_count.specs.declared.tally.Cast.{Cast}

@@ -1,6 +1,6 @@
 -- Document 01, "Proposals and votes": what a tally holds after each vote, the election's answer and the groups of equal bundles so far. Assumes nothing.
 use mathlib.Core.Path.{_≡_}
-use mathlib.Core.Bool.{Bool, true, false, cond}
+use mathlib.Core.Bool.{true, false, cond}
 use mathlib.Core.List.{List, [], _∷_, _++_, map}
 use mathlib.Core.Option.{Option, none, some}
 use Prim.Native.Nat.{ℕ, suc, _*_, _≤_, _<_}
@@ -12,7 +12,6 @@ use Rattle.record.specs.Record.{Record}
 use Rattle.record.specs.Stored.{padded, emptyRecord, stored}
 use Rattle.voting.specs.declared.Election.{Election}
 use Rattle.voting.specs.Tally.{Ballot, sameBundle, weigh, votesFor, counted}
-use Rattle.voting_count.specs.declared.tally.Vote.{Vote}
 use Rattle.voting_count.specs.declared.tally.Vote.the-variants.{Silent, Bundle}
 use Rattle.voting_count.specs.declared.tally.Cast.{Cast}
 use Rattle.voting_count.specs.declared.tally.Group.{Group}

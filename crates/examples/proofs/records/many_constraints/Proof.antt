@@ -1,14 +1,9 @@
-use Prim.Native.Nat.{ℕ, zero, suc, _+_, _-_, _*_, _≤_, _<_}
-use mathlib.Core.Path.{_≡_, refl, ap, sym, _∙_}
-use mathlib.Core.List.{List, [], _∷_, _++_}
-use lib.ListN.{length, getD, take, drop, set}
-use native.Mathlib.Omega.{arith}
+use Prim.Native.Nat.{_-_, _≤_}
+use mathlib.Core.Path.{_≡_}
+use lib.ListN.{length}
 use borrow.Author.Needs.{needs}
 use Rattle.examples.proofs.records.many_constraints.Statement.{statement}
 use Rattle.examples.proofs.records.many_constraints.Tie as tie
-use Rattle.examples.proofs.records.many_constraints.Reads as reads
-use Rattle.examples.proofs.records.many_constraints.Lts as lts
-use Rattle.examples.proofs.records.next_pair.Reads as next-pair-reads
 
 abbrev Inv-loop : tie.InvT-loop
 Inv-loop constraints₀ row₀ i₀ constraints row i = (length constraints ≡ 513) × (length row ≡ 3) × (i ≤ 513)

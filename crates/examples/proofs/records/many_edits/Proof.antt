@@ -1,14 +1,9 @@
-use Prim.Native.Nat.{ℕ, zero, suc, _+_, _-_, _*_, _≤_, _<_}
-use mathlib.Core.Path.{_≡_, refl, ap, sym, _∙_}
-use mathlib.Core.List.{List, [], _∷_, _++_}
-use lib.ListN.{length, getD, take, drop, set}
-use native.Mathlib.Omega.{arith}
+use Prim.Native.Nat.{_-_, _≤_}
+use mathlib.Core.Path.{_≡_}
+use lib.ListN.{length}
 use borrow.Author.Needs.{needs}
 use Rattle.examples.proofs.records.many_edits.Statement.{statement}
 use Rattle.examples.proofs.records.many_edits.Tie as tie
-use Rattle.examples.proofs.records.many_edits.Reads as reads
-use Rattle.examples.proofs.records.many_edits.Lts as lts
-use Rattle.examples.proofs.records.edit_at.Reads as edit-at-reads
 
 abbrev Inv-loop : tie.InvT-loop
 Inv-loop edits₀ i₀ edits i = (length edits ≡ 128) × (i ≤ 128)

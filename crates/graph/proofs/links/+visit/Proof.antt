@@ -1,5 +1,5 @@
 -- `links::visit` meets its contract. Assumes nothing.
-use Prim.Native.Nat.{ℕ, _+_, _-_, _≤_, _<_}
+use Prim.Native.Nat.{ℕ, _-_, _≤_, _<_}
 use mathlib.Core.Path.{_≡_, _∙_}
 use lib.ListN.{length, set, length-set}
 use native.Mathlib.Omega.{arith}

@@ -1,6 +1,4 @@
 -- `links::first_row` meets its contract. Assumes nothing.
-use mathlib.Core.Bool.{Bool}
-use mathlib.Core.List.{List}
 use native.Mathlib.Omega.{arith}
 use Rattle.graph.specs.links.Links.{headAt}
 use borrow.Author.Needs.{needs}

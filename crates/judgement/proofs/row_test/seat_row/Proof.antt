@@ -9,7 +9,6 @@ use Rattle.judgement.specs.row_test.Seats.{Indexed}
 use Rattle.judgement.proofs.row_test.Seating.{Seating, seating-start, unknown-not, repeated-not, seating-step, seating-end, row-index-unknown, row-index-known}
 use Rattle.graph.specs.indexes.Fit.{Fit}
 use Rattle.record.specs.Record.{Record}
-use Rattle.lists.specs.Lists.{indexOf}
 use Rattle.lists.proofs.Lists.{clash}
 use Rattle.judgement.proofs.row_test.seat_row.Tie as tie
 

@@ -8,7 +8,7 @@ use native.Mathlib.Omega.{arith}
 use borrow.Author.Needs.{needs}
 use Rattle.judgement_marks.specs.schedules.Rows.{RowIs}
 use Rattle.judgement_marks.proofs.schedules.Paging.{Paging, paging-start, paging-step, paging-end, back, zero-left}
-use Rattle.lists.specs.Lists.{indexOf, distinct}
+use Rattle.lists.specs.Lists.{distinct}
 use Rattle.record.specs.Record.{Record, names}
 use Rattle.judgement_marks.proofs.schedules.page_values.Statement.{statement}
 use Rattle.judgement_marks.proofs.schedules.page_values.Tie as tie

@@ -1,5 +1,4 @@
 -- `decimal::numeral_size` meets its contract. Assumes nothing.
-use Prim.Native.Nat.{_-_}
 use mathlib.Core.Path.{_∙_}
 use native.Mathlib.Omega.{arith}
 use Rattle.text_forms.proofs.decimal.Laws.{length-few, length-zero, length-more, run-short}

@@ -1,5 +1,4 @@
 -- `decimal::read_number` meets its contract. Assumes nothing.
-use Prim.Native.Nat.{_-_}
 use Rattle.text_forms.proofs.decimal.Laws.{numeral-is}
 use borrow.Author.Needs.{needs}
 use Rattle.text_forms.proofs.decimal.read_number.Statement.{statement}

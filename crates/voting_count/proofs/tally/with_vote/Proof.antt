@@ -1,7 +1,6 @@
 -- `tally::with_vote` meets its contract. Assumes nothing.
 use mathlib.Core.Path.{_≡_}
 use mathlib.Core.List.{[], _∷_, _++_}
-use Prim.Native.Nat.{_+_}
 use borrow.Author.Needs.{needs}
 use Rattle.voting_count.specs.tally.Groups.{tallyOf}
 use Rattle.voting_count.proofs.tally.Steps.{silent-by, bundle-by}
