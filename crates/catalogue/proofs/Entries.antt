@@ -13,13 +13,14 @@ use Rattle.record.specs.declared.Body.{Body}
 use Rattle.record.specs.declared.Body.the-variants.{Insert, Set}
 use Rattle.record.specs.declared.Edit.{Edit}
 use Rattle.record.specs.Stored.{padded}
+use Rattle.record_rows.specs.row.Row.{fieldNumber}
 use Rattle.pages.specs.Pages.{touched, runEdit, run, kept, emptyCatalogue, viewOf}
 use Rattle.catalogue.specs.declared.Entry.{Entry}
-use Rattle.catalogue.specs.Entries.{placeOf, cellOf, absentEntry, runBody}
+use Rattle.catalogue.specs.Entries.{placeOf, absentEntry, runBody}
 use Rattle.catalogue.specs.Chips as chips-specs
 use Rattle.catalogue.specs.Chips.{shelf, cells, places, rows, emptyView}
 
-pub cell-within : (field : Field) → cellOf field < cells
+pub cell-within : (field : Field) → fieldNumber field < cells
 cell-within Id = omega arith
 cell-within Size = omega arith
 cell-within Erase = omega arith
@@ -30,7 +31,7 @@ module _ (n : ℕ) (body : Body) (entry : Entry) where
       → record { present = true; cells = made .cells } ≡ runBody n body entry
   ran-insert place made b p m = rw (b, p, m)
 
-  pub ran-set : (place : ℕ) (field : Field) (value i : ℕ) → body ≡ Set place field value → entry .present ≡ true → i ≡ cellOf field
+  pub ran-set : (place : ℕ) (field : Field) (value i : ℕ) → body ≡ Set place field value → entry .present ≡ true → i ≡ fieldNumber field
       → record { present = entry .present; cells = set (entry .cells) i (record { filled = true; value = value }) } ≡ runBody n body entry
   ran-set place field value i b p e = rw (b, p, e)
 

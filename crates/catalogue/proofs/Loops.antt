@@ -5,11 +5,11 @@ use Prim.Native.Nat.{ℕ, _+_, _-_, _<_, _≤_, min}
 use native.Mathlib.Omega.{arith}
 use lib.ListN.{length, getD, set, drop, length-set}
 use lib.Seq.{slice, set-out}
-use Rattle.lists.proofs.Arrays.{getD-any}
+use Rattle.lists.proofs.Arrays.{getD-any, take-least}
 use Rattle.record.specs.declared.Edit.{Edit}
 use Rattle.pages.specs.Pages.{View}
 use Rattle.pages.specs.Steps.{stepForward, stepBack, forward, back}
-use Rattle.pages.proofs.Turns.{take-least, forward-more, back-more, forward-end, back-end}
+use Rattle.pages.proofs.Turns.{forward-more, back-more, forward-end, back-end}
 use Rattle.catalogue.specs.declared.Entry.{Entry}
 use Rattle.catalogue.specs.Entries.{placeOf, absentEntry, runBody}
 use Rattle.catalogue.specs.Chips.{shelf}

@@ -4,7 +4,8 @@ use Prim.Native.Nat.{ℕ}
 use lib.ListN.{length}
 use Rattle.record.specs.declared.Edit.{Edit}
 use Rattle.record.specs.declared.Schedule.{Schedule}
-use Rattle.record.specs.Stored.{padded, fillerEdit}
+use Rattle.record.specs.Stored.{padded, fillerEdit, editLimit}
+use Rattle.record_rows.specs.row.Row.{placeLimit}
 use Rattle.pages.specs.Pages as pages
 use Rattle.catalogue.specs.declared.Entry.{Entry}
 use Rattle.catalogue.specs.declared.View.{View}
@@ -18,10 +19,10 @@ abbrev pub cells : ℕ
 cells = 4
 
 abbrev pub places : ℕ
-places = 64
+places = placeLimit
 
 abbrev pub rows : ℕ
-rows = 127
+rows = editLimit
 
 abbrev pub chips : pages.Shelf
 chips = shelf cells

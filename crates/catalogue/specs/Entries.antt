@@ -2,10 +2,9 @@
 use mathlib.Core.Bool.{true, false, cond}
 use Prim.Native.Nat.{ℕ}
 use lib.ListN.{set, replicate}
-use Rattle.record.specs.declared.Field.{Field}
-use Rattle.record.specs.declared.Field.the-variants.{Id, Size, Erase, Page}
 use Rattle.record.specs.declared.Body.{Body}
 use Rattle.record.specs.declared.Body.the-variants.{Insert, Set, Remove}
+use Rattle.record_rows.specs.row.Row.{fieldNumber}
 use Rattle.catalogue.specs.declared.Cell.{Cell}
 use Rattle.catalogue.specs.declared.Entry.{Entry}
 
@@ -14,12 +13,6 @@ placeOf (Insert place) = place
 placeOf (Set place field value) = place
 placeOf (Remove place) = place
 
-abbrev pub cellOf : Field → ℕ
-cellOf Id = 0
-cellOf Size = 1
-cellOf Erase = 2
-cellOf Page = 3
-
 abbrev pub blank : Cell
 blank = record { filled = false; value = 0 }
 
@@ -27,9 +20,9 @@ blank = record { filled = false; value = 0 }
 abbrev pub absentEntry : ℕ → Entry
 absentEntry n = record { present = false; cells = replicate n blank }
 
--- Insert makes an absent entry present, all blank. Set fills one cell of a present entry. Remove makes it absent. Otherwise nothing changes.
+-- Insert makes an absent entry present, all blank. Set fills the cell of a field of a present entry. Remove makes it absent. Otherwise nothing changes.
 abbrev pub runBody : ℕ → Body → Entry → Entry
 runBody n (Insert place) entry = cond (entry .present) entry (record { present = true; cells = replicate n blank })
 runBody n (Set place field value) entry =
-    cond (entry .present) (record { present = true; cells = set (entry .cells) (cellOf field) (record { filled = true; value = value }) }) entry
+    cond (entry .present) (record { present = true; cells = set (entry .cells) (fieldNumber field) (record { filled = true; value = value }) }) entry
 runBody n (Remove place) entry = absentEntry n

@@ -1,15 +1,15 @@
 // Entries, the journal and pages of the chip catalogue (document 01, "Entries and pages").
 use record::Body;
+use record::EDITS;
 use record::Edit;
-use record::Field;
 use record::Schedule;
+use record_rows::row;
 ghost use mathlib.Core.Path.{_≡_};
-ghost use Prim.Native.Nat.{min};
 ghost use lib.ListN.{take};
 ghost use lib.Seq.{slice};
 ghost use Rattle.pages.specs.Pages.{runEdit};
 ghost use Rattle.pages.specs.Steps.{back, forward, turn};
-ghost use Rattle.catalogue.specs.Entries.{absentEntry, cellOf, placeOf, runBody};
+ghost use Rattle.catalogue.specs.Entries.{absentEntry, placeOf, runBody};
 ghost use Rattle.catalogue.specs.Chips.{cells, chips, contentOf, emptyView, storedView};
 ghost use Rattle.catalogue.specs.Changes.{ViewChanges, ViewTurns, changed, common};
 
@@ -18,7 +18,7 @@ pub const CELLS: usize = 4;
 
 pub const PLACES: usize = 64;
 
-pub const PAGES: usize = 127;
+pub const PAGES: usize = EDITS;
 
 // A blank cell is not filled and has the value 0.
 pub struct Cell {
@@ -45,12 +45,6 @@ pub struct View {
     pub journal: Journal,
 }
 
-fn least(a: usize, b: usize) -> usize
-    ensures { λ r. ⌜ r ≡ min a b ⌝ }
-{
-    if a < b { a } else { b }
-}
-
 // The place of the entry that an edit touches. Pub for the crate of questions.
 pub fn place_of(body: Body) -> u8
     ensures { λ r. ⌜ r ≡ placeOf body ⌝ }
@@ -59,17 +53,6 @@ pub fn place_of(body: Body) -> u8
         Body::Insert(place) => place,
         Body::Set(place, _, _) => place,
         Body::Remove(place) => place,
-    }
-}
-
-fn cell_of(field: Field) -> usize
-    ensures { λ r. ⌜ r ≡ cellOf field ⌝ }
-{
-    match field {
-        Field::Id => 0,
-        Field::Size => 1,
-        Field::Erase => 2,
-        Field::Page => 3,
     }
 }
 
@@ -102,7 +85,7 @@ fn run_entry(entry: Entry, body: Body) -> Entry
         Body::Set(_, field, value) => {
             if entry.present {
                 let mut filled = entry;
-                let cell = cell_of(field);
+                let cell = numbers::index32(row::field_number(field));
                 let made = Cell {
                     filled: true,
                     value,
@@ -153,7 +136,7 @@ pub fn empty_view() -> View
 fn forward_to(view: View, schedule: Schedule, from: usize, to: usize) -> View
     ensures { λ r. ⌜ r ≡ storedView (forward chips from (slice from to (schedule .edits)) (contentOf view)) ⌝ }
 {
-    let end = least(to, PAGES);
+    let end = numbers::lesser(to, PAGES);
     let mut catalogue = view.catalogue;
     let mut journal = view.journal;
     let mut page = from;
@@ -182,7 +165,7 @@ fn back_to(view: View, schedule: Schedule, from: usize, to: usize) -> View
 {
     let mut catalogue = view.catalogue;
     let mut journal = view.journal;
-    let mut page = least(from, PAGES);
+    let mut page = numbers::lesser(from, PAGES);
     while to < page {
         page -= 1;
         let edit = schedule.edits[page];
@@ -214,7 +197,7 @@ pub fn turn_to(view: View, schedule: Schedule, opened: usize, page: usize) -> Vi
 fn common_beginning(old: Schedule, opened: usize, new: Schedule) -> usize
     ensures { λ r. ⌜ r ≡ common (take opened (old .edits)) (take (new .count) (new .edits)) ⌝ }
 {
-    let end = least(least(opened, new.count), PAGES);
+    let end = numbers::lesser(numbers::lesser(opened, new.count), PAGES);
     let mut same: usize = 0;
     while same < end {
         let before = old.edits[same].name;

@@ -8,8 +8,8 @@ ghost use lib.ListN.{length, getD, take};
 ghost use Rattle.lists.specs.Lists.{mem, _among_, _within_, closure};
 ghost use Rattle.record.specs.Record.{Record, names, notafter};
 ghost use Rattle.record.specs.Schedule.{ring};
-ghost use Rattle.graph.specs.links.Marks.{nameAt, marksOf};
-ghost use Rattle.graph.specs.links.Links.{leftAt, withRow, Safe, FirstRow, NextRow, LeftEnd, LinkedByKey, NoRow, SomeRow, Leads};
+ghost use Rattle.graph.specs.links.Marks.{markLimit, nameAt, marksOf};
+ghost use Rattle.graph.specs.links.Links.{notafterBase, noncommutingBase, keyLimit, rowLimit, rowsLength, leftAt, withRow, Safe, FirstRow, NextRow, LeftEnd, LinkedByKey, NoRow, SomeRow, Leads};
 ghost use Rattle.graph.specs.links.Reach.{Marked};
 ghost use Rattle.graph.specs.links.Reversed.{Noting, Reversed};
 ghost use Rattle.graph.specs.links.Search.{Visited, VisitedNew};
@@ -17,8 +17,12 @@ ghost use Rattle.graph.specs.links.Search.{Visited, VisitedNew};
 // Marks of the edits of a record, one to each index.
 pub const MARKS: usize = 128;
 
-// Linked rows in one array: the head of each of 384 keys, then the link and then the left end of each row.
+// Linked rows in one array: the head of each key, then the link and then the left end of each row. The specs of `links` have the same numbers.
 pub const ROWS: usize = 2432;
+
+pub type Marks = [u8; MARKS];
+
+pub type Rows = [u16; ROWS];
 
 const ROW_LIMIT: usize = 1024;
 
@@ -33,45 +37,33 @@ pub const ENABLES: usize = 128;
 
 pub const NONCOMMUTING: usize = 256;
 
-pub fn wide8(x: u8) -> usize
-    ensures { λ r. ⌜ r ≡ x ⌝ }
-{
-    x as usize
-}
-
-pub fn wide16(x: u16) -> usize
-    ensures { λ r. ⌜ r ≡ x ⌝ }
-{
-    x as usize
-}
-
 // The first row of a key, counted from 1; 0 where there is none. Pub for all that walk along the rows of a key.
-pub fn first_row(rows: &[u16; ROWS], key: usize) -> usize
-    requires { ⌜ Safe (now rows) × (key < 384) ⌝ }
+pub fn first_row(rows: &Rows, key: usize) -> usize
+    requires { ⌜ Safe (now rows) × (key < keyLimit) ⌝ }
     ensures { λ r. ⌜ FirstRow (now (rows .entry)) key r ⌝ }
 {
-    wide16(rows[key])
+    numbers::index16(rows[key])
 }
 
 // The row after row j of the same key; 0 where j is the last.
-pub fn next_row(rows: &[u16; ROWS], j: usize) -> usize
-    requires { ⌜ Safe (now rows) × (0 < j) × (j ≤ 1024) ⌝ }
+pub fn next_row(rows: &Rows, j: usize) -> usize
+    requires { ⌜ Safe (now rows) × (0 < j) × (j ≤ rowLimit) ⌝ }
     ensures { λ r. ⌜ NextRow (now (rows .entry)) j r ⌝ }
 {
-    wide16(rows[LINKS_START + (j - 1)])
+    numbers::index16(rows[LINKS_START + (j - 1)])
 }
 
 // The left end of row j, an index.
-pub fn row_left(rows: &[u16; ROWS], j: usize) -> usize
-    requires { ⌜ Safe (now rows) × (0 < j) × (j ≤ 1024) ⌝ }
+pub fn row_left(rows: &Rows, j: usize) -> usize
+    requires { ⌜ Safe (now rows) × (0 < j) × (j ≤ rowLimit) ⌝ }
     ensures { λ r. ⌜ LeftEnd (now (rows .entry)) j r ⌝ }
 {
-    wide16(rows[LEFTS_START + (j - 1)])
+    numbers::index16(rows[LEFTS_START + (j - 1)])
 }
 
-// Links row j, counted from 0, before all others of its key. Pub for `indexes` and `voting_bundles::members`, which make the array.
-pub fn link_row(rows: &mut [u16; ROWS], j: usize, key: usize, left: usize)
-    requires { ⌜ (length (now rows) ≡ 2432) × (j < 1024) × (key < 384) × (left < 128) ⌝ }
+// Links row j, counted from 0, before all others of its key. Pub for `indexes` and `voting_members`, which make the array.
+pub fn link_row(rows: &mut Rows, j: usize, key: usize, left: usize)
+    requires { ⌜ (length (now rows) ≡ rowsLength) × (j < rowLimit) × (key < keyLimit) × (left < markLimit) ⌝ }
     ensures { λ _. ⌜ now (rows .exit) ≡ withRow (now (rows .entry)) j key left ⌝ }
 {
     rows[LINKS_START + j] = rows[key];
@@ -80,8 +72,8 @@ pub fn link_row(rows: &mut [u16; ROWS], j: usize, key: usize, left: usize)
 }
 
 // Marks x and all that leads to it. Recursion, since a row of work still to do would need an invariant of its own.
-fn mark(base: usize, rows: &[u16; ROWS], marks: &mut [u8; MARKS], x: usize)
-    requires { ⌜ Safe (now rows) × (base ≤ 256) × (x < 128) × (length (now marks) ≡ 128) ⌝ }
+fn mark(base: usize, rows: &Rows, marks: &mut Marks, x: usize)
+    requires { ⌜ Safe (now rows) × (base ≤ noncommutingBase) × (x < markLimit) × (length (now marks) ≡ markLimit) ⌝ }
     ensures { λ _. ⌜ Marked base (now (rows .entry)) (now (marks .entry)) x (now (marks .exit)) ⌝ }
 {
     if marks[x] == 1 {
@@ -95,10 +87,10 @@ fn mark(base: usize, rows: &[u16; ROWS], marks: &mut [u8; MARKS], x: usize)
     }
 }
 
-// The marks of a closed set, with x and all that leads to it. Pub for `judgement_marks`, `voting_bundles::members` and `judgement_marks::schedules`, whose rows are safe.
-pub fn closed(base: usize, rows: &[u16; ROWS], marks: [u8; MARKS], x: usize) -> [u8; MARKS]
-    requires { ⌜ Safe (now rows) × (base ≤ 256) × (x < 128) × (length marks ≡ 128) ⌝ }
-    ensures { λ r. ⌜ (length r ≡ 128) × ((leads : ℕ → ℕ → Bool) (R : Record) (known s : List ℕ) → Leads leads R base (now (rows .entry))
+// The marks of a closed set, with x and all that leads to it. Pub for `judgement_marks`, `voting_members` and `judgement_marks::schedules`, whose rows are safe.
+pub fn closed(base: usize, rows: &Rows, marks: Marks, x: usize) -> Marks
+    requires { ⌜ Safe (now rows) × (base ≤ noncommutingBase) × (x < markLimit) × (length marks ≡ markLimit) ⌝ }
+    ensures { λ r. ⌜ (length r ≡ markLimit) × ((leads : ℕ → ℕ → Bool) (R : Record) (known s : List ℕ) → Leads leads R base (now (rows .entry))
         → ((a b : ℕ) → leads a b ≡ true → a among known) → ((a b : ℕ) → leads a b ≡ true → b among s → a among s)
         → x < length (names R) → s within names R → marks ≡ marksOf R (λ y. mem y s)
         → r ≡ marksOf R (λ y. mem y (closure leads known (nameAt R x ∷ s)))) ⌝ }
@@ -108,9 +100,9 @@ pub fn closed(base: usize, rows: &[u16; ROWS], marks: [u8; MARKS], x: usize) -> 
     w
 }
 
-// Whether a row leads from a to b. Pub for `judgement_marks`, `voting_bundles::members` and `voting_drafts::pairs`, whose rows are safe.
-pub fn leads_to(base: usize, rows: &[u16; ROWS], a: usize, b: usize) -> bool
-    requires { ⌜ Safe (now rows) × (base ≤ 256) × (b < 128) ⌝ }
+// Whether a row leads from a to b. Pub for `judgement_marks`, `voting_members` and `voting_drafts::pairs`, whose rows are safe.
+pub fn leads_to(base: usize, rows: &Rows, a: usize, b: usize) -> bool
+    requires { ⌜ Safe (now rows) × (base ≤ noncommutingBase) × (b < markLimit) ⌝ }
     ensures { λ r. ⌜ ((leads : ℕ → ℕ → Bool) (R : Record) → Leads leads R base (now (rows .entry))
         → a < length (names R) → b < length (names R) → r ≡ leads (nameAt R a) (nameAt R b)) ⌝ }
 {
@@ -125,8 +117,8 @@ pub fn leads_to(base: usize, rows: &[u16; ROWS], a: usize, b: usize) -> bool
 }
 
 // Places x after all that come before it in the set; true where a ring is met on the way.
-fn visit(rows: &[u16; ROWS], states: &mut [u8; MARKS], x: usize) -> bool
-    requires { ⌜ Safe (now rows) × (x < 128) × (length (now states) ≡ 128) ⌝ }
+fn visit(rows: &Rows, states: &mut Marks, x: usize) -> bool
+    requires { ⌜ Safe (now rows) × (x < markLimit) × (length (now states) ≡ markLimit) ⌝ }
     ensures { λ r. ⌜ Visited (now (rows .entry)) (now (states .entry)) x r (now (states .exit)) ⌝ }
 {
     let v = states[x];
@@ -149,8 +141,8 @@ fn visit(rows: &[u16; ROWS], states: &mut [u8; MARKS], x: usize) -> bool
 }
 
 // The same where x is new; an old one stays as it is.
-fn visit_new(rows: &[u16; ROWS], old: &[u8; MARKS], states: &mut [u8; MARKS], x: usize) -> bool
-    requires { ⌜ Safe (now rows) × (x < 128) × (length (now states) ≡ 128) ⌝ }
+fn visit_new(rows: &Rows, old: &Marks, states: &mut Marks, x: usize) -> bool
+    requires { ⌜ Safe (now rows) × (x < markLimit) × (length (now states) ≡ markLimit) ⌝ }
     ensures { λ r. ⌜ VisitedNew (now (rows .entry)) (now (old .entry)) (now (states .entry)) x r (now (states .exit)) ⌝ }
 {
     if old[x] == 1 {
@@ -161,9 +153,9 @@ fn visit_new(rows: &[u16; ROWS], old: &[u8; MARKS], states: &mut [u8; MARKS], x:
 
 // Whether the marked set holds a ring of notafter, where the old set holds none: a ring then has one that is new, and the search starts from these.
 // Pub for `judgement_marks`, whose rows are safe.
-pub fn has_new_ring(n: usize, rows: &[u16; ROWS], old: &[u8; MARKS], marks: [u8; MARKS]) -> bool
-    requires { ⌜ Safe (now rows) × (n ≤ 128) × (length marks ≡ 128) ⌝ }
-    ensures { λ r. ⌜ ((R : Record) (u t : List ℕ) → Leads (notafter R) R 0 (now (rows .entry))
+pub fn has_new_ring(n: usize, rows: &Rows, old: &Marks, marks: Marks) -> bool
+    requires { ⌜ Safe (now rows) × (n ≤ markLimit) × (length marks ≡ markLimit) ⌝ }
+    ensures { λ r. ⌜ ((R : Record) (u t : List ℕ) → Leads (notafter R) R notafterBase (now (rows .entry))
         → n ≡ length (names R) → t within names R → now (old .entry) ≡ marksOf R (λ y. mem y u) → ring R u ≡ false → marks ≡ marksOf R (λ y. mem y t) → r ≡ ring R t) ⌝ }
 {
     let mut states = marks;
@@ -178,9 +170,9 @@ pub fn has_new_ring(n: usize, rows: &[u16; ROWS], old: &[u8; MARKS], marks: [u8;
 }
 
 // Whether the marked set holds a ring of notafter. Pub for `judgement`, `judgement_marks` and `judgement_marks::schedules`, whose rows are safe.
-pub fn has_ring(n: usize, rows: &[u16; ROWS], marks: [u8; MARKS]) -> bool
-    requires { ⌜ Safe (now rows) × (n ≤ 128) × (length marks ≡ 128) ⌝ }
-    ensures { λ r. ⌜ ((R : Record) (t : List ℕ) → Leads (notafter R) R 0 (now (rows .entry))
+pub fn has_ring(n: usize, rows: &Rows, marks: Marks) -> bool
+    requires { ⌜ Safe (now rows) × (n ≤ markLimit) × (length marks ≡ markLimit) ⌝ }
+    ensures { λ r. ⌜ ((R : Record) (t : List ℕ) → Leads (notafter R) R notafterBase (now (rows .entry))
         → n ≡ length (names R) → t within names R → marks ≡ marksOf R (λ y. mem y t) → r ≡ ring R t) ⌝ }
 {
     let none = [0u8; MARKS];
@@ -188,9 +180,9 @@ pub fn has_ring(n: usize, rows: &[u16; ROWS], marks: [u8; MARKS]) -> bool
 }
 
 // All of n edits. Pub for `judgement_marks` and `judgement_marks::schedules`, which count edits of a record.
-pub fn all_marks(n: usize) -> [u8; MARKS]
-    requires { ⌜ n ≤ 128 ⌝ }
-    ensures { λ r. ⌜ (length r ≡ 128) × ((R : Record) → n ≡ length (names R) → r ≡ marksOf R (λ y. mem y (names R))) ⌝ }
+pub fn all_marks(n: usize) -> Marks
+    requires { ⌜ n ≤ markLimit ⌝ }
+    ensures { λ r. ⌜ (length r ≡ markLimit) × ((R : Record) → n ≡ length (names R) → r ≡ marksOf R (λ y. mem y (names R))) ⌝ }
 {
     let mut marks = [0u8; MARKS];
     let mut count: usize = 0;
@@ -202,8 +194,8 @@ pub fn all_marks(n: usize) -> [u8; MARKS]
 }
 
 // Whether some row of the key has a left with this mark. Pub for `judgement_marks` and `judgement_marks::schedules`, whose rows are safe.
-pub fn any_row(rows: &[u16; ROWS], key: usize, marks: &[u8; MARKS], mark: u8) -> bool
-    requires { ⌜ Safe (now rows) × (key < 384) ⌝ }
+pub fn any_row(rows: &Rows, key: usize, marks: &Marks, mark: u8) -> bool
+    requires { ⌜ Safe (now rows) × (key < keyLimit) ⌝ }
     ensures { λ r. ⌜ (r ≡ true → SomeRow (now (rows .entry)) key (λ y. getD (now (marks .entry)) y 0 ≡ mark))
         × (r ≡ false → NoRow (now (rows .entry)) key (λ y. getD (now (marks .entry)) y 0 ≡ mark)) ⌝ }
 {
@@ -218,13 +210,8 @@ pub fn any_row(rows: &[u16; ROWS], key: usize, marks: &[u8; MARKS], mark: u8) ->
 }
 
 // Notes the left and the right edit of each row of notafter to the edit at b.
-fn reverse_rows(
-    rows: &[u16; ROWS],
-    lefts: &mut [u8; ROW_LIMIT],
-    rights: &mut [u8; ROW_LIMIT],
-    b: usize,
-)
-    requires { ⌜ Safe (now rows) × (b < 128) × (length (now lefts) ≡ 1024) × (length (now rights) ≡ 1024) ⌝ }
+fn reverse_rows(rows: &Rows, lefts: &mut [u8; ROW_LIMIT], rights: &mut [u8; ROW_LIMIT], b: usize)
+    requires { ⌜ Safe (now rows) × (b < markLimit) × (length (now lefts) ≡ rowLimit) × (length (now rights) ≡ rowLimit) ⌝ }
     ensures { λ _. ⌜ Noting (now (rows .entry)) b (now (lefts .entry)) (now (rights .entry)) (now (lefts .exit)) (now (rights .exit)) ⌝ }
 {
     let mut j = first_row(rows, b);
@@ -236,14 +223,19 @@ fn reverse_rows(
 }
 
 // The first rows of these keys and left ends.
-fn linked_rows(count: usize, keys: [u8; ROW_LIMIT], lefts: [u8; ROW_LIMIT]) -> [u16; ROWS]
-    requires { ⌜ (count ≤ 1024) × (length keys ≡ 1024) × (length lefts ≡ 1024) × ((i : ℕ) → getD keys i 0 < 384) × ((i : ℕ) → getD lefts i 0 < 128) ⌝ }
+fn linked_rows(count: usize, keys: [u8; ROW_LIMIT], lefts: [u8; ROW_LIMIT]) -> Rows
+    requires { ⌜ (count ≤ rowLimit) × (length keys ≡ rowLimit) × (length lefts ≡ rowLimit) × ((i : ℕ) → getD keys i 0 < keyLimit) × ((i : ℕ) → getD lefts i 0 < markLimit) ⌝ }
     ensures { λ r. ⌜ Safe r × LinkedByKey (take count keys) r × ((i : ℕ) → i < count → leftAt r i ≡ getD lefts i 0) ⌝ }
 {
     let mut rows = [0u16; ROWS];
     let mut j: usize = 0;
     while j < count {
-        link_row(&mut rows, j, wide8(keys[j]), wide8(lefts[j]));
+        link_row(
+            &mut rows,
+            j,
+            numbers::index8(keys[j]),
+            numbers::index8(lefts[j]),
+        );
         j += 1;
     }
     rows
@@ -257,9 +249,9 @@ fn greater(a: usize, b: usize) -> usize
 
 // The reversed graph of notafter: rows by their left edits, with the right ones. A row that is none has the key 255, which is no edit's. Pub for `judgement_marks`
 // and `judgement_marks::schedules`, whose rows are safe.
-pub fn reversed(n: usize, rows: &[u16; ROWS]) -> [u16; ROWS]
-    requires { ⌜ Safe (now rows) × (n ≤ 128) ⌝ }
-    ensures { λ r. ⌜ Safe r × ((R : Record) → Leads (notafter R) R 0 (now (rows .entry)) → n ≡ length (names R) → Reversed R r) ⌝ }
+pub fn reversed(n: usize, rows: &Rows) -> Rows
+    requires { ⌜ Safe (now rows) × (n ≤ markLimit) ⌝ }
+    ensures { λ r. ⌜ Safe r × ((R : Record) → Leads (notafter R) R notafterBase (now (rows .entry)) → n ≡ length (names R) → Reversed R r) ⌝ }
 {
     let mut lefts = [255u8; ROW_LIMIT];
     let mut rights = [0u8; ROW_LIMIT];

@@ -7,7 +7,7 @@ use Rattle.record.specs.declared.Edit.{Edit}
 use Rattle.record.specs.declared.Schedule.{Schedule}
 use Rattle.lists.specs.Lists.{filter, indexOf}
 use Rattle.record.specs.Record.{Record, names}
-use Rattle.record.specs.Stored.{padded, fillerEdit, editNamed}
+use Rattle.record.specs.Stored.{padded, fillerEdit, editLimit, editNamed}
 use Rattle.record.specs.Schedule.{schedule}
 use Rattle.record.specs.Judgement.{must, never, settled}
 use Rattle.graph.specs.links.Marks.{valuesOf, marksOf, placeIn}
@@ -23,7 +23,7 @@ scheduledEdits R hidden = map (editNamed (R .edits)) (drop 1 (schedule R hidden)
 
 -- the bench schedule as it is stored
 unfoldable pub storedSchedule : Record → List ℕ → Schedule
-storedSchedule R hidden = record { edits = padded 127 fillerEdit (scheduledEdits R hidden); count = length (scheduledEdits R hidden) }
+storedSchedule R hidden = record { edits = padded editLimit fillerEdit (scheduledEdits R hidden); count = length (scheduledEdits R hidden) }
 
 -- must, never and settled of each edit, and its page with nothing hidden (0: not in it)
 unfoldable pub judgedOf : Record → Judged

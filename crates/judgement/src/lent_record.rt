@@ -1,10 +1,14 @@
 // Operations on a lent record (document 01, "Sound, must, never, settled" and "The bench schedule"): its judgement, and its schedule. Each refuses
 // with the ground of the first faulty row, or with 8 where the record is not sound.
 use crate::row_test;
+use graph::links::MARKS;
 use record::Body;
+use record::EDITS;
 use record::Edit;
 use record::Record;
 use record::Schedule;
+use record_rows::row::CONSTRAINT_CELLS;
+use record_rows::row::EDIT_CELLS;
 ghost use mathlib.Core.Path.{_≡_};
 ghost use Rattle.judgement.specs.lent_record.Lent.{recordFault, Taking, refusedJudgement, judgementOf, rowAnswerOf, emptySchedule, scheduleAnswerOf};
 
@@ -12,10 +16,10 @@ ghost use Rattle.judgement.specs.lent_record.Lent.{recordFault, Taking, 
 pub struct Judgement {
     pub number: u32,
     pub count: usize,
-    pub must: [u8; 128],
-    pub never: [u8; 128],
-    pub settled: [u8; 128],
-    pub place: [u8; 128],
+    pub must: [u8; MARKS],
+    pub never: [u8; MARKS],
+    pub settled: [u8; MARKS],
+    pub place: [u8; MARKS],
 }
 
 // Whether the row is a sound schedule. Refused: no.
@@ -35,7 +39,7 @@ pub struct Taken {
     pub multilog: Record,
 }
 
-fn take_record(edits: &[[u32; 5]], constraints: &[[u32; 3]]) -> Taken
+fn take_record(edits: &[[u32; EDIT_CELLS]], constraints: &[[u32; CONSTRAINT_CELLS]]) -> Taken
     ensures { λ r. ⌜ (r .number ≡ recordFault (now (edits .entry)) (now (constraints .entry)))
         × (r .number ≡ 0 → Taking (now (edits .entry)) (now (constraints .entry)) (r .multilog)) ⌝ }
 {
@@ -66,15 +70,15 @@ fn refused(number: u32) -> Judgement
     Judgement {
         number: number,
         count: 0,
-        must: [0u8; 128],
-        never: [0u8; 128],
-        settled: [0u8; 128],
-        place: [0u8; 128],
+        must: [0u8; MARKS],
+        never: [0u8; MARKS],
+        settled: [0u8; MARKS],
+        place: [0u8; MARKS],
     }
 }
 
 // Must, never, settled and page of each edit of a lent record.
-pub fn judge_lent(edits: &[[u32; 5]], constraints: &[[u32; 3]]) -> Judgement
+pub fn judge_lent(edits: &[[u32; EDIT_CELLS]], constraints: &[[u32; CONSTRAINT_CELLS]]) -> Judgement
     ensures { λ r. ⌜ r ≡ judgementOf (now (edits .entry)) (now (constraints .entry)) ⌝ }
 {
     let taken = take_record(edits, constraints);
@@ -107,13 +111,16 @@ fn empty_schedule() -> Schedule
         body: Body::Insert(0),
     };
     Schedule {
-        edits: [edit; 127],
+        edits: [edit; EDITS],
         count: 0,
     }
 }
 
 // The bench schedule of a lent record, with nothing hidden.
-pub fn schedule_lent(edits: &[[u32; 5]], constraints: &[[u32; 3]]) -> ScheduleAnswer
+pub fn schedule_lent(
+    edits: &[[u32; EDIT_CELLS]],
+    constraints: &[[u32; CONSTRAINT_CELLS]],
+) -> ScheduleAnswer
     ensures { λ r. ⌜ r ≡ scheduleAnswerOf (now (edits .entry)) (now (constraints .entry)) ⌝ }
 {
     let taken = take_record(edits, constraints);
@@ -125,7 +132,7 @@ pub fn schedule_lent(edits: &[[u32; 5]], constraints: &[[u32; 3]]) -> ScheduleAn
         };
     }
     let multilog = taken.multilog;
-    let hidden = [0u8; 128];
+    let hidden = [0u8; MARKS];
     ScheduleAnswer {
         number: 0,
         schedule: crate::schedule(multilog, hidden),
@@ -133,7 +140,11 @@ pub fn schedule_lent(edits: &[[u32; 5]], constraints: &[[u32; 3]]) -> ScheduleAn
 }
 
 // The test of any row of numbers against a lent record.
-pub fn test_row(edits: &[[u32; 5]], constraints: &[[u32; 3]], row: &[u32]) -> RowAnswer
+pub fn test_row(
+    edits: &[[u32; EDIT_CELLS]],
+    constraints: &[[u32; CONSTRAINT_CELLS]],
+    row: &[u32],
+) -> RowAnswer
     ensures { λ r. ⌜ r ≡ rowAnswerOf (now (edits .entry)) (now (constraints .entry)) (now (row .entry)) ⌝ }
 {
     let taken = take_record(edits, constraints);

@@ -6,8 +6,10 @@ pub mod row_test;
 use graph::indexes;
 use graph::links;
 use graph::links::MARKS;
+use graph::links::Marks;
 use judgement_marks::schedules;
 use record::Body;
+use record::EDITS;
 use record::Edit;
 use record::Record;
 use record::Schedule;
@@ -20,17 +22,17 @@ ghost use Rattle.lists.specs.Lists.{mem};
 ghost use Rattle.record.specs.Stored.{stored, fillerEdit};
 ghost use Rattle.record.specs.Schedule as theory_schedule;
 ghost use Rattle.record.specs.Judgement as judgement;
-ghost use Rattle.graph.specs.links.Marks.{nameAt, marksOf};
+ghost use Rattle.graph.specs.links.Marks.{markLimit, nameAt, marksOf};
 ghost use Rattle.judgement_marks.specs.schedules.Rows.{RowIs};
 ghost use Rattle.graph.specs.indexes.Fit.{Fit};
 ghost use Rattle.judgement.specs.Judged.{markedEdits, storedSchedule, judgedOf};
 
 // Marks by index, 0 for INIT and i for the i-th edit; the page of each edit with nothing hidden, 0 where it is not in the schedule.
 pub struct Judged {
-    pub must: [u8; MARKS],
-    pub never: [u8; MARKS],
-    pub settled: [u8; MARKS],
-    pub place: [u8; MARKS],
+    pub must: Marks,
+    pub never: Marks,
+    pub settled: Marks,
+    pub place: Marks,
 }
 
 // Whether the record has a sound schedule.
@@ -44,7 +46,7 @@ pub fn sound(multilog: Record) -> bool
 }
 
 // The edits that must stand.
-pub fn musts(multilog: Record) -> [u8; MARKS]
+pub fn musts(multilog: Record) -> Marks
     ensures { λ r. ⌜ ((R : theory.Record) → multilog ≡ stored R → Fit R → r ≡ marksOf R (judgement.must R)) ⌝ }
 {
     let rows = indexes::resolved(multilog);
@@ -52,7 +54,7 @@ pub fn musts(multilog: Record) -> [u8; MARKS]
 }
 
 // The edits that can never stand.
-pub fn nevers(multilog: Record) -> [u8; MARKS]
+pub fn nevers(multilog: Record) -> Marks
     ensures { λ r. ⌜ ((R : theory.Record) → multilog ≡ stored R → Fit R → r ≡ marksOf R (judgement.never R)) ⌝ }
 {
     let n = indexes::name_count(multilog);
@@ -62,7 +64,7 @@ pub fn nevers(multilog: Record) -> [u8; MARKS]
 }
 
 // The edits that are settled.
-pub fn settleds(multilog: Record) -> [u8; MARKS]
+pub fn settleds(multilog: Record) -> Marks
     ensures { λ r. ⌜ ((R : theory.Record) → multilog ≡ stored R → Fit R → r ≡ marksOf R (judgement.settled R)) ⌝ }
 {
     let n = indexes::name_count(multilog);
@@ -73,7 +75,7 @@ pub fn settleds(multilog: Record) -> [u8; MARKS]
 }
 
 // The needs of the edit at an index; past the edits those of INIT.
-pub fn needs(multilog: Record, index: usize) -> [u8; MARKS]
+pub fn needs(multilog: Record, index: usize) -> Marks
     ensures { λ r. ⌜ ((R : theory.Record) → multilog ≡ stored R → Fit R → r ≡ marksOf R (λ y. mem y (theory_schedule.needs R (0 ∷ nameAt R index ∷ [])))) ⌝ }
 {
     let n = indexes::name_count(multilog);
@@ -96,14 +98,14 @@ fn filler() -> Edit
 
 // A row of indexes as edits, without INIT, which comes first in every schedule.
 fn edits_of(multilog: Record, row: schedules::Row) -> Schedule
-    requires { ⌜ (length (row .indexes) ≡ 128) × (row .count ≤ 128) × ((q : ℕ) → getD (row .indexes) q 0 < 128) ⌝ }
+    requires { ⌜ (length (row .indexes) ≡ markLimit) × (row .count ≤ markLimit) × ((q : ℕ) → getD (row .indexes) q 0 < markLimit) ⌝ }
     ensures { λ r. ⌜ ((R : theory.Record) (hidden : List ℕ) → multilog ≡ stored R → Fit R → RowIs R row (theory_schedule.schedule R hidden) → r ≡ storedSchedule R hidden) ⌝ }
 {
     let edit = filler();
-    let mut edits = [edit; 127];
+    let mut edits = [edit; EDITS];
     let mut q: usize = 1;
     while q < row.count {
-        let index = links::wide8(row.indexes[q]);
+        let index = numbers::index8(row.indexes[q]);
         if index == 0 {
             return Schedule {
                 edits: edits,
@@ -121,7 +123,7 @@ fn edits_of(multilog: Record, row: schedules::Row) -> Schedule
 }
 
 // The bench schedule with these edits hidden.
-pub fn schedule(multilog: Record, hidden: [u8; MARKS]) -> Schedule
+pub fn schedule(multilog: Record, hidden: Marks) -> Schedule
     ensures { λ r. ⌜ ((R : theory.Record) → multilog ≡ stored R → Fit R → r ≡ storedSchedule R (markedEdits R hidden)) ⌝ }
 {
     let n = indexes::name_count(multilog);
@@ -134,12 +136,12 @@ pub fn schedule(multilog: Record, hidden: [u8; MARKS]) -> Schedule
 // Whether a record is sound, the edits that must stand, and its bench schedule.
 pub struct Planned {
     pub sound: bool,
-    pub must: [u8; MARKS],
+    pub must: Marks,
     pub schedule: Schedule,
 }
 
 // All from the same linked rows, for a record that is about to be a bench's.
-pub fn plan(multilog: Record, hidden: [u8; MARKS]) -> Planned
+pub fn plan(multilog: Record, hidden: Marks) -> Planned
     ensures { λ r. ⌜ ((R : theory.Record) → multilog ≡ stored R → Fit R
         → (r .sound ≡ judgement.sound R) × (r .must ≡ marksOf R (judgement.must R)) × (r .schedule ≡ storedSchedule R (markedEdits R hidden))) ⌝ }
 {

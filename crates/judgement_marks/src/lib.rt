@@ -4,9 +4,10 @@ pub mod schedules;
 use graph::links;
 use graph::links::ENABLES;
 use graph::links::MARKS;
+use graph::links::Marks;
 use graph::links::NONCOMMUTING;
 use graph::links::NOTAFTER;
-use graph::links::ROWS;
+use graph::links::Rows;
 ghost use mathlib.Core.Path.{_≡_};
 ghost use mathlib.Core.Bool.{true, false, cond, not, _&&_, _||_};
 ghost use mathlib.Core.List.{List, [], _∷_};
@@ -17,25 +18,25 @@ ghost use Rattle.lists.specs.Lists.{mem, _among_, _within_};
 ghost use Rattle.record.specs.Record.{Record, names, enables};
 ghost use Rattle.record.specs.Schedule.{needs, musts, ring};
 ghost use Rattle.record.specs.Judgement.{must, never, ordered, serialised, settled};
-ghost use Rattle.graph.specs.links.Marks.{nameAt, marksOf};
+ghost use Rattle.graph.specs.links.Marks.{markLimit, nameAt, marksOf};
 ghost use Rattle.graph.specs.links.Links.{Safe};
 ghost use Rattle.graph.specs.links.Reversed.{Reversed};
 ghost use Rattle.graph.specs.links.Resolved.{Resolved};
 ghost use Rattle.judgement_marks.specs.Opened.{Opened};
 
-// The edits that must stand. Pub for `judgement` and `voting_drafts::decisions`, whose rows are safe.
-pub fn must_marks(rows: &[u16; ROWS]) -> [u8; MARKS]
+// The edits that must stand. Pub for `judgement` and `voting_decisions`, whose rows are safe.
+pub fn must_marks(rows: &Rows) -> Marks
     requires { ⌜ Safe (now rows) ⌝ }
-    ensures { λ r. ⌜ (length r ≡ 128) × ((R : Record) → Resolved R (now (rows .entry)) → r ≡ marksOf R (must R)) ⌝ }
+    ensures { λ r. ⌜ (length r ≡ markLimit) × ((R : Record) → Resolved R (now (rows .entry)) → r ≡ marksOf R (must R)) ⌝ }
 {
     let marks = [0u8; MARKS];
     links::closed(ENABLES, rows, marks, 0)
 }
 
 // The needs of the edit at x, from the marks of what must stand. Pub for `judgement`, whose rows are safe.
-pub fn needs_marks(rows: &[u16; ROWS], mustmarks: [u8; MARKS], x: usize) -> [u8; MARKS]
-    requires { ⌜ Safe (now rows) × (x < 128) × (length mustmarks ≡ 128) ⌝ }
-    ensures { λ r. ⌜ (length r ≡ 128) × ((R : Record) → Resolved R (now (rows .entry)) → x < length (names R)
+pub fn needs_marks(rows: &Rows, mustmarks: Marks, x: usize) -> Marks
+    requires { ⌜ Safe (now rows) × (x < markLimit) × (length mustmarks ≡ markLimit) ⌝ }
+    ensures { λ r. ⌜ (length r ≡ markLimit) × ((R : Record) → Resolved R (now (rows .entry)) → x < length (names R)
         → mustmarks ≡ marksOf R (must R) → r ≡ marksOf R (λ y. mem y (needs R (0 ∷ nameAt R x ∷ [])))) ⌝ }
 {
     links::closed(ENABLES, rows, mustmarks, x)
@@ -45,13 +46,13 @@ pub fn needs_marks(rows: &[u16; ROWS], mustmarks: [u8; MARKS], x: usize) -> [u8;
 // none of the set. Pub for `schedules`, whose rows are safe.
 pub fn closes_ring(
     n: usize,
-    rows: &[u16; ROWS],
-    reversed: &[u16; ROWS],
-    old: &[u8; MARKS],
-    marks: [u8; MARKS],
+    rows: &Rows,
+    reversed: &Rows,
+    old: &Marks,
+    marks: Marks,
     x: usize,
 ) -> bool
-    requires { ⌜ Safe (now rows) × Safe (now reversed) × (n ≤ 128) × (x < 128) × (length marks ≡ 128) ⌝ }
+    requires { ⌜ Safe (now rows) × Safe (now reversed) × (n ≤ markLimit) × (x < markLimit) × (length marks ≡ markLimit) ⌝ }
     ensures { λ r. ⌜ ((R : Record) (s : List ℕ) → Resolved R (now (rows .entry))
         → Reversed R (now (reversed .entry)) → n ≡ length (names R) → x < n
         → ((a b : ℕ) → enables R a b ≡ true → b among s → a among s) → s within names R → now (old .entry) ≡ marksOf R (λ y. mem y s) → ring R s ≡ false
@@ -67,9 +68,9 @@ pub fn closes_ring(
 }
 
 // A need of the edit at x that comes before it in the table: one that enables it, or INIT. Pub for `schedules`, whose rows are safe.
-pub fn need_below(rows: &[u16; ROWS], x: usize) -> usize
-    requires { ⌜ Safe (now rows) × (x < 128) ⌝ }
-    ensures { λ r. ⌜ (r ≤ x) × (r < 128) × (0 < x → r < x) × ((R : Record) → Resolved R (now (rows .entry)) → x < length (names R)
+pub fn need_below(rows: &Rows, x: usize) -> usize
+    requires { ⌜ Safe (now rows) × (x < markLimit) ⌝ }
+    ensures { λ r. ⌜ (r ≤ x) × (r < markLimit) × (0 < x → r < x) × ((R : Record) → Resolved R (now (rows .entry)) → x < length (names R)
         → (r < length (names R)) × (nameAt R r among needs R (0 ∷ nameAt R x ∷ []))) ⌝ }
 {
     let j = links::first_row(rows, ENABLES + x);
@@ -87,13 +88,13 @@ pub fn need_below(rows: &[u16; ROWS], x: usize) -> usize
 // of one that can the search has only to look at what more x needs.
 fn is_never(
     n: usize,
-    rows: &[u16; ROWS],
-    reversed: &[u16; ROWS],
-    mustmarks: [u8; MARKS],
-    nevermarks: &[u8; MARKS],
+    rows: &Rows,
+    reversed: &Rows,
+    mustmarks: Marks,
+    nevermarks: &Marks,
     x: usize,
 ) -> bool
-    requires { ⌜ Safe (now rows) × Safe (now reversed) × (n ≤ 128) × (x < 128) × (length mustmarks ≡ 128) ⌝ }
+    requires { ⌜ Safe (now rows) × Safe (now reversed) × (n ≤ markLimit) × (x < markLimit) × (length mustmarks ≡ markLimit) ⌝ }
     ensures { λ r. ⌜ ((R : Record) → Resolved R (now (rows .entry)) → Reversed R (now (reversed .entry))
         → n ≡ length (names R) → x < n → mustmarks ≡ marksOf R (must R) → ring R (musts R) ≡ false → ((y : ℕ) → y < x → getD (now (nevermarks .entry)) y 0 ≡ cond (never R (nameAt R y)) 1 0) → r ≡ never R (nameAt R x)) ⌝ }
 {
@@ -109,23 +110,17 @@ fn is_never(
     closes_ring(n, rows, reversed, &old, marks, x)
 }
 
-pub fn bit(b: bool) -> u8
-    ensures { λ r. ⌜ r ≡ cond b 1 0 ⌝ }
-{
-    if b { 1 } else { 0 }
-}
-
 // The edits that can never stand, where what must stand holds no ring.
-fn sound_nevers(n: usize, rows: &[u16; ROWS], mustmarks: [u8; MARKS]) -> [u8; MARKS]
-    requires { ⌜ Safe (now rows) × (n ≤ 128) × (length mustmarks ≡ 128) ⌝ }
-    ensures { λ r. ⌜ (length r ≡ 128) × ((R : Record) → Resolved R (now (rows .entry)) → n ≡ length (names R)
+fn sound_nevers(n: usize, rows: &Rows, mustmarks: Marks) -> Marks
+    requires { ⌜ Safe (now rows) × (n ≤ markLimit) × (length mustmarks ≡ markLimit) ⌝ }
+    ensures { λ r. ⌜ (length r ≡ markLimit) × ((R : Record) → Resolved R (now (rows .entry)) → n ≡ length (names R)
         → mustmarks ≡ marksOf R (must R) → ring R (musts R) ≡ false → r ≡ marksOf R (never R)) ⌝ }
 {
     let reversed = links::reversed(n, rows);
     let mut marks = [0u8; MARKS];
     let mut x: usize = 0;
     while x < n {
-        let mark = bit(is_never(n, rows, &reversed, mustmarks, &marks, x));
+        let mark = numbers::bit8(is_never(n, rows, &reversed, mustmarks, &marks, x));
         marks[x] = mark;
         x += 1;
     }
@@ -134,9 +129,9 @@ fn sound_nevers(n: usize, rows: &[u16; ROWS], mustmarks: [u8; MARKS]) -> [u8; MA
 
 // The edits that can never stand: none where all edits together hold no ring, all where what must stand holds one. Pub for `judgement`, whose rows are
 // safe.
-pub fn never_marks(n: usize, rows: &[u16; ROWS], mustmarks: [u8; MARKS]) -> [u8; MARKS]
-    requires { ⌜ Safe (now rows) × (n ≤ 128) × (length mustmarks ≡ 128) ⌝ }
-    ensures { λ r. ⌜ (length r ≡ 128) × ((R : Record) → Resolved R (now (rows .entry)) → n ≡ length (names R)
+pub fn never_marks(n: usize, rows: &Rows, mustmarks: Marks) -> Marks
+    requires { ⌜ Safe (now rows) × (n ≤ markLimit) × (length mustmarks ≡ markLimit) ⌝ }
+    ensures { λ r. ⌜ (length r ≡ markLimit) × ((R : Record) → Resolved R (now (rows .entry)) → n ≡ length (names R)
         → mustmarks ≡ marksOf R (must R) → r ≡ marksOf R (never R)) ⌝ }
 {
     let none = [0u8; MARKS];
@@ -152,8 +147,8 @@ pub fn never_marks(n: usize, rows: &[u16; ROWS], mustmarks: [u8; MARKS]) -> [u8;
 }
 
 // Whether an order between the edits at a and b is recorded either way, or one of the two can never stand.
-fn has_order(rows: &[u16; ROWS], nevermarks: &[u8; MARKS], a: usize, b: usize) -> bool
-    requires { ⌜ Safe (now rows) × (a < 128) × (b < 128) ⌝ }
+fn has_order(rows: &Rows, nevermarks: &Marks, a: usize, b: usize) -> bool
+    requires { ⌜ Safe (now rows) × (a < markLimit) × (b < markLimit) ⌝ }
     ensures { λ r. ⌜ ((R : Record) → Resolved R (now (rows .entry)) → a < length (names R) → b < length (names R)
         → now (nevermarks .entry) ≡ marksOf R (never R) → r ≡ ordered R (nameAt R a) (nameAt R b)) ⌝ }
 {
@@ -170,15 +165,9 @@ fn has_order(rows: &[u16; ROWS], nevermarks: &[u8; MARKS], a: usize, b: usize) -
 }
 
 // Marks both edits of a pair that has no order.
-fn open_pair(
-    rows: &[u16; ROWS],
-    nevermarks: &[u8; MARKS],
-    openmarks: &mut [u8; MARKS],
-    a: usize,
-    b: usize,
-)
-    requires { ⌜ Safe (now rows) × (a < 128) × (b < 128) × (length (now openmarks) ≡ 128) ⌝ }
-    ensures { λ _. ⌜ (length (now (openmarks .exit)) ≡ 128) × ((R : Record) → Resolved R (now (rows .entry))
+fn open_pair(rows: &Rows, nevermarks: &Marks, openmarks: &mut Marks, a: usize, b: usize)
+    requires { ⌜ Safe (now rows) × (a < markLimit) × (b < markLimit) × (length (now openmarks) ≡ markLimit) ⌝ }
+    ensures { λ _. ⌜ (length (now (openmarks .exit)) ≡ markLimit) × ((R : Record) → Resolved R (now (rows .entry))
         → a < length (names R) → b < length (names R) → now (nevermarks .entry) ≡ marksOf R (never R)
         → now (openmarks .exit) ≡ cond (ordered R (nameAt R a) (nameAt R b)) (now (openmarks .entry)) (set (set (now (openmarks .entry)) a 1) b 1)) ⌝ }
 {
@@ -190,9 +179,9 @@ fn open_pair(
 }
 
 // The same for all pairs whose right edit is at b.
-fn open_pairs(rows: &[u16; ROWS], nevermarks: &[u8; MARKS], openmarks: &mut [u8; MARKS], b: usize)
-    requires { ⌜ Safe (now rows) × (b < 128) × (length (now openmarks) ≡ 128) ⌝ }
-    ensures { λ _. ⌜ (length (now (openmarks .exit)) ≡ 128) × ((R : Record) → Resolved R (now (rows .entry))
+fn open_pairs(rows: &Rows, nevermarks: &Marks, openmarks: &mut Marks, b: usize)
+    requires { ⌜ Safe (now rows) × (b < markLimit) × (length (now openmarks) ≡ markLimit) ⌝ }
+    ensures { λ _. ⌜ (length (now (openmarks .exit)) ≡ markLimit) × ((R : Record) → Resolved R (now (rows .entry))
         → b < length (names R) → now (nevermarks .entry) ≡ marksOf R (never R) → Opened R b (now (openmarks .entry)) (now (openmarks .exit))) ⌝ }
 {
     let mut j = links::first_row(rows, NONCOMMUTING + b);
@@ -203,9 +192,9 @@ fn open_pairs(rows: &[u16; ROWS], nevermarks: &[u8; MARKS], openmarks: &mut [u8;
 }
 
 // The edits that are not serialised.
-fn open_marks(n: usize, rows: &[u16; ROWS], nevermarks: &[u8; MARKS]) -> [u8; MARKS]
-    requires { ⌜ Safe (now rows) × (n ≤ 128) ⌝ }
-    ensures { λ r. ⌜ (length r ≡ 128) × ((R : Record) → Resolved R (now (rows .entry)) → n ≡ length (names R)
+fn open_marks(n: usize, rows: &Rows, nevermarks: &Marks) -> Marks
+    requires { ⌜ Safe (now rows) × (n ≤ markLimit) ⌝ }
+    ensures { λ r. ⌜ (length r ≡ markLimit) × ((R : Record) → Resolved R (now (rows .entry)) → n ≡ length (names R)
         → now (nevermarks .entry) ≡ marksOf R (never R) → r ≡ marksOf R (λ x. not (serialised R x))) ⌝ }
 {
     let mut openmarks = [0u8; MARKS];
@@ -231,21 +220,16 @@ fn is_settled(mustmark: u8, nevermark: u8, openmark: u8) -> bool
 }
 
 // The edits that are settled. Pub for `judgement`, whose rows are safe.
-pub fn settled_marks(
-    n: usize,
-    rows: &[u16; ROWS],
-    mustmarks: [u8; MARKS],
-    nevermarks: [u8; MARKS],
-) -> [u8; MARKS]
-    requires { ⌜ Safe (now rows) × (n ≤ 128) × (length mustmarks ≡ 128) × (length nevermarks ≡ 128) ⌝ }
-    ensures { λ r. ⌜ (length r ≡ 128) × ((R : Record) → Resolved R (now (rows .entry)) → n ≡ length (names R)
+pub fn settled_marks(n: usize, rows: &Rows, mustmarks: Marks, nevermarks: Marks) -> Marks
+    requires { ⌜ Safe (now rows) × (n ≤ markLimit) × (length mustmarks ≡ markLimit) × (length nevermarks ≡ markLimit) ⌝ }
+    ensures { λ r. ⌜ (length r ≡ markLimit) × ((R : Record) → Resolved R (now (rows .entry)) → n ≡ length (names R)
         → mustmarks ≡ marksOf R (must R) → nevermarks ≡ marksOf R (never R) → r ≡ marksOf R (settled R)) ⌝ }
 {
     let openmarks = open_marks(n, rows, &nevermarks);
     let mut marks = [0u8; MARKS];
     let mut x: usize = 0;
     while x < n {
-        marks[x] = bit(is_settled(mustmarks[x], nevermarks[x], openmarks[x]));
+        marks[x] = numbers::bit8(is_settled(mustmarks[x], nevermarks[x], openmarks[x]));
         x += 1;
     }
     marks

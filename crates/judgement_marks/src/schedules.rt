@@ -2,7 +2,8 @@
 use graph::links;
 use graph::links::ENABLES;
 use graph::links::MARKS;
-use graph::links::ROWS;
+use graph::links::Marks;
+use graph::links::Rows;
 ghost use mathlib.Core.Path.{_≡_};
 ghost use mathlib.Core.Bool.{Bool, true, false, _&&_};
 ghost use mathlib.Core.List.{List, _∷_};
@@ -11,23 +12,23 @@ ghost use lib.Dec.{ltb};
 ghost use lib.ListN.{length, getD};
 ghost use Rattle.lists.specs.Lists.{mem, any, find, distinct, _within_};
 ghost use Rattle.record.specs.Record.{Record, names, notafter};
-ghost use Rattle.record.specs.Schedule.{needs, musts, order, ring, admit, scheduled, schedule};
+ghost use Rattle.record.specs.Schedule.{needs, musts, order, ring, bars, admit, scheduled, schedule};
 ghost use Rattle.record.specs.Judgement.{must};
-ghost use Rattle.graph.specs.links.Marks.{nameAt, valuesOf, marksOf, placeIn};
+ghost use Rattle.graph.specs.links.Marks.{markLimit, nameAt, valuesOf, marksOf, placeIn};
 ghost use Rattle.graph.specs.links.Links.{Safe};
 ghost use Rattle.graph.specs.links.Reversed.{Reversed};
 ghost use Rattle.graph.specs.links.Resolved.{Resolved};
-ghost use Rattle.judgement_marks.specs.schedules.Rows.{free, HeldBack, foundAt, Hides, bars, Clear, Missed, RowIs};
+ghost use Rattle.judgement_marks.specs.schedules.Rows.{free, HeldBack, foundAt, Hides, Clear, Missed, RowIs};
 
 // Edits in order, by index.
 pub struct Row {
-    pub indexes: [u8; MARKS],
+    pub indexes: Marks,
     pub count: usize,
 }
 
 // Whether the edit at x waits and none that waits comes before it.
-fn is_free(rows: &[u16; ROWS], waits: &[u8; MARKS], x: usize) -> bool
-    requires { ⌜ Safe (now rows) × (x < 128) ⌝ }
+fn is_free(rows: &Rows, waits: &Marks, x: usize) -> bool
+    requires { ⌜ Safe (now rows) × (x < markLimit) ⌝ }
     ensures { λ r. ⌜ ((R : Record) (test : ℕ → Bool) → Resolved R (now (rows .entry)) → x < length (names R)
         → now (waits .entry) ≡ marksOf R test → r ≡ free R test (nameAt R x)) ⌝ }
 {
@@ -38,8 +39,8 @@ fn is_free(rows: &[u16; ROWS], waits: &[u8; MARKS], x: usize) -> bool
 }
 
 // The lowest that is free, from a place below which none is; n where there is none.
-fn lowest(n: usize, from: usize, rows: &[u16; ROWS], waits: &[u8; MARKS]) -> usize
-    requires { ⌜ Safe (now rows) × (n ≤ 128) × (from ≤ n) ⌝ }
+fn lowest(n: usize, from: usize, rows: &Rows, waits: &Marks) -> usize
+    requires { ⌜ Safe (now rows) × (n ≤ markLimit) × (from ≤ n) ⌝ }
     ensures { λ r. ⌜ ((R : Record) (test : ℕ → Bool) → Resolved R (now (rows .entry)) → n ≡ length (names R)
         → now (waits .entry) ≡ marksOf R test → ((y : ℕ) → y < from → free R test (nameAt R y) ≡ false)
         → (find (free R test) (names R) ≡ foundAt R (ltb r n) r) × ((y : ℕ) → y < r → free R test (nameAt R y) ≡ false)) ⌝ }
@@ -55,8 +56,8 @@ fn lowest(n: usize, from: usize, rows: &[u16; ROWS], waits: &[u8; MARKS]) -> usi
 }
 
 // The lower of best and the edit at y, where that is free.
-fn lower_free(rows: &[u16; ROWS], waits: &[u8; MARKS], y: usize, best: usize) -> usize
-    requires { ⌜ Safe (now rows) × (y < 128) ⌝ }
+fn lower_free(rows: &Rows, waits: &Marks, y: usize, best: usize) -> usize
+    requires { ⌜ Safe (now rows) × (y < markLimit) ⌝ }
     ensures { λ r. ⌜ (r ≤ best) × (y < r → HeldBack (now (rows .entry)) (now (waits .entry)) y) ⌝ }
 {
     if y >= best {
@@ -69,8 +70,8 @@ fn lower_free(rows: &[u16; ROWS], waits: &[u8; MARKS], y: usize, best: usize) ->
 }
 
 // The lowest that is free of those that come after the edit at x, where it lies below x; otherwise x.
-fn lowest_freed(rows: &[u16; ROWS], reversed: &[u16; ROWS], waits: &[u8; MARKS], x: usize) -> usize
-    requires { ⌜ Safe (now rows) × Safe (now reversed) × (x < 128) ⌝ }
+fn lowest_freed(rows: &Rows, reversed: &Rows, waits: &Marks, x: usize) -> usize
+    requires { ⌜ Safe (now rows) × Safe (now reversed) × (x < markLimit) ⌝ }
     ensures { λ r. ⌜ (r ≤ x) × ((R : Record) (y : ℕ) → Reversed R (now (reversed .entry)) → distinct (names R) ≡ true → x < length (names R) → y < length (names R)
         → notafter R (nameAt R x) (nameAt R y) ≡ true → y < r → HeldBack (now (rows .entry)) (now (waits .entry)) y) ⌝ }
 {
@@ -84,9 +85,9 @@ fn lowest_freed(rows: &[u16; ROWS], reversed: &[u16; ROWS], waits: &[u8; MARKS],
 }
 
 // The marked set in order. None below the last placed was free before it was, so that the next is one that it held back, or lies above it.
-fn ordered_row(n: usize, rows: &[u16; ROWS], reversed: &[u16; ROWS], marks: [u8; MARKS]) -> Row
-    requires { ⌜ Safe (now rows) × Safe (now reversed) × (n ≤ 128) × (length marks ≡ 128) ⌝ }
-    ensures { λ r. ⌜ (length (r .indexes) ≡ 128) × (r .count ≤ 128) × ((q : ℕ) → getD (r .indexes) q 0 < 128)
+fn ordered_row(n: usize, rows: &Rows, reversed: &Rows, marks: Marks) -> Row
+    requires { ⌜ Safe (now rows) × Safe (now reversed) × (n ≤ markLimit) × (length marks ≡ markLimit) ⌝ }
+    ensures { λ r. ⌜ (length (r .indexes) ≡ markLimit) × (r .count ≤ markLimit) × ((q : ℕ) → getD (r .indexes) q 0 < markLimit)
         × ((R : Record) (t : List ℕ) → Resolved R (now (rows .entry)) → Reversed R (now (reversed .entry))
         → n ≡ length (names R) → t within names R
         → marks ≡ marksOf R (λ y. mem y t) → RowIs R r (order R t)) ⌝ }
@@ -112,8 +113,8 @@ fn ordered_row(n: usize, rows: &[u16; ROWS], reversed: &[u16; ROWS], marks: [u8;
 }
 
 // Whether the edit at x is marked and hidden, and isn't a must.
-fn is_barred(marks: &[u8; MARKS], hidden: &[u8; MARKS], mustmarks: &[u8; MARKS], x: usize) -> bool
-    requires { ⌜ x < 128 ⌝ }
+fn is_barred(marks: &Marks, hidden: &Marks, mustmarks: &Marks, x: usize) -> bool
+    requires { ⌜ x < markLimit ⌝ }
     ensures { λ r. ⌜ ((R : Record) (hiddens t : List ℕ) → x < length (names R) → now (marks .entry) ≡ marksOf R (λ y. mem y t)
         → now (mustmarks .entry) ≡ marksOf R (must R) → Hides R (now (hidden .entry)) hiddens → r ≡ (mem (nameAt R x) t && bars R hiddens (nameAt R x))) ⌝ }
 {
@@ -127,8 +128,8 @@ fn is_barred(marks: &[u8; MARKS], hidden: &[u8; MARKS], mustmarks: &[u8; MARKS],
 }
 
 // Whether a hidden edit that isn't a must is marked.
-fn any_barred(n: usize, marks: &[u8; MARKS], hidden: &[u8; MARKS], mustmarks: &[u8; MARKS]) -> bool
-    requires { ⌜ n ≤ 128 ⌝ }
+fn any_barred(n: usize, marks: &Marks, hidden: &Marks, mustmarks: &Marks) -> bool
+    requires { ⌜ n ≤ markLimit ⌝ }
     ensures { λ r. ⌜ ((R : Record) (hiddens t : List ℕ) → n ≡ length (names R) → t within names R → now (marks .entry) ≡ marksOf R (λ y. mem y t)
         → now (mustmarks .entry) ≡ marksOf R (must R) → Hides R (now (hidden .entry)) hiddens → r ≡ any (bars R hiddens) t) ⌝ }
 {
@@ -145,15 +146,15 @@ fn any_barred(n: usize, marks: &[u8; MARKS], hidden: &[u8; MARKS], mustmarks: &[
 // Whether one that is barred enters with the edit at x, where the old set holds none and it is known whether any edit at all is barred.
 fn is_shut(
     n: usize,
-    rows: &[u16; ROWS],
-    old: &[u8; MARKS],
-    marks: &[u8; MARKS],
-    hidden: &[u8; MARKS],
-    mustmarks: &[u8; MARKS],
+    rows: &Rows,
+    old: &Marks,
+    marks: &Marks,
+    hidden: &Marks,
+    mustmarks: &Marks,
     x: usize,
     barring: bool,
 ) -> bool
-    requires { ⌜ Safe (now rows) × (n ≤ 128) × (x < 128) ⌝ }
+    requires { ⌜ Safe (now rows) × (n ≤ markLimit) × (x < markLimit) ⌝ }
     ensures { λ r. ⌜ ((R : Record) (hiddens t : List ℕ) → Resolved R (now (rows .entry)) → n ≡ length (names R) → x < n
         → Clear R hiddens t → now (old .entry) ≡ marksOf R (λ y. mem y t) → now (marks .entry) ≡ marksOf R (λ y. mem y (needs R (nameAt R x ∷ t)))
         → now (mustmarks .entry) ≡ marksOf R (must R) → Hides R (now (hidden .entry)) hiddens → barring ≡ any (bars R hiddens) (names R)
@@ -168,44 +169,28 @@ fn is_shut(
     is_barred(marks, hidden, mustmarks, x)
 }
 
-// Whether the edit at x closes a ring when it enters the old set, which holds none; and it is known whether all edits together hold one.
-fn is_ringed(
+// A record as a whole: how many edits it has, whether one of them is barred, whether all together hold a ring.
+struct Whole {
     n: usize,
-    rows: &[u16; ROWS],
-    reversed: &[u16; ROWS],
-    old: &[u8; MARKS],
-    marks: [u8; MARKS],
-    x: usize,
+    barring: bool,
     ringed: bool,
-) -> bool
-    requires { ⌜ Safe (now rows) × Safe (now reversed) × (n ≤ 128) × (x < 128) × (length marks ≡ 128) ⌝ }
-    ensures { λ r. ⌜ ((R : Record) (hiddens t : List ℕ) → Resolved R (now (rows .entry))
-        → Reversed R (now (reversed .entry)) → n ≡ length (names R) → x < n → Clear R hiddens t → now (old .entry) ≡ marksOf R (λ y. mem y t)
-        → ring R t ≡ false → marks ≡ marksOf R (λ y. mem y (needs R (nameAt R x ∷ t))) → ringed ≡ ring R (names R) → r ≡ ring R (needs R (nameAt R x ∷ t))) ⌝ }
-{
-    if ringed {
-        return crate::closes_ring(n, rows, reversed, old, marks, x);
-    }
-    false
 }
 
 // One edit: taken into the marked set with all its needs, or left out. Nothing of the set is barred, so that only the new needs can be. Where a
 // need that comes before it was left out, so is the edit.
 fn admitted(
-    n: usize,
-    rows: &[u16; ROWS],
-    reversed: &[u16; ROWS],
-    mustmarks: [u8; MARKS],
-    hidden: &[u8; MARKS],
-    barring: bool,
-    ringed: bool,
-    marks: [u8; MARKS],
+    whole: Whole,
+    rows: &Rows,
+    reversed: &Rows,
+    mustmarks: Marks,
+    hidden: &Marks,
+    marks: Marks,
     x: usize,
-) -> [u8; MARKS]
-    requires { ⌜ Safe (now rows) × Safe (now reversed) × (n ≤ 128) × (x < 128) × (length mustmarks ≡ 128) × (length marks ≡ 128) ⌝ }
-    ensures { λ r. ⌜ (length r ≡ 128) × ((R : Record) (hiddens t : List ℕ) → Resolved R (now (rows .entry)) → Reversed R (now (reversed .entry))
-        → n ≡ length (names R)
-        → x < n → mustmarks ≡ marksOf R (must R) → Hides R (now (hidden .entry)) hiddens → barring ≡ any (bars R hiddens) (names R) → ringed ≡ ring R (names R)
+) -> Marks
+    requires { ⌜ Safe (now rows) × Safe (now reversed) × (whole .n ≤ markLimit) × (x < markLimit) × (length mustmarks ≡ markLimit) × (length marks ≡ markLimit) ⌝ }
+    ensures { λ r. ⌜ (length r ≡ markLimit) × ((R : Record) (hiddens t : List ℕ) → Resolved R (now (rows .entry)) → Reversed R (now (reversed .entry))
+        → whole .n ≡ length (names R)
+        → x < whole .n → mustmarks ≡ marksOf R (must R) → Hides R (now (hidden .entry)) hiddens → whole .barring ≡ any (bars R hiddens) (names R) → whole .ringed ≡ ring R (names R)
         → Clear R hiddens t → ring R t ≡ false → Missed R hiddens t x → marks ≡ marksOf R (λ y. mem y t) → r ≡ marksOf R (λ y. mem y (admit R hiddens t (nameAt R x)))) ⌝ }
 {
     if marks[x] == 1 {
@@ -216,10 +201,22 @@ fn admitted(
         return marks;
     }
     let more = links::closed(ENABLES, rows, marks, x);
-    if is_shut(n, rows, &marks, &more, hidden, &mustmarks, x, barring) {
+    if is_shut(
+        whole.n,
+        rows,
+        &marks,
+        &more,
+        hidden,
+        &mustmarks,
+        x,
+        whole.barring,
+    ) {
         return marks;
     }
-    if is_ringed(n, rows, reversed, &marks, more, x, ringed) {
+    if !whole.ringed {
+        return more;
+    }
+    if crate::closes_ring(whole.n, rows, reversed, &marks, more, x) {
         return marks;
     }
     more
@@ -227,34 +224,22 @@ fn admitted(
 
 // What must stand, which holds no ring, then the others by ascending name.
 fn admitted_marks(
-    n: usize,
-    rows: &[u16; ROWS],
-    reversed: &[u16; ROWS],
-    mustmarks: [u8; MARKS],
-    hidden: &[u8; MARKS],
-    barring: bool,
-    ringed: bool,
-) -> [u8; MARKS]
-    requires { ⌜ Safe (now rows) × Safe (now reversed) × (n ≤ 128) × (length mustmarks ≡ 128) ⌝ }
-    ensures { λ r. ⌜ (length r ≡ 128) × ((R : Record) (hiddens : List ℕ) → Resolved R (now (rows .entry)) → Reversed R (now (reversed .entry))
-        → n ≡ length (names R)
-        → mustmarks ≡ marksOf R (must R) → Hides R (now (hidden .entry)) hiddens → barring ≡ any (bars R hiddens) (names R) → ringed ≡ ring R (names R) → ring R (musts R) ≡ false
+    whole: Whole,
+    rows: &Rows,
+    reversed: &Rows,
+    mustmarks: Marks,
+    hidden: &Marks,
+) -> Marks
+    requires { ⌜ Safe (now rows) × Safe (now reversed) × (whole .n ≤ markLimit) × (length mustmarks ≡ markLimit) ⌝ }
+    ensures { λ r. ⌜ (length r ≡ markLimit) × ((R : Record) (hiddens : List ℕ) → Resolved R (now (rows .entry)) → Reversed R (now (reversed .entry))
+        → whole .n ≡ length (names R)
+        → mustmarks ≡ marksOf R (must R) → Hides R (now (hidden .entry)) hiddens → whole .barring ≡ any (bars R hiddens) (names R) → whole .ringed ≡ ring R (names R) → ring R (musts R) ≡ false
         → r ≡ marksOf R (λ y. mem y (scheduled R hiddens))) ⌝ }
 {
     let mut marks = mustmarks;
     let mut x: usize = 1;
-    while x < n {
-        let more = admitted(
-            n,
-            rows,
-            reversed,
-            mustmarks,
-            hidden,
-            barring,
-            ringed,
-            marks,
-            x,
-        );
+    while x < whole.n {
+        let more = admitted(whole, rows, reversed, mustmarks, hidden, marks, x);
         marks = more;
         x += 1;
     }
@@ -264,40 +249,40 @@ fn admitted_marks(
 // The set of the schedule: all edits, where none is barred and all together hold no ring; what must stand, where that holds a ring.
 fn scheduled_marks(
     n: usize,
-    rows: &[u16; ROWS],
-    reversed: &[u16; ROWS],
-    mustmarks: [u8; MARKS],
-    hidden: &[u8; MARKS],
-) -> [u8; MARKS]
-    requires { ⌜ Safe (now rows) × Safe (now reversed) × (n ≤ 128) × (length mustmarks ≡ 128) ⌝ }
-    ensures { λ r. ⌜ (length r ≡ 128) × ((R : Record) (hiddens : List ℕ) → Resolved R (now (rows .entry)) → Reversed R (now (reversed .entry))
+    rows: &Rows,
+    reversed: &Rows,
+    mustmarks: Marks,
+    hidden: &Marks,
+) -> Marks
+    requires { ⌜ Safe (now rows) × Safe (now reversed) × (n ≤ markLimit) × (length mustmarks ≡ markLimit) ⌝ }
+    ensures { λ r. ⌜ (length r ≡ markLimit) × ((R : Record) (hiddens : List ℕ) → Resolved R (now (rows .entry)) → Reversed R (now (reversed .entry))
         → n ≡ length (names R)
         → mustmarks ≡ marksOf R (must R) → Hides R (now (hidden .entry)) hiddens → r ≡ marksOf R (λ y. mem y (scheduled R hiddens))) ⌝ }
 {
     let all = links::all_marks(n);
     let barring = any_barred(n, &all, hidden, &mustmarks);
     let ringed = links::has_ring(n, rows, all);
+    let whole = Whole {
+        n: n,
+        barring: barring,
+        ringed: ringed,
+    };
     if ringed {
         if links::has_ring(n, rows, mustmarks) {
             return mustmarks;
         }
-        return admitted_marks(n, rows, reversed, mustmarks, hidden, barring, ringed);
+        return admitted_marks(whole, rows, reversed, mustmarks, hidden);
     }
     if barring {
-        return admitted_marks(n, rows, reversed, mustmarks, hidden, barring, ringed);
+        return admitted_marks(whole, rows, reversed, mustmarks, hidden);
     }
     all
 }
 
-// The bench schedule. Pub for `judgement` and `voting_drafts::decisions`, whose rows are safe.
-pub fn schedule_row(
-    n: usize,
-    rows: &[u16; ROWS],
-    mustmarks: [u8; MARKS],
-    hidden: &[u8; MARKS],
-) -> Row
-    requires { ⌜ Safe (now rows) × (n ≤ 128) × (length mustmarks ≡ 128) ⌝ }
-    ensures { λ r. ⌜ (length (r .indexes) ≡ 128) × (r .count ≤ 128) × ((q : ℕ) → getD (r .indexes) q 0 < 128)
+// The bench schedule. Pub for `judgement` and `voting_decisions`, whose rows are safe.
+pub fn schedule_row(n: usize, rows: &Rows, mustmarks: Marks, hidden: &Marks) -> Row
+    requires { ⌜ Safe (now rows) × (n ≤ markLimit) × (length mustmarks ≡ markLimit) ⌝ }
+    ensures { λ r. ⌜ (length (r .indexes) ≡ markLimit) × (r .count ≤ markLimit) × ((q : ℕ) → getD (r .indexes) q 0 < markLimit)
         × ((R : Record) (hiddens : List ℕ) → Resolved R (now (rows .entry)) → n ≡ length (names R)
         → mustmarks ≡ marksOf R (must R) → Hides R (now (hidden .entry)) hiddens → RowIs R r (schedule R hiddens)) ⌝ }
 {
@@ -306,17 +291,17 @@ pub fn schedule_row(
     ordered_row(n, rows, &reversed, marks)
 }
 
-// The page of each edit. From the end, so that where a row had a repeat its first place would count. Pub for `judgement` and `voting_drafts::decisions`, which have it
+// The page of each edit. From the end, so that where a row had a repeat its first place would count. Pub for `judgement` and `voting_decisions`, which have it
 // of a schedule.
-pub fn page_values(row: Row) -> [u8; MARKS]
-    requires { ⌜ (length (row .indexes) ≡ 128) × (row .count ≤ 128) × ((q : ℕ) → getD (row .indexes) q 0 < 128) ⌝ }
-    ensures { λ r. ⌜ (length r ≡ 128) × ((R : Record) (list : List ℕ) → distinct (names R) ≡ true → length (names R) ≤ 128 → RowIs R row list → r ≡ valuesOf R (placeIn list)) ⌝ }
+pub fn page_values(row: Row) -> Marks
+    requires { ⌜ (length (row .indexes) ≡ markLimit) × (row .count ≤ markLimit) × ((q : ℕ) → getD (row .indexes) q 0 < markLimit) ⌝ }
+    ensures { λ r. ⌜ (length r ≡ markLimit) × ((R : Record) (list : List ℕ) → distinct (names R) ≡ true → length (names R) ≤ markLimit → RowIs R row list → r ≡ valuesOf R (placeIn list)) ⌝ }
 {
     let mut pages = [0u8; MARKS];
     let mut k = row.count;
     while k > 0 {
         k -= 1;
-        pages[links::wide8(row.indexes[k])] = k as u8;
+        pages[numbers::index8(row.indexes[k])] = k as u8;
     }
     pages
 }

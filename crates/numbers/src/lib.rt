@@ -15,6 +15,12 @@ pub fn wide32(n: u32) -> u64
     n as u64
 }
 
+pub fn index8(n: u8) -> usize
+    ensures { λ r. ⌜ r ≡ n ⌝ }
+{
+    n as usize
+}
+
 pub fn index16(n: u16) -> usize
     ensures { λ r. ⌜ r ≡ n ⌝ }
 {
@@ -28,6 +34,12 @@ pub fn index32(n: u32) -> usize
 }
 
 pub fn bit(b: bool) -> usize
+    ensures { λ r. ⌜ r ≡ cond b 1 0 ⌝ }
+{
+    if b { 1 } else { 0 }
+}
+
+pub fn bit8(b: bool) -> u8
     ensures { λ r. ⌜ r ≡ cond b 1 0 ⌝ }
 {
     if b { 1 } else { 0 }

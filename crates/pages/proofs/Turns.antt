@@ -1,13 +1,13 @@
 -- Pages run, undone, turned and changed come to the view of the edits that are then open. For any number of places and rows and any kind of entry.
 use mathlib.Core.Path.{_≡_, sym, ap, _∙_}
 use mathlib.Core.List.{List, [], _∷_, _++_, append-assoc, append-nil}
-use Prim.Native.Nat.{ℕ, suc, _+_, _-_, _≤_, _<_, min}
+use Prim.Native.Nat.{ℕ, suc, _+_, _-_, _≤_, _<_}
 use native.Mathlib.Omega.{arith}
 use native.Mathlib.Numerals.{add-one}
-use native.Mathlib.Nat.{add-zero, add-suc, suc-add, min-eq-left, min-eq-right}
+use native.Mathlib.Nat.{add-zero, add-suc, suc-add}
 use lib.Dec.{leb}
 use lib.ListN.{length, getD, take, drop, length-append, length-take, length-drop, take-append-drop, drop-of-length-le}
-use lib.Seq.{slice, slice-cons, length-slice, length-take-le, take-take, take-suc, take-all, drop-append-le}
+use lib.Seq.{slice, slice-cons, length-slice, length-take-le, take-take, take-suc, drop-append-le}
 use borrow.Author.Tests.{leb-true, leb-false}
 use Rattle.lists.proofs.Lists.{by}
 use Rattle.pages.specs.Pages.{Shelf, View, viewOf}
@@ -20,14 +20,6 @@ take-slice p q l h = rw (← take-take p q l h) (take-append-drop p (take q l))
 
 pub slice-end : {A : Type 0} (i t : ℕ) (l : List A) → t ≤ i → slice i t l ≡ []
 slice-end i t l h = let k : length (take t l) ≤ i = omega (arith, length-take t l) in drop-of-length-le (take t l) k
-
--- a page past the rows is taken for the last
-pub take-least : {A : Type 0} (t n : ℕ) (l : List A) → length l ≡ n → take (min t n) l ≡ take t l
-take-least t n l h =
-    by (leb t n) (λ e. rw (min-eq-left (leb-true t n e)))
-    (λ e. let g : n < t = leb-false t n e in
-    let k : n ≤ t = omega arith in
-    rw (min-eq-right k) (take-all n l (omega arith) ∙ sym (take-all t l (omega arith))))
 
 slice-snoc : {A : Type 0} (f i : ℕ) (l : List A) (d : A) → f ≤ i → i < length l → slice f (suc i) l ≡ slice f i l ++ (getD l i d ∷ [])
 slice-snoc f i l d h k =

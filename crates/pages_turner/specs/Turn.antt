@@ -3,6 +3,7 @@ use mathlib.Core.Bool.{cond}
 use Prim.Native.Nat.{ℕ}
 use lib.IntN.{ℤ, pos, negsuc, _+ℤ_}
 use lib.Dec.{leb}
+use Rattle.record.specs.Stored.{editLimit}
 use Rattle.pages_turner.specs.declared.Turned.{Turned}
 use Rattle.pages_turner.specs.declared.Turned.the-variants.{To, Refused}
 use Rattle.pages_turner.specs.declared.TurnAnswer.{TurnAnswer}
@@ -16,9 +17,9 @@ landed last (negsuc below) = Refused
 unfoldable pub turned : ℕ → ℕ → ℤ → Turned
 turned opened last by = landed last (pos opened +ℤ by)
 
--- the same for any two numbers: a page past the journal's 127 rows is never open
+-- the same for any two numbers: a page past the journal's rows is never open
 unfoldable pub turnOf : ℕ → ℕ → ℤ → Turned
-turnOf opened last by = cond (leb opened 127) (turned opened last by) Refused
+turnOf opened last by = cond (leb opened editLimit) (turned opened last by) Refused
 
 -- what each case answers: the number, and the page that is then open
 abbrev pub turnedAnswer : ℕ → Turned → TurnAnswer

@@ -1,6 +1,7 @@
 // The turner (document 01, "Entries and pages"): the open page and the last page, and a turn by a signed number of pages.
 pub mod turning;
 
+use record::EDITS;
 ghost use mathlib.Core.Path.{_≡_};
 ghost use Rattle.pages_turner.specs.Turn.{turnedAnswer, turnOf};
 
@@ -21,11 +22,11 @@ pub struct TurnAnswer {
     pub opened: usize,
 }
 
-// The journal has 127 rows, so no later page is ever open; up to there the sum with any i32 fits an i64.
+// The journal has a row for each edit of a record, so no later page is ever open; up to there the sum with any i32 fits an i64.
 pub fn turn_step(opened: usize, last: usize, by: i32) -> Turned
     ensures { λ r. ⌜ r ≡ turnOf opened last by ⌝ }
 {
-    if opened > 127 {
+    if opened > EDITS {
         return Turned::Refused;
     }
     let sum = (opened as i64) + (by as i64);

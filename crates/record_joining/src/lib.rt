@@ -10,7 +10,6 @@ use record::Record;
 use record_rows::row;
 use record_rows::row::CONSTRAINT_CELLS;
 use record_rows::row::EDIT_CELLS;
-use record_union::refusal;
 ghost use mathlib.Core.Path.{_≡_};
 ghost use mathlib.Core.List.{[], _∷_, map};
 ghost use Prim.Native.Nat.{_≤_};
@@ -32,7 +31,7 @@ pub struct Joined {
 pub fn lent(edits: &[[u32; EDIT_CELLS]], constraints: &[[u32; CONSTRAINT_CELLS]]) -> Joined
     ensures { λ r. ⌜ r ≡ joinedOf (lentFault emptyTables (now (edits .entry)) (now (constraints .entry))) emptyTables (decoded (now (edits .entry)) (now (constraints .entry))) ⌝ }
 {
-    let number = refusal::lent_fault(edits, constraints);
+    let number = record_refusal::lent_fault(edits, constraints);
     if number != 0 {
         return Joined {
             number: number,
@@ -53,7 +52,7 @@ pub fn merge(
 ) -> Joined
     ensures { λ r. ⌜ ((R : theory.Record) → joined ≡ stored R → Checked R → r ≡ joinedOf (lentFault R (now (edits .entry)) (now (constraints .entry))) R (unite R (decoded (now (edits .entry)) (now (constraints .entry))))) ⌝ }
 {
-    let number = refusal::fault(joined, edits, constraints);
+    let number = record_refusal::fault(joined, edits, constraints);
     if number != 0 {
         return Joined {
             number: number,
@@ -71,7 +70,7 @@ pub fn merge(
 pub fn add_edit(joined: Record, row: [u32; EDIT_CELLS]) -> Joined
     ensures { λ r. ⌜ ((R : theory.Record) → joined ≡ stored R → Checked R → r ≡ joinedOf (addEditFault R row) R (unite R (decoded (row ∷ []) []))) ⌝ }
 {
-    let number = refusal::edit_add_fault(joined, row);
+    let number = record_refusal::edit_add_fault(joined, row);
     if number != 0 {
         return Joined {
             number: number,
@@ -89,7 +88,7 @@ pub fn add_edit(joined: Record, row: [u32; EDIT_CELLS]) -> Joined
 pub fn add_constraint(joined: Record, row: [u32; CONSTRAINT_CELLS]) -> Joined
     ensures { λ r. ⌜ ((R : theory.Record) → joined ≡ stored R → Checked R → r ≡ joinedOf (addConstraintFault R row) R (unite R (decoded [] (row ∷ [])))) ⌝ }
 {
-    let number = refusal::constraint_add_fault(joined, row);
+    let number = record_refusal::constraint_add_fault(joined, row);
     if number != 0 {
         return Joined {
             number: number,

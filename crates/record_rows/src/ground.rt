@@ -64,7 +64,7 @@ pub fn advance(there: bool, lower: bool, upper: bool, equal: bool, full: bool) -
     refused(4)
 }
 
-// The place where it is below n, and some place below the limit otherwise, so that the array may be read. Pub for the walks of `record_union::refusal`, `record_tables` and
+// The place where it is below n, and some place below the limit otherwise, so that the array may be read. Pub for the walks of `record_refusal`, `record_tables` and
 // `record_union`, whose counts are within the limits.
 pub fn slot(place: usize, n: usize, limit: usize) -> usize
     requires { ⌜ (0 < limit) × (n ≤ limit) ⌝ }

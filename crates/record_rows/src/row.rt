@@ -5,17 +5,23 @@ use record::Constraint;
 use record::Edit;
 use record::Field;
 ghost use mathlib.Core.Path.{_≡_};
+ghost use mathlib.Core.Bool.{_&&_};
 ghost use Prim.Native.Nat.{_≤_};
+ghost use lib.Dec.{ltb};
 ghost use lib.ListN.{length, take};
 ghost use Rattle.lists.specs.Keyed.{precedes};
-ghost use Rattle.record_rows.specs.row.Row.{same, isName, bodyInRange, editInRange, isSide, constraintInRange, fieldOf, bodyOf, editOf, constraintOf, fieldNumber, editRow, constraintRow, editCells, constraintCells};
+ghost use Rattle.record_rows.specs.row.Row.{same, isName, bodyInRange, editInRange, isSide, constraintInRange, fieldOf, bodyOf, editOf, constraintOf, fieldNumber, editRow, constraintRow, editWidth, constraintWidth};
 
-// The cells of a row, and a bound of names; specs/Row.antt has the same numbers.
+// The cells of a row, and bounds of names, chip places and rules; specs/row/Row.antt has the same numbers.
 pub const EDIT_CELLS: usize = 5;
 
 pub const CONSTRAINT_CELLS: usize = 3;
 
 pub const NAMES: usize = 2304;
+
+const PLACES: u32 = 64;
+
+const RULES: u32 = 3;
 
 // Bench 1 to 8, sequence 1 to 255.
 pub fn is_name(n: u32) -> bool
@@ -51,22 +57,26 @@ fn body_in_range(kind: u32, field: u32, value: u32) -> bool
     }
 }
 
+// The tests of a row in range: of its first cell, of a cell that has a bound, of the rest.
+fn cells_in_range(first: bool, cell: u32, bound: u32, rest: bool) -> bool
+    ensures { λ r. ⌜ r ≡ (first && (ltb cell bound && rest)) ⌝ }
+{
+    if !first {
+        return false;
+    }
+    if bound <= cell {
+        return false;
+    }
+    rest
+}
+
 // The length of the row is ensured for callers that copy it out of a slice.
 pub fn edit_in_range(row: [u32; EDIT_CELLS]) -> bool
-    ensures { λ r. ⌜ (r ≡ editInRange row) × (length row ≡ editCells) ⌝ }
+    ensures { λ r. ⌜ (r ≡ editInRange row) × (length row ≡ editWidth) ⌝ }
 {
-    let name = row[0];
-    let kind = row[1];
-    let place = row[2];
-    let field = row[3];
-    let value = row[4];
-    if !is_name(name) {
-        return false;
-    }
-    if 64 <= place {
-        return false;
-    }
-    body_in_range(kind, field, value)
+    let named = is_name(row[0]);
+    let body = body_in_range(row[1], row[3], row[4]);
+    cells_in_range(named, row[2], PLACES, body)
 }
 
 fn field_of(n: u32) -> Field
@@ -109,7 +119,8 @@ pub fn edit_of(row: [u32; EDIT_CELLS]) -> Edit
     }
 }
 
-fn field_number(f: Field) -> u32
+// Pub for `catalogue`, where it is the place of the field's cell.
+pub fn field_number(f: Field) -> u32
     ensures { λ r. ⌜ r ≡ fieldNumber f ⌝ }
 {
     match f {
@@ -142,18 +153,11 @@ fn is_side(n: u32) -> bool
 }
 
 pub fn constraint_in_range(row: [u32; CONSTRAINT_CELLS]) -> bool
-    ensures { λ r. ⌜ (r ≡ constraintInRange row) × (length row ≡ constraintCells) ⌝ }
+    ensures { λ r. ⌜ (r ≡ constraintInRange row) × (length row ≡ constraintWidth) ⌝ }
 {
-    let left = row[0];
-    let rule = row[1];
-    let right = row[2];
-    if !is_side(left) {
-        return false;
-    }
-    if 3 <= rule {
-        return false;
-    }
-    is_side(right)
+    let left = is_side(row[0]);
+    let right = is_side(row[2]);
+    cells_in_range(left, row[1], RULES, right)
 }
 
 // A row in range as a constraint; of any other the filler.
@@ -183,7 +187,7 @@ pub fn constraint_row(c: Constraint) -> [u32; CONSTRAINT_CELLS]
     [left, rule, right]
 }
 
-// Whether the first k cells of a precede those of b. Pub for `record_union::refusal` and `record_tables`, whose rows have so many cells.
+// Whether the first k cells of a precede those of b. Pub for `record_refusal` and `record_tables`, whose rows have so many cells.
 pub fn below(a: &[u32], b: &[u32], k: usize) -> bool
     requires { ⌜ (k ≤ length (now a)) × (k ≤ length (now b)) ⌝ }
     ensures { λ r. ⌜ r ≡ precedes (take k (now (a .entry))) (take k (now (b .entry))) ⌝ }
@@ -201,7 +205,7 @@ pub fn below(a: &[u32], b: &[u32], k: usize) -> bool
     false
 }
 
-// Whether the first k cells of a and b are equal. Pub for `voting_bundles::equality`, `record_union::refusal` and `record_tables`, whose rows have so many cells.
+// Whether the first k cells of a and b are equal. Pub for `voting_bundles::equality`, `record_refusal` and `record_tables`, whose rows have so many cells.
 pub fn alike(a: &[u32], b: &[u32], k: usize) -> bool
     requires { ⌜ (k ≤ length (now a)) × (k ≤ length (now b)) ⌝ }
     ensures { λ r. ⌜ r ≡ same (take k (now (a .entry))) (take k (now (b .entry))) ⌝ }

@@ -1,6 +1,6 @@
 -- Marks of the names that are known, set one after the other. Assumes nothing.
 use mathlib.Core.Path.{_≡_}
-use mathlib.Core.Bool.{Bool, true, false, _||_, or-false, or-true}
+use mathlib.Core.Bool.{Bool, true, false, or-false, or-true}
 use mathlib.Core.Logic.{_≢_}
 use mathlib.Core.List.{List, [], _∷_, _++_, map, map-append}
 use Prim.Native.Nat.{ℕ, _+_, _≤_, _<_}
@@ -10,7 +10,7 @@ use borrow.Author.Tests.{eqb-true, eqb-false}
 use lib.Dec.{eqb}
 use lib.ListN.{length, take, getD, set, replicate, length-replicate}
 use lib.Seq.{take-suc, take-all, length-take-le, getD-take, getD-set-same, getD-set-other}
-use Rattle.lists.proofs.Lists.{by}
+use Rattle.lists.proofs.Lists.{by, mem-last}
 use Rattle.record.specs.declared.Edit.{Edit}
 use Rattle.lists.specs.Lists.{mem, all}
 use Rattle.lists.proofs.Logic.{all-has, has-getD}
@@ -30,21 +30,16 @@ marks-start m h n =
     let z : n ≢ 0 = eqb-false n 0 e in
     rw (e, getD-set-other {A = ℕ} (replicate m 0) 0 n 1 0 z, getD-zeros m n))
 
-mem-snoc : (n x : ℕ) (l : List ℕ) → mem n (l ++ (x ∷ [])) ≡ (mem n l || eqb n x)
-unfolding mem
-mem-snoc n x [] = or-false (eqb n x)
-mem-snoc n x (y ∷ l) = by (eqb n y) (λ e. rw e) (λ e. rw e (mem-snoc n x l))
-
 pub marks-more : (marks names : List ℕ) (x : ℕ) → x < length marks → MarksNames marks names → MarksNames (set marks x 1) (names ++ (x ∷ []))
 unfolding mem
 marks-more marks names x h k n =
     by (eqb n x)
     (λ (e : eqb n x ≡ true).
     let z : n ≡ x = eqb-true n x e in
-    rw (mem-snoc n x names, e, or-true (mem n names), or-true (eqb n 0), z, getD-set-same marks x 1 0 h))
+    rw (mem-last n x names, e, or-true (mem n names), or-true (eqb n 0), z, getD-set-same marks x 1 0 h))
     (λ (e : eqb n x ≡ false).
     let z : n ≢ x = eqb-false n x e in
-    rw (mem-snoc n x names, e, or-false (mem n names), getD-set-other marks x n 1 0 z) (k n))
+    rw (mem-last n x names, e, or-false (mem n names), getD-set-other marks x n 1 0 z) (k n))
 
 -- one more element of a list is marked by its number, which is below the length of the marks where the element is good
 module _ {A : Type 0} (number : A → ℕ) (good : A → Bool) (size : ℕ) (small : (x : A) → good x ≡ true → number x < size) (l : List A) where

@@ -9,7 +9,7 @@ use Rattle.lists.specs.Lists.{mem}
 use Rattle.record.specs.Record.{Record, written}
 use Rattle.lists.specs.Keyed.{united}
 use Rattle.record.specs.Stored.{editLimit, constraintLimit}
-use Rattle.record_rows.specs.row.Row.{Row, nameCell, leftCell, ruleCell, rightCell, editInRange, constraintInRange, editOf, constraintOf, editRow, constraintRow}
+use Rattle.record_rows.specs.row.Row.{Row, nameCell, constraintCells, editInRange, constraintInRange, editOf, constraintOf, editRow, constraintRow}
 use Rattle.record_rows.specs.ground.Ground.{Rows, TableKind, tableFault, _given_, _orelse_}
 
 -- the rows of a record's tables, and the record that two tables are
@@ -41,8 +41,8 @@ decision left rule right = (eqb rule 1 && eqb right 0) || (eqb rule 0 && eqb lef
 -- 5, 6 and 7 of a constraint row; names: the edits that it knows; adding: it is given to add
 unfoldable pub constraintFurther : List ℕ → Bool → Row → ℕ
 constraintFurther names adding row =
-    5 given unknown names (leftCell row) (rightCell row) orelse 6 given pairNotAllowed (leftCell row) (ruleCell row) (rightCell row)
-    orelse 7 given (adding && decision (leftCell row) (ruleCell row) (rightCell row))
+    5 given unknown names (constraintCells row .left) (constraintCells row .right) orelse 6 given pairNotAllowed (constraintCells row .left) (constraintCells row .rule) (constraintCells row .right)
+    orelse 7 given (adding && decision (constraintCells row .left) (constraintCells row .rule) (constraintCells row .right))
 
 -- the two kinds of table: an edit's key is its name, a constraint is all key, so that 4 never holds of it
 abbrev pub editKind : TableKind

@@ -25,7 +25,7 @@ ghost use Rattle.record_rows.specs.ground.Ground.{known, misplaced};
 ghost use Rattle.record_tables.specs.Table.{namesOf, pairNotAllowed, decision, constraintFurther};
 ghost use Rattle.record_tables.specs.Checked.{MarksNames};
 
-// Whether row i is above the row before it. Pub for `record_union::refusal` and `text_reader`, which walk the rows.
+// Whether row i is above the row before it. Pub for `record_refusal` and `text_reader`, which walk the rows.
 pub fn edit_follows(t: &[[u32; EDIT_CELLS]], i: usize) -> bool
     requires { ⌜ i < length (now t) ⌝ }
     ensures { λ r. ⌜ (Ascending (take 1) (take i (now (t .entry))) → not r ≡ misplaced 1 (take i (now (t .entry))) (getD (now (t .entry)) i [])) ⌝ }
@@ -36,7 +36,7 @@ pub fn edit_follows(t: &[[u32; EDIT_CELLS]], i: usize) -> bool
     row::below(&t[i - 1][..], &t[i][..], 1)
 }
 
-// Whether the name of row i stands above it. Pub for `record_union::refusal` and `text_reader`, which walk the rows.
+// Whether the name of row i stands above it. Pub for `record_refusal` and `text_reader`, which walk the rows.
 pub fn edit_repeated(t: &[[u32; EDIT_CELLS]], i: usize) -> bool
     requires { ⌜ i < length (now t) ⌝ }
     ensures { λ r. ⌜ r ≡ known 1 (getD (now (t .entry)) i []) (take i (now (t .entry))) ⌝ }
@@ -116,7 +116,7 @@ pub fn constraint_further(row: [u32; CONSTRAINT_CELLS], marks: &[u8], adding: bo
     0
 }
 
-// Whether row i is above the row before it. Pub for `record_union::refusal` and `text_reader`, which walk the rows.
+// Whether row i is above the row before it. Pub for `record_refusal` and `text_reader`, which walk the rows.
 pub fn constraint_follows(t: &[[u32; CONSTRAINT_CELLS]], i: usize) -> bool
     requires { ⌜ i < length (now t) ⌝ }
     ensures { λ r. ⌜ (Ascending (take 3) (take i (now (t .entry))) → not r ≡ misplaced 3 (take i (now (t .entry))) (getD (now (t .entry)) i [])) ⌝ }
@@ -127,7 +127,7 @@ pub fn constraint_follows(t: &[[u32; CONSTRAINT_CELLS]], i: usize) -> bool
     row::below(&t[i - 1][..], &t[i][..], 3)
 }
 
-// Whether row i stands above it already. Pub for `record_union::refusal` and `text_reader`, which walk the rows.
+// Whether row i stands above it already. Pub for `record_refusal` and `text_reader`, which walk the rows.
 pub fn constraint_repeated(t: &[[u32; CONSTRAINT_CELLS]], i: usize) -> bool
     requires { ⌜ i < length (now t) ⌝ }
     ensures { λ r. ⌜ r ≡ known 3 (getD (now (t .entry)) i []) (take i (now (t .entry))) ⌝ }
@@ -142,12 +142,6 @@ pub fn constraint_repeated(t: &[[u32; CONSTRAINT_CELLS]], i: usize) -> bool
     false
 }
 
-fn wide(n: u32) -> usize
-    ensures { λ r. ⌜ r ≡ n ⌝ }
-{
-    n as usize
-}
-
 // The marks of the names of a table of edits in range.
 pub fn mark_rows(t: &[[u32; EDIT_CELLS]]) -> [u8; NAMES]
     ensures { λ r. ⌜ (all editInRange (now (t .entry)) ≡ true → MarksNames r (namesOf (now (t .entry)))) ⌝ }
@@ -156,7 +150,7 @@ pub fn mark_rows(t: &[[u32; EDIT_CELLS]]) -> [u8; NAMES]
     marks[0] = 1;
     let mut i = 0;
     while i < t.len() {
-        let n = wide(t[i][0]);
+        let n = numbers::index32(t[i][0]);
         let k = ground::slot(n, NAMES, NAMES);
         marks[k] = 1;
         i += 1;
@@ -164,7 +158,7 @@ pub fn mark_rows(t: &[[u32; EDIT_CELLS]]) -> [u8; NAMES]
     marks
 }
 
-// The marks of the first n edits, in range. Pub for `record_union::refusal`, whose count is of the table's rows.
+// The marks of the first n edits, in range. Pub for `record_refusal`, whose count is of the table's rows.
 pub fn mark_edits(a: [Edit; EDITS], n: usize) -> [u8; NAMES]
     requires { ⌜ n ≤ editLimit ⌝ }
     ensures { λ r. ⌜ (all (λ e. editInRange (editRow e)) (take n a) ≡ true → MarksNames r (map nameOf (take n a))) ⌝ }

@@ -1,6 +1,5 @@
 // Two tables of rows without fault as a record, and the union of two records: one walk through each pair of tables.
 // The functions are pub for the crates of this workspace that join records.
-pub mod refusal;
 
 use record::Body;
 use record::CONSTRAINTS;

@@ -20,8 +20,8 @@ Inv-loop from to schedule catalogue₀ journal₀ page₀ catalogue journal page
 abbrev μ-loop : tie.MeasureT-loop
 μ-loop from to schedule catalogue₀ journal₀ page₀ catalogue journal page = page
 
-least-requires : tie.Need-least-requires Inv-loop μ-loop
-least-requires c κs = search needs
+lesser-requires : tie.Need-lesser-requires Inv-loop μ-loop
+lesser-requires c κs = search needs
 
 loop-holds : tie.Need-loop-holds Inv-loop μ-loop
 loop-holds c =
@@ -101,7 +101,7 @@ returns c =
     let l = c .before in
     let s = l .before .before .before .before in
     let g : length (s .args .t2 .edits) ≡ rows = search (needs, length-mapped) in
-    ap storedView (undo-end cells places rows (s .args .t2 .edits) g _ _ _ _ _ _ (l .loop .inv .0) (c .loop-test .left) (l .before .least .ensures))
+    ap storedView (undo-end cells places rows (s .args .t2 .edits) g _ _ _ _ _ _ (l .loop .inv .0) (c .loop-test .left) (l .before .lesser .ensures))
 
 pub back-to-spec : {M : Type 1} → statement M
 back-to-spec =
@@ -109,7 +109,7 @@ back-to-spec =
     (tie.spec
     Inv-loop
     μ-loop
-    least-requires
+    lesser-requires
     loop-holds
     sub-page
     mul-edit

@@ -19,11 +19,11 @@ Inv-loop opened old new end same₀ same =
 abbrev μ-loop : tie.MeasureT-loop
 μ-loop opened old new end same₀ same = end - same
 
-least-requires : tie.Need-least-requires Inv-loop μ-loop
-least-requires c κs = search needs
+lesser-requires : tie.Need-lesser-requires Inv-loop μ-loop
+lesser-requires c κs = search needs
 
-least-requires-2 : tie.Need-least-requires-2 Inv-loop μ-loop
-least-requires-2 c κs = search needs
+lesser-requires-2 : tie.Need-lesser-requires-2 Inv-loop μ-loop
+lesser-requires-2 c κs = search needs
 
 loop-holds : tie.Need-loop-holds Inv-loop μ-loop
 loop-holds c = (omega arith, below-none _)
@@ -46,7 +46,7 @@ returns c =
     let s = l .before .before .before in
     let g : length (s .args .t1 .edits) ≡ rows = search (needs, length-mapped) in
     let h : length (s .args .t3 .edits) ≡ rows = search (needs, length-mapped) in
-    let e = l .before .least2 .ensures ∙ ap (λ (n : ℕ). min n rows) (l .before .before .least .ensures) in
+    let e = l .before .lesser2 .ensures ∙ ap (λ (n : ℕ). min n rows) (l .before .before .lesser .ensures) in
     common-stops (s .args .t1 .edits) (s .args .t3 .edits) _ _ _ _ g h e (l .loop .inv .0) (l .loop .inv .1) (λ _. c .if1 .taken)
 
 add-same : tie.Need-add-same Inv-loop μ-loop
@@ -64,7 +64,7 @@ returns-2 c =
     let s = l .before .before .before in
     let g : length (s .args .t1 .edits) ≡ rows = search (needs, length-mapped) in
     let h : length (s .args .t3 .edits) ≡ rows = search (needs, length-mapped) in
-    let e = l .before .least2 .ensures ∙ ap (λ (n : ℕ). min n rows) (l .before .before .least .ensures) in
+    let e = l .before .lesser2 .ensures ∙ ap (λ (n : ℕ). min n rows) (l .before .before .lesser .ensures) in
     common-stops (s .args .t1 .edits) (s .args .t3 .edits) _ _ _ _ g h e (l .loop .inv .0) (l .loop .inv .1) (λ k. absurd (omega arith))
 
 pub common-beginning-spec : {M : Type 1} → statement M
@@ -73,8 +73,8 @@ common-beginning-spec =
     (tie.spec
     Inv-loop
     μ-loop
-    least-requires
-    least-requires-2
+    lesser-requires
+    lesser-requires-2
     loop-holds
     mul-before
     element-copy-out-before

@@ -18,8 +18,8 @@ Inv-loop from to schedule end catalogue₀ journal₀ page₀ catalogue journal 
 abbrev μ-loop : tie.MeasureT-loop
 μ-loop from to schedule end catalogue₀ journal₀ page₀ catalogue journal page = end - page
 
-least-requires : tie.Need-least-requires Inv-loop μ-loop
-least-requires c κs = search needs
+lesser-requires : tie.Need-lesser-requires Inv-loop μ-loop
+lesser-requires c κs = search needs
 
 loop-holds : tie.Need-loop-holds Inv-loop μ-loop
 loop-holds c =
@@ -73,7 +73,7 @@ loop-again c =
     let l = p .before .before .before in
     let s = l .before .before .before .before in
     let g : length (s .args .t2 .edits) ≡ rows = search (needs, length-mapped) in
-    let r : l .before .before .before .least .result ≤ length (s .args .t2 .edits) = omega arith in
+    let r : l .before .before .before .lesser .result ≤ length (s .args .t2 .edits) = omega arith in
     run-within cells places rows (s .args .t2 .edits) _ _ _ _ _ _ _ (l .loop .inv) (p .before .before .loop-test .taken) r (p .place-of .ensures)
     _ _ (c .before .before .if1 .taken) (c .run-entry .ensures)
 
@@ -95,7 +95,7 @@ loop-again-2 c =
     let l = p .before .before .before in
     let s = l .before .before .before .before in
     let g : length (s .args .t2 .edits) ≡ rows = search (needs, length-mapped) in
-    let r : l .before .before .before .least .result ≤ length (s .args .t2 .edits) = omega arith in
+    let r : l .before .before .before .lesser .result ≤ length (s .args .t2 .edits) = omega arith in
     run-past cells places rows (s .args .t2 .edits) _ _ _ _ _ _ _ (l .loop .inv) (p .before .before .loop-test .taken) r (p .place-of .ensures)
     _ (c .before .if1 .left) (c .absent-entry .ensures)
 
@@ -104,7 +104,7 @@ returns c =
     let l = c .before in
     let s = l .before .before .before .before in
     let g : length (s .args .t2 .edits) ≡ rows = search (needs, length-mapped) in
-    ap storedView (pages-run-end cells places rows (s .args .t2 .edits) g _ _ _ _ _ _ (l .loop .inv) (c .loop-test .left) (l .before .before .before .least .ensures))
+    ap storedView (pages-run-end cells places rows (s .args .t2 .edits) g _ _ _ _ _ _ (l .loop .inv) (c .loop-test .left) (l .before .before .before .lesser .ensures))
 
 pub forward-to-spec : {M : Type 1} → statement M
 forward-to-spec =
@@ -112,7 +112,7 @@ forward-to-spec =
     (tie.spec
     Inv-loop
     μ-loop
-    least-requires
+    lesser-requires
     loop-holds
     add-page
     mul-edit

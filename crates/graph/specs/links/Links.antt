@@ -7,46 +7,69 @@ use lib.Dec.{eqb}
 use lib.ListN.{length, getD, set}
 use Rattle.lists.specs.Lists.{indexOf, _among_, distinct}
 use Rattle.record.specs.Record.{Record, names}
-use Rattle.graph.specs.links.Marks.{nameAt}
+use Rattle.graph.specs.links.Marks.{markLimit, nameAt}
+
+-- The key of a row is the index of its right edit above the base of its rule.
+abbrev pub notafterBase : ℕ
+notafterBase = 0
+
+abbrev pub enablesBase : ℕ
+enablesBase = markLimit
+
+abbrev pub noncommutingBase : ℕ
+noncommutingBase = enablesBase + markLimit
+
+-- One array holds the heads of all keys, then the links and then the left ends of so many rows.
+abbrev pub keyLimit : ℕ
+keyLimit = noncommutingBase + markLimit
+
+abbrev pub rowLimit : ℕ
+rowLimit = 1024
+
+abbrev pub leftsStart : ℕ
+leftsStart = keyLimit + rowLimit
+
+abbrev pub rowsLength : ℕ
+rowsLength = leftsStart + rowLimit
 
 -- the last row up to p with the key k; 0 where there is none
 unfoldable pub lastRow : List ℕ → ℕ → ℕ → ℕ
 lastRow keys k zero = 0
 lastRow keys k (suc p) = cond (eqb (getD keys p 0) k) (suc p) (lastRow keys k p)
 
--- One array holds the heads of 384 keys, then the links and then the left ends of 1024 rows; these are of the row i, counted from 0.
+-- the head of a key; the link and the left end of the row i, counted from 0
 unfoldable pub headAt : List ℕ → ℕ → ℕ
 headAt rows k = getD rows k 0
 
 unfoldable pub linkAt : List ℕ → ℕ → ℕ
-linkAt rows i = getD rows (384 + i) 0
+linkAt rows i = getD rows (keyLimit + i) 0
 
 unfoldable pub leftAt : List ℕ → ℕ → ℕ
-leftAt rows i = getD rows (1408 + i) 0
+leftAt rows i = getD rows (leftsStart + i) 0
 
 -- row i, linked before all others of its key
 unfoldable pub withRow : List ℕ → ℕ → ℕ → ℕ → List ℕ
-withRow rows i key left = set (set (set rows (384 + i) (headAt rows key)) key (i + 1)) (1408 + i) left
+withRow rows i key left = set (set (set rows (keyLimit + i) (headAt rows key)) key (i + 1)) (leftsStart + i) left
 
 -- no step along the links leaves the array, and each goes down
 pub record Safe (rows : List ℕ) : Type 0 where
-  pub head : (k : ℕ) → k < 384 → headAt rows k ≤ 1024
-  pub link : (i : ℕ) → i < 1024 → linkAt rows i ≤ i
-  pub left : (i : ℕ) → i < 1024 → leftAt rows i < 128
+  pub head : (k : ℕ) → k < keyLimit → headAt rows k ≤ rowLimit
+  pub link : (i : ℕ) → i < rowLimit → linkAt rows i ≤ i
+  pub left : (i : ℕ) → i < rowLimit → leftAt rows i < markLimit
 
 -- what a walk reads: the first row of a key, the one after row j, the left end of row j
 abbrev pub FirstRow : List ℕ → ℕ → ℕ → Type 0
-FirstRow rows key r = (r ≡ headAt rows key) × (r ≤ 1024)
+FirstRow rows key r = (r ≡ headAt rows key) × (r ≤ rowLimit)
 
 abbrev pub NextRow : List ℕ → ℕ → ℕ → Type 0
 NextRow rows j r = (r ≡ linkAt rows (j - 1)) × (r < j)
 
 abbrev pub LeftEnd : List ℕ → ℕ → ℕ → Type 0
-LeftEnd rows j r = (r ≡ leftAt rows (j - 1)) × (r < 128)
+LeftEnd rows j r = (r ≡ leftAt rows (j - 1)) × (r < markLimit)
 
 -- the rows of these keys are linked
 pub record LinkedByKey (keys rows : List ℕ) : Type 0 where
-  pub head : (k : ℕ) → k < 384 → headAt rows k ≡ lastRow keys k (length keys)
+  pub head : (k : ℕ) → k < keyLimit → headAt rows k ≡ lastRow keys k (length keys)
   pub link : (i : ℕ) → i < length keys → linkAt rows i ≡ lastRow keys (getD keys i 0) i
 
 -- no row of the key has a left of which P holds
@@ -75,7 +98,7 @@ pub record RowOf (R : Record) (base : ℕ) (keys rows : List ℕ) (a b : ℕ) : 
 -- The linked rows above the base are those of the relation `leads` between the edits of R.
 pub record Leads (leads : ℕ → ℕ → Bool) (R : Record) (base : ℕ) (rows : List ℕ) : Type 0 where
   pub apart : distinct (names R) ≡ true
-  pub few : length (names R) ≤ 128
+  pub few : length (names R) ≤ markLimit
   pub keys : List ℕ
   pub linked : LinkedByKey keys rows
   pub known : (i y : ℕ) → i < length keys → y < length (names R) → getD keys i 0 ≡ base + y → leftAt rows i < length (names R)

@@ -4,6 +4,7 @@ use mathlib.Core.Bool.{Bool, true}
 use mathlib.Core.List.{List}
 use Prim.Native.Nat.{ℕ, _+_, _≤_, _<_}
 use lib.ListN.{length, getD}
+use Rattle.graph.specs.links.Marks.{markLimit}
 use Rattle.graph.specs.links.Links.{leftAt, LinkedByKey}
 
 abbrev pub On : List ℕ → ℕ → Type 0
@@ -14,7 +15,7 @@ Off m y = On m y → ⊥
 
 -- the set p holds the left of each row whose right it holds
 abbrev pub ClosedOver : ℕ → List ℕ → List ℕ → (ℕ → Bool) → Type 0
-ClosedOver base keys rows p = (i y : ℕ) → i < length keys → y < 128 → getD keys i 0 ≡ base + y → p y ≡ true → p (leftAt rows i) ≡ true
+ClosedOver base keys rows p = (i y : ℕ) → i < length keys → y < markLimit → getD keys i 0 ≡ base + y → p y ≡ true → p (leftAt rows i) ≡ true
 
 -- The marks m before the call at x, and m′ after it: m′ adds x, is closed over what is new, and holds no more than any such set must.
 pub record Marked (base : ℕ) (rows m : List ℕ) (x : ℕ) (m′ : List ℕ) : Type 0 where

@@ -27,11 +27,11 @@ filler-requires c κs = search needs
 loop-holds : tie.Need-loop-holds Inv-loop μ-loop
 loop-holds c = (omega arith, omega arith, refl, λ R h e f g. listing-start R (schedule R h) _ (c .filler .ensures))
 
-element-copy-out-wide8 : tie.Need-element-copy-out-wide8 Inv-loop μ-loop
-element-copy-out-wide8 c = search needs
+element-copy-out-index8 : tie.Need-element-copy-out-index8 Inv-loop μ-loop
+element-copy-out-index8 c = search needs
 
-wide8-requires : tie.Need-wide8-requires Inv-loop μ-loop
-wide8-requires c κs = search needs
+index8-requires : tie.Need-index8-requires Inv-loop μ-loop
+index8-requires c κs = search needs
 
 sub-t16 : tie.Need-sub-t16 Inv-loop μ-loop
 sub-t16 c = search needs
@@ -40,7 +40,7 @@ returns : tie.Need-returns Inv-loop μ-loop
 returns c =
     let s = c .before .before .before .before .before .before in
     let l = c .before .before .before .before .loop in
-    λ R h e f g. listing-init R f (s .args .t1) e (s .args .t2) (s .pre .0) (s .pre .1) h g (l .q) (omega arith) (omega arith) (sym (c .before .wide8 .ensures) ∙ c .if1 .taken)
+    λ R h e f g. listing-init R f (s .args .t1) e (s .args .t2) (s .pre .0) (s .pre .1) h g (l .q) (omega arith) (omega arith) (sym (c .before .index8 .ensures) ∙ c .if1 .taken)
 
 sub-next : tie.Need-sub-next Inv-loop μ-loop
 sub-next c = omega (arith, c .if1 .left)
@@ -49,13 +49,13 @@ mul-next : tie.Need-mul-next Inv-loop μ-loop
 mul-next c =
     let s = c .before .before .before .before .before .before in
     let l = c .before .before .before .before .loop in
-    omega (arith, c .before .wide8 .ensures, s .pre .2 (l .q))
+    omega (arith, c .before .index8 .ensures, s .pre .2 (l .q))
 
 element-copy-out-next : tie.Need-element-copy-out-next Inv-loop μ-loop
 element-copy-out-next c =
     let s = c .before .before .before .before .before .before in
     let l = c .before .before .before .before .loop in
-    let k : c .before .wide8 .result - 1 < 127 = omega (arith, c .if1 .left, c .before .wide8 .ensures, s .pre .2 (l .q)) in
+    let k : c .before .index8 .result - 1 < 127 = omega (arith, c .if1 .left, c .before .index8 .ensures, s .pre .2 (l .q)) in
     search needs
 
 sub-edits : tie.Need-sub-edits Inv-loop μ-loop
@@ -80,7 +80,7 @@ loop-again c =
       omega arith,
       omega arith,
       length-set (l .edits) (l .q - 1) _ ∙ l .inv .2,
-      λ R h e f g. rw (c .before .before .wide8 .ensures) (listing-step R f (s .args .t1) e (s .args .t2) (s .pre .0) (s .pre .1) h g (l .edits) (l .q) _ (omega arith) (omega arith) (omega (arith, c .before .if1 .left, c .before .before .wide8 .ensures)) (l .inv .3 R h e f g)),
+      λ R h e f g. rw (c .before .before .index8 .ensures) (listing-step R f (s .args .t1) e (s .args .t2) (s .pre .0) (s .pre .1) h g (l .edits) (l .q) _ (omega arith) (omega arith) (omega (arith, c .before .if1 .left, c .before .before .index8 .ensures)) (l .inv .3 R h e f g)),
     )
 
 sub-t24 : tie.Need-sub-t24 Inv-loop μ-loop
@@ -100,8 +100,8 @@ edits-of-spec =
     μ-loop
     filler-requires
     loop-holds
-    element-copy-out-wide8
-    wide8-requires
+    element-copy-out-index8
+    index8-requires
     sub-t16
     returns
     sub-next

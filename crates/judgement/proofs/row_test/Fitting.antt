@@ -11,30 +11,29 @@ use lib.Seq.{drop-cons}
 use borrow.Author.Tests.{ltb-true, lt-ltb, eq-eqb, ne-eqb}
 use Rattle.record.specs.declared.Constraint.{Constraint}
 use Rattle.record.specs.declared.Record as declared
-use Rattle.lists.specs.Lists.{all, mem, indexOf}
+use Rattle.lists.specs.Lists.{all, mem, indexOf, positionOf}
 use Rattle.record.specs.Record.{Record, names}
 use Rattle.record.specs.Stored.{stored}
 use Rattle.record.specs.Judgement.{fits, startsWithInit, soundRow}
-use Rattle.lists.proofs.Lists.{is-by, same-by}
+use Rattle.lists.proofs.Lists.{is-by, same-by, position-none, position-some, position-at}
 use Rattle.graph.proofs.links.Names.{place-known}
 use Rattle.graph.specs.indexes.Fit.{Fit}
 use Rattle.graph.proofs.indexes.Tables.{constraint-at}
 use Rattle.graph.proofs.indexes.Resolving.{has-at, left-known, right-known}
-use Rattle.judgement.specs.row_test.Seats.{Indexed, seatIn, Seated, knownApart}
-use Rattle.judgement.proofs.row_test.Seating.{seat-none, seat-some, seat-at}
+use Rattle.judgement.specs.row_test.Seats.{Indexed, Seated, knownApart}
 
-module _ (row : List ℕ) (x y a b : ℕ) (p : a ≡ seatIn row x) (q : b ≡ seatIn row y) where
+module _ (row : List ℕ) (x y a b : ℕ) (p : a ≡ positionOf x row) (q : b ≡ positionOf y row) where
   absent : a ≡ 0 → mem x row ≡ false
-  absent e = seat-none row x (sym p ∙ e)
+  absent e = position-none x row (sym p ∙ e)
 
   absent-right : b ≡ 0 → mem y row ≡ false
-  absent-right e = seat-none row y (sym q ∙ e)
+  absent-right e = position-none y row (sym q ∙ e)
 
   here : (a ≡ 0 → ⊥) → mem x row ≡ true
-  here n = seat-some row x (λ e. n (p ∙ e))
+  here n = position-some x row (λ e. n (p ∙ e))
 
   here-right : (b ≡ 0 → ⊥) → mem y row ≡ true
-  here-right n = seat-some row y (λ e. n (q ∙ e))
+  here-right n = position-some y row (λ e. n (q ∙ e))
 
   pub earlier-absent : a ≡ 0 → true ≡ fits row x 0 y
   unfolding fits
@@ -47,8 +46,8 @@ module _ (row : List ℕ) (x y a b : ℕ) (p : a ≡ seatIn row x) (q : b ≡ se
   pub earlier-both : (a ≡ 0 → ⊥) → (b ≡ 0 → ⊥) → ltb a b ≡ fits row x 0 y
   unfolding fits
   earlier-both n m =
-      let u = p ∙ seat-at row x (here n) in
-      let v = q ∙ seat-at row y (here-right m) in
+      let u = p ∙ position-at x row (here n) in
+      let v = q ∙ position-at y row (here-right m) in
       rw (here n, here-right m)
       (same-by _ _ (λ h. lt-ltb (indexOf x row) (indexOf y row) (omega (arith, ltb-true a b h))) (λ h. lt-ltb a b (omega (arith, ltb-true (indexOf x row) (indexOf y row) h))))
 
@@ -70,13 +69,13 @@ fits-other row x (suc (suc k)) y n m = refl
 -- the seats of a constraint's ends
 module _ (r : declared.Record) (R : Record) (e : r ≡ stored R) (f : Fit R) (table : List ℕ) (t : Indexed R table) (row places : List ℕ) (s : Seated R row places)
     (j : ℕ) (d : Constraint) (h : j < length (R .constraints)) where
-  pub left-seat : (w i : ℕ) → w ≡ getD (r .constraints) j d .left → i ≡ getD table w 0 → getD places i 0 ≡ seatIn row (getD (R .constraints) j d .left)
+  pub left-seat : (w i : ℕ) → w ≡ getD (r .constraints) j d .left → i ≡ getD table w 0 → getD places i 0 ≡ positionOf (getD (R .constraints) j d .left) row
   left-seat w i p q =
       let c = getD (R .constraints) j d in
       let k = left-known (f .formed) _ _ _ (has-at (R .constraints) j d h) in
       ap (λ v. getD places v 0) (q ∙ ap (λ v. getD table v 0) p ∙ ap (λ v. getD table (v .left) 0) (constraint-at r R e j d h) ∙ t (c .left) ∙ place-known (c .left) (names R) k) ∙ s (c .left) k
 
-  pub right-seat : (w i : ℕ) → w ≡ getD (r .constraints) j d .right → i ≡ getD table w 0 → getD places i 0 ≡ seatIn row (getD (R .constraints) j d .right)
+  pub right-seat : (w i : ℕ) → w ≡ getD (r .constraints) j d .right → i ≡ getD table w 0 → getD places i 0 ≡ positionOf (getD (R .constraints) j d .right) row
   right-seat w i p q =
       let c = getD (R .constraints) j d in
       let k = right-known (f .formed) _ _ _ (has-at (R .constraints) j d h) in

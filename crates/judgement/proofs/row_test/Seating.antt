@@ -9,16 +9,16 @@ use lib.Dec.{eqb}
 use lib.ListN.{length, getD, take, set, replicate}
 use lib.Seq.{getD-set-same, getD-set-other, take-suc, take-all, length-take-le}
 use borrow.Author.Tests.{eq-eqb, ne-eqb}
-use Rattle.lists.specs.Lists.{all, mem, indexOf, distinct, _among_}
+use Rattle.lists.specs.Lists.{all, mem, indexOf, positionOf, distinct, _among_}
 use Rattle.record.specs.Record.{Record, names}
-use Rattle.lists.proofs.Lists.{by, clash, is-by, mem-index, snoc-by, all-in, in-all, distinct-snoc, index-snoc}
+use Rattle.lists.proofs.Lists.{by, clash, is-by, mem-index, snoc-by, all-in, in-all, distinct-snoc, index-snoc, position-none, position-some}
 use Rattle.record.proofs.Records.{init-known}
 use Rattle.graph.specs.links.Marks.{nameAt}
 use Rattle.graph.proofs.links.Names.{getD-among, getD-place, place-getD, later-not, ascending-distinct, place-known, place-unknown}
 use Rattle.graph.proofs.links.Marks.{zeros-get}
 use Rattle.graph.specs.indexes.Fit.{Fit}
 use Rattle.graph.proofs.indexes.Tables.{names-few}
-use Rattle.judgement.specs.row_test.Seats.{Indexed, seatIn, Seated, knownApart}
+use Rattle.judgement.specs.row_test.Seats.{Indexed, Seated, knownApart}
 
 init-place : (R : Record) → indexOf 0 (names R) ≡ 0
 unfolding names indexOf
@@ -44,30 +44,18 @@ module _ (R : Record) (table : List ℕ) (t : Indexed R table) (name : ℕ) wher
       (λ i. rw i)
 
 -- seats
-pub seat-snoc : (l : List ℕ) (x y : ℕ) → mem x l ≡ false → seatIn (l ++ (x ∷ [])) y ≡ cond (eqb y x) (suc (length l)) (seatIn l y)
-unfolding seatIn
+pub seat-snoc : (l : List ℕ) (x y : ℕ) → mem x l ≡ false → positionOf y (l ++ (x ∷ [])) ≡ cond (eqb y x) (suc (length l)) (positionOf y l)
+unfolding positionOf
 seat-snoc l x y n = index-snoc suc l x y n
-
-pub seat-none : (l : List ℕ) (x : ℕ) → seatIn l x ≡ 0 → mem x l ≡ false
-unfolding seatIn
-seat-none l x e = by (mem x l) (λ m. absurd (let z = rw m at e in omega arith)) (λ m. m)
-
-pub seat-some : (l : List ℕ) (x : ℕ) → (seatIn l x ≡ 0 → ⊥) → mem x l ≡ true
-unfolding seatIn
-seat-some l x n = by (mem x l) (λ m. m) (λ m. absurd (n (rw m)))
-
-pub seat-at : (l : List ℕ) (x : ℕ) → x among l → seatIn l x ≡ suc (indexOf x l)
-unfolding seatIn
-seat-at l x m = rw m
 
 -- the first q names are known and distinct, and have their seats
 pub record Seating (R : Record) (row places : List ℕ) (q : ℕ) : Type 0 where
   pub known : (x : ℕ) → x among take q row → x among names R
   pub apart : distinct (take q row) ≡ true
-  pub seats : (y : ℕ) → y < length (names R) → getD places y 0 ≡ seatIn (take q row) (nameAt R y)
+  pub seats : (y : ℕ) → y < length (names R) → getD places y 0 ≡ positionOf (nameAt R y) (take q row)
 
 pub seating-start : (R : Record) (row : List ℕ) → Seating R row (replicate 128 0) 0
-unfolding mem distinct seatIn
+unfolding mem distinct positionOf
 seating-start R row = record { known = λ x h. clash h refl; apart = refl; seats = λ y l. zeros-get 128 y }
 
 module _ (R : Record) (f : Fit R) (row places : List ℕ) (q : ℕ) (h : q < length row) where
@@ -78,15 +66,15 @@ module _ (R : Record) (f : Fit R) (row places : List ℕ) (q : ℕ) (h : q < len
       by (all (λ x. mem x (names R)) row) (λ a. clash (all-in (λ x. mem x (names R)) row a (getD row q 0) (getD-among row q h)) n) (λ a. sym (rw a))
 
   module _ (size : length places ≡ 128) (g : Seating R row places q) (i : getD row q 0 among names R) where
-    seat-here : getD places (indexOf (getD row q 0) (names R)) 0 ≡ seatIn (take q row) (getD row q 0)
-    seat-here = g .seats (indexOf (getD row q 0) (names R)) (mem-index (getD row q 0) (names R) i) ∙ ap (seatIn (take q row)) (getD-place (getD row q 0) (names R) i)
+    seat-here : getD places (indexOf (getD row q 0) (names R)) 0 ≡ positionOf (getD row q 0) (take q row)
+    seat-here = g .seats (indexOf (getD row q 0) (names R)) (mem-index (getD row q 0) (names R) i) ∙ ap (λ (x : ℕ). positionOf x (take q row)) (getD-place (getD row q 0) (names R) i)
 
     -- a name that stands before
     pub repeated-not : (getD places (indexOf (getD row q 0) (names R)) 0 ≡ 0 → ⊥) → false ≡ knownApart R row
     unfolding knownApart
     repeated-not n =
         by (distinct row)
-        (λ d. clash (seat-some (take q row) (getD row q 0) (λ e. n (seat-here ∙ e))) (later-not row q d h))
+        (λ d. clash (position-some (getD row q 0) (take q row) (λ e. n (seat-here ∙ e))) (later-not row q d h))
         (λ d. sym (rw d (and-false (all (λ x. mem x (names R)) row))))
 
     pub seating-step : getD places (indexOf (getD row q 0) (names R)) 0 ≡ 0 → Seating R row (set places (indexOf (getD row q 0) (names R)) (q + 1)) (q + 1)
@@ -94,7 +82,7 @@ module _ (R : Record) (f : Fit R) (row places : List ℕ) (q : ℕ) (h : q < len
         let x = getD row q 0 in
         let p = indexOf (getD row q 0) (names R) in
         let d = ascending-distinct (names R) (f .ascends) in
-        let m = seat-none (take q row) (getD row q 0) (sym seat-here ∙ e) in
+        let m = position-none (getD row q 0) (take q row) (sym seat-here ∙ e) in
         let l : indexOf (getD row q 0) (names R) < length places = omega (arith, mem-index (getD row q 0) (names R) i, names-few R f) in
         let more : take (q + 1) row ≡ take q row ++ (getD row q 0 ∷ []) = rw (add-one q) (take-suc row q 0 h) in record {
           known = λ y k. snoc-by y (take q row) x (rw more at k) (g .known y) (λ z. rw z i);

@@ -8,7 +8,8 @@ use lib.ListN.{length, replicate}
 use Rattle.record.specs.declared.Schedule.{Schedule}
 use Rattle.record.specs.Record.{Record}
 use Rattle.record.specs.declared.Record as declared
-use Rattle.record.specs.Stored.{fillerEdit, stored}
+use Rattle.record.specs.Stored.{fillerEdit, editLimit, stored}
+use Rattle.graph.specs.links.Marks.{markLimit}
 use Rattle.record.specs.Judgement.{sound, soundRow}
 use Rattle.record_rows.specs.ground.Ground.{Rows, _given_, _orelse_}
 use Rattle.record_tables.specs.Table.{emptyTables, decoded, lentFault}
@@ -29,7 +30,7 @@ pub record Taking (edits constraints : Rows) (multilog : declared.Record) : Type
   pub sound-now : sound (decoded edits constraints) ≡ true
 
 abbrev pub noMarks : List ℕ
-noMarks = replicate 128 0
+noMarks = replicate markLimit 0
 
 abbrev pub refusedJudgement : ℕ → Judgement
 refusedJudgement number = record { number = number; count = 0; must = noMarks; never = noMarks; settled = noMarks; place = noMarks }
@@ -49,7 +50,7 @@ rowAnswerOf edits constraints row =
     cond (eqb n 0) (record { number = 0; sound = soundRow (decoded edits constraints) row }) (record { number = n; sound = false })
 
 abbrev pub emptySchedule : Schedule
-emptySchedule = record { edits = replicate 127 fillerEdit; count = 0 }
+emptySchedule = record { edits = replicate editLimit fillerEdit; count = 0 }
 
 -- the bench schedule with nothing hidden
 unfoldable pub scheduleAnswerOf : Rows → Rows → ScheduleAnswer

@@ -11,7 +11,7 @@ use lib.Seq.{drop-cons}
 use borrow.Author.Tests.{eq-eqb, ne-eqb}
 use Rattle.lists.specs.Lists.{any, mem, indexOf, _among_, _within_}
 use Rattle.record.specs.Record.{Record, names, written, enables, WellFormed}
-use Rattle.record.specs.Schedule.{needs, musts, order, ring, barred, admit, admits, scheduled, schedule}
+use Rattle.record.specs.Schedule.{needs, musts, order, ring, bars, barred, admit, admits, scheduled, schedule}
 use Rattle.record.specs.Judgement.{must}
 use Rattle.lists.proofs.Lists.{by, clash, is-by, and-l, and-r, and-i, or-by, or-l, or-r, or-no-r, same-by, mem-head, mem-tail, nil-no, cons-by, cons-within, one-within, any-by, any-in, no-any, any-no, mem-index, closure-least}
 use Rattle.record.proofs.Order.{needs-holds, needs-closed, needs-known, needs-within, ring-grows}
@@ -23,7 +23,7 @@ use Rattle.graph.specs.links.Reach.{On, Off}
 use Rattle.graph.proofs.links.Names.{getD-among, getD-place}
 use Rattle.graph.proofs.links.Marks.{marks-same}
 use Rattle.judgement_marks.proofs.Standing.{need-needs, part-ring, musts-closed, must-musts, marked-is}
-use Rattle.judgement_marks.specs.schedules.Rows.{Hides, bars, Clear, Missed}
+use Rattle.judgement_marks.specs.schedules.Rows.{Hides, Clear, Missed}
 
 -- barred, by marks
 module _ (R : Record) (hiddens t marks hidden mustmarks : List ℕ) (x : ℕ) (l : x < length (names R)) (e : marks ≡ marksOf R (λ y. mem y t))
@@ -68,7 +68,7 @@ module _ (R : Record) (w : WellFormed R) (hiddens t : List ℕ) (g : Clear R hid
 
   -- nothing of the set is barred, so that of both together just the needs of x can be
   bars-barred : any (bars R hiddens) (needs R (x ∷ t)) ≡ barred R hiddens x
-  unfolding barred bars
+  unfolding barred
   bars-barred =
       same-by _ _
       (λ h. any-by (bars R hiddens) (needs R (x ∷ t)) h

@@ -39,8 +39,8 @@ array-read-is-settled-3 c = omega (arith, c .before .before .open-marks .ensures
 is-settled-requires : tie.Need-is-settled-requires Inv-loop μ-loop
 is-settled-requires c κs = search needs
 
-bit-requires : tie.Need-bit-requires Inv-loop μ-loop
-bit-requires c κs = search needs
+bit8-requires : tie.Need-bit8-requires Inv-loop μ-loop
+bit8-requires c κs = search needs
 
 array-write-marks : tie.Need-array-write-marks Inv-loop μ-loop
 array-write-marks c = search needs
@@ -55,9 +55,9 @@ loop-again : tie.Need-loop-again Inv-loop μ-loop
 loop-again c =
     let l = c .before .before .before .loop in (
       omega arith,
-      length-set (l .marks) (l .x) (c .bit .result) ∙ l .inv .1,
-      λ R g q d e. filled-step R _ (l .x) (l .marks) (c .bit .result) (omega arith)
-          (c .bit .ensures ∙ ap (λ b. cond b 1 0) (c .before .is-settled .ensures ∙ settled-is-by R _ _ _ (l .x) d e (c .before .before .before .before .open-marks .ensures .1 R g q e) (omega arith))) (l .inv .2 R g q d e),
+      length-set (l .marks) (l .x) (c .bit8 .result) ∙ l .inv .1,
+      λ R g q d e. filled-step R _ (l .x) (l .marks) (c .bit8 .result) (omega arith)
+          (c .bit8 .ensures ∙ ap (λ b. cond b 1 0) (c .before .is-settled .ensures ∙ settled-is-by R _ _ _ (l .x) d e (c .before .before .before .before .open-marks .ensures .1 R g q e) (omega arith))) (l .inv .2 R g q d e),
     )
 
 returns : tie.Need-returns Inv-loop μ-loop
@@ -77,7 +77,7 @@ settled-marks-spec =
     array-read-is-settled-2
     array-read-is-settled-3
     is-settled-requires
-    bit-requires
+    bit8-requires
     array-write-marks
     add-x
     loop-less

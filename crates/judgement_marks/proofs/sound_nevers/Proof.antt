@@ -31,8 +31,8 @@ loop-holds c = (omega arith, refl, λ R g q e u. filled-start R _)
 is-never-requires : tie.Need-is-never-requires Inv-loop μ-loop
 is-never-requires c κs = search needs
 
-bit-requires : tie.Need-bit-requires Inv-loop μ-loop
-bit-requires c κs = search needs
+bit8-requires : tie.Need-bit8-requires Inv-loop μ-loop
+bit8-requires c κs = search needs
 
 array-write-marks : tie.Need-array-write-marks Inv-loop μ-loop
 array-write-marks c = search needs
@@ -48,9 +48,9 @@ loop-again c =
     let l = c .before .before .before .before .before .loop in
     let t = c .before .before .before .before .before .before .reversed in (
       omega arith,
-      length-set (l .marks) (l .x) (c .bit .result) ∙ l .inv .1,
-      λ R g q e u. filled-step R _ (l .x) (l .marks) (c .bit .result) (omega arith)
-          (c .bit .ensures ∙ ap (λ b. cond b 1 0) (c .before .is-never .ensures R g (t .ensures .1 R (g .notafters) q) q (omega arith) e u (l .inv .2 R g q e u .done))) (l .inv .2 R g q e u),
+      length-set (l .marks) (l .x) (c .bit8 .result) ∙ l .inv .1,
+      λ R g q e u. filled-step R _ (l .x) (l .marks) (c .bit8 .result) (omega arith)
+          (c .bit8 .ensures ∙ ap (λ b. cond b 1 0) (c .before .is-never .ensures R g (t .ensures .1 R (g .notafters) q) q (omega arith) e u (l .inv .2 R g q e u .done))) (l .inv .2 R g q e u),
     )
 
 returns : tie.Need-returns Inv-loop μ-loop
@@ -67,7 +67,7 @@ sound-nevers-spec =
     reversed-requires
     loop-holds
     is-never-requires
-    bit-requires
+    bit8-requires
     array-write-marks
     add-x
     loop-less

@@ -8,7 +8,7 @@ use lib.Dec.{eqb}
 use lib.ListN.{length, getD, take}
 use Rattle.lists.specs.Lists.{any, mem, _among_, _within_}
 use Rattle.record.specs.Record.{Record, names, notafter, enables}
-use Rattle.record.specs.Schedule.{needs, musts, ring, barred}
+use Rattle.record.specs.Schedule.{needs, ring, bars, barred}
 use Rattle.graph.specs.links.Marks.{nameAt, marksOf}
 use Rattle.graph.specs.links.Resolved.{Resolved}
 use Rattle.judgement_marks.specs.declared.schedules.Row.{Row}
@@ -30,10 +30,6 @@ foundAt R false r = none
 -- the marks of the hidden edits
 abbrev pub Hides : Record → List ℕ → List ℕ → Type 0
 Hides R marks hidden = (y : ℕ) → y < length (names R) → eqb (getD marks y 0) 1 ≡ mem (nameAt R y) hidden
-
--- hidden and not a must
-unfoldable pub bars : Record → List ℕ → ℕ → Bool
-bars R hidden x = mem x hidden && not (mem x (musts R))
 
 -- a set that the schedule goes by: closed, with INIT, of known edits, and none of it barred
 pub record Clear (R : Record) (hidden t : List ℕ) : Type 0 where

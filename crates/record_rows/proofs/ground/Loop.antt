@@ -16,7 +16,7 @@ use Rattle.record_rows.specs.row.Row.{Row, same}
 use Rattle.record_rows.specs.declared.ground.Step.{Step}
 use Rattle.record_rows.specs.ground.Ground.{Rows, TableKind, alike, known, noPlace, otherBody, misplaced, rowFault, firstFault, tableFault, _given_, _orelse_}
 use Rattle.record_rows.specs.ground.Walk.{stepped, stepAt, lateNumber, laterNumber, PlaceOf, lateFault, lateFurther}
-use Rattle.record_rows.proofs.ground.Grounds.{given-orelse, scan-here, scan-end}
+use Rattle.record_rows.proofs.ground.Grounds.{given-orelse, scan-here, scan-end, orelse-zero}
 use Rattle.record_rows.proofs.ground.Walks.{Walk, StepTold, told, walk-start, bounds}
 use Rattle.record_rows.proofs.ground.Lates.{table-length, table-at, late-number, walk-goes, walk-stops}
 
@@ -78,10 +78,7 @@ module _ (K : TableKind) (joined above : Rows) (row : Row) where
 
   pub in-order : K .inRange row ≡ true → misplaced (K .key) above row ≡ false
       → rowFault K joined above row ≡ cond (noPlace (K .key) (K .limit) joined above row) 3 (cond (otherBody (K .key) joined above row) 4 (K .further row))
-  in-order e f = in-range e ∙ rw f (ap (λ (n : ℕ). cond (noPlace (K .key) (K .limit) joined above row) 3 (cond (otherBody (K .key) joined above row) 4 n)) (alone (K .further row)))
-    where
-      alone : (n : ℕ) → n orelse 0 ≡ n
-      alone n = by (eqb n 0) (λ e. rw e (sym (eqb-true n 0 e))) (λ e. rw e)
+  in-order e f = in-range e ∙ rw f (ap (λ (n : ℕ). cond (noPlace (K .key) (K .limit) joined above row) 3 (cond (otherBody (K .key) joined above row) 4 n)) (orelse-zero (K .further row)))
 
   pub out-of-order : (count : ℕ) → K .inRange row ≡ true → misplaced (K .key) above row ≡ true → count ≡ length (united (take (K .key)) joined above)
       → rowFault K joined above row ≡ lateFurther (lateFault (K .key) (K .limit) joined count above row) (K .further row)

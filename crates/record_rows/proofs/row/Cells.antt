@@ -2,12 +2,13 @@
 use mathlib.Core.Path.{_≡_, refl, ap, sym, _∙_}
 use mathlib.Core.Bool.{Bool, true, false, _&&_}
 use mathlib.Core.List.{[], _∷_}
-use Prim.Native.Nat.{ℕ, zero, suc, _≤_, _<_, _/_, _%_}
+use Prim.Native.Nat.{ℕ, zero, suc, _+_, _≤_, _<_, _/_, _%_}
 use native.Mathlib.Omega.{arith}
 use native.Mathlib.Nat.{div-lt-iff-lt-mul}
 use borrow.Author.Tests.{eqb-true, eq-eqb, ne-eqb, lt-ltb, le-ltb, le-leb, lt-leb, leb-true, ltb-true}
 use lib.Dec.{leb, ltb, eqb}
-use lib.ListN.{length}
+use lib.ListN.{length, drop, drop-of-length-le}
+use lib.Seq.{drop-cons}
 use Rattle.lists.proofs.Lists.{by, clash, and-l, and-r}
 use Rattle.record.specs.declared.Field.{Field}
 use Rattle.record.specs.declared.Field.the-variants.{Id, Size, Erase, Page}
@@ -78,20 +79,27 @@ module _ (kind field value : ℕ) where
   unfolding bodyInRange
   body-other a b c = past3 (λ n. false ≡ bodyInRange n field value) (λ m. refl) kind a b c
 
--- an edit in range, test by test
-module _ (row : Row) (w : length row ≡ 5) where
-  pub edit-name : {b : Bool} → b ≡ isName (cell row 0) → b ≡ false → false ≡ editInRange row
-  unfolding editInRange
-  edit-name p q = let e : isName (cell row 0) ≡ false = sym p ∙ q in rw (eq-eqb (length row) 5 w, e)
+-- the tests of a row, one after the other
+module _ (first rest : Bool) (n bound : ℕ) where
+  pub first-fails : first ≡ false → false ≡ (first && (ltb n bound && rest))
+  first-fails e = rw e
 
-  module _ {b : Bool} (p : b ≡ isName (cell row 0)) (q : b ≡ true) where
-    pub edit-place : 64 ≤ cell row 2 → false ≡ editInRange row
-    unfolding editInRange
-    edit-place h = let e : isName (cell row 0) ≡ true = sym p ∙ q in rw (eq-eqb (length row) 5 w, e, le-ltb (cell row 2) 64 h)
+  pub bound-fails : first ≡ true → bound ≤ n → false ≡ (first && (ltb n bound && rest))
+  bound-fails e h = rw (e, le-ltb n bound h)
 
-    pub edit-body : cell row 2 < 64 → {r : Bool} → r ≡ bodyInRange (cell row 1) (cell row 3) (cell row 4) → r ≡ editInRange row
-    unfolding editInRange
-    edit-body h f = let e : isName (cell row 0) ≡ true = sym p ∙ q in rw (eq-eqb (length row) 5 w, e, lt-ltb (cell row 2) 64 h) f
+  pub rest-decides : first ≡ true → n < bound → rest ≡ (first && (ltb n bound && rest))
+  rest-decides e h = rw (e, lt-ltb n bound h)
+
+-- a row of its width, from the tests that the code makes
+pub row-in-range : (row : Row) (width n bound : ℕ) {first rest f g r : Bool} → length row ≡ width → r ≡ (f && (ltb n bound && g)) → f ≡ first → g ≡ rest
+    → r ≡ (eqb (length row) width && (first && (ltb n bound && rest)))
+row-in-range row width n bound w e p q = rw (eq-eqb (length row) width w, ← p, ← q) e
+
+tests-pass : (a b c d : Bool) → (a && (b && (c && d))) ≡ true → (a ≡ true) × (b ≡ true) × (c ≡ true) × (d ≡ true)
+tests-pass a b c d h =
+    let p = and-r a (b && (c && d)) h in
+    let q = and-r b (c && d) p in
+    (and-l a (b && (c && d)) h, and-l b (c && d) p, and-l c d q, and-r c d q)
 
 pub record EditInRange (row : Row) : Type 0 where
   pub wide : length row ≡ 5
@@ -102,15 +110,8 @@ pub record EditInRange (row : Row) : Type 0 where
 pub edit-in-range : (row : Row) → editInRange row ≡ true → EditInRange row
 unfolding editInRange
 edit-in-range row h =
-    let body = bodyInRange (cell row 1) (cell row 3) (cell row 4) in
-    let a = and-r (eqb (length row) 5) (isName (cell row 0) && (ltb (cell row 2) 64 && body)) h in
-    let b = and-r (isName (cell row 0)) (ltb (cell row 2) 64 && body) a in
-    record {
-      wide = eqb-true (length row) 5 (and-l (eqb (length row) 5) (isName (cell row 0) && (ltb (cell row 2) 64 && body)) h);
-      name = and-l (isName (cell row 0)) (ltb (cell row 2) 64 && body) a;
-      place = ltb-true (cell row 2) 64 (and-l (ltb (cell row 2) 64) body b);
-      body = and-r (ltb (cell row 2) 64) body b;
-    }
+    let t = tests-pass (eqb (length row) 5) (isName (cell row 0)) (ltb (cell row 2) 64) (bodyInRange (cell row 1) (cell row 3) (cell row 4)) h in
+    record { wide = eqb-true (length row) 5 (t .0); name = t .1; place = ltb-true (cell row 2) 64 (t .2); body = t .3 }
 
 pub edit-bounds : (row : Row) {b : Bool} → b ≡ editInRange row → b ≡ true → (cell row 0 < 2304) × (cell row 2 < 64)
 edit-bounds row p q = let r = edit-in-range row (sym p ∙ q) in (name-small (cell row 0) (r .name), r .place)
@@ -147,7 +148,7 @@ edit-wide e = five (e .body)
     five (Set p f v) = refl
     five (Remove p) = refl
 
--- a side, and a constraint in range, test by test
+-- a side, and a constraint in range
 pub side-zero : (n : ℕ) → n ≡ 0 → true ≡ isSide n
 unfolding isSide
 side-zero n e = rw (eq-eqb n 0 e)
@@ -161,20 +162,6 @@ unfolding isSide
 side-small n h =
     by (eqb n 0) (λ (e : eqb n 0 ≡ true). omega (arith, eqb-true n 0 e)) (λ (e : eqb n 0 ≡ false). name-small n (rw e at h))
 
-module _ (row : Row) (w : length row ≡ 3) where
-  pub constraint-left : {b : Bool} → b ≡ isSide (cell row 0) → b ≡ false → false ≡ constraintInRange row
-  unfolding constraintInRange
-  constraint-left p q = let e : isSide (cell row 0) ≡ false = sym p ∙ q in rw (eq-eqb (length row) 3 w, e)
-
-  module _ {b : Bool} (p : b ≡ isSide (cell row 0)) (q : b ≡ true) where
-    pub constraint-rule : 3 ≤ cell row 1 → false ≡ constraintInRange row
-    unfolding constraintInRange
-    constraint-rule h = let e : isSide (cell row 0) ≡ true = sym p ∙ q in rw (eq-eqb (length row) 3 w, e, le-ltb (cell row 1) 3 h)
-
-    pub constraint-right : cell row 1 < 3 → {r : Bool} → r ≡ isSide (cell row 2) → r ≡ constraintInRange row
-    unfolding constraintInRange
-    constraint-right h f = let e : isSide (cell row 0) ≡ true = sym p ∙ q in rw (eq-eqb (length row) 3 w, e, lt-ltb (cell row 1) 3 h) f
-
 pub record ConstraintInRange (row : Row) : Type 0 where
   pub wide : length row ≡ 3
   pub left : isSide (cell row 0) ≡ true
@@ -184,14 +171,8 @@ pub record ConstraintInRange (row : Row) : Type 0 where
 pub constraint-in-range : (row : Row) → constraintInRange row ≡ true → ConstraintInRange row
 unfolding constraintInRange
 constraint-in-range row h =
-    let a = and-r (eqb (length row) 3) (isSide (cell row 0) && (ltb (cell row 1) 3 && isSide (cell row 2))) h in
-    let b = and-r (isSide (cell row 0)) (ltb (cell row 1) 3 && isSide (cell row 2)) a in
-    record {
-      wide = eqb-true (length row) 3 (and-l (eqb (length row) 3) (isSide (cell row 0) && (ltb (cell row 1) 3 && isSide (cell row 2))) h);
-      left = and-l (isSide (cell row 0)) (ltb (cell row 1) 3 && isSide (cell row 2)) a;
-      rule = ltb-true (cell row 1) 3 (and-l (ltb (cell row 1) 3) (isSide (cell row 2)) b);
-      right = and-r (ltb (cell row 1) 3) (isSide (cell row 2)) b;
-    }
+    let t = tests-pass (eqb (length row) 3) (isSide (cell row 0)) (ltb (cell row 1) 3) (isSide (cell row 2)) h in
+    record { wide = eqb-true (length row) 3 (t .0); left = t .1; rule = ltb-true (cell row 1) 3 (t .2); right = t .3 }
 
 pub constraint-bounds : (row : Row) {b : Bool} → b ≡ constraintInRange row → b ≡ true → (cell row 0 < 2304) × (cell row 1 < 3) × (cell row 2 < 2304)
 constraint-bounds row p q =
@@ -214,23 +195,17 @@ pub constraint-wide : (c : Constraint) → length (constraintRow c) ≡ 3
 unfolding constraintRow
 constraint-wide c = refl
 
+-- a row by its cells
+unfoldable cellsFrom : Row → ℕ → ℕ → Row
+cellsFrom row i zero = []
+cellsFrom row i (suc n) = cell row i ∷ cellsFrom row (suc i) n
+
+row-cells : (row : Row) (n i : ℕ) → i + n ≡ length row → drop i row ≡ cellsFrom row i n
+unfolding cellsFrom
+row-cells row zero i h = drop-of-length-le row {i = i} (omega arith)
+row-cells row (suc n) i h = drop-cons row i 0 (omega arith) ∙ ap (λ (l : Row). cell row i ∷ l) (row-cells row n (suc i) (omega arith))
+
 -- a row in range is the row of what it is decoded to
-as-five : (row : Row) → length row ≡ 5 → row ≡ cell row 0 ∷ cell row 1 ∷ cell row 2 ∷ cell row 3 ∷ cell row 4 ∷ []
-as-five [] h = absurd (omega arith)
-as-five (a ∷ []) h = absurd (omega arith)
-as-five (a ∷ b ∷ []) h = absurd (omega arith)
-as-five (a ∷ b ∷ c ∷ []) h = absurd (omega arith)
-as-five (a ∷ b ∷ c ∷ d ∷ []) h = absurd (omega arith)
-as-five (a ∷ b ∷ c ∷ d ∷ e ∷ []) h = refl
-as-five (a ∷ b ∷ c ∷ d ∷ e ∷ f ∷ l) h = absurd (omega arith)
-
-as-three : (row : Row) → length row ≡ 3 → row ≡ cell row 0 ∷ cell row 1 ∷ cell row 2 ∷ []
-as-three [] h = absurd (omega arith)
-as-three (a ∷ []) h = absurd (omega arith)
-as-three (a ∷ b ∷ []) h = absurd (omega arith)
-as-three (a ∷ b ∷ c ∷ []) h = refl
-as-three (a ∷ b ∷ c ∷ d ∷ l) h = absurd (omega arith)
-
 field-back : (n : ℕ) → n < 4 → fieldNumber (fieldOf n) ≡ n
 field-back zero h = refl
 field-back (suc zero) h = refl
@@ -252,16 +227,16 @@ body-back (suc (suc zero)) p f v h = unused-back 2 p f v h
 body-back (suc (suc (suc k))) p f v h = clash h refl
 
 pub edit-back : (row : Row) → editInRange row ≡ true → editRow (editOf row) ≡ row
-unfolding editRow
+unfolding editRow cellsFrom
 edit-back row h =
     let r = edit-in-range row h in
     ap editRow (sym (edit-decoded row (sym h) refl refl))
     ∙ ap (λ (l : Row). cell row 0 ∷ l) (body-back (cell row 1) (cell row 2) (cell row 3) (cell row 4) (r .body))
-    ∙ sym (as-five row (r .wide))
+    ∙ sym (row-cells row 5 0 (sym (r .wide)))
 
 pub constraint-back : (row : Row) → constraintInRange row ≡ true → constraintRow (constraintOf row) ≡ row
-unfolding constraintRow
-constraint-back row h = ap constraintRow (sym (constraint-decoded row (sym h) refl)) ∙ sym (as-three row (constraint-in-range row h .wide))
+unfolding constraintRow cellsFrom
+constraint-back row h = ap constraintRow (sym (constraint-decoded row (sym h) refl)) ∙ sym (row-cells row 3 0 (sym (constraint-in-range row h .wide)))
 
 -- and what is decoded from the row of an edit or constraint, in range, is that
 pub field-again : (f : Field) → fieldOf (fieldNumber f) ≡ f

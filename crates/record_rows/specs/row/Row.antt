@@ -19,8 +19,8 @@ abbrev pub cell : Row → ℕ → ℕ
 cell row i = getD row i 0
 
 -- the cells of an edit's row
-abbrev pub editCells : ℕ
-editCells = 5
+abbrev pub editWidth : ℕ
+editWidth = 5
 
 abbrev pub nameCell : Row → ℕ
 nameCell row = cell row 0
@@ -37,18 +37,12 @@ fieldCell row = cell row 3
 abbrev pub valueCell : Row → ℕ
 valueCell row = cell row 4
 
--- the cells of a constraint's row
-abbrev pub constraintCells : ℕ
-constraintCells = 3
+-- the cells of a constraint's row, whatever their numbers
+abbrev pub constraintWidth : ℕ
+constraintWidth = 3
 
-abbrev pub leftCell : Row → ℕ
-leftCell row = cell row 0
-
-abbrev pub ruleCell : Row → ℕ
-ruleCell row = cell row 1
-
-abbrev pub rightCell : Row → ℕ
-rightCell row = cell row 2
+abbrev pub constraintCells : Row → Constraint
+constraintCells row = record { left = cell row 0; rule = cell row 1; right = cell row 2 }
 
 -- two rows are equal
 unfoldable pub same : Row → Row → Bool
@@ -65,6 +59,10 @@ isName n = leb 1 (n / 256) && (leb (n / 256) 8 && leb 1 (n % 256))
 abbrev pub nameLimit : ℕ
 nameLimit = 2304
 
+-- chip places are below it
+abbrev pub placeLimit : ℕ
+placeLimit = 64
+
 -- kind 0 insert, 1 set, 2 remove; the cells that a kind does not use are 0
 unfoldable pub bodyInRange : ℕ → ℕ → ℕ → Bool
 bodyInRange zero field value = eqb field 0 && eqb value 0
@@ -73,14 +71,14 @@ bodyInRange (suc (suc zero)) field value = eqb field 0 && eqb value 0
 bodyInRange (suc (suc (suc n))) field value = false
 
 unfoldable pub editInRange : Row → Bool
-editInRange row = eqb (length row) editCells && (isName (nameCell row) && (ltb (placeCell row) 64 && bodyInRange (kindCell row) (fieldCell row) (valueCell row)))
+editInRange row = eqb (length row) editWidth && (isName (nameCell row) && (ltb (placeCell row) placeLimit && bodyInRange (kindCell row) (fieldCell row) (valueCell row)))
 
 -- a side of a constraint: a name or 0
 unfoldable pub isSide : ℕ → Bool
 isSide n = eqb n 0 || isName n
 
 unfoldable pub constraintInRange : Row → Bool
-constraintInRange row = eqb (length row) constraintCells && (isSide (leftCell row) && (ltb (ruleCell row) 3 && isSide (rightCell row)))
+constraintInRange row = eqb (length row) constraintWidth && (isSide (constraintCells row .left) && (ltb (constraintCells row .rule) 3 && isSide (constraintCells row .right)))
 
 -- the edit that a row in range is
 abbrev pub fieldOf : ℕ → Field
@@ -99,7 +97,7 @@ editOf row =
     cond (editInRange row) (record { name = nameCell row; body = bodyOf (kindCell row) (placeCell row) (fieldCell row) (valueCell row) }) fillerEdit
 
 unfoldable pub constraintOf : Row → Constraint
-constraintOf row = cond (constraintInRange row) (record { left = leftCell row; rule = ruleCell row; right = rightCell row }) fillerConstraint
+constraintOf row = cond (constraintInRange row) (constraintCells row) fillerConstraint
 
 -- the row of an edit, and of a constraint
 abbrev pub fieldNumber : Field → ℕ

@@ -26,17 +26,17 @@ array-write-marks c = search needs
 loop-holds : tie.Need-loop-holds Inv-loop μ-loop
 loop-holds c = (search needs, search needs, λ f. marks-start 2304 (omega arith))
 
-mul-wide : tie.Need-mul-wide Inv-loop μ-loop
-mul-wide c = search needs
+mul-index32 : tie.Need-mul-index32 Inv-loop μ-loop
+mul-index32 c = search needs
 
-index-1-wide : tie.Need-index-1-wide Inv-loop μ-loop
-index-1-wide c = search needs
+index-1-index32 : tie.Need-index-1-index32 Inv-loop μ-loop
+index-1-index32 c = search needs
 
-index-2-wide : tie.Need-index-2-wide Inv-loop μ-loop
-index-2-wide c = search needs
+index-2-index32 : tie.Need-index-2-index32 Inv-loop μ-loop
+index-2-index32 c = search needs
 
-wide-requires : tie.Need-wide-requires Inv-loop μ-loop
-wide-requires c κs = search needs
+index32-requires : tie.Need-index32-requires Inv-loop μ-loop
+index32-requires c κs = search needs
 
 slot-requires : tie.Need-slot-requires Inv-loop μ-loop
 slot-requires c κs = search needs
@@ -57,7 +57,7 @@ loop-again c =
       search needs,
       search needs,
       marks-next (λ row. cell row 0) editInRange 2304 row-small (s .args .t .now) (l .loop .marks) (l .loop .i) (c .slot .result) [] (c .before .before .before .loop-test .taken) (l .loop .inv .1)
-          (λ h. c .slot .ensures .1 (search needs) ∙ c .before .wide .ensures) (l .loop .inv .2),
+          (λ h. c .slot .ensures .1 (search needs) ∙ c .before .index32 .ensures) (l .loop .inv .2),
     )
 
 returns : tie.Need-returns Inv-loop μ-loop
@@ -71,10 +71,10 @@ mark-rows-spec =
     μ-loop
     array-write-marks
     loop-holds
-    mul-wide
-    index-1-wide
-    index-2-wide
-    wide-requires
+    mul-index32
+    index-1-index32
+    index-2-index32
+    index32-requires
     slot-requires
     array-write-marks-2
     add-i

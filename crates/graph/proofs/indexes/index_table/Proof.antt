@@ -19,12 +19,12 @@ Inv-loop multilog table₀ count i₀ table i =
 abbrev μ-loop : tie.MeasureT-loop
 μ-loop multilog table₀ count i₀ table i = count - i
 
-within-requires : tie.Need-within-requires Inv-loop μ-loop
-within-requires c κs = search needs
+lesser-requires : tie.Need-lesser-requires Inv-loop μ-loop
+lesser-requires c κs = search needs
 
 loop-holds : tie.Need-loop-holds Inv-loop μ-loop
 loop-holds c =
-    (refl, omega arith, within-low _ _ _ (c .within .ensures), λ x. omega (arith, zeros-get 2304 x), λ R e f. (count-within _ R _ e f (c .within .ensures), indexing-start R))
+    (refl, omega arith, within-low _ _ _ (c .lesser .ensures), λ x. omega (arith, zeros-get 2304 x), λ R e f. (count-within _ R _ e f (c .lesser .ensures), indexing-start R))
 
 mul-edit : tie.Need-mul-edit Inv-loop μ-loop
 mul-edit c = search needs
@@ -67,7 +67,7 @@ index-table-spec =
     (tie.spec
     Inv-loop
     μ-loop
-    within-requires
+    lesser-requires
     loop-holds
     mul-edit
     element-copy-out-edit

@@ -6,19 +6,19 @@ use borrow.Author.Needs.{needs}
 use Rattle.graph.proofs.indexes.put_index.Statement.{statement}
 use Rattle.graph.proofs.indexes.put_index.Tie as tie
 
-wide16-requires : tie.Need-wide16-requires
-wide16-requires c κs = search needs
+index16-requires : tie.Need-index16-requires
+index16-requires c κs = search needs
 
 element-write-table : tie.Need-element-write-table
 element-write-table c = search needs
 
 returns : tie.Need-returns
-returns c = rw (c .before .wide16 .ensures) refl
+returns c = rw (c .before .index16 .ensures) refl
 
 returns-2 : tie.Need-returns-2
 returns-2 c =
     let s = c .before .before in
-    sym (set-out (s .args .table .now) (s .args .name) (s .args .index) (omega (arith, c .before .wide16 .ensures)))
+    sym (set-out (s .args .table .now) (s .args .name) (s .args .index) (omega (arith, c .before .index16 .ensures)))
 
 pub put-index-spec : {M : Type 1} → statement M
-put-index-spec = tie.close (tie.spec wide16-requires element-write-table returns returns-2)
+put-index-spec = tie.close (tie.spec index16-requires element-write-table returns returns-2)

@@ -22,12 +22,12 @@ Inv-loop table multilog rows₀ count j₀ rows j =
 abbrev μ-loop : tie.MeasureT-loop
 μ-loop table multilog rows₀ count j₀ rows j = count - j
 
-within-requires : tie.Need-within-requires Inv-loop μ-loop
-within-requires c κs = search needs
+lesser-requires : tie.Need-lesser-requires Inv-loop μ-loop
+lesser-requires c κs = search needs
 
 loop-holds : tie.Need-loop-holds Inv-loop μ-loop
 loop-holds c =
-    (growing-start, omega arith, within-low _ _ _ (c .within .ensures), λ R e f t. (constraint-within _ R _ e f (c .within .ensures), linking-start (keysOf R) (leftsOf R)))
+    (growing-start, omega arith, within-low _ _ _ (c .lesser .ensures), λ R e f t. (constraint-within _ R _ e f (c .lesser .ensures), linking-start (keysOf R) (leftsOf R)))
 
 mul-constraint : tie.Need-mul-constraint Inv-loop μ-loop
 mul-constraint c = search needs
@@ -35,25 +35,25 @@ mul-constraint c = search needs
 element-copy-out-constraint : tie.Need-element-copy-out-constraint Inv-loop μ-loop
 element-copy-out-constraint c = search needs
 
-wide16-requires : tie.Need-wide16-requires Inv-loop μ-loop
-wide16-requires c κs = search needs
+index16-requires : tie.Need-index16-requires Inv-loop μ-loop
+index16-requires c κs = search needs
 
 index-of-requires : tie.Need-index-of-requires Inv-loop μ-loop
 index-of-requires c κs = c .before .before .before .before .before .pre .0
 
-wide16-requires-2 : tie.Need-wide16-requires-2 Inv-loop μ-loop
-wide16-requires-2 c κs = search needs
+index16-requires-2 : tie.Need-index16-requires-2 Inv-loop μ-loop
+index16-requires-2 c κs = search needs
 
 index-of-requires-2 : tie.Need-index-of-requires-2 Inv-loop μ-loop
 index-of-requires-2 c κs = c .before .before .before .before .before .before .before .pre .0
 
 key-of-requires : tie.Need-key-of-requires Inv-loop μ-loop
-key-of-requires c κs = omega (arith, c .before .index-of2 .ensures, c .before .before .before .before .before .before .before .before .before .pre .1 (c .before .before .wide162 .result))
+key-of-requires c κs = omega (arith, c .before .index-of2 .ensures, c .before .before .before .before .before .before .before .before .before .pre .1 (c .before .before .index162 .result))
 
 link-row-requires : tie.Need-link-row-requires Inv-loop μ-loop
 link-row-requires c κs =
     let l = c .before .before .before .before .before .before .before .before .loop in
-    (l .inv .0 .size, omega arith, c .key-of .ensures .0, omega (arith, c .before .before .before .before .index-of .ensures, c .before .before .before .before .before .before .before .before .before .before .pre .1 (c .before .before .before .before .before .wide16 .result)))
+    (l .inv .0 .size, omega arith, c .key-of .ensures .0, omega (arith, c .before .before .before .before .index-of .ensures, c .before .before .before .before .before .before .before .before .before .before .pre .1 (c .before .before .before .before .before .index16 .result)))
 
 add-j : tie.Need-add-j Inv-loop μ-loop
 add-j c = search needs
@@ -69,13 +69,13 @@ loop-again c =
     let a = c .before .before .before .before .before .index-of in
     let b = c .before .before .before .index-of2 in
     rw (c .link-row .ensures) (
-      growing-step (l .rows) (l .j) (k .result) (a .result) (omega arith) (k .ensures .0) (omega (arith, a .ensures, s .pre .1 (c .before .before .before .before .before .before .wide16 .result))) (l .inv .0),
+      growing-step (l .rows) (l .j) (k .result) (a .result) (omega arith) (k .ensures .0) (omega (arith, a .ensures, s .pre .1 (c .before .before .before .before .before .before .index16 .result))) (l .inv .0),
       omega arith,
       l .inv .2,
       λ R e f t. let w = l .inv .3 R e f t in (
         w .0,
         turn-resolving (s .args .t1) (s .args .table .now) (l .rows) (l .j) _ (k .result) (b .result) (a .result) R e f t (omega arith)
-            (rw (← c .before .before .before .before .wide162 .ensures) (b .ensures)) (rw (← c .before .before .before .before .before .before .wide16 .ensures) (a .ensures)) (k .ensures .1) (l .inv .0 .size) (omega arith) (k .ensures .0) (w .1),
+            (rw (← c .before .before .before .before .index162 .ensures) (b .ensures)) (rw (← c .before .before .before .before .before .before .index16 .ensures) (a .ensures)) (k .ensures .1) (l .inv .0 .size) (omega arith) (k .ensures .0) (w .1),
       ),
     )
 
@@ -90,13 +90,13 @@ rows-of-spec =
     (tie.spec
     Inv-loop
     μ-loop
-    within-requires
+    lesser-requires
     loop-holds
     mul-constraint
     element-copy-out-constraint
-    wide16-requires
+    index16-requires
     index-of-requires
-    wide16-requires-2
+    index16-requires-2
     index-of-requires-2
     key-of-requires
     link-row-requires

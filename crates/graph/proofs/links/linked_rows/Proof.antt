@@ -17,23 +17,23 @@ abbrev μ-loop : tie.MeasureT-loop
 loop-holds : tie.Need-loop-holds Inv-loop μ-loop
 loop-holds c = (omega arith, growing-start, linking-start (take (c .args .count) (c .args .t2)) (c .args .t3))
 
-array-read-wide8 : tie.Need-array-read-wide8 Inv-loop μ-loop
-array-read-wide8 c = search needs
+array-read-index8 : tie.Need-array-read-index8 Inv-loop μ-loop
+array-read-index8 c = search needs
 
-wide8-requires : tie.Need-wide8-requires Inv-loop μ-loop
-wide8-requires c κs = search needs
+index8-requires : tie.Need-index8-requires Inv-loop μ-loop
+index8-requires c κs = search needs
 
-array-read-wide8-2 : tie.Need-array-read-wide8-2 Inv-loop μ-loop
-array-read-wide8-2 c = search needs
+array-read-index8-2 : tie.Need-array-read-index8-2 Inv-loop μ-loop
+array-read-index8-2 c = search needs
 
-wide8-requires-2 : tie.Need-wide8-requires-2 Inv-loop μ-loop
-wide8-requires-2 c κs = search needs
+index8-requires-2 : tie.Need-index8-requires-2 Inv-loop μ-loop
+index8-requires-2 c κs = search needs
 
 link-row-requires : tie.Need-link-row-requires Inv-loop μ-loop
 link-row-requires c κs =
     let s = c .before .before .before .before .before in
     let l = c .before .before .before .before .loop in
-    (l .inv .1 .size, omega arith, omega (arith, c .before .wide8 .ensures, s .pre .3 (l .j)), omega (arith, c .wide82 .ensures, s .pre .4 (l .j)))
+    (l .inv .1 .size, omega arith, omega (arith, c .before .index8 .ensures, s .pre .3 (l .j)), omega (arith, c .index82 .ensures, s .pre .4 (l .j)))
 
 add-j : tie.Need-add-j Inv-loop μ-loop
 add-j c = search needs
@@ -45,7 +45,7 @@ loop-again : tie.Need-loop-again Inv-loop μ-loop
 loop-again c =
     let s = c .before .before .before .before .before .before in
     let l = c .before .before .before .before .before .loop in
-    rw (c .link-row .ensures, c .before .before .wide8 .ensures, c .before .wide82 .ensures) (
+    rw (c .link-row .ensures, c .before .before .index8 .ensures, c .before .index82 .ensures) (
       omega arith,
       growing-step (l .rows) (l .j) _ _ (omega arith) (s .pre .3 (l .j)) (s .pre .4 (l .j)) (l .inv .1),
       linking-more (s .args .count) (s .args .t2) (s .args .t3) (l .rows) (l .j) (s .pre .0) (omega arith) (s .pre .3 (l .j)) (l .inv .1 .size) (l .inv .2),
@@ -64,10 +64,10 @@ linked-rows-spec =
     Inv-loop
     μ-loop
     loop-holds
-    array-read-wide8
-    wide8-requires
-    array-read-wide8-2
-    wide8-requires-2
+    array-read-index8
+    index8-requires
+    array-read-index8-2
+    index8-requires-2
     link-row-requires
     add-j
     loop-less

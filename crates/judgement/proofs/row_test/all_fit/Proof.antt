@@ -35,8 +35,8 @@ mul-constraint c = search needs
 element-copy-out-constraint : tie.Need-element-copy-out-constraint Inv-loop μ-loop
 element-copy-out-constraint c = search needs
 
-wide16-requires : tie.Need-wide16-requires Inv-loop μ-loop
-wide16-requires c κs = search needs
+index16-requires : tie.Need-index16-requires Inv-loop μ-loop
+index16-requires c κs = search needs
 
 index-of-requires : tie.Need-index-of-requires Inv-loop μ-loop
 index-of-requires c κs =
@@ -46,15 +46,15 @@ index-of-requires c κs =
 mul-left : tie.Need-mul-left Inv-loop μ-loop
 mul-left c =
     let s = c .before .before .before .before .before .before in
-    omega (arith, c .index-of .ensures, s .pre .1 (c .before .wide16 .result))
+    omega (arith, c .index-of .ensures, s .pre .1 (c .before .index16 .result))
 
 array-read-left : tie.Need-array-read-left Inv-loop μ-loop
 array-read-left c =
     let s = c .before .before .before .before .before .before in
-    omega (arith, c .index-of .ensures, s .pre .1 (c .before .wide16 .result))
+    omega (arith, c .index-of .ensures, s .pre .1 (c .before .index16 .result))
 
-wide16-requires-2 : tie.Need-wide16-requires-2 Inv-loop μ-loop
-wide16-requires-2 c κs = search needs
+index16-requires-2 : tie.Need-index16-requires-2 Inv-loop μ-loop
+index16-requires-2 c κs = search needs
 
 index-of-requires-2 : tie.Need-index-of-requires-2 Inv-loop μ-loop
 index-of-requires-2 c κs =
@@ -64,12 +64,12 @@ index-of-requires-2 c κs =
 mul-right : tie.Need-mul-right Inv-loop μ-loop
 mul-right c =
     let s = c .before .before .before .before .before .before .before .before in
-    omega (arith, c .index-of2 .ensures, s .pre .1 (c .before .wide162 .result))
+    omega (arith, c .index-of2 .ensures, s .pre .1 (c .before .index162 .result))
 
 array-read-right : tie.Need-array-read-right Inv-loop μ-loop
 array-read-right c =
     let s = c .before .before .before .before .before .before .before .before in
-    omega (arith, c .index-of2 .ensures, s .pre .1 (c .before .wide162 .result))
+    omega (arith, c .index-of2 .ensures, s .pre .1 (c .before .index162 .result))
 
 rule-fits-requires : tie.Need-rule-fits-requires Inv-loop μ-loop
 rule-fits-requires c κs = search needs
@@ -80,8 +80,8 @@ returns c =
     let l = c .before .before .before .before .before .before .before .before .loop in
     λ R row e f t u. let k = l .inv .2 R row e f t u in
     let h : l .j < length (R .constraints) = omega arith in
-    let b = c .before .rule-fits .ensures row _ _ (left-seat (s .args .t1) R e f (s .args .table .now) t row (s .args .t3) u (l .j) _ h (c .before .before .before .before .before .wide16 .result) (c .before .before .before .before .index-of .result) (c .before .before .before .before .before .wide16 .ensures) (c .before .before .before .before .index-of .ensures))
-    (right-seat (s .args .t1) R e f (s .args .table .now) t row (s .args .t3) u (l .j) _ h (c .before .before .before .wide162 .result) (c .before .before .index-of2 .result) (c .before .before .before .wide162 .ensures) (c .before .before .index-of2 .ensures)) in
+    let b = c .before .rule-fits .ensures row _ _ (left-seat (s .args .t1) R e f (s .args .table .now) t row (s .args .t3) u (l .j) _ h (c .before .before .before .before .before .index16 .result) (c .before .before .before .before .index-of .result) (c .before .before .before .before .before .index16 .ensures) (c .before .before .before .before .index-of .ensures))
+    (right-seat (s .args .t1) R e f (s .args .table .now) t row (s .args .t3) u (l .j) _ h (c .before .before .before .index162 .result) (c .before .before .index-of2 .result) (c .before .before .before .index162 .ensures) (c .before .before .index-of2 .ensures)) in
     fitting-stop (s .args .t1) R e f (s .args .table .now) t row (s .args .t3) u (l .j) _ h _ b (not-true _ (c .if1 .taken)) ∙ sym (k .1)
 
 add-j : tie.Need-add-j Inv-loop μ-loop
@@ -98,8 +98,8 @@ loop-again c =
       l .inv .1,
       λ R row e f t u. let k = l .inv .2 R row e f t u in
           let h : l .j < length (R .constraints) = omega arith in
-          let b = c .before .rule-fits .ensures row _ _ (left-seat (s .args .t1) R e f (s .args .table .now) t row (s .args .t3) u (l .j) _ h (c .before .before .before .before .before .wide16 .result) (c .before .before .before .before .index-of .result) (c .before .before .before .before .before .wide16 .ensures) (c .before .before .before .before .index-of .ensures))
-          (right-seat (s .args .t1) R e f (s .args .table .now) t row (s .args .t3) u (l .j) _ h (c .before .before .before .wide162 .result) (c .before .before .index-of2 .result) (c .before .before .before .wide162 .ensures) (c .before .before .index-of2 .ensures)) in
+          let b = c .before .rule-fits .ensures row _ _ (left-seat (s .args .t1) R e f (s .args .table .now) t row (s .args .t3) u (l .j) _ h (c .before .before .before .before .before .index16 .result) (c .before .before .before .before .index-of .result) (c .before .before .before .before .before .index16 .ensures) (c .before .before .before .before .index-of .ensures))
+          (right-seat (s .args .t1) R e f (s .args .table .now) t row (s .args .t3) u (l .j) _ h (c .before .before .before .index162 .result) (c .before .before .index-of2 .result) (c .before .before .before .index162 .ensures) (c .before .before .index-of2 .ensures)) in
           (k .0, k .1 ∙ fitting-step (s .args .t1) R e f (s .args .table .now) t row (s .args .t3) u (l .j) _ h _ b (not-false _ (c .if1 .left))),
     )
 
@@ -118,11 +118,11 @@ all-fit-spec =
     loop-holds
     mul-constraint
     element-copy-out-constraint
-    wide16-requires
+    index16-requires
     index-of-requires
     mul-left
     array-read-left
-    wide16-requires-2
+    index16-requires-2
     index-of-requires-2
     mul-right
     array-read-right

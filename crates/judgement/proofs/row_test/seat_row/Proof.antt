@@ -22,14 +22,14 @@ abbrev μ-loop : tie.MeasureT-loop
 loop-holds : tie.Need-loop-holds Inv-loop μ-loop
 loop-holds c = (omega arith, refl, λ R f t. seating-start R _)
 
-mul-wide32 : tie.Need-mul-wide32 Inv-loop μ-loop
-mul-wide32 c = search needs
+mul-index32 : tie.Need-mul-index32 Inv-loop μ-loop
+mul-index32 c = search needs
 
-shared-slice-read-wide32 : tie.Need-shared-slice-read-wide32 Inv-loop μ-loop
-shared-slice-read-wide32 c = search needs
+shared-slice-read-index32 : tie.Need-shared-slice-read-index32 Inv-loop μ-loop
+shared-slice-read-index32 c = search needs
 
-wide32-requires : tie.Need-wide32-requires Inv-loop μ-loop
-wide32-requires c κs = search needs
+index32-requires : tie.Need-index32-requires Inv-loop μ-loop
+index32-requires c κs = search needs
 
 known-index-requires : tie.Need-known-index-requires Inv-loop μ-loop
 known-index-requires c κs =
@@ -40,7 +40,7 @@ returns : tie.Need-returns Inv-loop μ-loop
 returns c =
     let s = c .before .before .before .before .before .before .before in
     let l = c .before .before .before .before .before .loop in
-    (l .inv .1, λ R f t. (unknown-not R f (s .args .row .now) (l .places) (l .q) (omega arith) (row-index-unknown R f _ _ (rw (c .before .before .wide32 .ensures) at (c .before .known-index .ensures R f t)) (c .if1 .taken)), λ e. clash e refl))
+    (l .inv .1, λ R f t. (unknown-not R f (s .args .row .now) (l .places) (l .q) (omega arith) (row-index-unknown R f _ _ (rw (c .before .before .index32 .ensures) at (c .before .known-index .ensures R f t)) (c .if1 .taken)), λ e. clash e refl))
 
 mul-if2 : tie.Need-mul-if2 Inv-loop μ-loop
 mul-if2 c = search needs
@@ -53,7 +53,7 @@ returns-2 c =
     let s = c .before .before .before .before .before .before .before .before in
     let l = c .before .before .before .before .before .before .loop in (
       l .inv .1,
-      λ R f t. let i = row-index-known R f _ _ (rw (c .before .before .before .wide32 .ensures) at (c .before .before .known-index .ensures R f t)) (omega arith) in
+      λ R f t. let i = row-index-known R f _ _ (rw (c .before .before .before .index32 .ensures) at (c .before .before .known-index .ensures R f t)) (omega arith) in
           (repeated-not R f (s .args .row .now) (l .places) (l .q) (omega arith) (l .inv .1) (l .inv .2 R f t) (i .0) (rw (← i .1) (c .if2 .taken)), λ e. clash e refl),
     )
 
@@ -78,7 +78,7 @@ loop-again c =
     let l = c .before .before .before .before .before .before .loop in (
       omega arith,
       length-set (l .places) (c .before .before .known-index .result) (l .q + 1) ∙ l .inv .1,
-      λ R f t. let i = row-index-known R f _ _ (rw (c .before .before .before .wide32 .ensures) at (c .before .before .known-index .ensures R f t)) (omega arith) in
+      λ R f t. let i = row-index-known R f _ _ (rw (c .before .before .before .index32 .ensures) at (c .before .before .known-index .ensures R f t)) (omega arith) in
           rw (i .1) (seating-step R f (s .args .row .now) (l .places) (l .q) (omega arith) (l .inv .1) (l .inv .2 R f t) (i .0) (rw (← i .1) (c .if2 .left))),
     )
 
@@ -95,9 +95,9 @@ seat-row-spec =
     Inv-loop
     μ-loop
     loop-holds
-    mul-wide32
-    shared-slice-read-wide32
-    wide32-requires
+    mul-index32
+    shared-slice-read-index32
+    index32-requires
     known-index-requires
     returns
     mul-if2

@@ -6,7 +6,7 @@ use mathlib.Core.List.{List}
 use lib.ListN.{length}
 use native.Mathlib.Omega.{arith}
 use borrow.Author.Needs.{needs}
-use Rattle.judgement_marks.specs.schedules.Rows.{Hides, bars}
+use Rattle.judgement_marks.specs.schedules.Rows.{Hides}
 use Rattle.judgement_marks.proofs.schedules.Admitting.{Admitting, admitting-start, admitting-step, admitting-end}
 use Rattle.graph.specs.links.Resolved.{Resolved}
 use Rattle.graph.specs.links.Marks.{marksOf}
@@ -14,16 +14,16 @@ use Rattle.graph.specs.links.Reversed.{Reversed}
 use Rattle.record.specs.Judgement.{must}
 use Rattle.lists.specs.Lists.{any}
 use Rattle.record.specs.Record.{Record, names}
-use Rattle.record.specs.Schedule.{musts, ring}
+use Rattle.record.specs.Schedule.{musts, ring, bars}
 use Rattle.judgement_marks.proofs.schedules.admitted_marks.Statement.{statement}
 use Rattle.judgement_marks.proofs.schedules.admitted_marks.Tie as tie
 
 abbrev Inv-loop : tie.InvT-loop
-Inv-loop n rows reversed mustmarks hidden barring ringed marks₀ x₀ marks x =
-    (1 ≤ x) × (length marks ≡ 128) × ((R : Record) (hiddens : List ℕ) → Resolved R rows → Reversed R reversed → n ≡ length (names R) → mustmarks ≡ marksOf R (must R) → Hides R hidden hiddens → barring ≡ any (bars R hiddens) (names R) → ringed ≡ ring R (names R) → ring R (musts R) ≡ false → Admitting R hiddens marks x)
+Inv-loop whole rows reversed mustmarks hidden marks₀ x₀ marks x =
+    (1 ≤ x) × (length marks ≡ 128) × ((R : Record) (hiddens : List ℕ) → Resolved R rows → Reversed R reversed → whole .n ≡ length (names R) → mustmarks ≡ marksOf R (must R) → Hides R hidden hiddens → whole .barring ≡ any (bars R hiddens) (names R) → whole .ringed ≡ ring R (names R) → ring R (musts R) ≡ false → Admitting R hiddens marks x)
 
 abbrev μ-loop : tie.MeasureT-loop
-μ-loop n rows reversed mustmarks hidden barring ringed marks₀ x₀ marks x = n - x
+μ-loop whole rows reversed mustmarks hidden marks₀ x₀ marks x = whole .n - x
 
 loop-holds : tie.Need-loop-holds Inv-loop μ-loop
 loop-holds c =
@@ -32,8 +32,8 @@ loop-holds c =
 
 admitted-requires : tie.Need-admitted-requires Inv-loop μ-loop
 admitted-requires c κs =
-    let s = c .before .before in
-    let l = c .before .loop in
+    let s = c .before .before .before in
+    let l = c .before .before .loop in
     (s .pre .0, s .pre .1, s .pre .2, omega arith, s .pre .3, l .inv .1)
 
 add-x : tie.Need-add-x Inv-loop μ-loop
@@ -44,12 +44,12 @@ loop-less c = search needs
 
 loop-again : tie.Need-loop-again Inv-loop μ-loop
 loop-again c =
-    let l = c .before .before .loop in
+    let l = c .before .before .before .loop in
     (omega arith, c .admitted .ensures .0, λ R h g f q m i b r calm. admitting-step R (g .formed) h (l .marks) _ (l .x) (omega arith) (λ t k z o e. c .admitted .ensures .1 R h t g f q (omega arith) m i b r k z o e) (l .inv .2 R h g f q m i b r calm))
 
 returns : tie.Need-returns Inv-loop μ-loop
 returns c =
-    let l = c .before .loop in
+    let l = c .before .before .loop in
     (l .inv .1, λ R h g f q m i b r calm. admitting-end R h (l .marks) (l .x) (omega arith) (l .inv .2 R h g f q m i b r calm))
 
 pub admitted-marks-spec : {M : Type 1} → statement M

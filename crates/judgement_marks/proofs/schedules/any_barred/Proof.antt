@@ -7,7 +7,8 @@ use lib.ListN.{length}
 use native.Mathlib.Omega.{arith}
 use borrow.Author.Needs.{needs}
 use borrow.Author.Count.{below-more}
-use Rattle.judgement_marks.specs.schedules.Rows.{Hides, bars}
+use Rattle.record.specs.Schedule.{bars}
+use Rattle.judgement_marks.specs.schedules.Rows.{Hides}
 use Rattle.judgement_marks.proofs.schedules.Admitting.{any-bars, none-bars}
 use Rattle.graph.specs.links.Marks.{nameAt, marksOf}
 use Rattle.record.specs.Judgement.{must}

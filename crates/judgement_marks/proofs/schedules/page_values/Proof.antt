@@ -31,17 +31,17 @@ sub-k c = search needs
 cast-pages : tie.Need-cast-pages Inv-loop μ-loop
 cast-pages c = search needs
 
-element-copy-out-wide8 : tie.Need-element-copy-out-wide8 Inv-loop μ-loop
-element-copy-out-wide8 c = search needs
+element-copy-out-index8 : tie.Need-element-copy-out-index8 Inv-loop μ-loop
+element-copy-out-index8 c = search needs
 
-wide8-requires : tie.Need-wide8-requires Inv-loop μ-loop
-wide8-requires c κs = search needs
+index8-requires : tie.Need-index8-requires Inv-loop μ-loop
+index8-requires c κs = search needs
 
 array-write-pages : tie.Need-array-write-pages Inv-loop μ-loop
 array-write-pages c =
     let s = c .before .before .before .before in
     let l = c .before .before .before .loop in
-    omega (arith, c .wide8 .ensures, s .pre .2 (l .k - 1))
+    omega (arith, c .index8 .ensures, s .pre .2 (l .k - 1))
 
 loop-less : tie.Need-loop-less Inv-loop μ-loop
 loop-less c = search needs
@@ -51,8 +51,8 @@ loop-again c =
     let s = c .before .before .before .before in
     let l = c .before .before .before .loop in (
       omega arith,
-      length-set (l .pages) (c .wide8 .result) (l .k - 1) ∙ l .inv .1,
-      λ R list d few k. rw (c .wide8 .ensures) (paging-step R d few (s .args .t1) list (omega arith) k (l .pages) (l .k - 1) (l .inv .1) (omega arith) (rw (back (l .k) (omega arith)) (l .inv .2 R list d few k))),
+      length-set (l .pages) (c .index8 .result) (l .k - 1) ∙ l .inv .1,
+      λ R list d few k. rw (c .index8 .ensures) (paging-step R d few (s .args .t1) list (omega arith) k (l .pages) (l .k - 1) (l .inv .1) (omega arith) (rw (back (l .k) (omega arith)) (l .inv .2 R list d few k))),
     )
 
 returns : tie.Need-returns Inv-loop μ-loop
@@ -70,8 +70,8 @@ page-values-spec =
     loop-holds
     sub-k
     cast-pages
-    element-copy-out-wide8
-    wide8-requires
+    element-copy-out-index8
+    index8-requires
     array-write-pages
     loop-less
     loop-again

@@ -1,8 +1,8 @@
 -- `refusal::edit_add_fault` meets its contract. Assumes nothing.
 use Rattle.record_tables.proofs.Tables.{add-edit}
 use borrow.Author.Needs.{needs}
-use Rattle.record_union.proofs.refusal.edit_add_fault.Statement.{statement}
-use Rattle.record_union.proofs.refusal.edit_add_fault.Tie as tie
+use Rattle.record_refusal.proofs.edit_add_fault.Statement.{statement}
+use Rattle.record_refusal.proofs.edit_add_fault.Tie as tie
 
 slice-aggregate-edit-fault : tie.Need-slice-aggregate-edit-fault
 slice-aggregate-edit-fault c = search needs

@@ -8,8 +8,8 @@ use Rattle.lists.proofs.Lists.{length-mapped}
 use Rattle.record_rows.proofs.ground.Loop.{State, state-start, state-end, state-outside, state-late, state-goes, state-stops, later-zero, late-zero}
 use Rattle.record_tables.proofs.Elements.{editElements, edit-rows-ascend}
 use borrow.Author.Needs.{needs}
-use Rattle.record_union.proofs.refusal.edit_fault.Statement.{statement}
-use Rattle.record_union.proofs.refusal.edit_fault.Tie as tie
+use Rattle.record_refusal.proofs.edit_fault.Statement.{statement}
+use Rattle.record_refusal.proofs.edit_fault.Tie as tie
 
 abbrev Inv-loop : tie.InvT-loop
 Inv-loop t a n at₀ count₀ i₀ at count i = (at ≤ n) × (n ≤ 127) × (count ≤ 127) × (i ≤ length t) × (length a ≡ 127) × State editElements a n t at count i

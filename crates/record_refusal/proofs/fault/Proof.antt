@@ -1,8 +1,8 @@
 -- `refusal::fault` meets its contract. Assumes nothing.
 use Rattle.record_tables.proofs.Tables.{lent-first, lent-second}
 use borrow.Author.Needs.{needs}
-use Rattle.record_union.proofs.refusal.fault.Statement.{statement}
-use Rattle.record_union.proofs.refusal.fault.Tie as tie
+use Rattle.record_refusal.proofs.fault.Statement.{statement}
+use Rattle.record_refusal.proofs.fault.Tie as tie
 
 edit-fault-requires : tie.Need-edit-fault-requires
 edit-fault-requires c κs = search needs

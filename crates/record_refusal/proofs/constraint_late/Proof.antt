@@ -4,8 +4,8 @@ use mathlib.Core.List.{[]}
 use Rattle.record_rows.proofs.ground.Loop.{late-fault-is}
 use Rattle.record_tables.proofs.Elements.{constraintElements}
 use borrow.Author.Needs.{needs}
-use Rattle.record_union.proofs.refusal.constraint_late.Statement.{statement}
-use Rattle.record_union.proofs.refusal.constraint_late.Tie as tie
+use Rattle.record_refusal.proofs.constraint_late.Statement.{statement}
+use Rattle.record_refusal.proofs.constraint_late.Tie as tie
 
 mul-row : tie.Need-mul-row
 mul-row c = search needs

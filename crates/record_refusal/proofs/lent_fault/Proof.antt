@@ -4,8 +4,8 @@ use Rattle.record_tables.specs.Table.{emptyTables}
 use Rattle.record_tables.proofs.Tables.{empty-stored}
 use Rattle.record_tables.proofs.Records.{empty-checked}
 use borrow.Author.Needs.{needs}
-use Rattle.record_union.proofs.refusal.lent_fault.Statement.{statement}
-use Rattle.record_union.proofs.refusal.lent_fault.Tie as tie
+use Rattle.record_refusal.proofs.lent_fault.Statement.{statement}
+use Rattle.record_refusal.proofs.lent_fault.Tie as tie
 
 empty-requires : tie.Need-empty-requires
 empty-requires c κs = search needs

@@ -2,8 +2,8 @@
 use Rattle.record_rows.proofs.ground.Loop.{late-fault-is}
 use Rattle.record_tables.proofs.Elements.{editElements}
 use borrow.Author.Needs.{needs}
-use Rattle.record_union.proofs.refusal.edit_late.Statement.{statement}
-use Rattle.record_union.proofs.refusal.edit_late.Tie as tie
+use Rattle.record_refusal.proofs.edit_late.Statement.{statement}
+use Rattle.record_refusal.proofs.edit_late.Tie as tie
 
 mul-row : tie.Need-mul-row
 mul-row c = search needs

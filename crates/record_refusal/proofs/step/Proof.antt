@@ -1,8 +1,8 @@
 -- `refusal::step` meets its contract. Assumes nothing.
 use Rattle.record_rows.proofs.ground.Loop.{step-of}
 use borrow.Author.Needs.{needs}
-use Rattle.record_union.proofs.refusal.step.Statement.{statement}
-use Rattle.record_union.proofs.refusal.step.Tie as tie
+use Rattle.record_refusal.proofs.step.Statement.{statement}
+use Rattle.record_refusal.proofs.step.Tie as tie
 
 below-requires : tie.Need-below-requires
 below-requires c κs = search needs

@@ -1,26 +1,26 @@
--- `refusal::edit_place` meets its contract. Assumes nothing.
+-- `refusal::constraint_place` meets its contract. Assumes nothing.
 use Prim.Native.Nat.{_-_, _≤_}
 use mathlib.Core.Path.{_≡_}
 use mathlib.Core.List.{map}
 use lib.ListN.{take}
 use mathlib.Core.Bool.{false}
 use borrow.Author.Tests.{not-true, not-false}
-use Rattle.record_rows.specs.row.Row.{editRow}
+use Rattle.record_rows.specs.row.Row.{constraintRow}
 use Rattle.record_rows.specs.ground.Ground.{misplaced}
 use Rattle.record_rows.proofs.ground.Lates.{place-first, place-next, place-here, place-last}
 use Rattle.record_rows.proofs.ground.Loop.{compared}
 use borrow.Author.Needs.{needs}
-use Rattle.record_union.proofs.refusal.edit_place.Statement.{statement}
-use Rattle.record_union.proofs.refusal.edit_place.Tie as tie
+use Rattle.record_refusal.proofs.constraint_place.Statement.{statement}
+use Rattle.record_refusal.proofs.constraint_place.Tie as tie
 
 abbrev Inv-loop : tie.InvT-loop
-Inv-loop n a row p₀ p = (p ≤ n) × (n ≤ 127) × (misplaced 1 (take p (map editRow (take n a))) row ≡ false)
+Inv-loop n a row p₀ p = (p ≤ n) × (n ≤ 512) × (misplaced 3 (take p (map constraintRow (take n a))) row ≡ false)
 
 abbrev μ-loop : tie.MeasureT-loop
 μ-loop n a row p₀ p = n - p
 
 loop-holds : tie.Need-loop-holds Inv-loop μ-loop
-loop-holds c = (search needs, search needs, place-first editRow (c .args .t1) (c .args .n) (search needs) 1 (c .args .t3))
+loop-holds c = (search needs, search needs, place-first constraintRow (c .args .t1) (c .args .n) (search needs) 3 (c .args .t3))
 
 mul-e : tie.Need-mul-e Inv-loop μ-loop
 mul-e c = search needs
@@ -28,8 +28,8 @@ mul-e c = search needs
 array-copy-out-e : tie.Need-array-copy-out-e Inv-loop μ-loop
 array-copy-out-e c = search needs
 
-edit-row-requires : tie.Need-edit-row-requires Inv-loop μ-loop
-edit-row-requires c κs = search needs
+constraint-row-requires : tie.Need-constraint-row-requires Inv-loop μ-loop
+constraint-row-requires c κs = search needs
 
 slice-aggregate-below : tie.Need-slice-aggregate-below Inv-loop μ-loop
 slice-aggregate-below c = search needs
@@ -46,8 +46,8 @@ returns c =
     let s = l .before in (
       search needs,
       search needs,
-      place-here editRow (s .args .t1) (s .args .n) (search needs) 1 (s .args .t3) (l .loop .p) _ (search needs)
-          (compared 1 (s .args .t3) (c .before .before .before .before .edit-row .ensures) (c .before .below .ensures) (not-true _ (c .if1 .taken))) (l .loop .inv .2),
+      place-here constraintRow (s .args .t1) (s .args .n) (search needs) 3 (s .args .t3) (l .loop .p) _ (search needs)
+          (compared 3 (s .args .t3) (c .before .before .before .before .constraint-row .ensures) (c .before .below .ensures) (not-true _ (c .if1 .taken))) (l .loop .inv .2),
     )
 
 add-p : tie.Need-add-p Inv-loop μ-loop
@@ -62,18 +62,18 @@ loop-again c =
     let s = l .before in (
       search needs,
       search needs,
-      place-next editRow (s .args .t1) (s .args .n) (search needs) 1 (s .args .t3) (l .loop .p) _ (search needs)
-          (compared 1 (s .args .t3) (c .before .before .before .before .edit-row .ensures) (c .before .below .ensures) (not-false _ (c .if1 .left))) (l .loop .inv .2),
+      place-next constraintRow (s .args .t1) (s .args .n) (search needs) 3 (s .args .t3) (l .loop .p) _ (search needs)
+          (compared 3 (s .args .t3) (c .before .before .before .before .constraint-row .ensures) (c .before .below .ensures) (not-false _ (c .if1 .left))) (l .loop .inv .2),
     )
 
 returns-2 : tie.Need-returns-2 Inv-loop μ-loop
 returns-2 c =
     let l = c .before in
     let s = l .before in
-    (search needs, search needs, place-last editRow (s .args .t1) (s .args .n) (search needs) 1 (s .args .t3) (l .loop .p) (search needs) (l .loop .inv .2))
+    (search needs, search needs, place-last constraintRow (s .args .t1) (s .args .n) (search needs) 3 (s .args .t3) (l .loop .p) (search needs) (l .loop .inv .2))
 
-pub edit-place-spec : {M : Type 1} → statement M
-edit-place-spec =
+pub constraint-place-spec : {M : Type 1} → statement M
+constraint-place-spec =
     tie.close
     (tie.spec
     Inv-loop
@@ -81,7 +81,7 @@ edit-place-spec =
     loop-holds
     mul-e
     array-copy-out-e
-    edit-row-requires
+    constraint-row-requires
     slice-aggregate-below
     slice-aggregate-below-2
     below-requires

@@ -19,7 +19,7 @@ ghost use lib.ListN.{length, getD, take};
 ghost use Rattle.record.specs.Record as theory;
 ghost use Rattle.record.specs.Stored.{recordOf, stored, editLimit, constraintLimit};
 ghost use Rattle.lists.specs.Keyed.{Ascending};
-ghost use Rattle.record_rows.specs.row.Row.{editRow, constraintRow, editCells, constraintCells};
+ghost use Rattle.record_rows.specs.row.Row.{editRow, constraintRow, editWidth, constraintWidth};
 ghost use Rattle.record_rows.specs.ground.Ground.{tableFault};
 ghost use Rattle.record_rows.specs.ground.Walk.{PlaceOf, lateFault, stepAt};
 ghost use Rattle.record_tables.specs.Table.{editRows, constraintRows, editKind, constraintKind, emptyTables, lentFault, addEditFault, addConstraintFault};
@@ -39,7 +39,7 @@ fn step(at: usize, n: usize, x: &[u32], row: &[u32], key: usize, count: usize, l
 // How many of the first n edits stand before the row, whose length is ensured for callers that copy it out of a slice.
 fn edit_place(a: [Edit; EDITS], n: usize, row: [u32; EDIT_CELLS]) -> usize
     requires { ⌜ n ≤ editLimit ⌝ }
-    ensures { λ r. ⌜ (r ≤ n) × (length row ≡ editCells) × PlaceOf 1 (map editRow (take n a)) row r ⌝ }
+    ensures { λ r. ⌜ (r ≤ n) × (length row ≡ editWidth) × PlaceOf 1 (map editRow (take n a)) row r ⌝ }
 {
     let mut p = 0;
     while p < n {
@@ -101,7 +101,7 @@ fn edit_fault(r: Record, t: &[[u32; EDIT_CELLS]]) -> u32
 // The same of constraints.
 fn constraint_place(a: [Constraint; CONSTRAINTS], n: usize, row: [u32; CONSTRAINT_CELLS]) -> usize
     requires { ⌜ n ≤ constraintLimit ⌝ }
-    ensures { λ r. ⌜ (r ≤ n) × (length row ≡ constraintCells) × PlaceOf 3 (map constraintRow (take n a)) row r ⌝ }
+    ensures { λ r. ⌜ (r ≤ n) × (length row ≡ constraintWidth) × PlaceOf 3 (map constraintRow (take n a)) row r ⌝ }
 {
     let mut p = 0;
     while p < n {

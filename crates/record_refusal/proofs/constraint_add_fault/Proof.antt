@@ -2,8 +2,8 @@
 use native.Mathlib.Omega.{arith}
 use Rattle.record_tables.proofs.Tables.{stored-ordered, add-constraint}
 use borrow.Author.Needs.{needs}
-use Rattle.record_union.proofs.refusal.constraint_add_fault.Statement.{statement}
-use Rattle.record_union.proofs.refusal.constraint_add_fault.Tie as tie
+use Rattle.record_refusal.proofs.constraint_add_fault.Statement.{statement}
+use Rattle.record_refusal.proofs.constraint_add_fault.Tie as tie
 
 returns : tie.Need-returns
 returns c = λ R e k. absurd (let o = stored-ordered (c .before .args .joined) R e k in omega (arith, o .editplaces))

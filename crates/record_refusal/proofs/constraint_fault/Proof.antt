@@ -10,8 +10,8 @@ use Rattle.record_rows.proofs.ground.Loop.{State, state-start, state-end, state
 use Rattle.record_tables.specs.Checked.{MarksNames}
 use Rattle.record_tables.proofs.Elements.{constraintElements, constraint-rows-ascend}
 use borrow.Author.Needs.{needs}
-use Rattle.record_union.proofs.refusal.constraint_fault.Statement.{statement}
-use Rattle.record_union.proofs.refusal.constraint_fault.Tie as tie
+use Rattle.record_refusal.proofs.constraint_fault.Statement.{statement}
+use Rattle.record_refusal.proofs.constraint_fault.Tie as tie
 
 abbrev Inv-loop : tie.InvT-loop
 Inv-loop t marks adding a n at₀ count₀ i₀ at count i = (at ≤ n) × (n ≤ 512) × (count ≤ 512) × (i ≤ length t) × (length a ≡ 512) × ((names : List ℕ) → MarksNames marks names → State (constraintElements names adding) a n t at count i)
