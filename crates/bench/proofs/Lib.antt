@@ -1,2 +1,3 @@
 pub mod Pages
 pub mod Moves
+pub mod Scheduled

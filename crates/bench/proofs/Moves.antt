@@ -39,11 +39,11 @@ use Rattle.catalogue.specs.Changes as moves
 use Rattle.ledger.specs.declared.Answer.{Answer}
 use Rattle.ledger.specs.declared.Bench.{Bench}
 use Rattle.ledger.specs.declared.Outcome.{Outcome}
-use Rattle.ledger.specs.Ledger.{Ledger, Call, turn, start, pages, last, judge, act, refusal, change, step, fed}
+use Rattle.ledger.specs.Ledger.{Ledger, Call, turn, start, pages, last, atPage, judge, act, refusal, change, step, fed, plainAnswer}
 use Rattle.ledger.specs.Bench.{pageEdits, openEdits, benchOf, outcome, Answers}
 use Rattle.ledger.proofs.Valid.{Valid, start-valid, fed-valid}
-use Rattle.ledger.proofs.Undone.{from-valid, step-refused, step-accepted, at-page}
-use Rattle.bench.specs.Changes.{plainAnswer, refusedWith, openAt, turnReply, Opens, KeepsEdits, pagesOf, Reschedules}
+use Rattle.ledger.proofs.Undone.{from-valid, step-refused, step-accepted}
+use Rattle.bench.specs.Changes.{refusedWith, openAt, turnReply, Opens, KeepsEdits, pagesOf, Reschedules}
 use Rattle.bench.proofs.Pages.{names-named, named-agree, pages-written, pages-room, open-written, last-room}
 
 -- a call that the ledger refuses with this number
@@ -76,8 +76,8 @@ module _ (L : Ledger) (bench : Bench) (e : bench ≡ benchOf L) (page : ℕ) (h 
   unfolding benchOf scheduleOf
   opened-edits = ap (λ (b : Bench). take page (b .schedule .edits)) e ∙ take-padded rows fillerEdit page (pageEdits L) (omega (arith, length-pages L))
 
-  pub election-open-is : openAt bench page ≡ benchOf (at-page L page)
-  unfolding openAt benchOf at-page openEdits pageEdits last pages
+  pub election-open-is : openAt bench page ≡ benchOf (atPage L page)
+  unfolding openAt benchOf atPage openEdits pageEdits last pages
   election-open-is = λ i. record {
     multilog = e i .multilog;
     hidden = e i .hidden;
@@ -92,7 +92,7 @@ last-is L bench e = ap (λ (b : Bench). b .turner .last) e
 
 -- the page that is open
 pub open-same : (L : Ledger) → Valid L → (bench : Bench) → bench ≡ benchOf L → openAt bench (bench .turner .opened) ≡ bench
-unfolding benchOf at-page
+unfolding benchOf atPage
 open-same L v bench e =
     let o : bench .turner .opened ≡ L .opened = ap (λ (b : Bench). b .turner .opened) e in
     ap (openAt bench) o ∙ (election-open-is L bench e (L .opened) (v .opened-within) ∙ sym e)
@@ -146,10 +146,10 @@ module _ (L : Ledger) (v : Valid L) (bench : Bench) (e : bench ≡ benchOf L) (b
   turned-within = omega (arith, ap (λ (r : Turning). r .turner .opened) turning-is, landed-within)
 
   pub turn-accepted : t .number ≡ 0 → record { answer = plainAnswer 0; bench = openAt bench (t .turner .opened) } ≡ outcome (step L (turn by))
-  unfolding judge act outcome at-page
+  unfolding judge act outcome atPage
   turn-accepted z =
       let p : t .turner .opened ≡ answer .opened = ap (λ (r : Turning). r .turner .opened) turning-is in
-      let x : openAt bench (t .turner .opened) ≡ benchOf (at-page L (answer .opened)) = ap (openAt bench) p ∙ election-open-is L bench e (answer .opened) landed-within in
+      let x : openAt bench (t .turner .opened) ≡ benchOf (atPage L (answer .opened)) = ap (openAt bench) p ∙ election-open-is L bench e (answer .opened) landed-within in
       accepted-is L (turn by) _ (sym (ap (λ (r : Turning). r .number) turning-is) ∙ z) (ap (λ (b : Bench). record { answer = plainAnswer 0; bench = b }) x)
 
   pub turn-told : turnReply bench t ≡ outcome (step L (turn by))

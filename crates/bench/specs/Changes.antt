@@ -1,6 +1,6 @@
 -- Inner: what the calls' code shares (document 01, "Entries and pages"): a refusal, a page opened, and the promise of a change. Assumes nothing.
 use mathlib.Core.Path.{_≡_}
-use mathlib.Core.Bool.{true, false}
+use mathlib.Core.Bool.{true}
 use mathlib.Core.List.{List, map}
 use Prim.Native.Nat.{ℕ, _≤_}
 use lib.ListN.{take, drop}
@@ -16,15 +16,10 @@ use Rattle.record_tables.specs.Checked.{Checked}
 use Rattle.voting.specs.declared.Election.{Election}
 use Rattle.pages_turner.specs.declared.turning.Turning.{Turning}
 use Rattle.catalogue.specs.Chips.{chipsView, scheduleOf}
-use Rattle.ledger.specs.declared.Answer.{Answer}
 use Rattle.ledger.specs.declared.Bench.{Bench}
 use Rattle.ledger.specs.declared.Outcome.{Outcome}
-use Rattle.ledger.specs.Ledger.{Call, start, fed, change}
+use Rattle.ledger.specs.Ledger.{Call, start, fed, plainAnswer, change}
 use Rattle.ledger.specs.Bench.{benchOf, outcome}
-
--- every part of the answer but the number is 0
-abbrev pub plainAnswer : ℕ → Answer
-plainAnswer number = record { number = number; undone = 0; redone = 0; won = false; greatest = 0; silent = 0; total = 0 }
 
 -- the bench that came in, with the number
 abbrev pub refusedWith : Bench → ℕ → Outcome

@@ -1,7 +1,7 @@
 // The empty bench, a turn, and what the other calls share: a refusal and a change (document 01, "Entries and pages").
-pub mod change;
 pub mod hidden;
 
+use graph::links::MARKS;
 use ledger::Answer;
 use ledger::Bench;
 use ledger::Outcome;
@@ -11,9 +11,9 @@ use record::Record;
 use record::Schedule;
 use voting::Election;
 ghost use mathlib.Core.Path.{_≡_};
-ghost use Rattle.ledger.specs.Ledger.{Call, noElection, start};
+ghost use Rattle.ledger.specs.Ledger.{Call, noElection, start, plainAnswer};
 ghost use Rattle.ledger.specs.Bench.{Answers, benchOf};
-ghost use Rattle.bench.specs.Changes.{Opens, Reschedules, plainAnswer, refusedWith};
+ghost use Rattle.bench.specs.Changes.{Opens, Reschedules, refusedWith};
 
 // A bench with no edit and no page.
 pub fn empty_bench() -> Bench
@@ -23,7 +23,7 @@ pub fn empty_bench() -> Bench
     let edits = multilog.edits;
     Bench {
         multilog: multilog,
-        hidden: [0u8; 128],
+        hidden: [0u8; MARKS],
         schedule: Schedule {
             edits: edits,
             count: 0,
@@ -108,7 +108,7 @@ pub fn no_election() -> Election
 pub fn reschedule(
     bench: Bench,
     multilog: Record,
-    hidden: [u8; 128],
+    hidden: [u8; MARKS],
     schedule: Schedule,
     election: Election,
 ) -> Outcome

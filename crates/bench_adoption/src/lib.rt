@@ -3,6 +3,8 @@ pub mod adoption;
 
 use ledger::Bench;
 use ledger::Outcome;
+use voting_count::LentConstraints;
+use voting_count::LentEdits;
 use voting_roll::Roll;
 ghost use mathlib.Core.Path.{_≡_};
 ghost use mathlib.Core.List.{List, map};
@@ -12,11 +14,12 @@ ghost use Rattle.voting_count.specs.Count.{lentProposals};
 ghost use Rattle.ledger.specs.Ledger.{Call};
 ghost use Rattle.ledger.specs.Bench.{Answers};
 
+// Inner: says nothing of a roll that was not gathered row by row. `bench_elections` has the operations that are lent the rows.
 pub fn adopt(
     bench: Bench,
     edit: u32,
-    edits: [&[[u32; 5]]; 8],
-    constraints: [&[[u32; 3]]; 8],
+    edits: LentEdits,
+    constraints: LentConstraints,
     roll: Roll,
 ) -> Outcome
     ensures { λ r. ⌜ ((rows : List RollRow) → roll ≡ rollOf rows → Answers bench (Call.adopt edit (lentProposals (map now (edits .entry)) (map now (constraints .entry))) rows) r) ⌝ }

@@ -5,6 +5,8 @@ use bench::hidden;
 use ledger::Bench;
 use ledger::Outcome;
 use record_joining::Joined;
+use record_rows::row::CONSTRAINT_CELLS;
+use record_rows::row::EDIT_CELLS;
 use voting::Election;
 ghost use Rattle.ledger.specs.Ledger.{Call};
 ghost use Rattle.ledger.specs.Bench.{Answers};
@@ -30,7 +32,7 @@ pub fn joined_bench(bench: Bench, joined: Joined, election: Election) -> Outcome
     bench::reschedule(bench, union, hidden, schedule, election)
 }
 
-pub fn add_edit(bench: Bench, row: [u32; 5]) -> Outcome
+pub fn add_edit(bench: Bench, row: [u32; EDIT_CELLS]) -> Outcome
     ensures { λ r. ⌜ Answers bench (Call.addEdit row) r ⌝ }
 {
     let multilog = bench.multilog;
@@ -38,7 +40,7 @@ pub fn add_edit(bench: Bench, row: [u32; 5]) -> Outcome
     joined_bench(bench, joined, bench::no_election())
 }
 
-pub fn add_constraint(bench: Bench, row: [u32; 3]) -> Outcome
+pub fn add_constraint(bench: Bench, row: [u32; CONSTRAINT_CELLS]) -> Outcome
     ensures { λ r. ⌜ Answers bench (Call.addConstraint row) r ⌝ }
 {
     let multilog = bench.multilog;
@@ -46,7 +48,11 @@ pub fn add_constraint(bench: Bench, row: [u32; 3]) -> Outcome
     joined_bench(bench, joined, bench::no_election())
 }
 
-pub fn merge(bench: Bench, edits: &[[u32; 5]], constraints: &[[u32; 3]]) -> Outcome
+pub fn merge(
+    bench: Bench,
+    edits: &[[u32; EDIT_CELLS]],
+    constraints: &[[u32; CONSTRAINT_CELLS]],
+) -> Outcome
     ensures { λ r. ⌜ Answers bench (Call.merge (now (edits .entry)) (now (constraints .entry))) r ⌝ }
 {
     let multilog = bench.multilog;

@@ -6,6 +6,8 @@ use ledger::Bench;
 use ledger::Outcome;
 use voting::Election;
 use voting::RollRow;
+use voting_count::LentConstraints;
+use voting_count::LentEdits;
 ghost use mathlib.Core.Path.{_≡_};
 ghost use mathlib.Core.List.{map};
 ghost use Rattle.voting_roll.specs.Election.{electionOf};
@@ -16,8 +18,8 @@ ghost use Rattle.ledger.specs.Bench.{Answers};
 // THE ANSWER of an election on an edit, over eight lent proposals and a lent roll.
 pub fn election(
     edit: u32,
-    edits: [&[[u32; 5]]; 8],
-    constraints: [&[[u32; 3]]; 8],
+    edits: LentEdits,
+    constraints: LentConstraints,
     roll: &[RollRow],
 ) -> Election
     ensures { λ r. ⌜ r ≡ electionOf edit (lentProposals (map now (edits .entry)) (map now (constraints .entry))) (now (roll .entry)) ⌝ }
@@ -30,8 +32,8 @@ pub fn election(
 pub fn adopt(
     bench: Bench,
     edit: u32,
-    edits: [&[[u32; 5]]; 8],
-    constraints: [&[[u32; 3]]; 8],
+    edits: LentEdits,
+    constraints: LentConstraints,
     roll: &[RollRow],
 ) -> Outcome
     ensures { λ r. ⌜ Answers bench (Call.adopt edit (lentProposals (map now (edits .entry)) (map now (constraints .entry))) (now (roll .entry))) r ⌝ }

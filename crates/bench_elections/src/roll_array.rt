@@ -4,6 +4,8 @@ use ledger::Bench;
 use ledger::Outcome;
 use voting::Election;
 use voting::RollRow;
+use voting_count::LentConstraints;
+use voting_count::LentEdits;
 use voting_roll::Roll;
 ghost use mathlib.Core.Path.{_≡_};
 ghost use mathlib.Core.List.{map};
@@ -27,8 +29,8 @@ fn first_rows(rows: [RollRow; 9], n: usize) -> Roll
 
 pub fn election(
     edit: u32,
-    edits: [&[[u32; 5]]; 8],
-    constraints: [&[[u32; 3]]; 8],
+    edits: LentEdits,
+    constraints: LentConstraints,
     rows: [RollRow; 9],
     count: usize,
 ) -> Election
@@ -42,8 +44,8 @@ pub fn election(
 pub fn adopt(
     bench: Bench,
     edit: u32,
-    edits: [&[[u32; 5]]; 8],
-    constraints: [&[[u32; 3]]; 8],
+    edits: LentEdits,
+    constraints: LentConstraints,
     rows: [RollRow; 9],
     count: usize,
 ) -> Outcome

@@ -1,4 +1,5 @@
 // What the benchmark calls (benchmark/): a judgement, a schedule, a merge and an election on lent tables, as numbers.
+use graph::links::MARKS;
 use judgement::lent_record;
 use record::Schedule;
 use voting::RollRow;
@@ -11,10 +12,10 @@ ghost use Rattle.benchmark_entry.specs.Measured.{judgementNumbers, sched
 #[repr(C)]
 pub struct Judged {
     pub number: u32,
-    pub must: [u8; 128],
-    pub never: [u8; 128],
-    pub settled: [u8; 128],
-    pub place: [u8; 128],
+    pub must: [u8; MARKS],
+    pub never: [u8; MARKS],
+    pub settled: [u8; MARKS],
+    pub place: [u8; MARKS],
 }
 
 // How many pages the bench schedule has.
@@ -139,7 +140,7 @@ pub extern "C" fn measure_election<'a>(
     );
     Elected {
         number: answer.number,
-        won: judgement_marks::bit(answer.won) as u32,
+        won: numbers::bit8(answer.won) as u32,
         greatest: answer.greatest,
         silent: answer.silent,
         total: answer.total,

@@ -35,7 +35,7 @@ use Rattle.pages.proofs.Pages.{catalogue-of}
 use Rattle.catalogue.specs.Chips.{chips, places, rows, chipsView}
 use Rattle.ledger.specs.declared.Bench.{Bench}
 use Rattle.ledger.specs.declared.Outcome.{Outcome}
-use Rattle.ledger.specs.Ledger.{Ledger, Call, addEdit, addConstraint, merge, hide, show, turn, adopt, Reply, start, pages, last, judge, change, shown, adopted, act, refusal, step, fed}
+use Rattle.ledger.specs.Ledger.{Ledger, Call, addEdit, addConstraint, merge, hide, show, turn, adopt, Reply, start, pages, last, atPage, judge, change, shown, adopted, act, refusal, step, fed}
 use Rattle.ledger.specs.Bench.{openEdits, benchOf, outcome, Answers, Linked, none, more, answersOf, told, Undo}
 use Rattle.ledger.proofs.Valid.{Valid, ledger-well-formed, start-valid, fed-valid}
 
@@ -128,18 +128,14 @@ turned-back opened last page n k o l h =
     ap (λ (z : ℤ). z +ℤ k) (sym (turned-lands last page opened n h .is)) ∙ +ℤ-assoc (pos opened) n k ∙ ap (λ (z : ℤ). pos opened +ℤ z) o ∙ +ℤ-idr (pos opened) in
     ap (landed last) a ∙ rw (le-leb opened last l)
 
--- the ledger open at another page
-unfoldable pub at-page : Ledger → ℕ → Ledger
-at-page L page = record { multilog = L .multilog; hidden = L .hidden; schedule = L .schedule; opened = page }
-
 turn-judged : (L : Ledger) (n : ℤ) (t : Turned) → turned (L .opened) (last L) n ≡ t → judge L (turn n) ≡ turnedAnswer (L .opened) t .number
 unfolding judge
 turn-judged L n t e = ap (λ (u : Turned). turnedAnswer (L .opened) u .number) e
 
-turn-after : (L : Ledger) (n : ℤ) (page : ℕ) → turned (L .opened) (last L) n ≡ To page → step L (turn n) .after ≡ at-page L page
-unfolding act at-page
+turn-after : (L : Ledger) (n : ℤ) (page : ℕ) → turned (L .opened) (last L) n ≡ To page → step L (turn n) .after ≡ atPage L page
+unfolding act atPage
 turn-after L n page t =
-    ap (λ (r : Reply). r .after) (step-accepted L (turn n) (turn-judged L n (To page) t)) ∙ ap (λ (u : Turned). at-page L (turnedAnswer (L .opened) u .opened)) t
+    ap (λ (r : Reply). r .after) (step-accepted L (turn n) (turn-judged L n (To page) t)) ∙ ap (λ (u : Turned). atPage L (turnedAnswer (L .opened) u .opened)) t
 
 -- an accepted turn lands on a page
 turn-by {ℓ} : {P : Type ℓ} (L : Ledger) (n : ℤ) → judge L (turn n) ≡ 0 → ((page : ℕ) → turned (L .opened) (last L) n ≡ To page → P) → P
@@ -151,20 +147,20 @@ turn-by {P = P} L n h f = go (turned (L .opened) (last L) n) refl
 
 pub opposite-turns : (calls : List Call) (n k : ℤ) (b : Bench) (r s : Outcome) → b ≡ benchOf (fed start calls) → n +ℤ k ≡ pos 0
     → Answers b (turn n) r → r .answer .number ≡ 0 → Answers (r .bench) (turn k) s → (s .answer .number ≡ 0) × (s .bench ≡ b)
-unfolding Answers outcome at-page last pages
+unfolding Answers outcome atPage last pages
 opposite-turns calls n k b r s e o a z c =
     let L = fed start calls in
     let x = a calls e in
     let first = accepted-judged L (turn n) (sym (ap (λ (u : Outcome). u .answer .number) x) ∙ z) in
     turn-by L n first (λ page t.
     let v = fed-valid start calls start-valid in
-    let m : fed start (calls ++ (turn n ∷ [])) ≡ at-page L page = fed-more start calls (turn n) ∙ turn-after L n page t in
+    let m : fed start (calls ++ (turn n ∷ [])) ≡ atPage L page = fed-more start calls (turn n) ∙ turn-after L n page t in
     let w : r .bench ≡ benchOf (fed start (calls ++ (turn n ∷ []))) = ap (λ (u : Outcome). u .bench) x ∙ ap benchOf (sym (fed-more start calls (turn n))) in
-    let y : s ≡ outcome (step (at-page L page) (turn k)) = rw m at (c (calls ++ (turn n ∷ [])) w) in
+    let y : s ≡ outcome (step (atPage L page) (turn k)) = rw m at (c (calls ++ (turn n ∷ [])) w) in
     let t₂ = turned-back (L .opened) (last L) page n k o (v .opened-within) t in
-    let second = turn-judged (at-page L page) k (To (L .opened)) t₂ in (
-      ap (λ (u : Outcome). u .answer .number) y ∙ (ap (λ (u : Reply). u .answer .number) (step-accepted (at-page L page) (turn k) second) ∙ accepted-number (at-page L page) (turn k)),
-      ap (λ (u : Outcome). u .bench) y ∙ (ap benchOf (turn-after (at-page L page) k (L .opened) t₂) ∙ sym e),
+    let second = turn-judged (atPage L page) k (To (L .opened)) t₂ in (
+      ap (λ (u : Outcome). u .answer .number) y ∙ (ap (λ (u : Reply). u .answer .number) (step-accepted (atPage L page) (turn k) second) ∙ accepted-number (atPage L page) (turn k)),
+      ap (λ (u : Outcome). u .bench) y ∙ (ap benchOf (turn-after (atPage L page) k (L .opened) t₂) ∙ sym e),
     ))
 
 -- HIDING AND THEN SHOWING gives the bench of before with its last page open.
@@ -184,8 +180,8 @@ fresh L x h =
     let k = orelse-none (5 given not (mem x (written (L .multilog)))) _ (orelse-none (2 given not (isName x)) _ h .1) .1 in
     or-no-r (must (L .multilog) x) _ (given-none 8 _ k)
 
-again : (L : Ledger) (x : ℕ) → Valid L → mem x (L .hidden) ≡ false → act (act L (hide x) .after) (show x) .after ≡ at-page L (last L)
-unfolding act change at-page last pages
+again : (L : Ledger) (x : ℕ) → Valid L → mem x (L .hidden) ≡ false → act (act L (hide x) .after) (show x) .after ≡ atPage L (last L)
+unfolding act change atPage last pages
 again L x v n =
     let e = shown-hidden x (L .hidden) n in
     let m : schedule (L .multilog) (shown x (x ∷ L .hidden)) ≡ L .schedule = ap (schedule (L .multilog)) e ∙ sym (v .made) in
@@ -193,8 +189,8 @@ again L x v n =
 
 pub hidden-shown : (calls : List Call) (x : ℕ) (b : Bench) (r s : Outcome) → b ≡ benchOf (fed start calls)
     → Answers b (hide x) r → r .answer .number ≡ 0 → Answers (r .bench) (show x) s → s .answer .number ≡ 0
-    → s .bench ≡ benchOf (at-page (fed start calls) (last (fed start calls)))
-unfolding Answers outcome at-page last pages act change
+    → s .bench ≡ benchOf (atPage (fed start calls) (last (fed start calls)))
+unfolding Answers outcome atPage last pages act change
 hidden-shown calls x b r s e a z c w =
     let L = fed start calls in
     let v = fed-valid start calls start-valid in

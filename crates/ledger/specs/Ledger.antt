@@ -49,6 +49,10 @@ pages L = drop 1 (L .schedule)
 unfoldable pub last : Ledger → ℕ
 last L = length (pages L)
 
+-- the ledger open at another page
+unfoldable pub atPage : Ledger → ℕ → Ledger
+atPage L page = record { multilog = L .multilog; hidden = L .hidden; schedule = L .schedule; opened = page }
+
 -- a won bundle's rows, judged last; an open election brings none
 abbrev pub bundleFault : Record → Option Record → ℕ
 bundleFault R none = 0
@@ -74,6 +78,10 @@ pub record Reply : Type 0 where
 
 abbrev pub noElection : Election
 noElection = refusedElection 0
+
+-- every part of the answer but the number is 0
+abbrev pub plainAnswer : ℕ → Answer
+plainAnswer number = record { number = number; undone = 0; redone = 0; won = false; greatest = 0; silent = 0; total = 0 }
 
 abbrev pub answered : ℕ → ℕ → Election → Answer
 answered undone redone E =
@@ -107,7 +115,7 @@ act L (merge edits constraints) = change L (unite (L .multilog) (decoded edits c
 act L (hide x) = change L (L .multilog) (x ∷ L .hidden) noElection
 act L (show x) = change L (L .multilog) (shown x (L .hidden)) noElection
 act L (turn n) = record {
-  answer = answered 0 0 noElection;
+  answer = plainAnswer 0;
   after = record {
     multilog = L .multilog;
     hidden = L .hidden;
@@ -120,7 +128,7 @@ act L (adopt e P roll) = adopted L (counted (cast e P roll)) (winner (cast e P r
 -- a refused call changes nothing, and every other part of its answer is 0
 unfoldable pub refusal : Ledger → ℕ → Reply
 refusal L n =
-    record { answer = record { number = n; undone = 0; redone = 0; won = false; greatest = 0; silent = 0; total = 0 }; after = L }
+    record { answer = plainAnswer n; after = L }
 
 unfoldable pub step : Ledger → Call → Reply
 step L call = let n = judge L call in cond (eqb n 0) (act L call) (refusal L n)

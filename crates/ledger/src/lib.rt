@@ -1,6 +1,7 @@
 // The bench in memory and the answers of its calls (document 01, "Entries and pages"). The specs hold the ledger, the promise that every call
 // makes, and the undo rule; the calls' code stands in crates above.
 use catalogue::View;
+use graph::links::MARKS;
 use pages_turner::Turner;
 use record::Record;
 use record::Schedule;
@@ -8,7 +9,7 @@ use record::Schedule;
 // A bench: its record, the marks of its hidden edits, its schedule, its open and last page, and what the open pages make.
 pub struct Bench {
     pub multilog: Record,
-    pub hidden: [u8; 128],
+    pub hidden: [u8; MARKS],
     pub schedule: Schedule,
     pub turner: Turner,
     pub view: View,

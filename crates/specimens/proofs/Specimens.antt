@@ -9,7 +9,7 @@ use borrow.Author.Tests.{eqb-true, not-true}
 use Rattle.lists.specs.Lists.{any, all, filter, mem, indexOf, _among_, distinct, find, grown, closure, Has}
 use Rattle.record.specs.Record.{Record, names, written, is, has, WellFormed}
 use Rattle.record.specs.Sound.{Sound}
-use Rattle.record.specs.Schedule.{needs, musts, ready, order, ring, barred, admit, admits, scheduled, schedule}
+use Rattle.record.specs.Schedule.{needs, musts, ready, order, ring, bars, barred, admit, admits, scheduled, schedule}
 use Rattle.record.specs.Judgement.{fits, soundRow, sound, must, never, ordered, serialised, settled, wellFormed}
 use Rattle.record_rows.specs.row.Row.{same, editRow, constraintRow}
 use Rattle.voting.specs.Bundle.{leads, members, between, bundle, eligible, vote}
@@ -100,7 +100,7 @@ all-facts [] h = tt
 all-facts (s ∷ l) h = (fact s (and-l _ _ h), all-facts l (and-r (holds s) _ h))
 
 computed : all holds table ≡ true
-unfolding judgedHolds votedHolds turnHolds table schedule scheduled admits admit barred sound must never settled serialised ordered soundRow fits wellFormed ring order ready musts needs names written is has closure grown find any all filter mem indexOf distinct ballots vote eligible bundle between members leads sameBundle sameList sameEdit sameConstraint editRow constraintRow same won greatest greatestOf silent weigh total turned landed
+unfolding judgedHolds votedHolds turnHolds table schedule scheduled admits admit bars barred sound must never settled serialised ordered soundRow fits wellFormed ring order ready musts needs names written is has closure grown find any all filter mem indexOf distinct ballots vote eligible bundle between members leads sameBundle sameList sameEdit sameConstraint editRow constraintRow same won greatest greatestOf silent weigh total turned landed
 computed = refl
 
 pub specimens : Each table

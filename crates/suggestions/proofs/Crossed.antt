@@ -1,33 +1,15 @@
 -- Document 02, A1: of document 01's table of concurrent edits just two pairs moved, remove and insert, and remove and set. Assumes nothing.
 use Prim.Native.Nat.{ℕ, zero, suc}
 use mathlib.Core.Path.{_≡_, refl, sym, _∙_}
-use mathlib.Core.Bool.{Bool, true, false, cond, not}
+use mathlib.Core.Bool.{Bool, true, false, cond}
 use mathlib.Core.Logic.{_≢_}
 use native.Mathlib.Omega.{arith}
 use lib.Dec.{eqb}
 use Rattle.record_rows.specs.row.Row.{Row, cell, editInRange}
 use Rattle.suggestions.specs.Suggest.{concurrentTable, advised, rowsOf, given, suggested}
+use Rattle.suggestions.specs.Crossed.{formerTable, removes, crossed}
 use Rattle.suggestions.specs.declared.Advice.the-variants.{Noncommuting}
 use Rattle.suggestions.proofs.Advised.{advise-concurrent, suggestion-accepted}
-
--- document 01's table, as it stood before the request
-unfoldable pub formerTable : ℕ → ℕ → Bool → Bool
-formerTable zero zero oneField = true  -- insert, insert
-formerTable zero (suc kind) oneField = false
-formerTable (suc zero) zero oneField = false
-formerTable (suc zero) (suc zero) oneField = oneField  -- set, set
-formerTable (suc zero) (suc (suc kind)) oneField = false
-formerTable (suc (suc n)) kind oneField = false
-
--- kind 2, as the tables read it
-unfoldable pub removes : ℕ → Bool
-removes zero = false
-removes (suc zero) = false
-removes (suc (suc n)) = true
-
--- the two pairs, whichever edit is named first: one of the edits removes and the other does not
-unfoldable pub crossed : ℕ → ℕ → Bool
-crossed a b = cond (removes a) (not (removes b)) (removes b)
 
 -- A crossed pair was not noncommuting and is so now, whatever field is set; of any other pair the two tables say the same.
 pub just-crossed-moved : (a b : ℕ) (f : Bool) → (concurrentTable a b f ≡ cond (crossed a b) true (formerTable a b f)) × (formerTable a b f ≡ cond (crossed a b) false (concurrentTable a b f))

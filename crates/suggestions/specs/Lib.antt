@@ -1,1 +1,2 @@
 pub mod Suggest
+pub mod Crossed

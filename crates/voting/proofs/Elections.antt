@@ -2,7 +2,7 @@
 use mathlib.Core.Path.{_≡_, refl, sym, ap, _∙_}
 use mathlib.Core.Bool.{Bool, true, false, cond}
 use mathlib.Core.Logic.{_↔_}
-use mathlib.Core.List.{List, [], _∷_, map}
+use mathlib.Core.List.{List, [], _∷_, map, List·Permᴰ, List·Permᴰ·nil, List·Permᴰ·cons, List·Permᴰ·swap, List·Permᴰ·trans}
 use mathlib.Core.Option.{Option, none, some}
 use Prim.Native.Nat.{ℕ, _+_, _*_, _≤_, _<_, max}
 use native.Mathlib.Omega.{arith}
@@ -113,7 +113,7 @@ pub same-is : (P Q : Record) → sameBundle P Q ≡ true ↔ (P ≡ Q)
 same-is P Q = (bundle-same P Q, λ e. rw e (same-bundle Q))
 
 -- weights
-weigh-le : (p : Option Record → Bool) (l : List Ballot) → weigh p l ≤ total l
+pub weigh-le : (p : Option Record → Bool) (l : List Ballot) → weigh p l ≤ total l
 unfolding weigh total
 weigh-le p [] = omega arith
 weigh-le p (b ∷ l) = by (p (b .vote)) (λ e. rw e (omega (arith, weigh-le p l))) (λ e. rw e (omega (arith, weigh-le p l)))
@@ -201,59 +201,53 @@ unfolding winner won greatest
 open-is l h = by (ltb (total l) (2 * greatestOf l l)) (λ e. absurd (omega (arith, winner-none l l h, ltb-true))) (λ e. e)
 
 -- Rows in another order.
-pub data Reordered : List Ballot → List Ballot → Type 0 where
-  same : {l : List Ballot} → Reordered l l
-  swap : {a b : Ballot} {l : List Ballot} → Reordered (a ∷ b ∷ l) (b ∷ a ∷ l)
-  keep : {a : Ballot} {l m : List Ballot} → Reordered l m → Reordered (a ∷ l) (a ∷ m)
-  then : {l m n : List Ballot} → Reordered l m → Reordered m n → Reordered l n
-
-pub total-reordered : {l m : List Ballot} → Reordered l m → total l ≡ total m
+pub total-reordered : {l m : List Ballot} → List·Permᴰ l m → total l ≡ total m
 unfolding total
-total-reordered same = refl
-total-reordered (swap {a} {b} {l}) = omega arith
-total-reordered (keep {a} r) = ap (λ n. a .weight + n) (total-reordered r)
-total-reordered (then r s) = total-reordered r ∙ total-reordered s
+total-reordered List·Permᴰ·nil = refl
+total-reordered (List·Permᴰ·cons {a} {b} e r) = rw e (ap (λ (n : ℕ). b .weight + n) (total-reordered r))
+total-reordered (List·Permᴰ·swap {a} {b} {a′} {b′} {l} e g) = rw (e, g) (omega arith)
+total-reordered (List·Permᴰ·trans r s) = total-reordered r ∙ total-reordered s
 
-weigh-reordered : (p : Option Record → Bool) {l m : List Ballot} → Reordered l m → weigh p l ≡ weigh p m
+weigh-reordered : (p : Option Record → Bool) {l m : List Ballot} → List·Permᴰ l m → weigh p l ≡ weigh p m
 unfolding weigh
-weigh-reordered p same = refl
-weigh-reordered p (swap {a} {b} {l}) = omega arith
-weigh-reordered p (keep {a} r) = ap (λ n. cond (p (a .vote)) (a .weight) 0 + n) (weigh-reordered p r)
-weigh-reordered p (then r s) = weigh-reordered p r ∙ weigh-reordered p s
+weigh-reordered p List·Permᴰ·nil = refl
+weigh-reordered p (List·Permᴰ·cons {a} {b} e r) = rw e (ap (λ (n : ℕ). cond (p (b .vote)) (b .weight) 0 + n) (weigh-reordered p r))
+weigh-reordered p (List·Permᴰ·swap {a} {b} {a′} {b′} {l} e g) = rw (e, g) (omega arith)
+weigh-reordered p (List·Permᴰ·trans r s) = weigh-reordered p r ∙ weigh-reordered p s
 
-pub silent-reordered : {l m : List Ballot} → Reordered l m → silent l ≡ silent m
+pub silent-reordered : {l m : List Ballot} → List·Permᴰ l m → silent l ≡ silent m
 unfolding silent
 silent-reordered r = weigh-reordered isSilent r
 
-group-reordered : {l m : List Ballot} → Reordered l m → (v : Option Record) → group l v ≡ group m v
+group-reordered : {l m : List Ballot} → List·Permᴰ l m → (v : Option Record) → group l v ≡ group m v
 group-reordered r none = refl
 group-reordered r (some B) = weigh-reordered (votesFor B) r
 
-greatest-among : (k : List Ballot) {l m : List Ballot} → Reordered l m → greatestOf k l ≡ greatestOf k m
+greatest-among : (k : List Ballot) {l m : List Ballot} → List·Permᴰ l m → greatestOf k l ≡ greatestOf k m
 unfolding greatestOf
-greatest-among k same = refl
-greatest-among k (swap {a} {b} {l}) = omega arith
-greatest-among k (keep {a} r) = ap (max (group k (a .vote))) (greatest-among k r)
-greatest-among k (then r s) = greatest-among k r ∙ greatest-among k s
+greatest-among k List·Permᴰ·nil = refl
+greatest-among k (List·Permᴰ·cons {a} {b} e r) = rw e (ap (max (group k (b .vote))) (greatest-among k r))
+greatest-among k (List·Permᴰ·swap {a} {b} {a′} {b′} {l} e g) = rw (e, g) (omega arith)
+greatest-among k (List·Permᴰ·trans r s) = greatest-among k r ∙ greatest-among k s
 
-greatest-of : {k l : List Ballot} → Reordered k l → (m : List Ballot) → greatestOf k m ≡ greatestOf l m
+greatest-of : {k l : List Ballot} → List·Permᴰ k l → (m : List Ballot) → greatestOf k m ≡ greatestOf l m
 unfolding greatestOf
 greatest-of r [] = refl
 greatest-of r (b ∷ m) = rw (group-reordered r (b .vote), greatest-of r m)
 
-pub greatest-reordered : {l m : List Ballot} → Reordered l m → greatest l ≡ greatest m
+pub greatest-reordered : {l m : List Ballot} → List·Permᴰ l m → greatest l ≡ greatest m
 unfolding greatest
 greatest-reordered {l} {m} r = greatest-among l r ∙ greatest-of r m
 
-pub won-reordered : {l m : List Ballot} → Reordered l m → won l ≡ won m
+pub won-reordered : {l m : List Ballot} → List·Permᴰ l m → won l ≡ won m
 unfolding won
 won-reordered r = rw (total-reordered r, greatest-reordered r)
 
-wins-reordered : {l m : List Ballot} → Reordered l m → (B : Record) → wins l B ≡ wins m B
+wins-reordered : {l m : List Ballot} → List·Permᴰ l m → (B : Record) → wins l B ≡ wins m B
 unfolding wins
 wins-reordered r B = rw (total-reordered r, weigh-reordered (votesFor B) r)
 
-pub winner-reordered : {l m : List Ballot} → Reordered l m → winner l ≡ winner m
+pub winner-reordered : {l m : List Ballot} → List·Permᴰ l m → winner l ≡ winner m
 winner-reordered {l} {m} r = go (winner l) (winner m) refl refl
   where
     go : (v w : Option Record) → winner l ≡ v → winner m ≡ w → v ≡ w

@@ -15,7 +15,7 @@ use Rattle.lists.proofs.Order.{less-total}
 use Rattle.lists.proofs.Union.{Agree, united-has, united-old, united-new, united-comm, united-part}
 use Rattle.record_tables.specs.Table.{editKey, constraintKey, unite}
 use Rattle.record_tables.proofs.Unions.{mem-by, mem-has, united-extends, joining-extends}
-use Rattle.voting.specs.Proposal.{joinedConstraints}
+use Rattle.voting.specs.Proposal.{joinedConstraints, Joinable}
 
 abbrev pub con : ℕ → ℕ → ℕ → Constraint
 con a k b = record { left = a; rule = k; right = b }
@@ -56,14 +56,6 @@ has-united a k b s t =
     (λ h. in-has (con a k b) _ (or-by (has a k b s) (has a k b t) h
     (λ m. united-old constraintKey (con a k b) s t (has-in a k b s m))
     (λ m. united-new constraintKey (con a k b) s t (constraints-agree t s) (constraints-agree t t) (has-in a k b t m))))
-
--- what is needed of two records that are joined: ascending tables, and one body for a name
-pub record Joinable (M Q : Record) : Type 0 where
-  pub left-edits : Ascending editKey (M .edits)
-  pub right-edits : Ascending editKey (Q .edits)
-  pub left-constraints : Ascending constraintKey (M .constraints)
-  pub right-constraints : Ascending constraintKey (Q .constraints)
-  pub bodies : Agree editKey (Q .edits) (M .edits)
 
 module _ {M Q : Record} (j : Joinable M Q) where
   pub unite-left : (e : Edit) → Has e (M .edits) → Has e (unite M Q .edits)

@@ -21,8 +21,8 @@ use Rattle.voting.proofs.Bundles.{bundle-written, written-bundle, membe
 use Rattle.voting.proofs.Elections.{same-is}
 use Rattle.record_tables.specs.Table.{editKey, constraintKey, unite}
 use Rattle.record_tables.proofs.Unions.{united-extends, joining-extends}
-use Rattle.voting.specs.Proposal.{joinedConstraints, before, unordered, settledIn, settledFirst, firsts, started, finished, proposed, Paired, Keeps, keeps}
-use Rattle.voting.proofs.Joined.{con, has-in, in-has, has-with, extends-with, with-well-formed, Joinable, unite-left, has-unite, unite-well-formed, unite-part}
+use Rattle.voting.specs.Proposal.{joinedConstraints, before, unordered, settledIn, settledFirst, firsts, started, finished, proposed, Paired, Joinable, Keeps, keeps}
+use Rattle.voting.proofs.Joined.{con, has-in, in-has, has-with, extends-with, with-well-formed, unite-left, has-unite, unite-well-formed, unite-part}
 use Rattle.voting.proofs.Finished.{unordered-from, finished-extends, finished-well-formed, finished-sound, finished-settled, finished-ascending, finished-again}
 
 pub extends-trans : {P Q R : Record} → Extends P Q → Extends Q R → Extends P R

@@ -4,13 +4,14 @@ use mathlib.Core.Bool.{Bool, true, false, not, _&&_, _||_, cond}
 use mathlib.Core.List.{List, [], _∷_, _++_, map}
 use Prim.Native.Nat.{ℕ, _<_}
 use lib.Dec.{eqb, ltb}
+use Rattle.record.specs.declared.Edit.{Edit}
 use Rattle.record.specs.declared.Constraint.{Constraint}
-use Rattle.lists.specs.Lists.{all, filter, mem, indexOf, _among_}
+use Rattle.lists.specs.Lists.{all, filter, mem, indexOf, _among_, Has}
 use Rattle.record.specs.Record.{Record, written, has, notafter}
 use Rattle.record.specs.Schedule.{schedule}
 use Rattle.record.specs.Judgement.{settled}
-use Rattle.lists.specs.Keyed.{united}
-use Rattle.record_tables.specs.Table.{constraintKey, unite}
+use Rattle.lists.specs.Keyed.{precedes, Ascending, united}
+use Rattle.record_tables.specs.Table.{editKey, constraintKey, unite}
 use Rattle.voting.specs.Bundle.{bundle, eligible}
 use Rattle.voting.specs.Tally.{sameBundle}
 
@@ -68,6 +69,14 @@ proposed M Q = finished (started M Q)
 -- what checked tables have: a noncommuting pair is stored with the lower name on the left
 pub record Paired (R : Record) : Type 0 where
   pub lower : (a b : ℕ) → has a 2 b (R .constraints) ≡ true → a < b
+
+-- what is asked of two records that are joined: ascending tables, and one edit for a key
+pub record Joinable (M Q : Record) : Type 0 where
+  pub left-edits : Ascending editKey (M .edits)
+  pub right-edits : Ascending editKey (Q .edits)
+  pub left-constraints : Ascending constraintKey (M .constraints)
+  pub right-constraints : Ascending constraintKey (Q .constraints)
+  pub bodies : (d e : Edit) → Has d (Q .edits) → Has e (M .edits) → precedes (editKey d) (editKey e) ≡ false → precedes (editKey e) (editKey d) ≡ false → d ≡ e
 
 -- P keeps Q: each edit with an eligible bundle in Q has the same bundle in P, still eligible.
 unfoldable pub Keeps : Record → Record → Type 0

@@ -6,6 +6,8 @@ use record::EDITS;
 use record::Edit;
 use record::Record;
 use record_rows::row;
+use record_rows::row::CONSTRAINT_CELLS;
+use record_rows::row::EDIT_CELLS;
 ghost use mathlib.Core.Path.{_≡_};
 ghost use Prim.Native.Nat.{_≤_};
 ghost use lib.ListN.{take};
@@ -18,7 +20,7 @@ fn same_edit(a: Edit, b: Edit) -> bool
 {
     let x = row::edit_row(a);
     let y = row::edit_row(b);
-    row::alike(&x, &y, 5)
+    row::alike(&x, &y, EDIT_CELLS)
 }
 
 fn same_constraint(a: Constraint, b: Constraint) -> bool
@@ -26,7 +28,7 @@ fn same_constraint(a: Constraint, b: Constraint) -> bool
 {
     let x = row::constraint_row(a);
     let y = row::constraint_row(b);
-    row::alike(&x, &y, 3)
+    row::alike(&x, &y, CONSTRAINT_CELLS)
 }
 
 // Whether the first n edits are equal, bodies too.

@@ -1,12 +1,12 @@
 // Bundles (document 01, "Proposals and votes"): the bundle of an edit, whether it is eligible, and both asked of a lent record.
 pub mod equality;
-pub mod members;
 
 use graph::indexes;
-use graph::links;
 use graph::links::MARKS;
 use graph::links::ROWS;
+use record::CONSTRAINTS;
 use record::Constraint;
+use record::EDITS;
 use record::Edit;
 use record::Record;
 use record_rows::row;
@@ -21,30 +21,31 @@ ghost use lib.ListN.{length, getD, take};
 ghost use Rattle.record.specs.declared.Edit as edit;
 ghost use Rattle.record.specs.Record as theory;
 ghost use Rattle.lists.specs.Lists.{mem, filter, all, _among_};
-ghost use Rattle.record.specs.Stored.{stored, fillerEdit, fillerConstraint};
+ghost use Rattle.record.specs.Stored.{stored, editLimit, constraintLimit, fillerEdit, fillerConstraint};
 ghost use Rattle.record.specs.Judgement.{settled};
+ghost use Rattle.record_rows.specs.row.Row.{nameLimit};
 ghost use Rattle.graph.specs.links.Marks.{marksOf, placeIn};
 ghost use Rattle.graph.specs.links.Links.{Safe, Leads};
 ghost use Rattle.graph.specs.indexes.Fit.{Fit};
-ghost use Rattle.voting_bundles.specs.members.Rows.{leadsIn};
+ghost use Rattle.voting_members.specs.Rows.{leadsIn};
 ghost use Rattle.voting.specs.Bundle.{between};
 ghost use Rattle.voting.specs.Bundle as vote;
 ghost use Rattle.voting_bundles.specs.Bundles.{filteredEdits, filteredConstraints, refusedBundle, bundleAnswer};
 
 // Rows past the count hold the filler.
 pub struct Edits {
-    pub rows: [Edit; 127],
+    pub rows: [Edit; EDITS],
     pub count: usize,
 }
 
 pub struct Constraints {
-    pub rows: [Constraint; 512],
+    pub rows: [Constraint; CONSTRAINTS],
     pub count: usize,
 }
 
 // The edits that are marked, edit i at index i + 1.
-fn filter_edits(edits: [Edit; 127], n: usize, marks: &[u8; MARKS]) -> Edits
-    requires { ⌜ n ≤ 127 ⌝ }
+fn filter_edits(edits: [Edit; EDITS], n: usize, marks: &[u8; MARKS]) -> Edits
+    requires { ⌜ n ≤ editLimit ⌝ }
     ensures { λ r. ⌜ ((p : edit.Edit → Bool) → ((i : ℕ) → i < n → eqb (getD (now (marks .entry)) (i + 1) 0) 1 ≡ p (getD edits i fillerEdit)) → r ≡ filteredEdits (filter p (take n edits))) ⌝ }
 {
     let old = record::empty();
@@ -67,29 +68,29 @@ fn filter_edits(edits: [Edit; 127], n: usize, marks: &[u8; MARKS]) -> Edits
 
 // Whether the ends of a constraint are members, or a member and 0.
 fn is_between(table: &[u8; NAMES], marks: &[u8; MARKS], left: u16, right: u16) -> bool
-    requires { ⌜ (length (now table) ≡ 2304) × ((x : ℕ) → getD (now table) x 0 < 128) ⌝ }
+    requires { ⌜ (length (now table) ≡ nameLimit) × ((x : ℕ) → getD (now table) x 0 < 128) ⌝ }
     ensures { λ r. ⌜ ((R : theory.Record) (m : List ℕ) → ((x : ℕ) → getD (now (table .entry)) x 0 ≡ placeIn (theory.names R) x) → now (marks .entry) ≡ marksOf R (λ y. mem y m)
         → left among theory.names R → right among theory.names R → r ≡ between m left right) ⌝ }
 {
-    let a = indexes::index_of(table, links::wide16(left));
+    let a = indexes::index_of(table, numbers::index16(left));
     if marks[a] != 1 {
         return false;
     }
     if right == 0 {
         return true;
     }
-    let b = indexes::index_of(table, links::wide16(right));
+    let b = indexes::index_of(table, numbers::index16(right));
     marks[b] == 1
 }
 
 // The constraints between members.
 fn filter_constraints(
-    constraints: [Constraint; 512],
+    constraints: [Constraint; CONSTRAINTS],
     n: usize,
     table: &[u8; NAMES],
     marks: &[u8; MARKS],
 ) -> Constraints
-    requires { ⌜ (n ≤ 512) × (length (now table) ≡ 2304) × ((x : ℕ) → getD (now table) x 0 < 128) ⌝ }
+    requires { ⌜ (n ≤ constraintLimit) × (length (now table) ≡ nameLimit) × ((x : ℕ) → getD (now table) x 0 < 128) ⌝ }
     ensures { λ r. ⌜ ((R : theory.Record) (m : List ℕ) → ((x : ℕ) → getD (now (table .entry)) x 0 ≡ placeIn (theory.names R) x) → now (marks .entry) ≡ marksOf R (λ y. mem y m)
         → ((i : ℕ) → i < n → (getD constraints i fillerConstraint .left among theory.names R) × (getD constraints i fillerConstraint .right among theory.names R))
         → r ≡ filteredConstraints (filter (λ c. between m (c .left) (c .right)) (take n constraints))) ⌝ }
@@ -115,19 +116,19 @@ fn filter_constraints(
 // The bundle of an edit that the record knows, by the table of the record's names and the rows of what leads to a member: they are made once for many
 // edits. Pub for `voting_proposals::keeping`, which makes both.
 pub fn bundle_by(multilog: Record, table: &[u8; NAMES], rows: &[u16; ROWS], name: u16) -> Record
-    requires { ⌜ (length (now table) ≡ 2304) × ((x : ℕ) → getD (now table) x 0 < 128) × Safe (now rows) ⌝ }
+    requires { ⌜ (length (now table) ≡ nameLimit) × ((x : ℕ) → getD (now table) x 0 < 128) × Safe (now rows) ⌝ }
     ensures { λ r. ⌜ ((R : theory.Record) → multilog ≡ stored R → Fit R → ((x : ℕ) → getD (now (table .entry)) x 0 ≡ placeIn (theory.names R) x)
         → Leads (leadsIn R) R 0 (now (rows .entry)) → name among theory.written R → r ≡ stored (vote.bundle R name)) ⌝ }
 {
     let n = multilog.editcount;
     let m = multilog.constraintcount;
-    if 127 < n {
+    if EDITS < n {
         return record::empty();
     }
-    if 512 < m {
+    if CONSTRAINTS < m {
         return record::empty();
     }
-    let marks = members::member_marks(table, rows, name);
+    let marks = voting_members::member_marks(table, rows, name);
     let edits = multilog.edits;
     let constraints = multilog.constraints;
     let kept = filter_edits(edits, n, &marks);
@@ -147,7 +148,7 @@ pub fn bundle(multilog: Record, name: u16) -> Record
     ensures { λ r. ⌜ ((R : theory.Record) → multilog ≡ stored R → Fit R → name among theory.written R → r ≡ stored (vote.bundle R name)) ⌝ }
 {
     let table = indexes::index_table(multilog);
-    let rows = members::member_rows(multilog, &table);
+    let rows = voting_members::member_rows(multilog, &table);
     bundle_by(multilog, &table, &rows, name)
 }
 

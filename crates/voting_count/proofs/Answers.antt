@@ -14,8 +14,8 @@ use Rattle.voting.specs.declared.RollRow.{RollRow}
 use Rattle.voting.specs.declared.Election.{Election}
 use Rattle.voting.specs.Tally.{counted, winner}
 use Rattle.voting_roll.specs.Roll.{rollFaulty}
-use Rattle.voting_count.specs.declared.tally.Tally.{Tally}
-use Rattle.voting_count.specs.tally.Groups.{tallyOf, winnerStored}
+use Rattle.voting_tally.specs.declared.Tally.{Tally}
+use Rattle.voting_tally.specs.Groups.{tallyOf, winnerStored}
 use Rattle.voting_count.specs.Count.{Faultless, refusedCount, countOf}
 use Rattle.voting_roll.specs.Election.{Proposals, held, proposalFault, firstGiven, benches, electionFault, cast, electionOf}
 

@@ -15,8 +15,8 @@ use Rattle.lists.proofs.Lists.{is-by}
 use Rattle.record_rows.specs.ground.Ground.{Rows}
 use Rattle.record_tables.specs.Table.{emptyTables, decoded, lentFault}
 use Rattle.voting.specs.Bundle.{bundle, eligible, vote}
-use Rattle.voting_count.specs.declared.tally.Vote.the-variants.{Bundle}
-use Rattle.voting_count.specs.tally.Groups.{castOf}
+use Rattle.voting_tally.specs.declared.Vote.the-variants.{Bundle}
+use Rattle.voting_tally.specs.Groups.{castOf}
 use Rattle.voting_count.specs.Count.{lentProposals}
 use Rattle.voting_roll.specs.Election.{benches, held, proposalFault, firstGiven}
 

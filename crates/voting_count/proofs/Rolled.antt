@@ -18,9 +18,9 @@ use Rattle.voting.specs.Tally.{Ballot, ballots, total}
 use Rattle.lists.proofs.Front.{take-more}
 use Rattle.voting_roll.specs.declared.Roll.{Roll}
 use Rattle.voting_roll.specs.Roll.{rollBench, isBench, rollFaulty, fillerRow, rollOf}
-use Rattle.voting_count.specs.declared.tally.Tally.{Tally}
-use Rattle.voting_count.specs.tally.Groups.{tallyOf}
-use Rattle.voting_count.proofs.tally.Counts.{total-more}
+use Rattle.voting_tally.specs.declared.Tally.{Tally}
+use Rattle.voting_tally.specs.Groups.{tallyOf}
+use Rattle.voting_tally.proofs.Counts.{total-more}
 use Rattle.voting_count.specs.Count.{Faultless, ballotOf}
 use Rattle.voting_roll.specs.Election.{Proposals, cast}
 

@@ -9,7 +9,7 @@ use Rattle.record_rows.specs.ground.Ground.{Rows}
 use Rattle.voting.specs.declared.RollRow.{RollRow}
 use Rattle.voting.specs.Bundle.{vote}
 use Rattle.voting.specs.Tally.{Ballot, winner}
-use Rattle.voting_count.specs.tally.Groups.{winnerStored}
+use Rattle.voting_tally.specs.Groups.{winnerStored}
 use Rattle.voting_roll.specs.Election.{Proposals, held, proposalFault, firstGiven, benches, electionFault, cast, refusedElection, electionOf}
 use Rattle.voting_count.specs.declared.Counted.{Counted}
 

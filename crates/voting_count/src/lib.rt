@@ -1,22 +1,20 @@
 // Elections over eight lent proposals and a roll (document 01, "Proposals and votes" and "What is turned away").
-pub mod tally;
 
-use crate::tally::Cast;
-use crate::tally::Tally;
-use crate::tally::Vote;
 use record::Record;
 use record_rows::row;
+use record_rows::row::CONSTRAINT_CELLS;
+use record_rows::row::EDIT_CELLS;
 use record_tables::lookup;
-use record_union::refusal;
 use voting::Election;
-use voting::RollRow;
 use voting_roll::Roll;
+use voting_tally::Cast;
+use voting_tally::Tally;
+use voting_tally::Vote;
 ghost use mathlib.Core.Path.{_≡_};
-ghost use mathlib.Core.Bool.{true, false};
-ghost use mathlib.Core.List.{List, [], _∷_, _++_, map};
+ghost use mathlib.Core.Bool.{false};
+ghost use mathlib.Core.List.{List, map};
 ghost use mathlib.Core.Option.{none};
 ghost use Prim.Native.Nat.{_+_, _<_, _≤_};
-ghost use lib.ListN.{length};
 ghost use Rattle.record.specs.Record as theory;
 ghost use Rattle.lists.specs.Lists.{any, all, mem};
 ghost use Rattle.record.specs.Stored.{stored};
@@ -26,11 +24,15 @@ ghost use Rattle.record_tables.specs.Table.{namesOf};
 ghost use Rattle.record_tables.specs.Checked.{Checked};
 ghost use Rattle.voting.specs.declared.RollRow.{RollRow};
 ghost use Rattle.voting.specs.Bundle as vote;
-ghost use Rattle.voting.specs.Tally.{Ballot, total};
-ghost use Rattle.voting_roll.specs.Roll.{isBench, rollFaulty, rollOf};
-ghost use Rattle.voting_count.specs.tally.Groups.{castOf, tallyOf};
+ghost use Rattle.voting_roll.specs.Roll.{rollFaulty, rollOf};
+ghost use Rattle.voting_tally.specs.Groups.{castOf, tallyOf};
 ghost use Rattle.voting_roll.specs.Election.{held, proposalFault, firstGiven, benches, cast, electionOf};
-ghost use Rattle.voting_count.specs.Count.{lentProposals, Faultless, ballotOf, refusedCount, countOf};
+ghost use Rattle.voting_count.specs.Count.{lentProposals, Faultless, refusedCount, countOf};
+
+// The tables of the eight benches' proposals, as they are lent.
+pub type LentEdits<'a> = [&'a [[u32; EDIT_CELLS]]; 8];
+
+pub type LentConstraints<'a> = [&'a [[u32; CONSTRAINT_CELLS]]; 8];
 
 // The answer of an election and the won bundle, the empty record where there is none.
 pub struct Counted {
@@ -65,12 +67,12 @@ fn vote_of(proposal: Record, name: u16) -> Cast
 }
 
 // The number of the first faulty row of the proposals, by bench.
-fn proposals_fault(edits: [&[[u32; 5]]; 8], constraints: [&[[u32; 3]]; 8]) -> u32
+fn proposals_fault(edits: LentEdits, constraints: LentConstraints) -> u32
     ensures { λ r. ⌜ r ≡ firstGiven (proposalFault (lentProposals (map now (edits .entry)) (map now (constraints .entry)))) benches ⌝ }
 {
     let mut k = 0;
     while k < 8 {
-        let number = refusal::lent_fault(edits[k], constraints[k]);
+        let number = record_refusal::lent_fault(edits[k], constraints[k]);
         if number != 0 {
             return number;
         }
@@ -80,7 +82,7 @@ fn proposals_fault(edits: [&[[u32; 5]]; 8], constraints: [&[[u32; 3]]; 8]) -> u3
 }
 
 // The proposal of bench k + 1, where its rows have no fault.
-fn proposal_at(edits: [&[[u32; 5]]; 8], constraints: [&[[u32; 3]]; 8], k: usize) -> Record
+fn proposal_at(edits: LentEdits, constraints: LentConstraints, k: usize) -> Record
     requires { ⌜ k < 8 ⌝ }
     ensures { λ r. ⌜ (proposalFault (lentProposals (map now (edits .entry)) (map now (constraints .entry))) (k + 1) ≡ 0
         → r ≡ stored (held (lentProposals (map now (edits .entry)) (map now (constraints .entry))) (k + 1))) ⌝ }
@@ -104,7 +106,7 @@ fn has_name(edits: &[[u32; 5]], name: u16) -> bool
 }
 
 // Whether an edit is known: any of the eight proposals has it. Rows without fault have the names of the proposal that they are.
-fn is_known(edits: [&[[u32; 5]]; 8], name: u16) -> bool
+fn is_known(edits: LentEdits, name: u16) -> bool
     ensures { λ r. ⌜ ((constraints : List Rows) → Faultless (lentProposals (map now (edits .entry)) constraints)
         → r ≡ any (λ k. mem name (theory.written (held (lentProposals (map now (edits .entry)) constraints) k))) benches) ⌝ }
 {
@@ -119,7 +121,7 @@ fn is_known(edits: [&[[u32; 5]]; 8], name: u16) -> bool
 }
 
 // Whether all eight proposals are sound, those off the roll too.
-fn all_sound(edits: [&[[u32; 5]]; 8], constraints: [&[[u32; 3]]; 8]) -> bool
+fn all_sound(edits: LentEdits, constraints: LentConstraints) -> bool
     ensures { λ r. ⌜ (Faultless (lentProposals (map now (edits .entry)) (map now (constraints .entry)))
         → r ≡ all (λ k. sound (held (lentProposals (map now (edits .entry)) (map now (constraints .entry))) k)) benches) ⌝ }
 {
@@ -147,30 +149,22 @@ fn place_of(bench: u8) -> usize
     (bench as usize) - 1
 }
 
-// The tally with one row of the roll more: its bench's vote.
-fn with_row(
-    tally: Tally,
-    name: u16,
-    edits: [&[[u32; 5]]; 8],
-    constraints: [&[[u32; 3]]; 8],
-    row: RollRow,
-) -> Tally
-    ensures { λ r. ⌜ (row .weight ≤ 65535) × ((l : List Ballot) → Faultless (lentProposals (map now (edits .entry)) (map now (constraints .entry))) → isBench row ≡ true
-        → tally ≡ tallyOf l → length l < 8 → total l ≤ 524280
-        → r ≡ tallyOf (l ++ (ballotOf name (lentProposals (map now (edits .entry)) (map now (constraints .entry))) row ∷ []))) ⌝ }
+// The vote of a bench: that of its proposal.
+fn vote_in(name: u16, edits: LentEdits, constraints: LentConstraints, bench: u8) -> Cast
+    ensures { λ r. ⌜ (Faultless (lentProposals (map now (edits .entry)) (map now (constraints .entry))) → 1 ≤ bench → bench ≤ 8
+        → r ≡ castOf (vote.vote (held (lentProposals (map now (edits .entry)) (map now (constraints .entry))) bench) name)) ⌝ }
 {
-    let k = place_of(row.bench);
+    let k = place_of(bench);
     let proposal = proposal_at(edits, constraints, k);
-    let cast = vote_of(proposal, name);
-    tally::with_vote(tally, row.weight, cast)
+    vote_of(proposal, name)
 }
 
 // The tally of the roll's rows, one after the other. Benches off the roll cast no vote.
-fn tally_of(name: u16, edits: [&[[u32; 5]]; 8], constraints: [&[[u32; 3]]; 8], roll: Roll) -> Tally
+fn tally_of(name: u16, edits: LentEdits, constraints: LentConstraints, roll: Roll) -> Tally
     ensures { λ r. ⌜ ((rows : List RollRow) → Faultless (lentProposals (map now (edits .entry)) (map now (constraints .entry))) → roll ≡ rollOf rows → rollFaulty rows ≡ false
         → r ≡ tallyOf (cast name (lentProposals (map now (edits .entry)) (map now (constraints .entry))) rows)) ⌝ }
 {
-    let mut tally = tally::no_votes();
+    let mut tally = voting_tally::no_votes();
     let rows = roll.rows;
     let n = roll.count;
     if 8 < n {
@@ -179,7 +173,8 @@ fn tally_of(name: u16, edits: [&[[u32; 5]]; 8], constraints: [&[[u32; 3]]; 8], r
     let mut i = 0;
     while i < n {
         let row = rows[i];
-        let more = with_row(tally, name, edits, constraints, row);
+        let cast = vote_in(name, edits, constraints, row.bench);
+        let more = voting_tally::with_vote(tally, row.weight, cast);
         tally = more;
         i += 1;
     }
@@ -202,12 +197,7 @@ fn refused(number: u32) -> Counted
 }
 
 // THE COUNT of an election on an edit. The grounds: rows of the proposals by bench, the roll, then the faults of the whole call.
-pub fn count(
-    edit: u32,
-    edits: [&[[u32; 5]]; 8],
-    constraints: [&[[u32; 3]]; 8],
-    roll: Roll,
-) -> Counted
+pub fn count(edit: u32, edits: LentEdits, constraints: LentConstraints, roll: Roll) -> Counted
     ensures { λ r. ⌜ ((rows : List RollRow) → roll ≡ rollOf rows → r ≡ countOf edit (lentProposals (map now (edits .entry)) (map now (constraints .entry))) rows) ⌝ }
 {
     let number = proposals_fault(edits, constraints);
@@ -231,17 +221,13 @@ pub fn count(
     let answer = tally.election;
     Counted {
         election: answer,
-        bundle: tally::won_bundle(tally),
+        bundle: voting_tally::won_bundle(tally),
     }
 }
 
-// THE ANSWER of an election on an edit.
-pub fn election(
-    edit: u32,
-    edits: [&[[u32; 5]]; 8],
-    constraints: [&[[u32; 3]]; 8],
-    roll: Roll,
-) -> Election
+// THE ANSWER of an election on an edit. Inner: says nothing of a roll that was not gathered row by row; `bench_elections` has the operations that
+// are lent the rows.
+pub fn election(edit: u32, edits: LentEdits, constraints: LentConstraints, roll: Roll) -> Election
     ensures { λ r. ⌜ ((rows : List RollRow) → roll ≡ rollOf rows → r ≡ electionOf edit (lentProposals (map now (edits .entry)) (map now (constraints .entry))) rows) ⌝ }
 {
     let counted = count(edit, edits, constraints, roll);

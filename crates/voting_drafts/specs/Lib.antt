@@ -1,2 +1,2 @@
-pub mod decisions
 pub mod draft
+pub mod ranking

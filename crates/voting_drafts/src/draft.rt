@@ -1,92 +1,46 @@
 // The union of a record and the bench's old proposal, with what was settled first (document 01, "Proposals and votes", last paragraph).
-// Functions are pub for the crates of this workspace that make proposals.
+// `started` is pub for the crates of this workspace that make proposals.
 use crate::pairs;
-use crate::pairs::Pairs;
+use crate::ranking;
 use graph::indexes;
-use graph::links;
 use graph::links::MARKS;
-use record::Constraint;
 use record::Record;
 use record_joining::insertion;
 use record_joining::insertion::Constraints;
-use record_rows::row::NAMES;
 ghost use mathlib.Core.Path.{_≡_};
-ghost use mathlib.Core.List.{List};
-ghost use Prim.Native.Nat.{ℕ, _≤_, _<_};
-ghost use lib.ListN.{length, getD, take};
-ghost use Rattle.record.specs.declared.Constraint.{Constraint};
+ghost use mathlib.Core.Bool.{cond};
+ghost use Prim.Native.Nat.{ℕ, _<_};
+ghost use lib.Dec.{eqb};
+ghost use lib.ListN.{getD};
 ghost use Rattle.record.specs.Record as theory;
 ghost use Rattle.record.specs.Stored.{stored};
-ghost use Rattle.lists.specs.Keyed.{Ascending, united};
+ghost use Rattle.lists.specs.Keyed.{united};
 ghost use Rattle.record_tables.specs.Table.{constraintKey};
 ghost use Rattle.record_tables.specs.Checked.{Checked};
-ghost use Rattle.voting.specs.Proposal.{before, unordered, settledIn, settledFirst, firsts};
+ghost use Rattle.voting.specs.Proposal.{unordered, firsts};
 ghost use Rattle.record_joining.specs.insertion.Insertion.{heldTable};
-ghost use Rattle.voting_drafts.specs.draft.Draft.{Settles};
+ghost use Rattle.voting_drafts.specs.draft.Draft.{settledRank};
 
-// The constraint "a notafter b".
-pub fn notafter(a: u16, b: u16) -> Constraint
-    ensures { λ r. ⌜ r ≡ before a b ⌝ }
+fn rank_of_mark(mark: u8) -> u8
+    ensures { λ r. ⌜ r ≡ cond (eqb mark 1) 1 2 ⌝ }
 {
-    Constraint {
-        left: a,
-        rule: 0,
-        right: b,
+    if mark == 1 {
+        return 1;
     }
+    2
 }
 
-// Whether an edit is settled in the old proposal; one that it does not know has no index and is not.
-fn settled_in(index: &[u8; NAMES], settled: &[u8; MARKS], name: u16) -> bool
-    requires { ⌜ (length (now index) ≡ 2304) × ((x : ℕ) → getD (now index) x 0 < 128) ⌝ }
-    ensures { λ r. ⌜ ((Q : theory.Record) → Settles Q (now (index .entry)) (now (settled .entry)) → r ≡ settledIn Q name) ⌝ }
+// What is settled ranks first. An edit that the old proposal does not know has the index of INIT, and is not settled.
+fn settled_ranks(settled: &[u8; MARKS]) -> [u8; MARKS]
+    ensures { λ r. ⌜ ((i : ℕ) → i < 128 → getD r i 0 ≡ settledRank (now (settled .entry)) i) ⌝ }
 {
-    let i = indexes::index_of(index, links::wide16(name));
-    if i == 0 {
-        return false;
-    }
-    settled[i] == 1
-}
-
-// The table joined by the row of a pair of which one is settled.
-fn first_row(table: Constraints, c: Constraint, left: bool, right: bool) -> Constraints
-    ensures { λ r. ⌜ ((t : List Constraint) → table ≡ heldTable t → Ascending constraintKey t → r ≡ heldTable (united constraintKey t (settledFirst left right (c .left) (c .right)))) ⌝ }
-{
-    if left {
-        if right {
-            return table;
-        }
-        return insertion::insert(table, notafter(c.left, c.right));
-    }
-    if right {
-        return insertion::insert(table, notafter(c.right, c.left));
-    }
-    table
-}
-
-// The table joined by the rows of all pairs.
-fn with_firsts(
-    table: Constraints,
-    pairs: Pairs,
-    index: &[u8; NAMES],
-    settled: &[u8; MARKS],
-) -> Constraints
-    requires { ⌜ (length (now index) ≡ 2304) × ((x : ℕ) → getD (now index) x 0 < 128) × (pairs .count ≤ 512) ⌝ }
-    ensures { λ r. ⌜ ((Q : theory.Record) (t l : List Constraint) → Settles Q (now (index .entry)) (now (settled .entry)) → table ≡ heldTable t → Ascending constraintKey t
-        → take (pairs .count) (pairs .rows) ≡ l → r ≡ heldTable (united constraintKey t (firsts Q l))) ⌝ }
-{
-    let rows = pairs.rows;
-    let n = pairs.count;
-    let mut out = table;
-    let mut i: usize = 0;
-    while i < n {
-        let c = rows[i];
-        let left = settled_in(index, settled, c.left);
-        let right = settled_in(index, settled, c.right);
-        let more = first_row(out, c, left, right);
-        out = more;
+    let mut ranks = [2u8; MARKS];
+    let mut i: usize = 1;
+    while i < MARKS {
+        ranks[i] = rank_of_mark(settled[i]);
         i += 1;
     }
-    out
+    ranks
 }
 
 // The constraints of the union with the rows "b notafter a".
@@ -97,6 +51,7 @@ pub fn started(both: Record, old: Record) -> Constraints
     let pairs = pairs::unordered_pairs(both);
     let index = indexes::index_table(old);
     let settled = judgement::settleds(old);
+    let ranks = settled_ranks(&settled);
     let table = insertion::table_of(both);
-    with_firsts(table, pairs, &index, &settled)
+    ranking::with_orders(table, pairs, &index, &ranks)
 }

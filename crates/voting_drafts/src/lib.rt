@@ -1,4 +1,4 @@
 // What a proposal adds to a record: orders of noncommuting pairs, then decisions.
-pub mod decisions;
 pub mod draft;
 pub mod pairs;
+pub mod ranking;

@@ -17,9 +17,10 @@ use Rattle.voting.specs.declared.RollRow.{RollRow}
 use Rattle.voting.specs.Bundle.{bundle}
 use Rattle.voting.proofs.Joined.{con, has-in, in-has}
 use Rattle.voting_mergeability.specs.Mergeability.{Voter, SoundTables, OneBody, Sending, HeldElection, Chosen, EachChosen, wonBundle, Won, wonBy, wonIn, UnionOf, Mergeable, Merged}
-use Rattle.voting_mergeability.proofs.Prefixes.{Compatible, compatible-sound, compatible-apart, Family, family-sound}
+use Rattle.voting_mergeability.specs.Argument.{Compatible, Family, CommonProposal}
+use Rattle.voting_mergeability.proofs.Prefixes.{compatible-sound, compatible-apart, family-sound}
 use Rattle.voting_mergeability.proofs.United.{all-unites, edits-ascending, constraints-ascending}
-use Rattle.voting_mergeability.proofs.Votes.{IsVote, is-vote, vote-formed, vote-prefix, vote-settled, vote-edit, kept-vote, either-keeps, empty-first, common-voter}
+use Rattle.voting_mergeability.proofs.Votes.{is-vote, vote-formed, vote-prefix, vote-settled, vote-edit, kept-vote, either-keeps, empty-first, common-voter}
 
 pub tables-sound : {R : Record} → SoundTables R → sound R ≡ true
 tables-sound {R} s = sound-is R (s .formed) .1 (s .has-schedule)
@@ -39,14 +40,6 @@ module _ {roll : List RollRow} {sent : ℕ → List Record} (T : Sending roll se
   unfolding OneBody
   proposal-body k v P (inl e) = rw e (λ c d h i q. absurd h)
   proposal-body k v P (inr h) = T .each-one-body k k v v P P h h
-
-  -- Two bundles that are votes of one sound proposal of a voter.
-  record CommonProposal (e f : ℕ) (A B : Record) : Type 0 where
-    proposal : Record
-    sound-there : SoundTables proposal
-    one-body : OneBody proposal proposal
-    first : IsVote proposal e A
-    second : IsVote proposal f B
 
   -- Two won bundles are votes of one proposal, the later of the two that a common voter's votes come from.
   common-proposal : {A B : Record} (v : Won roll sent A) (w : Won roll sent B) → CommonProposal (v .election .edit) (w .election .edit) A B

@@ -6,7 +6,7 @@ use mathlib.Core.List.{List, [], _∷_}
 use Prim.Native.Nat.{ℕ, _<_}
 use native.Mathlib.Omega.{arith}
 use Rattle.lists.specs.Lists.{_among_}
-use Rattle.record.specs.Record.{Record, written, has, notafter, enables, WellFormed, Extends}
+use Rattle.record.specs.Record.{Record, written, has, notafter, enables, WellFormed}
 use Rattle.record.specs.Sound.{Chain, link, chain, Ring}
 use Rattle.record.specs.Schedule.{needs, musts, ring}
 use Rattle.record.specs.Judgement.{sound, must, never, settled}
@@ -16,20 +16,7 @@ use Rattle.record.proofs.Order.{needs-closed, ring-is}
 use Rattle.record.proofs.Judged.{init-must, sound-no-both}
 use Rattle.record.proofs.Extended.{must-extended, never-extended, sound-extended}
 use Rattle.record.proofs.Scheduled.{musts-known}
-
--- S is a prefix of R: contained in it, and closed to the left for notafter (0) and enables (1): what leads in R to an edit of S is in S. Of 000's
--- well-formed prefix (definition 2) the parts (i) and (iii).
-pub record Prefix (S R : Record) : Type 0 where
-  pub contained : Extends S R
-  pub closed : (a k b : ℕ) → k < 2 → b among written S → has a k b (R .constraints) ≡ true → has a k b (S .constraints) ≡ true
-
--- S and T are prefixes of one sound record.
-pub record Compatible (S T : Record) : Type 0 where
-  pub whole : Record
-  pub formed : WellFormed whole
-  pub whole-sound : sound whole ≡ true
-  pub first : Prefix S whole
-  pub second : Prefix T whole
+use Rattle.voting_mergeability.specs.Argument.{Compatible, Family}
 
 module _ {S T : Record} (v : WellFormed S) (w : WellFormed T) (c : Compatible S T) where
   pub compatible-sound : sound S ≡ true
@@ -41,14 +28,6 @@ module _ {S T : Record} (v : WellFormed S) (w : WellFormed T) (c : Compatible S 
       sound-no-both (c .whole) (c .formed) .0 (c .whole-sound) x
       (must-extended (c .second .contained) w (c .formed) x m)
       (never-extended (c .first .contained) v (c .formed) x (written-names S x i) n)
-
--- Well-formed records with settled edits, compatible two by two, and a record with no constraints but theirs.
-pub record Family (I : Type 0) (S : I → Record) (U : Record) : Type 0 where
-  pub formed : (i : I) → WellFormed (S i)
-  pub settles : (i : I) (x : ℕ) → x among written (S i) → settled (S i) x ≡ true
-  pub compatible : (i j : I) → Compatible (S i) (S j)
-  pub union-formed : WellFormed U
-  pub from : (a k b : ℕ) → has a k b (U .constraints) ≡ true → (i : I) × (has a k b (S i .constraints) ≡ true)
 
 -- an enabler of an edit that must stand must stand
 must-next : {R : Record} → WellFormed R → (a b : ℕ) → enables R a b ≡ true → b among musts R → a among musts R

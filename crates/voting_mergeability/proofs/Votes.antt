@@ -22,14 +22,8 @@ use Rattle.voting.proofs.Bundles.{member-self, bundle-written, written-bundle, 
 use Rattle.voting.proofs.Elections.{same-is, winner-wins}
 use Rattle.voting.specs.Proposal.{Keeps}
 use Rattle.voting.proofs.Proposed.{keeps-trans}
-use Rattle.voting_mergeability.specs.Mergeability.{Voter, KeptRow, HeldElection, wonBundle}
-use Rattle.voting_mergeability.proofs.Prefixes.{Prefix}
-
--- What a vote that is not silent says.
-pub record IsVote (P : Record) (e : ℕ) (B : Record) : Type 0 where
-  pub known : e among written P
-  pub eligible-there : eligible P e ≡ true
-  pub is : bundle P e ≡ B
+use Rattle.voting_mergeability.specs.Mergeability.{KeptRow, HeldElection, wonBundle}
+use Rattle.voting_mergeability.specs.Argument.{Prefix, IsVote, weighed, wholeWeight, CommonRow, CommonVoter}
 
 pub is-vote : (P : Record) (e : ℕ) (B : Record) → vote P e ≡ some B → IsVote P e B
 unfolding vote
@@ -107,20 +101,8 @@ unfolding Keeps written
 empty-first [] k = tt
 empty-first (P ∷ l) k = ((λ e i h. nil-no e i), k)
 
--- the weight of the rows of a roll that pass a test, and of all
-unfoldable weighed : (RollRow → Bool) → List RollRow → ℕ
-weighed p [] = 0
-weighed p (row ∷ l) = cond (p row) (row .weight) 0 + weighed p l
-
-abbrev whole : List RollRow → ℕ
-whole roll = weighed (λ row. true) roll
-
--- a row of positive weight that passes both tests
-abbrev CommonRow : (RollRow → Bool) → (RollRow → Bool) → List RollRow → Type 0
-CommonRow p q roll = (row : RollRow) × Has row roll × (0 < row .weight) × (p row ≡ true) × (q row ≡ true)
-
 -- Two sets of rows that together weigh more than the roll have a row of positive weight in common.
-quorum-intersection : (p q : RollRow → Bool) (roll : List RollRow) → whole roll < weighed p roll + weighed q roll → CommonRow p q roll
+quorum-intersection : (p q : RollRow → Bool) (roll : List RollRow) → wholeWeight roll < weighed p roll + weighed q roll → CommonRow p q roll
 unfolding weighed
 quorum-intersection p q [] lt = absurd (omega arith)
 quorum-intersection p q (row ∷ l) lt =
@@ -135,7 +117,7 @@ quorum-intersection p q (row ∷ l) lt =
     later : CommonRow p q l → CommonRow p q (row ∷ l)
     later c = (c .0, inr (c .1), c .2, c .3, c .4)
 
-total-rolled : (held : ℕ → Record) (e : ℕ) (roll : List RollRow) → total (ballots held e roll) ≡ whole roll
+total-rolled : (held : ℕ → Record) (e : ℕ) (roll : List RollRow) → total (ballots held e roll) ≡ wholeWeight roll
 unfolding total ballots weighed
 total-rolled held e [] = refl
 total-rolled held e (row ∷ l) = ap (λ n. row .weight + n) (total-rolled held e l)
@@ -151,7 +133,7 @@ abbrev votesIn : HeldElection → Record → RollRow → Bool
 votesIn x B row = votesFor B (vote (x .held (row .bench)) (x .edit))
 
 -- the rows whose votes win weigh more than half of the roll
-wins-rolled : (roll : List RollRow) (x : HeldElection) (B : Record) → wonBundle roll x ≡ some B → whole roll < 2 * weighed (votesIn x B) roll
+wins-rolled : (roll : List RollRow) (x : HeldElection) (B : Record) → wonBundle roll x ≡ some B → wholeWeight roll < 2 * weighed (votesIn x B) roll
 unfolding wins
 wins-rolled roll x B h =
     rw (← total-rolled (x .held) (x .edit) roll, ← weigh-rolled (votesFor B) (x .held) (x .edit) roll)
@@ -160,13 +142,6 @@ wins-rolled roll x B h =
 votes-for : (B : Record) (v : Option Record) → votesFor B v ≡ true → v ≡ some B
 votes-for B none h = clash h refl
 votes-for B (some C) h = ap some (sym (same-is B C .0 h))
-
--- A voter whose votes won in both elections.
-pub record CommonVoter (roll : List RollRow) (x y : HeldElection) (A B : Record) : Type 0 where
-  pub bench : ℕ
-  pub voter : Voter roll bench
-  pub first : vote (x .held bench) (x .edit) ≡ some A
-  pub second : vote (y .held bench) (y .edit) ≡ some B
 
 -- Two elections that are won on one roll have such a voter.
 pub common-voter : (roll : List RollRow) (x y : HeldElection) (A B : Record) → wonBundle roll x ≡ some A → wonBundle roll y ≡ some B → CommonVoter roll x y A B

@@ -1,3 +1,4 @@
 pub mod Mergeability
 pub mod Counted
 pub mod Examples
+pub mod Argument

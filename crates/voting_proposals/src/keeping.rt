@@ -1,9 +1,9 @@
 // Whether a new proposal keeps an old one (document 01, "Proposals and votes", last paragraph). Functions are pub for the crates of this workspace
 // that make proposals.
 use graph::indexes;
+use record::EDITS;
 use record::Record;
 use voting_bundles::equality;
-use voting_bundles::members;
 ghost use mathlib.Core.Path.{_≡_};
 ghost use mathlib.Core.Bool.{not, _&&_, _||_};
 ghost use Prim.Native.Nat.{ℕ};
@@ -32,13 +32,13 @@ pub fn keeps(old: Record, new: Record) -> bool
     ensures { λ r. ⌜ ((Q P : theory.Record) → old ≡ stored Q → Fit Q → new ≡ stored P → Fit P → theory.written Q within theory.written P → r ≡ proposal.keeps Q P) ⌝ }
 {
     let n = old.editcount;
-    if 127 < n {
+    if EDITS < n {
         return false;
     }
     let oldtable = indexes::index_table(old);
-    let oldrows = members::member_rows(old, &oldtable);
+    let oldrows = voting_members::member_rows(old, &oldtable);
     let newtable = indexes::index_table(new);
-    let newrows = members::member_rows(new, &newtable);
+    let newrows = voting_members::member_rows(new, &newtable);
     let edits = old.edits;
     let mut i: usize = 0;
     while i < n {

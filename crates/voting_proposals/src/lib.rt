@@ -5,14 +5,15 @@ use record::Record;
 use record_joining::Joined;
 use record_joining::insertion;
 use record_rows::row;
-use voting_drafts::decisions;
+use record_rows::row::CONSTRAINT_CELLS;
+use record_rows::row::EDIT_CELLS;
 use voting_drafts::draft;
 ghost use mathlib.Core.Path.{_≡_};
 ghost use mathlib.Core.List.{map};
 ghost use Prim.Native.Nat.{_≤_};
 ghost use lib.ListN.{length, take};
 ghost use Rattle.record.specs.Record as theory;
-ghost use Rattle.record.specs.Stored.{stored};
+ghost use Rattle.record.specs.Stored.{stored, editLimit, constraintLimit};
 ghost use Rattle.record_rows.specs.row.Row.{editRow, constraintRow};
 ghost use Rattle.record_tables.specs.Table.{emptyTables, unite};
 ghost use Rattle.record_tables.specs.Checked.{Checked};
@@ -53,7 +54,7 @@ fn drafted(both: Record, old: Record) -> Joined
     if !judgement::sound(started) {
         return stopped(8);
     }
-    let last = decisions::finished(started);
+    let last = voting_decisions::finished(started);
     if last.full {
         return stopped(3);
     }
@@ -85,10 +86,10 @@ fn made(both: Record, old: Record) -> Joined
 
 // The new proposal of four lent tables, before an output is looked at. Pub for the crates of this workspace that make proposals without lent outputs.
 pub fn new_proposal(
-    edits: &[[u32; 5]],
-    constraints: &[[u32; 3]],
-    oldedits: &[[u32; 5]],
-    oldconstraints: &[[u32; 3]],
+    edits: &[[u32; EDIT_CELLS]],
+    constraints: &[[u32; CONSTRAINT_CELLS]],
+    oldedits: &[[u32; EDIT_CELLS]],
+    oldconstraints: &[[u32; CONSTRAINT_CELLS]],
 ) -> Joined
     ensures { λ r. ⌜ r ≡ newOutcome (now (edits .entry)) (now (constraints .entry)) (now (oldedits .entry)) (now (oldconstraints .entry)) ⌝ }
 {
@@ -119,8 +120,8 @@ fn refused(number: u32) -> Proposed
 }
 
 // The rows of a record's edits, written over the first of a table.
-fn write_edits(multilog: Record, table: &mut [[u32; 5]])
-    requires { ⌜ (multilog .editcount ≤ 127) × (multilog .editcount ≤ length (now table)) ⌝ }
+fn write_edits(multilog: Record, table: &mut [[u32; EDIT_CELLS]])
+    requires { ⌜ (multilog .editcount ≤ editLimit) × (multilog .editcount ≤ length (now table)) ⌝ }
     ensures { λ _. ⌜ now (table .exit) ≡ over (map editRow (take (multilog .editcount) (multilog .edits))) (now (table .entry)) ⌝ }
 {
     let edits = multilog.edits;
@@ -135,8 +136,8 @@ fn write_edits(multilog: Record, table: &mut [[u32; 5]])
 }
 
 // The rows of a record's constraints, written over the first of a table.
-fn write_constraints(multilog: Record, table: &mut [[u32; 3]])
-    requires { ⌜ (multilog .constraintcount ≤ 512) × (multilog .constraintcount ≤ length (now table)) ⌝ }
+fn write_constraints(multilog: Record, table: &mut [[u32; CONSTRAINT_CELLS]])
+    requires { ⌜ (multilog .constraintcount ≤ constraintLimit) × (multilog .constraintcount ≤ length (now table)) ⌝ }
     ensures { λ _. ⌜ now (table .exit) ≡ over (map constraintRow (take (multilog .constraintcount) (multilog .constraints))) (now (table .entry)) ⌝ }
 {
     let constraints = multilog.constraints;
@@ -153,12 +154,12 @@ fn write_constraints(multilog: Record, table: &mut [[u32; 3]])
 // Makes a proposal from a record and the bench's old proposal, and writes it over the first rows of two tables. Nothing is written before it is known
 // that nothing is refused.
 pub fn propose(
-    edits: &[[u32; 5]],
-    constraints: &[[u32; 3]],
-    oldedits: &[[u32; 5]],
-    oldconstraints: &[[u32; 3]],
-    newedits: &mut [[u32; 5]],
-    newconstraints: &mut [[u32; 3]],
+    edits: &[[u32; EDIT_CELLS]],
+    constraints: &[[u32; CONSTRAINT_CELLS]],
+    oldedits: &[[u32; EDIT_CELLS]],
+    oldconstraints: &[[u32; CONSTRAINT_CELLS]],
+    newedits: &mut [[u32; EDIT_CELLS]],
+    newconstraints: &mut [[u32; CONSTRAINT_CELLS]],
 ) -> Proposed
     ensures { λ r. ⌜ Makes (record {
       edits = now (edits .entry);

@@ -1,14 +1,13 @@
 -- A record's names as its stored rows have them, and the index of an edit. Assumes nothing.
 use mathlib.Core.Path.{_≡_, sym, ap, _∙_}
-use mathlib.Core.Bool.{false}
 use mathlib.Core.List.{List}
-use Prim.Native.Nat.{ℕ, suc, _+_, _≤_, _<_}
+use Prim.Native.Nat.{ℕ, _+_, _≤_, _<_}
 use native.Mathlib.Omega.{arith}
 use native.Mathlib.Numerals.{add-one}
 use lib.ListN.{length, getD, length-map, List·getD-map}
 use Rattle.record.specs.declared.Edit.{Edit}
 use Rattle.record.specs.declared.Record as declared
-use Rattle.lists.specs.Lists.{mem, indexOf, _among_}
+use Rattle.lists.specs.Lists.{mem, indexOf, positionOf, _among_}
 use Rattle.record.specs.Record.{Record, nameOf, written}
 use Rattle.record.specs.Stored.{padded, fillerEdit, stored}
 use Rattle.lists.proofs.Lists.{by, mem-index, index-mem}
@@ -18,7 +17,6 @@ use Rattle.graph.proofs.links.Names.{getD-place}
 use Rattle.record.proofs.Padded.{getD-padded}
 use Rattle.record_tables.specs.Checked.{Checked}
 use Rattle.record_tables.proofs.Marks.{edit-small}
-use Rattle.bench.specs.hidden.Marks.{positionOf}
 
 -- the rows and the count are those of a checked record
 pub record StoredRows (R : Record) (edits : List Edit) (count : ℕ) : Type 0 where
@@ -68,12 +66,3 @@ module _ (R : Record) (edits : List Edit) (count name : ℕ) (h : StoredRows R e
   pub index-found : (place : ℕ) → place ≡ indexOf name (written R) → place < count → place + 1 ≡ positionOf name (written R)
   unfolding positionOf
   index-found place e l = rw (add-one place, index-mem name (written R) (omega (arith, length-written R edits count h)), e)
-
--- an index that is not 0 is that of a written edit
-pub index-known : (x : ℕ) (l : List ℕ) → (positionOf x l ≡ 0 → ⊥) → (x among l) × (positionOf x l ≡ suc (indexOf x l))
-unfolding positionOf
-index-known x l n = by (mem x l) (λ e. (e, rw e)) (λ e. absurd (n (rw e)))
-
-pub index-unknown : (x : ℕ) (l : List ℕ) → positionOf x l ≡ 0 → mem x l ≡ false
-unfolding positionOf
-index-unknown x l z = by (mem x l) (λ e. let q = rw e at z in absurd (omega arith)) (λ e. e)

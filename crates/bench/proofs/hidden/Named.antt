@@ -1,69 +1,32 @@
--- Marks by index read into marks by name and back, one edit after the other; and one mark set or cleared. Assumes nothing.
-use mathlib.Core.Path.{_≡_, refl, sym, _∙_}
-use mathlib.Core.Bool.{Bool, true, false, _&&_, _||_, cond, or-false, or-true}
+-- Marks by index, carried over one edit after the other; and one mark set or cleared. Assumes nothing.
+use mathlib.Core.Path.{_≡_, sym, ap, _∙_}
+use mathlib.Core.Bool.{Bool, false, cond}
 use mathlib.Core.Logic.{_≢_}
-use mathlib.Core.List.{List, [], _∷_, _++_, map}
+use mathlib.Core.List.{List, map}
 use Prim.Native.Nat.{ℕ, suc, _+_, _≤_, _<_}
 use native.Mathlib.Omega.{arith}
 use native.Mathlib.Numerals.{add-one}
-use lib.Dec.{eqb}
-use lib.ListN.{length, getD, set, take, replicate, length-set, length-map}
-use lib.Seq.{take-suc, take-all, getD-set-same, getD-set-other}
-use borrow.Author.Tests.{eqb-true, eqb-false}
+use lib.ListN.{length, getD, set, replicate, length-set, length-map}
+use lib.Seq.{getD-set-same, getD-set-other}
 use Rattle.record.specs.declared.Edit.{Edit}
 use Rattle.lists.specs.Lists.{mem, indexOf, _among_, _within_}
 use Rattle.record.specs.Record.{Record, nameOf, names, written}
 use Rattle.record.specs.Stored.{fillerEdit}
-use Rattle.lists.proofs.Lists.{by, clash, is-by, mem-append, mem-index}
+use Rattle.lists.proofs.Lists.{by, clash, is-by, mem-index}
 use Rattle.lists.proofs.Arrays.{getD-zeros}
-use Rattle.graph.specs.links.Marks.{nameAt, marksOf}
-use Rattle.graph.proofs.links.Names.{getD-among, getD-place, place-same, ascending-distinct}
+use Rattle.record.proofs.Records.{written-names}
+use Rattle.graph.specs.links.Marks.{nameAt, placeIn, marksOf}
+use Rattle.graph.proofs.links.Names.{getD-among, getD-place, place-known, place-unknown, place-same, ascending-distinct}
 use Rattle.graph.proofs.links.Marks.{values-are, marks-size, marks-at, marks-past}
 use Rattle.record_tables.specs.Checked.{Checked}
 use Rattle.record_tables.proofs.Records.{checked-unwritten, checked-ascending}
-use Rattle.bench.specs.hidden.Marks.{ByName}
-use Rattle.bench.proofs.hidden.Index.{StoredRows, count-room, length-written, name-is, stored-name-small}
-
-mem-last : (x y : ℕ) (l : List ℕ) → mem x (l ++ (y ∷ [])) ≡ (mem x l || eqb x y)
-unfolding mem
-mem-last x y l = rw (mem-append x l (y ∷ []), mem, or-false (eqb x y))
-
-pub named-none : (test : ℕ → Bool) (n : ℕ) → ByName [] test (replicate n 0)
-unfolding mem
-named-none test n x = getD-zeros n x
-
--- one more name is marked
-named-more : (l : List ℕ) (test : ℕ → Bool) (marks : List ℕ) (y v : ℕ) → y < length marks → v ≡ cond (test y) 1 0 → ByName l test marks → ByName (l ++ (y ∷ [])) test (set marks y v)
-named-more l test marks y v h e k x =
-    by (eqb x y)
-    (λ (q : eqb x y ≡ true).
-    let z : x ≡ y = eqb-true x y q in
-    rw (mem-last x y l, q, or-true (mem x l), z, getD-set-same marks y v 0 h) e)
-    (λ (q : eqb x y ≡ false).
-    let z : x ≢ y = eqb-false x y q in
-    rw (mem-last x y l, q, or-false (mem x l), getD-set-other marks y x v 0 z) (k x))
+use Rattle.bench.specs.hidden.Marks.{markNamed}
+use Rattle.bench.proofs.hidden.Index.{StoredRows, count-room, length-written, name-is}
 
 module _ (R : Record) (edits : List Edit) (count : ℕ) (test : ℕ → Bool) (h : StoredRows R edits count) where
   few : length (names R) ≤ 128
   unfolding names
   few = omega (arith, length-written R edits count h, count-room R edits count h)
-
-  pub named-next : (hidden marks : List ℕ) (i place : ℕ) → hidden ≡ marksOf R test → i < count → length marks ≡ 2304
-      → (getD edits i fillerEdit .name < 2304 → place ≡ getD edits i fillerEdit .name)
-      → ByName (take i (written R)) test marks → ByName (take (i + 1) (written R)) test (set marks place (getD hidden (i + 1) 0))
-  unfolding names
-  named-next hidden marks i place e l size p k =
-      let n = name-is R edits count h i l in
-      let s = stored-name-small R edits count h i l in
-      let q : place ≡ getD (written R) i 0 = p s ∙ n in
-      let w : i < length (written R) = omega (arith, length-written R edits count h) in
-      let v : getD hidden (i + 1) 0 ≡ cond (test (getD (written R) i 0)) 1 0 =
-      rw (e, add-one i) (marks-at R test (suc i) (omega arith)) in
-      rw (add-one i, take-suc (written R) i 0 w, q)
-      (named-more (take i (written R)) test marks (getD (written R) i 0) _ (omega (arith, sym q, p s)) (rw (add-one i) at v) k)
-
-  pub named-end : (marks : List ℕ) (i : ℕ) → count ≤ i → ByName (take i (written R)) test marks → ByName (written R) test marks
-  named-end marks i l k = let e : take i (written R) ≡ written R = take-all i (written R) (omega (arith, length-written R edits count h)) in rw e at k
 
   -- the marks of the first i edits, by index
   pub record Indexed (marks : List ℕ) (i : ℕ) : Type 0 where
@@ -77,22 +40,18 @@ module _ (R : Record) (edits : List Edit) (count : ℕ) (test : ℕ → Bool) (h
     left = λ y l. getD-zeros 128 y;
   }
 
-  pub indexed-next : (named marks : List ℕ) (i place : ℕ) → i < count → length marks ≡ 128
-      → (getD edits i fillerEdit .name < 2304 → place ≡ getD edits i fillerEdit .name)
-      → ((x : ℕ) → x among written R → getD named x 0 ≡ cond (test x) 1 0)
-      → Indexed marks i → Indexed (set marks (i + 1) (getD named place 0)) (i + 1)
+  pub indexed-next : (mark : ℕ → ℕ) (marks : List ℕ) (i v : ℕ) → i < count → length marks ≡ 128 → v ≡ mark (getD edits i fillerEdit .name)
+      → ((x : ℕ) → x among written R → mark x ≡ cond (test x) 1 0) → Indexed marks i → Indexed (set marks (i + 1) v) (i + 1)
   unfolding names
-  indexed-next named marks i place l size p f k =
-      let n = name-is R edits count h i l in
-      let q : place ≡ getD (written R) i 0 = p (stored-name-small R edits count h i l) ∙ n in
+  indexed-next mark marks i v l size p f k =
       let w : i < length (written R) = omega (arith, length-written R edits count h) in
       let room : i + 1 < length marks = omega (arith, count-room R edits count h) in
-      let v : getD named place 0 ≡ cond (test (getD (written R) i 0)) 1 0 = rw q (f (getD (written R) i 0) (getD-among (written R) i w)) in
+      let q : v ≡ cond (test (getD (written R) i 0)) 1 0 = p ∙ ap mark (name-is R edits count h i l) ∙ f (getD (written R) i 0) (getD-among (written R) i w) in
       record {
         passed = λ y m. is-by y (i + 1)
-            (λ e. rw (e, getD-set-same marks (i + 1) (getD named place 0) 0 room, add-one i) v)
-            (λ (e : y ≢ i + 1). rw (getD-set-other marks (i + 1) y (getD named place 0) 0 e) (k .passed y (omega arith)));
-        left = λ y m. let e : y ≢ i + 1 = λ z. omega arith in rw (getD-set-other marks (i + 1) y (getD named place 0) 0 e) (k .left y (omega arith));
+            (λ e. rw (e, getD-set-same marks (i + 1) v 0 room, add-one i) q)
+            (λ (e : y ≢ i + 1). rw (getD-set-other marks (i + 1) y v 0 e) (k .passed y (omega arith)));
+        left = λ y m. let e : y ≢ i + 1 = λ z. omega arith in rw (getD-set-other marks (i + 1) y v 0 e) (k .left y (omega arith));
       }
 
   pub indexed-end : (marks : List ℕ) (i : ℕ) → i ≤ count → count ≤ i → length marks ≡ 128 → Indexed marks i → marks ≡ marksOf R test
@@ -101,17 +60,23 @@ module _ (R : Record) (edits : List Edit) (count : ℕ) (test : ℕ → Bool) (h
       let n = length-written R edits count h in
       values-are R (λ x. cond (test x) 1 0) marks few size (λ y w. k .passed y (omega arith)) (λ y w. k .left y (omega arith))
 
--- the hidden edits of a record carried over
-pub carried-test : (R : Record) (h : List ℕ) (named : List ℕ) → Checked R → h within written R → ByName (written R) (λ x. mem x h) named
-    → (mem 0 h ≡ false) × ((x : ℕ) → getD named x 0 ≡ cond (mem x h) 1 0)
-carried-test R h named k w b = (
-  by (mem 0 h) (λ e. clash (w 0 e) (checked-unwritten R k)) (λ e. e),
-  λ x. b x ∙ by (mem x h) (λ e. rw (e, w x e)) (λ e. rw e (none (mem x (written R)))),
-)
-  where
-    none : (b : Bool) → _≡_ {A = ℕ} (cond (b && false) 1 0) 0
-    none true = refl
-    none false = refl
+-- the hidden edits of a record, each by its name
+module _ (R : Record) (h : List ℕ) (k : Checked R) (w : h within written R) where
+  pub init-shown : mem 0 h ≡ false
+  init-shown = by (mem 0 h) (λ e. clash (w 0 e) (checked-unwritten R k)) (λ e. e)
+
+  pub mark-carried : (index hidden : List ℕ) → ((x : ℕ) → getD index x 0 ≡ placeIn (names R) x) → hidden ≡ marksOf R (λ x. mem x h) → (x : ℕ) → markNamed index hidden x ≡ cond (mem x h) 1 0
+  unfolding names
+  mark-carried index hidden f e x =
+      ap (λ (l : List ℕ). getD l (getD index x 0) 0) e
+      ∙ by (mem x (names R))
+      (λ i.
+      let p : getD index x 0 ≡ indexOf x (names R) = f x ∙ place-known x (names R) i in
+      rw (p, marks-at R (λ y. mem y h) (indexOf x (names R)) (mem-index x (names R) i), getD-place x (names R) i))
+      (λ i.
+      let p : getD index x 0 ≡ 0 = f x ∙ place-unknown x (names R) i in
+      let n : mem x h ≡ false = by (mem x h) (λ j. clash (written-names R x (w x j)) i) (λ j. j) in
+      rw (p, marks-at R (λ y. mem y h) 0 (omega arith), init-shown, n))
 
 -- one mark set: the test differs at the edit of the index alone
 pub mark-set : (R : Record) (p q : ℕ → Bool) (x v : ℕ) → Checked R → x among written R → ((y : ℕ) → (y ≡ x → ⊥) → q y ≡ p y) → v ≡ cond (q x) 1 0

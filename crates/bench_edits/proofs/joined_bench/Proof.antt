@@ -7,7 +7,7 @@ use Rattle.record.specs.Judgement.{sound}
 use Rattle.graph.proofs.indexes.Fit.{checked-fit}
 use Rattle.ledger.specs.Ledger.{start, fed}
 use Rattle.ledger.proofs.Valid.{start-valid, fed-valid}
-use Rattle.bench.proofs.change.Scheduled.{change-made}
+use Rattle.bench.proofs.Scheduled.{change-made}
 use Rattle.bench_edits.specs.Joins.{Joins}
 use Rattle.bench_edits.proofs.Rows.{keeps-within, none, merge-rows-refused, merge-union-is, merge-unsound-refused, joined-changes}
 use Rattle.bench_edits.proofs.joined_bench.Statement.{statement}

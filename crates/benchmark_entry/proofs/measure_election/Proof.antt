@@ -11,8 +11,8 @@ equal-seats-requires c κs = search needs
 election-requires : tie.Need-election-requires
 election-requires c κs = search needs
 
-bit-requires : tie.Need-bit-requires
-bit-requires c κs = search needs
+bit8-requires : tie.Need-bit8-requires
+bit8-requires c κs = search needs
 
 cast-t11 : tie.Need-cast-t11
 cast-t11 c = search needs
@@ -23,8 +23,8 @@ returns c =
     let r = e .before in
     let s = r .before in
     measured-election (s .args .edit) (s .args .edits .now) (s .args .constraints .now) (s .args .rivals .now) (s .args .rivalconstraints .now) (e .election .result)
-    (e .election .ensures equalSeats (r .equal-seats .ensures)) (c .bit .result) (c .bit .ensures)
+    (e .election .ensures equalSeats (r .equal-seats .ensures)) (c .bit8 .result) (c .bit8 .ensures)
 
 pub measure-election-spec : {M : Type 1} → statement M
 measure-election-spec =
-    tie.close (tie.spec equal-seats-requires election-requires bit-requires cast-t11 returns)
+    tie.close (tie.spec equal-seats-requires election-requires bit8-requires cast-t11 returns)

@@ -1,6 +1,6 @@
 -- `silent` meets its contract. Assumes nothing.
 use borrow.Author.Needs.{needs}
-use Rattle.voting_count.specs.declared.tally.Vote.the-variants.{Silent}
+use Rattle.voting_tally.specs.declared.Vote.the-variants.{Silent}
 use Rattle.voting_count.proofs.silent.Statement.{statement}
 use Rattle.voting_count.proofs.silent.Tie as tie
 

@@ -3,11 +3,13 @@ use mathlib.Core.Path.{_≡_}
 use mathlib.Core.Bool.{false}
 use mathlib.Core.List.{map, List}
 use Prim.Native.Nat.{_-_, _≤_}
+use lib.ListN.{getD}
 use native.Mathlib.Omega.{arith}
 use borrow.Author.Needs.{needs}
 use Rattle.voting.specs.declared.RollRow.{RollRow}
-use Rattle.voting_roll.specs.Roll.{rollFaulty, rollOf}
+use Rattle.voting_roll.specs.Roll.{rollFaulty, rollOf, fillerRow}
 use Rattle.voting_count.specs.Count.{lentProposals, Faultless}
+use Rattle.voting_count.proofs.Proposals.{proposal-bench-low}
 use Rattle.voting_count.proofs.Rolled.{rows-counted, rows-few, RollCounting, roll-counting-start, counting-step, roll-counting-end, by-rows}
 use denote.Ref.{now}
 use Rattle.voting_count.proofs.tally_of.Statement.{statement}
@@ -36,8 +38,11 @@ mul-row c = search needs
 array-copy-out-row : tie.Need-array-copy-out-row Inv-loop μ-loop
 array-copy-out-row c = search needs
 
-with-row-requires : tie.Need-with-row-requires Inv-loop μ-loop
-with-row-requires c κs = search needs
+vote-in-requires : tie.Need-vote-in-requires Inv-loop μ-loop
+vote-in-requires c κs = search needs
+
+with-vote-requires : tie.Need-with-vote-requires Inv-loop μ-loop
+with-vote-requires c κs = search needs
 
 add-i : tie.Need-add-i Inv-loop μ-loop
 add-i c = search needs
@@ -46,12 +51,14 @@ loop-less : tie.Need-loop-less Inv-loop μ-loop
 loop-less c = search needs
 
 loop-again : tie.Need-loop-again Inv-loop μ-loop
-loop-again c = let l = c .before .before .before in
-    let s = c .before .before .before .before .before .before .before in
-    let lt = c .before .before .loop-test .taken in (
+loop-again c = let l = c .before .before .before .before in
+    let s = l .before .before .before .before in
+    let lt = c .before .before .before .loop-test .taken in
+    let P = lentProposals (map now (s .args .edits)) (map now (s .args .constraints)) in (
       search needs,
       search needs,
-      λ k g e f. counting-step _ k e f (s .args .name) (lentProposals (map now (s .args .edits)) (map now (s .args .constraints))) (l .loop .i) (l .loop .tally) (c .with-row .result) _ (omega (arith, rows-counted _ k e f)) g (l .loop .inv .2 k g e f) (c .with-row .ensures .0) (c .with-row .ensures .1),
+      λ k g e f. counting-step _ k e f (s .args .name) P (l .loop .i) (l .loop .tally) (c .with-vote .result) fillerRow (omega (arith, rows-counted _ k e f)) g (l .loop .inv .2 k g e f) (c .with-vote .ensures .0)
+          (λ b h r q n t. let low = proposal-bench-low (getD (s .args .roll .rows) (l .loop .i) fillerRow) r in c .with-vote .ensures .1 b _ q n t (c .before .vote-in .ensures h (low .0) (low .1))),
     )
 
 returns-2 : tie.Need-returns-2 Inv-loop μ-loop
@@ -73,7 +80,8 @@ tally-of-spec =
     loop-holds
     mul-row
     array-copy-out-row
-    with-row-requires
+    vote-in-requires
+    with-vote-requires
     add-i
     loop-less
     loop-again

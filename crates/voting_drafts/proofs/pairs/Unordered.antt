@@ -12,7 +12,7 @@ use Rattle.record.specs.declared.Constraint.{Constraint}
 use Rattle.record.specs.declared.Record as declared
 use Rattle.lists.specs.Lists.{_among_, filter, indexOf, Has}
 use Rattle.record.specs.Record.{Record, names, notafter, WellFormed}
-use Rattle.record.specs.Stored.{stored}
+use Rattle.record.specs.Stored.{stored, constraintLimit}
 use Rattle.lists.proofs.Lists.{mem-index}
 use Rattle.lists.proofs.Logic.{has-getD}
 use Rattle.graph.proofs.indexes.Resolving as resolving
@@ -80,9 +80,9 @@ pub pairs-start : (R : Record) (rows : List Constraint) → take 0 rows ≡ filt
 unfolding filter
 pairs-start R rows = refl
 
-pub bit-low : (b : Bool) {m k : ℕ} → k ≡ m → m ≡ cond b 1 0 → (k ≡ cond b 1 0) × (k ≤ 1)
-bit-low true e f = (e ∙ f, omega arith)
-bit-low false e f = (e ∙ f, omega arith)
+pub bit-low : (b : Bool) {m : ℕ} → m ≡ cond b 1 0 → m ≤ 1
+bit-low true e = omega arith
+bit-low false e = omega arith
 
 -- the constraints of a stored record
 pub held-constraints : (r : declared.Record) (R : Record) → r ≡ stored R → take (r .constraintcount) (r .constraints) ≡ R .constraints
@@ -95,5 +95,5 @@ index-read table x n i e f = f ∙ ap (λ (y : ℕ). getD table y 0) e
 pub order-read : (R : Record) (x y a b : ℕ) {r : Bool} → r ≡ notafter R (nameAt R a) (nameAt R b) → nameAt R a ≡ x → nameAt R b ≡ y → r ≡ notafter R x y
 order-read R x y a b e f g = rw (f, g) at e
 
-pub within-limit : (r : declared.Record) (R : Record) → r ≡ stored R → Fit R → r .constraintcount ≤ 512
+pub within-limit : (r : declared.Record) (R : Record) → r ≡ stored R → Fit R → r .constraintcount ≤ constraintLimit
 within-limit r R e f = let n : r .constraintcount ≡ length (R .constraints) = ap (λ (x : declared.Record). x .constraintcount) e in omega (arith, f .constraints)

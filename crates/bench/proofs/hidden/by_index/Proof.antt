@@ -1,23 +1,24 @@
 use Prim.Native.Nat.{ℕ, _-_, _≤_}
-use mathlib.Core.Path.{_≡_}
+use mathlib.Core.Path.{_≡_, ap, _∙_}
 use mathlib.Core.Bool.{Bool, false, cond}
 use lib.ListN.{length, getD}
 use native.Mathlib.Omega.{arith}
 use borrow.Author.Needs.{needs}
 use Rattle.lists.specs.Lists.{_among_}
 use Rattle.record.specs.Record.{Record, written}
+use Rattle.bench.specs.hidden.Marks.{markNamed}
 use Rattle.bench.proofs.hidden.Index.{StoredRows, stored-rows, count-room}
 use Rattle.bench.proofs.hidden.Named.{Indexed, indexed-none, indexed-next, indexed-end}
 use Rattle.bench.proofs.hidden.by_index.Statement.{statement}
 use Rattle.bench.proofs.hidden.by_index.Tie as tie
 
 abbrev Inv-loop : tie.InvT-loop
-Inv-loop names edits count marks₀ i₀ marks i =
+Inv-loop index hidden edits count marks₀ i₀ marks i =
     (i ≤ count) × (count ≤ 127) × (length marks ≡ 128)
-    × ((R : Record) (test : ℕ → Bool) (h : StoredRows R edits count) → test 0 ≡ false → ((x : ℕ) → x among written R → getD names x 0 ≡ cond (test x) 1 0) → Indexed R edits count test h marks i)
+    × ((R : Record) (test : ℕ → Bool) (h : StoredRows R edits count) → test 0 ≡ false → ((x : ℕ) → x among written R → markNamed index hidden x ≡ cond (test x) 1 0) → Indexed R edits count test h marks i)
 
 abbrev μ-loop : tie.MeasureT-loop
-μ-loop names edits count marks₀ i₀ marks i = count - i
+μ-loop index hidden edits count marks₀ i₀ marks i = count - i
 
 returns : tie.Need-returns Inv-loop μ-loop
 returns c = let s = c .before .before in λ R test e k. absurd (omega (arith, c .if1 .taken, count-room R _ _ (stored-rows R (s .args .multilog) e k)))
@@ -31,17 +32,20 @@ mul-edit c = search needs
 array-copy-out-edit : tie.Need-array-copy-out-edit Inv-loop μ-loop
 array-copy-out-edit c = search needs
 
-cast-slot : tie.Need-cast-slot Inv-loop μ-loop
-cast-slot c = search needs
+index16-requires : tie.Need-index16-requires Inv-loop μ-loop
+index16-requires c κs = search needs
 
-slot-requires : tie.Need-slot-requires Inv-loop μ-loop
-slot-requires c κs = search needs
+index-of-requires : tie.Need-index-of-requires Inv-loop μ-loop
+index-of-requires c κs = search needs
 
 add-i : tie.Need-add-i Inv-loop μ-loop
 add-i c = search needs
 
 array-read-marks : tie.Need-array-read-marks Inv-loop μ-loop
-array-read-marks c = search needs
+array-read-marks c =
+    let s = c .before .before .before .before .before .before .before in
+    let i = s .pre .1 (c .before .index16 .result) in
+    omega (arith, c .index-of .ensures)
 
 array-write-marks : tie.Need-array-write-marks Inv-loop μ-loop
 array-write-marks c = search needs
@@ -56,7 +60,8 @@ loop-again c =
       search needs,
       search needs,
       search needs,
-      λ R test h z f. indexed-next R _ _ test h (s .args .t2) (l .loop .marks) (l .loop .i) (c .slot .result) (c .before .before .before .loop-test .taken) (l .loop .inv .2) (c .slot .ensures .1) f (l .loop .inv .3 R test h z f),
+      λ R test h z f. indexed-next R _ _ test h (markNamed (s .args .index .now) (s .args .t3)) (l .loop .marks) (l .loop .i) _ (c .before .before .before .loop-test .taken) (l .loop .inv .2)
+          (ap (λ (j : ℕ). getD (s .args .t3) j 0) (c .index-of .ensures ∙ ap (λ (x : ℕ). getD (s .args .index .now) x 0) (c .before .index16 .ensures))) f (l .loop .inv .3 R test h z f),
     )
 
 returns-2 : tie.Need-returns-2 Inv-loop μ-loop
@@ -77,8 +82,8 @@ by-index-spec =
     loop-holds
     mul-edit
     array-copy-out-edit
-    cast-slot
-    slot-requires
+    index16-requires
+    index-of-requires
     add-i
     array-read-marks
     array-write-marks

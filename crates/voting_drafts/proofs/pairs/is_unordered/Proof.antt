@@ -11,14 +11,14 @@ returns : tie.Need-returns
 returns c =
     λ R g f l r. other-rule R (c .before .before .args .c) (c .if1 .taken)
 
-wide16-requires : tie.Need-wide16-requires
-wide16-requires c κs = search needs
+index16-requires : tie.Need-index16-requires
+index16-requires c κs = search needs
 
 index-of-requires : tie.Need-index-of-requires
 index-of-requires c κs = search needs
 
-wide16-requires-2 : tie.Need-wide16-requires-2
-wide16-requires-2 c κs = search needs
+index16-requires-2 : tie.Need-index16-requires-2
+index16-requires-2 c κs = search needs
 
 index-of-requires-2 : tie.Need-index-of-requires-2
 index-of-requires-2 c κs = search needs
@@ -26,7 +26,7 @@ index-of-requires-2 c κs = search needs
 leads-to-requires : tie.Need-leads-to-requires
 leads-to-requires c κs =
     let s = c .before .before .before .before .before .before in
-    let j = s .pre .2 (c .before .wide162 .result) in
+    let j = s .pre .2 (c .before .index162 .result) in
     (s .pre .0, omega arith, omega (arith, c .index-of2 .ensures, j))
 
 returns-2 : tie.Need-returns-2
@@ -34,8 +34,8 @@ returns-2 c =
     let s = c .before .before .before .before .before .before .before .before in
     λ R g f l r.
     let t = s .args .index .now in
-    let i = index-read t (s .args .c .left) _ _ (c .before .before .before .before .before .wide16 .ensures) (c .before .before .before .before .index-of .ensures) in
-    let j = index-read t (s .args .c .right) _ _ (c .before .before .before .wide162 .ensures) (c .before .before .index-of2 .ensures) in
+    let i = index-read t (s .args .c .left) _ _ (c .before .before .before .before .before .index16 .ensures) (c .before .before .before .before .index-of .ensures) in
+    let j = index-read t (s .args .c .right) _ _ (c .before .before .before .index162 .ensures) (c .before .before .index-of2 .ensures) in
     let il = index-low R t f (s .args .c .left) l i in
     let jl = index-low R t f (s .args .c .right) r j in
     let n = index-name R t f (s .args .c .left) l i in
@@ -46,7 +46,7 @@ returns-2 c =
 leads-to-requires-2 : tie.Need-leads-to-requires-2
 leads-to-requires-2 c κs =
     let s = c .before .before .before .before .before .before .before .before in
-    let j = s .pre .2 (c .before .before .before .before .before .wide16 .result) in
+    let j = s .pre .2 (c .before .before .before .before .before .index16 .result) in
     (s .pre .0, omega arith, omega (arith, c .before .before .before .before .index-of .ensures, j))
 
 returns-3 : tie.Need-returns-3
@@ -54,8 +54,8 @@ returns-3 c =
     let s = c .before .before .before .before .before .before .before .before .before in
     λ R g f l r.
     let t = s .args .index .now in
-    let i = index-read t (s .args .c .left) _ _ (c .before .before .before .before .before .before .wide16 .ensures) (c .before .before .before .before .before .index-of .ensures) in
-    let j = index-read t (s .args .c .right) _ _ (c .before .before .before .before .wide162 .ensures) (c .before .before .before .index-of2 .ensures) in
+    let i = index-read t (s .args .c .left) _ _ (c .before .before .before .before .before .before .index16 .ensures) (c .before .before .before .before .before .index-of .ensures) in
+    let j = index-read t (s .args .c .right) _ _ (c .before .before .before .before .index162 .ensures) (c .before .before .before .index-of2 .ensures) in
     let il = index-low R t f (s .args .c .left) l i in
     let jl = index-low R t f (s .args .c .right) r j in
     let n = index-name R t f (s .args .c .left) l i in
@@ -69,9 +69,9 @@ is-unordered-spec =
     tie.close
     (tie.spec
     returns
-    wide16-requires
+    index16-requires
     index-of-requires
-    wide16-requires-2
+    index16-requires-2
     index-of-requires-2
     leads-to-requires
     returns-2

@@ -6,7 +6,7 @@ use native.Mathlib.Omega.{arith}
 use Rattle.lists.proofs.Lists.{length-mapped}
 use Rattle.lists.specs.Lists.{filter}
 use Rattle.record.specs.Record.{Record, names}
-use Rattle.record.specs.Stored.{fillerConstraint}
+use Rattle.record.specs.Stored.{constraintLimit, fillerConstraint}
 use Rattle.graph.specs.links.Marks.{placeIn}
 use Rattle.graph.specs.links.Resolved.{Resolved}
 use Rattle.voting_drafts.proofs.pairs.Unordered.{isUnordered, pair-left-known, pair-right-known, here, pairs-next, pairs-end, pairs-start, bit-low, held-constraints, within-limit}
@@ -15,7 +15,7 @@ use Rattle.voting_drafts.proofs.pairs.unordered_pairs.Statement.{statem
 use Rattle.voting_drafts.proofs.pairs.unordered_pairs.Tie as tie
 
 abbrev Inv-loop : tie.InvT-loop
-Inv-loop constraints n index resolved rows₀ count₀ i₀ rows count i = (i ≤ n) × (n ≤ 512) × (length constraints ≡ 512) × (count ≤ i) × (length rows ≡ 512)
+Inv-loop constraints n index resolved rows₀ count₀ i₀ rows count i = (i ≤ n) × (n ≤ constraintLimit) × (length constraints ≡ constraintLimit) × (count ≤ i) × (length rows ≡ constraintLimit)
     × ((R : Record) → Resolved R resolved → ((x : ℕ) → getD index x 0 ≡ placeIn (names R) x) → take n constraints ≡ R .constraints → take count rows ≡ filter (isUnordered R) (take i (R .constraints)))
 
 abbrev μ-loop : tie.MeasureT-loop
@@ -57,13 +57,10 @@ array-set-from-rows c = search needs
 bit-requires : tie.Need-bit-requires Inv-loop μ-loop
 bit-requires c κs = search needs
 
-wide8-requires : tie.Need-wide8-requires Inv-loop μ-loop
-wide8-requires c κs = search needs
-
 add-count : tie.Need-add-count Inv-loop μ-loop
 add-count c =
-    let l = c .before .before .before .before .before .before .before .loop in
-    let b = bit-low (c .before .before .is-unordered .result) (c .wide8 .ensures) (c .before .bit .ensures) .1 in
+    let l = c .before .before .before .before .before .before .loop in
+    let b = bit-low (c .before .is-unordered .result) (c .bit .ensures) in
     omega arith
 
 add-i : tie.Need-add-i Inv-loop μ-loop
@@ -74,13 +71,12 @@ loop-less c = search needs
 
 loop-again : tie.Need-loop-again Inv-loop μ-loop
 loop-again c =
-    let l = c .before .before .before .before .before .before .before .loop in
-    let u = c .before .before .is-unordered in
-    let b = bit-low (u .result) (c .wide8 .ensures) (c .before .bit .ensures) in
-    let h = c .before .before .before .before .before .before .loop-test .taken in
+    let l = c .before .before .before .before .before .before .loop in
+    let u = c .before .is-unordered in
+    let b = bit-low (u .result) (c .bit .ensures) in
+    let h = c .before .before .before .before .before .loop-test .taken in
     let k = l .inv in
-    let z = b .1 in
-    let s = c .before .before .before .before .before .before .before .before .before .before .before .before in
+    let s = c .before .before .before .before .before .before .before .before .before .before .before in
     let w : s .args .multilog .constraintcount ≤ length (s .args .multilog .constraints) = omega arith in (
       omega arith,
       k .1,
@@ -89,7 +85,7 @@ loop-again c =
       search needs,
       λ R g f e. let m = here _ _ w R e (l .i) fillerConstraint h in
           pairs-next _ _ w R e (l .rows) (l .i) (l .count) _ fillerConstraint (u .result) h (omega arith) (k .5 R g f e)
-          (u .ensures R g f (pair-left-known R (g .formed) _ m) (pair-right-known R (g .formed) _ m)) (b .0),
+          (u .ensures R g f (pair-left-known R (g .formed) _ m) (pair-right-known R (g .formed) _ m)) (c .bit .ensures),
     )
 
 returns-2 : tie.Need-returns-2 Inv-loop μ-loop
@@ -121,7 +117,6 @@ unordered-pairs-spec =
     mul-rows
     array-set-from-rows
     bit-requires
-    wide8-requires
     add-count
     add-i
     loop-less

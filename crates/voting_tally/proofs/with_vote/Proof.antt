@@ -1,0 +1,38 @@
+-- `tally::with_vote` meets its contract. Assumes nothing.
+use mathlib.Core.Path.{_≡_}
+use mathlib.Core.List.{[], _∷_, _++_}
+use borrow.Author.Needs.{needs}
+use Rattle.voting_tally.specs.Groups.{tallyOf}
+use Rattle.voting_tally.proofs.Steps.{silent-by, bundle-by}
+use Rattle.voting_tally.proofs.with_vote.Statement.{statement}
+use Rattle.voting_tally.proofs.with_vote.Tie as tie
+
+enum-told : tie.Need-enum-told
+enum-told c = search needs
+
+enum-told-2 : tie.Need-enum-told-2
+enum-told-2 c = search needs
+
+with-silent-requires : tie.Need-with-silent-requires
+with-silent-requires c κs = search needs
+
+returns : tie.Need-returns
+returns c = let s = c .before .before .before in (
+  c .with-silent .ensures .0,
+  λ l v e h t p. silent-by (λ u. c .with-silent .result ≡ tallyOf (l ++ (record { weight = s .args .weight; vote = u } ∷ []))) (s .args .cast) v p (c .before .enum-told2 .given .1) (c .with-silent .ensures .1 l e t),
+)
+
+with-bundle-requires : tie.Need-with-bundle-requires
+with-bundle-requires c κs = search needs
+
+returns-2 : tie.Need-returns-2
+returns-2 c = let s = c .before .before .before .before in (
+  c .with-bundle .ensures .0,
+  λ l v e h t p. bundle-by (λ u. c .with-bundle .result ≡ tallyOf (l ++ (record { weight = s .args .weight; vote = u } ∷ []))) (s .args .cast) v p (c .before .before .enum-told .given .1)
+      (λ B q. c .with-bundle .ensures .1 l B e h t q),
+)
+
+pub with-vote-spec : {M : Type 1} → statement M
+with-vote-spec =
+    tie.close
+    (tie.spec enum-told enum-told-2 with-silent-requires returns with-bundle-requires returns-2)
