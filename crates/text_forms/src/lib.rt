@@ -99,7 +99,7 @@ fn is_mark(c: u8) -> bool
     ensures { λ r. ⌜ r ≡ isMark c ⌝ }
 {
     // Letters come after all marks.
-    if 64 < c {
+    if b'@' < c {
         return false;
     }
     match c {

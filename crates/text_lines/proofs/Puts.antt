@@ -71,6 +71,42 @@ named (suc zero) = refl
 named (suc (suc zero)) = refl
 named (suc (suc (suc field))) = refl
 
+-- what stands before the second name of a constraint, and before the value of a set
+abbrev pub ruleWord : ℕ → List ℕ
+ruleWord zero = bytes " rule=notafter right="
+ruleWord (suc zero) = bytes " rule=enables right="
+ruleWord (suc (suc n)) = bytes " rule=noncommuting right="
+
+abbrev pub fieldWord : ℕ → List ℕ
+fieldWord zero = bytes " field=id value="
+fieldWord (suc zero) = bytes " field=size value="
+fieldWord (suc (suc zero)) = bytes " field=erase value="
+fieldWord (suc (suc (suc n))) = bytes " field=page value="
+
+abbrev paired : List ℕ → ℕ → List ℕ → ℕ → List ℕ
+paired first c second d = first ++ (c ∷ (second ++ (d ∷ 10 ∷ [])))
+
+rule-form-is : (rule : ℕ) → (ruleForm rule ≡ paired (bytes "left=") 64 (ruleWord rule) 64) × (plain (ruleWord rule) ≡ true)
+unfolding ruleForm isMark bytes all
+rule-form-is zero = (refl, refl)
+rule-form-is (suc zero) = (refl, refl)
+rule-form-is (suc (suc n)) = (refl, refl)
+
+field-form-is : (field : ℕ) → (drop 6 (setForm field) ≡ paired (bytes " do=set chip=") 35 (fieldWord field) 35) × (plain (fieldWord field) ≡ true)
+unfolding setForm isMark bytes all
+field-form-is zero = (refl, refl)
+field-form-is (suc zero) = (refl, refl)
+field-form-is (suc (suc zero)) = (refl, refl)
+field-form-is (suc (suc (suc n))) = (refl, refl)
+
+left-word : plain (bytes "left=") ≡ true
+unfolding isMark bytes all
+left-word = refl
+
+chip-word : plain (bytes " do=set chip=") ≡ true
+unfolding isMark bytes all
+chip-word = refl
+
 module _ (m n : ℕ) where
   abbrev pair : List ℕ → List ℕ → List ℕ
   pair first second = (first ++ decimal m) ++ ((second ++ decimal n) ++ (10 ∷ []))
@@ -84,33 +120,15 @@ module _ (m n : ℕ) where
     unfolding editForm isMark bytes all
     remove-words = pair-words (bytes "edit=") (bytes " do=remove chip=") 64 35 m n (value ∷ []) refl refl name-mark number-mark
 
-  pub notafter-words : fill (ruleForm 0) (m ∷ n ∷ []) ≡ pair (bytes "left=") (bytes " rule=notafter right=")
-  unfolding ruleForm isMark bytes all
-  notafter-words = pair-words (bytes "left=") (bytes " rule=notafter right=") 64 64 m n [] refl refl name-mark name-mark
+  pub rule-words : (rule : ℕ) → fill (ruleForm rule) (m ∷ n ∷ []) ≡ pair (bytes "left=") (ruleWord rule)
+  rule-words rule =
+      fill-as (ruleForm rule) (paired (bytes "left=") 64 (ruleWord rule) 64) (m ∷ n ∷ []) (rule-form-is rule .0)
+      ∙ pair-words (bytes "left=") (ruleWord rule) 64 64 m n [] left-word (rule-form-is rule .1) name-mark name-mark
 
-  pub enables-words : fill (ruleForm 1) (m ∷ n ∷ []) ≡ pair (bytes "left=") (bytes " rule=enables right=")
-  unfolding ruleForm isMark bytes all
-  enables-words = pair-words (bytes "left=") (bytes " rule=enables right=") 64 64 m n [] refl refl name-mark name-mark
-
-  pub noncommuting-words : fill (ruleForm 2) (m ∷ n ∷ []) ≡ pair (bytes "left=") (bytes " rule=noncommuting right=")
-  unfolding ruleForm isMark bytes all
-  noncommuting-words = pair-words (bytes "left=") (bytes " rule=noncommuting right=") 64 64 m n [] refl refl name-mark name-mark
-
-  pub id-words : fill (drop 6 (setForm 0)) (m ∷ n ∷ []) ≡ pair (bytes " do=set chip=") (bytes " field=id value=")
-  unfolding setForm isMark bytes all
-  id-words = pair-words (bytes " do=set chip=") (bytes " field=id value=") 35 35 m n [] refl refl number-mark number-mark
-
-  pub size-words : fill (drop 6 (setForm 1)) (m ∷ n ∷ []) ≡ pair (bytes " do=set chip=") (bytes " field=size value=")
-  unfolding setForm isMark bytes all
-  size-words = pair-words (bytes " do=set chip=") (bytes " field=size value=") 35 35 m n [] refl refl number-mark number-mark
-
-  pub erase-words : fill (drop 6 (setForm 2)) (m ∷ n ∷ []) ≡ pair (bytes " do=set chip=") (bytes " field=erase value=")
-  unfolding setForm isMark bytes all
-  erase-words = pair-words (bytes " do=set chip=") (bytes " field=erase value=") 35 35 m n [] refl refl number-mark number-mark
-
-  pub page-words : fill (drop 6 (setForm 3)) (m ∷ n ∷ []) ≡ pair (bytes " do=set chip=") (bytes " field=page value=")
-  unfolding setForm isMark bytes all
-  page-words = pair-words (bytes " do=set chip=") (bytes " field=page value=") 35 35 m n [] refl refl number-mark number-mark
+  pub field-words : (field : ℕ) → fill (drop 6 (setForm field)) (m ∷ n ∷ []) ≡ pair (bytes " do=set chip=") (fieldWord field)
+  field-words field =
+      fill-as (drop 6 (setForm field)) (paired (bytes " do=set chip=") 35 (fieldWord field) 35) (m ∷ n ∷ []) (field-form-is field .0)
+      ∙ pair-words (bytes " do=set chip=") (fieldWord field) 35 35 m n [] chip-word (field-form-is field .1) number-mark number-mark
 
   -- an edit of a field: its name, and what stands after it
   pub set-words : (field name : ℕ) → fill (setForm field) (name ∷ m ∷ n ∷ []) ≡ (bytes "edit=" ++ decimal name) ++ fill (drop 6 (setForm field)) (m ∷ n ∷ [])

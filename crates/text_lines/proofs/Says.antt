@@ -6,7 +6,8 @@ use mathlib.Core.Logic.{_≢_}
 use mathlib.Core.List.{List, [], _∷_, _++_, map}
 use mathlib.Core.Option.{Option, none, some}
 use native.Mathlib.Omega.{arith}
-use borrow.Author.Tests.{lt-ltb, le-ltb, ne-eqb}
+use borrow.Author.Tests.{lt-ltb, le-ltb, ltb-true, ne-eqb}
+use lib.Dec.{ltb}
 use lib.ListN.{length, getD, take, drop, replicate}
 use Rattle.lists.specs.Lists.{all}
 use Rattle.lists.proofs.Lists.{by, clash, and-l, and-r}
@@ -218,6 +219,43 @@ module _ (s : List ℕ) where
         sym (ends-number (bytes "edit=") 64 (bytes " do=set chip=# field=") 0 s refl refl p ∙ ends-number (bytes " do=set chip=") 35 (bytes " field=") name s refl refl q
         ∙ ends-run (bytes " field=") chip s refl)
 
+-- the letters that the fields and the rules are told by, and the form that each leaves
+abbrev pub fieldLetter : ℕ → ℕ
+fieldLetter zero = 105
+fieldLetter (suc zero) = 115
+fieldLetter (suc (suc zero)) = 101
+fieldLetter (suc (suc (suc n))) = 112
+
+abbrev pub ruleLetter : ℕ → ℕ
+ruleLetter zero = 116
+ruleLetter (suc zero) = 97
+ruleLetter (suc (suc n)) = 110
+
+abbrev fieldSigns : ℕ → List Sign
+fieldSigns c = sign ".." 105 ∷ sign "edit=@ do=" 115 ∷ sign "edit=@ do=set chip=# field=" c ∷ []
+
+abbrev ruleSigns : ℕ → List Sign
+ruleSigns c = sign ".." 102 ∷ sign "left=@ rule=.." c ∷ []
+
+-- signs that leave one form, the one at a place
+abbrev Leave : List Sign → ℕ → Shape → Type 0
+Leave signs k shape = (allBut (λ (x : Shape). ruledOut signs (x .form)) k shapes ≡ true) × (getD shapes k (editShape 0 0) ≡ shape)
+
+field-left : (field : ℕ) → ltb field 4 ≡ true → Leave (fieldSigns (fieldLetter field)) (2 + field) (editShape 1 field)
+unfolding shapes setShapes ruleShapes editForm setForm ruleForm bytes all allBut ruledOut otherwise isMark
+field-left zero h = (refl, refl)
+field-left (suc zero) h = (refl, refl)
+field-left (suc (suc zero)) h = (refl, refl)
+field-left (suc (suc (suc zero))) h = (refl, refl)
+field-left (suc (suc (suc (suc n)))) h = absurd (omega (arith, ltb-true (suc (suc (suc (suc n)))) 4 h))
+
+rule-left : (rule : ℕ) → ltb rule 3 ≡ true → Leave (ruleSigns (ruleLetter rule)) (6 + rule) (ruleShape rule)
+unfolding shapes setShapes ruleShapes editForm setForm ruleForm bytes all allBut ruledOut otherwise isMark
+rule-left zero h = (refl, refl)
+rule-left (suc zero) h = (refl, refl)
+rule-left (suc (suc zero)) h = (refl, refl)
+rule-left (suc (suc (suc n))) h = absurd (omega (arith, ltb-true (suc (suc (suc n))) 3 h))
+
 -- an edit's line
 module _ (s : List ℕ) (name : ℕ) (third : getD s 2 0 ≡ 105) (p : name ≡ 5 + numeralSize (drop 5 s)) where
   module _ {x : ℕ} (l : x ≡ getD s (name + 4) 0) {r : Line} where
@@ -235,60 +273,32 @@ module _ (s : List ℕ) (name : ℕ) (third : getD s 2 0 ≡ 105) (p : name ≡ 
         by-none (sign ".." 105 ∷ sign "edit=@ do=" x ∷ []) s (third-sign s 105 third, (letter s (edit-place s name p) l refl, tt)) (rw (ne-eqb x 105 a, ne-eqb x 114 b, ne-eqb x 115 c) refl)
 
   module _ (set : getD s (name + 4) 0 ≡ 115) {chip : ℕ} (q : chip ≡ name + 13 + numeralSize (drop (name + 13) s)) {x : ℕ} (l : x ≡ getD s (chip + 7) 0) where
-    fields-shown : (c : ℕ) → x ≡ c → Shows (sign ".." 105 ∷ sign "edit=@ do=" 115 ∷ sign "edit=@ do=set chip=# field=" c ∷ []) s
+    fields-shown : (c : ℕ) → x ≡ c → Shows (fieldSigns c) s
     fields-shown c e = (third-sign s 105 third, (letter s (edit-place s name p) refl set, (letter s (set-place s name p q) l e, tt)))
 
-    by-field : {r : Line} (field c : ℕ) → x ≡ c
-        → allBut (λ (shape : Shape). ruledOut (sign ".." 105 ∷ sign "edit=@ do=" 115 ∷ sign "edit=@ do=set chip=# field=" c ∷ []) (shape .form)) (2 + field) shapes ≡ true
-        → getD shapes (2 + field) (editShape 0 0) ≡ editShape 1 field → r ≡ readAs (editShape 1 field) s → r ≡ readBy shapes s
-    by-field field c e h g =
-        by-form (sign ".." 105 ∷ sign "edit=@ do=" 115 ∷ sign "edit=@ do=set chip=# field=" c ∷ []) s (fields-shown c e) (2 + field) (editShape 1 field) h g (λ ns. refl)
-
-    pub is-id : {r : Line} → x ≡ 105 → r ≡ readAs (editShape 1 0) s → r ≡ readBy shapes s
-    unfolding shapes setShapes ruleShapes editForm setForm ruleForm bytes all allBut ruledOut otherwise isMark
-    is-id e = by-field 0 105 e refl refl
-
-    pub is-size : {r : Line} → x ≡ 115 → r ≡ readAs (editShape 1 1) s → r ≡ readBy shapes s
-    unfolding shapes setShapes ruleShapes editForm setForm ruleForm bytes all allBut ruledOut otherwise isMark
-    is-size e = by-field 1 115 e refl refl
-
-    pub is-erase : {r : Line} → x ≡ 101 → r ≡ readAs (editShape 1 2) s → r ≡ readBy shapes s
-    unfolding shapes setShapes ruleShapes editForm setForm ruleForm bytes all allBut ruledOut otherwise isMark
-    is-erase e = by-field 2 101 e refl refl
-
-    pub is-page : {r : Line} → x ≡ 112 → r ≡ readAs (editShape 1 3) s → r ≡ readBy shapes s
-    unfolding shapes setShapes ruleShapes editForm setForm ruleForm bytes all allBut ruledOut otherwise isMark
-    is-page e = by-field 3 112 e refl refl
+    pub is-field : {r : Line} (field : ℕ) → ltb field 4 ≡ true → x ≡ fieldLetter field → r ≡ readAs (editShape 1 field) s → r ≡ readBy shapes s
+    is-field field h e =
+        by-form (fieldSigns (fieldLetter field)) s (fields-shown (fieldLetter field) e) (2 + field) (editShape 1 field) (field-left field h .0) (field-left field h .1) (λ ns. refl)
 
     pub no-field : {r : Line} → x ≢ 105 → x ≢ 115 → x ≢ 101 → x ≢ 112 → r ≡ faulty 1 → r ≡ readBy shapes s
     unfolding shapes setShapes ruleShapes editForm setForm ruleForm bytes all allBut ruledOut otherwise isMark
     no-field a b c d =
-        by-none (sign ".." 105 ∷ sign "edit=@ do=" 115 ∷ sign "edit=@ do=set chip=# field=" x ∷ []) s (fields-shown x refl)
+        by-none (fieldSigns x) s (fields-shown x refl)
         (rw (ne-eqb x 105 a, ne-eqb x 115 b, ne-eqb x 101 c, ne-eqb x 112 d) refl)
 
 -- a constraint's line
-module _ (s : List ℕ) (name : ℕ) (third : getD s 2 0 ≡ 102) (p : name ≡ 5 + numeralSize (drop 5 s)) {x : ℕ} (l : x ≡ getD s (name + 8) 0) {r : Line} where
-  by-rule : (rule c : ℕ) → x ≡ c → allBut (λ (shape : Shape). ruledOut (sign ".." 102 ∷ sign "left=@ rule=.." c ∷ []) (shape .form)) (6 + rule) shapes ≡ true
-      → getD shapes (6 + rule) (editShape 0 0) ≡ ruleShape rule → r ≡ readAs (ruleShape rule) s → r ≡ readBy shapes s
-  by-rule rule c e h g =
-      by-form (sign ".." 102 ∷ sign "left=@ rule=.." c ∷ []) s (third-sign s 102 third, (letter s (rule-place s name p) l e, tt)) (6 + rule) (ruleShape rule) h g (λ ns. refl)
+module _ (s : List ℕ) (name : ℕ) (third : getD s 2 0 ≡ 102) (p : name ≡ 5 + numeralSize (drop 5 s)) {x : ℕ} (l : x ≡ getD s (name + 8) 0) where
+  rules-shown : (c : ℕ) → x ≡ c → Shows (ruleSigns c) s
+  rules-shown c e = (third-sign s 102 third, (letter s (rule-place s name p) l e, tt))
 
-  pub is-notafter : x ≡ 116 → r ≡ readAs (ruleShape 0) s → r ≡ readBy shapes s
-  unfolding shapes setShapes ruleShapes editForm setForm ruleForm bytes all allBut ruledOut otherwise isMark
-  is-notafter e = by-rule 0 116 e refl refl
+  pub is-rule : {r : Line} (rule : ℕ) → ltb rule 3 ≡ true → x ≡ ruleLetter rule → r ≡ readAs (ruleShape rule) s → r ≡ readBy shapes s
+  is-rule rule h e =
+      by-form (ruleSigns (ruleLetter rule)) s (rules-shown (ruleLetter rule) e) (6 + rule) (ruleShape rule) (rule-left rule h .0) (rule-left rule h .1) (λ ns. refl)
 
-  pub is-enables : x ≡ 97 → r ≡ readAs (ruleShape 1) s → r ≡ readBy shapes s
-  unfolding shapes setShapes ruleShapes editForm setForm ruleForm bytes all allBut ruledOut otherwise isMark
-  is-enables e = by-rule 1 97 e refl refl
-
-  pub is-noncommuting : x ≡ 110 → r ≡ readAs (ruleShape 2) s → r ≡ readBy shapes s
-  unfolding shapes setShapes ruleShapes editForm setForm ruleForm bytes all allBut ruledOut otherwise isMark
-  is-noncommuting e = by-rule 2 110 e refl refl
-
-  pub no-rule : x ≢ 116 → x ≢ 97 → x ≢ 110 → r ≡ faulty 1 → r ≡ readBy shapes s
+  pub no-rule : {r : Line} → x ≢ 116 → x ≢ 97 → x ≢ 110 → r ≡ faulty 1 → r ≡ readBy shapes s
   unfolding shapes setShapes ruleShapes editForm setForm ruleForm bytes all allBut ruledOut otherwise isMark
   no-rule a b c =
-      by-none (sign ".." 102 ∷ sign "left=@ rule=.." x ∷ []) s (third-sign s 102 third, (letter s (rule-place s name p) l refl, tt)) (rw (ne-eqb x 116 a, ne-eqb x 97 b, ne-eqb x 110 c) refl)
+      by-none (ruleSigns x) s (rules-shown x refl) (rw (ne-eqb x 116 a, ne-eqb x 97 b, ne-eqb x 110 c) refl)
 
 -- the whole line
 module _ (s : List ℕ) {r : Line} where

@@ -210,15 +210,15 @@ pub fn read_line(bytes: &[u8]) -> Line
 
 // How many bytes two numbers take beside words of so many.
 fn pair_length(words: usize, m: u64, n: u64) -> usize
-    requires { ⌜ words ≤ 100 ⌝ }
-    ensures { λ r. ⌜ (r ≡ words + length (decimal m) + length (decimal n)) × (r ≤ 140) ⌝ }
+    requires { ⌜ words ≤ lineLimit ⌝ }
+    ensures { λ r. ⌜ (r ≡ words + length (decimal m) + length (decimal n)) × (r ≤ lineLimit + 40) ⌝ }
 {
     words + decimal::number_length(m) + decimal::number_length(n)
 }
 
 // How many bytes stand after the name.
 fn field_length(field: u32, place: u64, value: u64) -> usize
-    ensures { λ r. ⌜ (r ≡ length (fill (drop 6 (setForm field)) (place ∷ value ∷ []))) × (r ≤ 140) ⌝ }
+    ensures { λ r. ⌜ (r ≡ length (fill (drop 6 (setForm field)) (place ∷ value ∷ []))) × (r ≤ lineLimit + 40) ⌝ }
 {
     match field {
         0 => pair_length(30, place, value),

@@ -11,7 +11,7 @@ use lib.Seq.{length-take-le}
 use Rattle.record.specs.declared.Record as declared
 use Rattle.record.specs.Record.{Record}
 use Rattle.record.specs.Judgement.{sound}
-use Rattle.record.specs.Stored.{emptyRecord, stored}
+use Rattle.record.specs.Stored.{editLimit, constraintLimit, emptyRecord, stored}
 use Rattle.record_rows.specs.ground.Ground.{Rows}
 use Rattle.record_tables.specs.Table.{decoded}
 use Rattle.record_tables.proofs.Marks.{marks-start}
@@ -35,13 +35,13 @@ pub record Upto (text : List ℕ) (edits : Rows) (constraints : Rows) (marks : L
   pub answer : readRows text ≡ readFrom (n + m) (take n edits) (take m constraints) (lines (drop at text))
   pub count : length (lines text) ≡ (n + m) + length (lines (drop at text))
 
-pub upto-start : (text : List ℕ) → Upto text (replicate 128 (replicate 5 0)) (replicate 513 (replicate 3 0)) (set (replicate 2304 0) 0 1) 0 0 0
+pub upto-start : (text : List ℕ) → Upto text (replicate (editLimit + 1) (replicate 5 0)) (replicate (constraintLimit + 1) (replicate 3 0)) (set (replicate 2304 0) 0 1) 0 0 0
 unfolding readRows
 upto-start text =
     record {
       inside = omega arith;
-      edits-held = record { size = length-replicate {A = List ℕ} 128 (replicate 5 0); marksize = length-set {A = ℕ} (replicate 2304 0) 0 1 ∙ length-replicate {A = ℕ} 2304 0; few = omega arith; ascends = tt; marked = marks-start 2304 (omega arith) };
-      constraints-held = record { size = length-replicate {A = List ℕ} 513 (replicate 3 0); few = omega arith; ascends = tt };
+      edits-held = record { size = length-replicate {A = List ℕ} (editLimit + 1) (replicate 5 0); marksize = length-set {A = ℕ} (replicate 2304 0) 0 1 ∙ length-replicate {A = ℕ} 2304 0; few = omega arith; ascends = tt; marked = marks-start 2304 (omega arith) };
+      constraints-held = record { size = length-replicate {A = List ℕ} (constraintLimit + 1) (replicate 3 0); few = omega arith; ascends = tt };
       answer = refl;
       count = omega arith;
     }
@@ -91,13 +91,13 @@ module _ (text : List ℕ) {edits constraints : Rows} {marks : List ℕ} {n m at
           count = omega (arith, u .count, ap length (next .lines-are));
         }
 
-  few-edits : length (take n edits) ≤ 127
+  few-edits : length (take n edits) ≤ editLimit
   few-edits = let w : n ≤ length edits = omega (arith, u .edits-held .size, u .edits-held .few) in rw (length-take-le n edits w) (u .edits-held .few)
 
-  few-constraints : length (take m constraints) ≤ 512
+  few-constraints : length (take m constraints) ≤ constraintLimit
   few-constraints = let w : m ≤ length constraints = omega (arith, u .constraints-held .size, u .constraints-held .few) in rw (length-take-le m constraints w) (u .constraints-held .few)
 
-  pub upto-end : length text ≤ at → {r : declared.Record} → (length (take (n - 0) edits) ≤ 127 → length (take (m - 0) constraints) ≤ 512 → r ≡ stored (decoded (take (n - 0) edits) (take (m - 0) constraints)))
+  pub upto-end : length text ≤ at → {r : declared.Record} → (length (take (n - 0) edits) ≤ editLimit → length (take (m - 0) constraints) ≤ constraintLimit → r ≡ stored (decoded (take (n - 0) edits) (take (m - 0) constraints)))
       → record { number = 0; line = n + m; content = r } ≡ readingOf (length (lines text)) (readRows text)
   unfolding readFrom
   upto-end h {r} f =

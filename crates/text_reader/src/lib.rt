@@ -1,6 +1,11 @@
 // A text is read line by line into a record (document 01, "Text").
+use record::CONSTRAINTS;
+use record::EDITS;
 use record::Record;
 use record_rows::row;
+use record_rows::row::CONSTRAINT_CELLS;
+use record_rows::row::EDIT_CELLS;
+use record_rows::row::NAMES;
 use text_lines::Line;
 ghost use mathlib.Core.Path.{_≡_};
 ghost use mathlib.Core.Bool.{not, _&&_, false};
@@ -8,7 +13,7 @@ ghost use mathlib.Core.List.{List, []};
 ghost use Prim.Native.Nat.{ℕ, _<_};
 ghost use lib.Dec.{leb};
 ghost use lib.ListN.{length, getD, take};
-ghost use Rattle.record.specs.Stored.{emptyRecord};
+ghost use Rattle.record.specs.Stored.{editLimit, constraintLimit, emptyRecord};
 ghost use Rattle.lists.specs.Keyed.{Ascending};
 ghost use Rattle.record_rows.specs.ground.Ground.{known, rowFault};
 ghost use Rattle.record_tables.specs.Table.{editKind, constraintKind};
@@ -18,6 +23,11 @@ ghost use Rattle.text.specs.Text.{readRows, readText};
 ghost use Rattle.text_reader.specs.Reading.{readingOf};
 ghost use Rattle.text_reader.specs.Held.{EditsHeld, ConstraintsHeld, EditTaken, ConstraintTaken, LineTaken};
 
+// The tables have one row more than there are places, for the row that is judged; specs/Held.antt has the same numbers.
+const EDIT_ROWS: usize = EDITS + 1;
+
+const CONSTRAINT_ROWS: usize = CONSTRAINTS + 1;
+
 // A record that was read, or the number and the line of the first fault. Number 0 is no fault; the line is then the count of lines.
 pub struct Reading {
     pub number: u32,
@@ -26,18 +36,18 @@ pub struct Reading {
 }
 
 // Whether row n is new and the rows above it take every place.
-fn edit_no_place(t: &[[u32; 5]], n: usize) -> bool
+fn edit_no_place(t: &[[u32; EDIT_CELLS]], n: usize) -> bool
     requires { ⌜ n < length (now t) ⌝ }
-    ensures { λ r. ⌜ r ≡ (not (known 1 (getD (now (t .entry)) n []) (take n (now (t .entry)))) && leb 127 n) ⌝ }
+    ensures { λ r. ⌜ r ≡ (not (known 1 (getD (now (t .entry)) n []) (take n (now (t .entry)))) && leb editLimit n) ⌝ }
 {
-    if n < 127 {
+    if n < EDITS {
         return false;
     }
     !record_tables::edit_repeated(t, n)
 }
 
 // The number of row n below those above it.
-fn edit_row_fault(t: &[[u32; 5]], n: usize) -> u32
+fn edit_row_fault(t: &[[u32; EDIT_CELLS]], n: usize) -> u32
     requires { ⌜ n < length (now t) ⌝ }
     ensures { λ r. ⌜ (Ascending (take 1) (take n (now (t .entry))) → r ≡ rowFault editKind [] (take n (now (t .entry))) (getD (now (t .entry)) n [])) ⌝ }
 {
@@ -55,7 +65,13 @@ fn edit_row_fault(t: &[[u32; 5]], n: usize) -> u32
 }
 
 // The number of an edit after n edits and m constraints. Without fault it is held.
-fn take_edit(edits: &mut [[u32; 5]], marks: &mut [u8], n: usize, m: usize, row: [u32; 5]) -> u32
+fn take_edit(
+    edits: &mut [[u32; EDIT_CELLS]],
+    marks: &mut [u8],
+    n: usize,
+    m: usize,
+    row: [u32; EDIT_CELLS],
+) -> u32
     requires { ⌜ EditsHeld (now edits) (now marks) n ⌝ }
     ensures { λ r. ⌜ EditTaken (now (edits .entry)) (now (marks .entry)) n m row r (now (edits .exit)) (now (marks .exit)) ⌝ }
 {
@@ -73,18 +89,18 @@ fn take_edit(edits: &mut [[u32; 5]], marks: &mut [u8], n: usize, m: usize, row: 
 }
 
 // Whether row m is new and the rows above it take every place.
-fn constraint_no_place(t: &[[u32; 3]], m: usize) -> bool
+fn constraint_no_place(t: &[[u32; CONSTRAINT_CELLS]], m: usize) -> bool
     requires { ⌜ m < length (now t) ⌝ }
-    ensures { λ r. ⌜ r ≡ (not (known 3 (getD (now (t .entry)) m []) (take m (now (t .entry)))) && leb 512 m) ⌝ }
+    ensures { λ r. ⌜ r ≡ (not (known 3 (getD (now (t .entry)) m []) (take m (now (t .entry)))) && leb constraintLimit m) ⌝ }
 {
-    if m < 512 {
+    if m < CONSTRAINTS {
         return false;
     }
     !record_tables::constraint_repeated(t, m)
 }
 
 // The number of row m below those above it, where marks are those of the edits that it knows.
-fn constraint_row_fault(t: &[[u32; 3]], m: usize, marks: &[u8]) -> u32
+fn constraint_row_fault(t: &[[u32; CONSTRAINT_CELLS]], m: usize, marks: &[u8]) -> u32
     requires { ⌜ m < length (now t) ⌝ }
     ensures { λ r. ⌜ ((names : List ℕ) → MarksNames (now (marks .entry)) names → Ascending (take 3) (take m (now (t .entry))) → r ≡ rowFault (constraintKind names false) [] (take m (now (t .entry))) (getD (now (t .entry)) m [])) ⌝ }
 {
@@ -106,7 +122,12 @@ fn constraint_row_fault(t: &[[u32; 3]], m: usize, marks: &[u8]) -> u32
 }
 
 // The number of a constraint after m constraints. Without fault it is held.
-fn take_constraint(constraints: &mut [[u32; 3]], m: usize, marks: &[u8], row: [u32; 3]) -> u32
+fn take_constraint(
+    constraints: &mut [[u32; CONSTRAINT_CELLS]],
+    m: usize,
+    marks: &[u8],
+    row: [u32; CONSTRAINT_CELLS],
+) -> u32
     requires { ⌜ ConstraintsHeld (now constraints) m ⌝ }
     ensures { λ r. ⌜ ((names : List ℕ) → MarksNames (now (marks .entry)) names → ConstraintTaken names (now (constraints .entry)) m row r (now (constraints .exit))) ⌝ }
 {
@@ -116,9 +137,9 @@ fn take_constraint(constraints: &mut [[u32; 3]], m: usize, marks: &[u8], row: [u
 
 // The number of a line after n edits and m constraints. Without fault its row is held.
 fn take_line(
-    edits: &mut [[u32; 5]],
+    edits: &mut [[u32; EDIT_CELLS]],
     marks: &mut [u8],
-    constraints: &mut [[u32; 3]],
+    constraints: &mut [[u32; CONSTRAINT_CELLS]],
     n: usize,
     m: usize,
     said: Line,
@@ -151,9 +172,9 @@ fn refusal(number: u32, line: usize) -> Reading
 fn read_rows(text: &[u8]) -> Reading
     ensures { λ r. ⌜ r ≡ readingOf (length (lines (now (text .entry)))) (readRows (now (text .entry))) ⌝ }
 {
-    let mut edits = [[0u32; 5]; 128];
-    let mut constraints = [[0u32; 3]; 513];
-    let mut marks = [0u8; 2304];
+    let mut edits = [[0u32; EDIT_CELLS]; EDIT_ROWS];
+    let mut constraints = [[0u32; CONSTRAINT_CELLS]; CONSTRAINT_ROWS];
+    let mut marks = [0u8; NAMES];
     marks[0] = 1;
     let mut n = 0;
     let mut m = 0;

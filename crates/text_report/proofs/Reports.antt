@@ -7,7 +7,7 @@ use lib.ListN.{length, take}
 use lib.Seq.{take-at}
 use Rattle.record.specs.declared.Record as declared
 use Rattle.record.specs.Record.{Record, written}
-use Rattle.record.specs.Stored.{stored, padded, fillerEdit}
+use Rattle.record.specs.Stored.{editLimit, stored, padded, fillerEdit}
 use Rattle.record_tables.specs.Checked.{Checked}
 use Rattle.graph.specs.indexes.Fit.{Fit}
 use Rattle.graph.proofs.indexes.Fit.{checked-fit}
@@ -34,7 +34,7 @@ report-is content R e k {j} f rows g =
     let n : content .editcount ≡ length (R .edits) = ap (λ (r : declared.Record). r .editcount) e in
     let m : content .constraintcount ≡ length (R .constraints) = ap (λ (r : declared.Record). r .constraintcount) e in
     let q : j ≡ judgedOf R = f R e (checked-fit R k) in
-    let l : content .edits ≡ padded 127 fillerEdit (R .edits) = ap (λ (r : declared.Record). r .edits) e in
+    let l : content .edits ≡ padded editLimit fillerEdit (R .edits) = ap (λ (r : declared.Record). r .edits) e in
     let t : take (content .editcount) (content .edits) ≡ R .edits = rw (l, n) (take-at (R .edits) _ (length (R .edits)) refl) in
     let w : take (content .editcount) rows ≡ map (reportNumbers R) (written R) = g ∙ rw (t, q) (numbers-are R) in
     rw (w, n, m)
@@ -50,7 +50,7 @@ report-placed content R e k f rows before g p =
     (rw (z, q) at (p .0), rw (z, q) at (p .1))
 
 -- a stored record has no more edits than there are places
-pub count-small : {P : Type 0} (content : declared.Record) (R : Record) → content ≡ stored R → Checked R → 127 < content .editcount → P
+pub count-small : {P : Type 0} (content : declared.Record) (R : Record) → content ≡ stored R → Checked R → editLimit < content .editcount → P
 count-small content R e k h = let n : content .editcount ≡ length (R .edits) = ap (λ (r : declared.Record). r .editcount) e in absurd (omega (arith, k .editplaces))
 
 module _ (text : List ℕ) {reading : Reading} (e : reading ≡ readingOf (length (lines text)) (readText text)) where

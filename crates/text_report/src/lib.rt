@@ -1,16 +1,17 @@
 // The report of a text (document 01, "Text"), and the line of a refusal.
 use judgement::Judged;
+use record::EDITS;
 use record::Edit;
 use record::Record;
 use text_forms::Fit;
 use text_writer::Written;
 ghost use mathlib.Core.Path.{_≡_};
 ghost use mathlib.Core.List.{_++_, map};
-ghost use Prim.Native.Nat.{_<_, _≤_};
+ghost use Prim.Native.Nat.{_≤_};
 ghost use lib.Dec.{leb};
 ghost use lib.ListN.{length, take};
 ghost use Rattle.record.specs.Record as theory;
-ghost use Rattle.record.specs.Stored.{stored};
+ghost use Rattle.record.specs.Stored.{editLimit, stored};
 ghost use Rattle.record_tables.specs.Checked.{Checked};
 ghost use Rattle.text_forms.specs.decimal.Written as part;
 ghost use Rattle.text_forms.specs.Form.{fill};
@@ -29,7 +30,7 @@ pub struct Reported {
 
 // The numbers of the line of the edit at an index.
 fn edit_numbers(name: u16, judged: Judged, index: usize) -> [u64; 5]
-    requires { ⌜ index < 128 ⌝ }
+    requires { ⌜ index ≤ editLimit ⌝ }
     ensures { λ r. ⌜ r ≡ numbersAt name judged index ⌝ }
 {
     let must = numbers::wide8(judged.must[index]);
@@ -40,11 +41,11 @@ fn edit_numbers(name: u16, judged: Judged, index: usize) -> [u64; 5]
 }
 
 // The numbers of the lines of the first n edits.
-fn report_rows(edits: [Edit; 127], n: usize, judged: Judged) -> [[u64; 5]; 127]
-    requires { ⌜ n ≤ 127 ⌝ }
-    ensures { λ r. ⌜ (take n r ≡ numbered judged 1 (take n edits)) × (length r ≡ 127) ⌝ }
+fn report_rows(edits: [Edit; EDITS], n: usize, judged: Judged) -> [[u64; 5]; EDITS]
+    requires { ⌜ n ≤ editLimit ⌝ }
+    ensures { λ r. ⌜ (take n r ≡ numbered judged 1 (take n edits)) × (length r ≡ editLimit) ⌝ }
 {
-    let mut rows = [[0u64; 5]; 127];
+    let mut rows = [[0u64; 5]; EDITS];
     let mut i = 0;
     while i < n {
         let e = edits[i];
@@ -97,19 +98,6 @@ fn write_lines(out: &mut [u8], rows: &[[u64; 5]]) -> usize
     at
 }
 
-fn counts_fit(fit: Fit, counts: &[u64]) -> Fit
-    ensures { λ r. ⌜ r ≡ fitAfter fit (length (fill countsForm (now (counts .entry)))) ⌝ }
-{
-    text_forms::form_fit(fit, b"edits=# rules=#\n", counts)
-}
-
-fn write_counts(out: &mut [u8], counts: &[u64]) -> usize
-    requires { ⌜ length (fill countsForm (now counts)) ≤ length (now out) ⌝ }
-    ensures { λ r. ⌜ part.Written (fill countsForm (now (counts .entry))) (now (out .entry)) r (now (out .exit)) ⌝ }
-{
-    text_forms::write_form(&mut out[..], b"edits=# rules=#\n", counts)
-}
-
 // Whether a report takes at most so many bytes.
 fn report_fits(counts: &[u64], rows: &[[u64; 5]], room: usize) -> bool
     ensures { λ r. ⌜ r ≡ leb (length (fill countsForm (now (counts .entry)) ++ joinedLines (map (fill reportForm) (now (rows .entry))))) room ⌝ }
@@ -118,7 +106,7 @@ fn report_fits(counts: &[u64], rows: &[[u64; 5]], room: usize) -> bool
         fits: true,
         left: room,
     };
-    let first = counts_fit(whole, counts);
+    let first = text_forms::form_fit(whole, b"edits=# rules=#\n", counts);
     let all = lines_fit(first, rows);
     all.fits
 }
@@ -127,7 +115,7 @@ fn write_report(out: &mut [u8], counts: &[u64], rows: &[[u64; 5]]) -> usize
     requires { ⌜ length (fill countsForm (now counts) ++ joinedLines (map (fill reportForm) (now rows))) ≤ length (now out) ⌝ }
     ensures { λ r. ⌜ part.Written (fill countsForm (now (counts .entry)) ++ joinedLines (map (fill reportForm) (now (rows .entry)))) (now (out .entry)) r (now (out .exit)) ⌝ }
 {
-    let at = write_counts(&mut out[..], counts);
+    let at = text_forms::write_form(&mut out[..], b"edits=# rules=#\n", counts);
     at + write_lines(&mut out[at..], rows)
 }
 
@@ -152,7 +140,7 @@ pub fn report_record(content: Record, out: &mut [u8]) -> Written
 {
     let n = content.editcount;
     let m = content.constraintcount;
-    if 127 < n {
+    if EDITS < n {
         return Written { number: 12, end: 0 };
     }
     let edits = content.edits;

@@ -1,16 +1,14 @@
 -- The text of a record by its stored tables, whatever their counts. Assumes nothing.
-use mathlib.Core.Path.{_≡_, sym, _∙_}
-use mathlib.Core.Bool.{true, false}
+use mathlib.Core.Path.{_≡_}
+use mathlib.Core.Bool.{true}
 use mathlib.Core.List.{List, _++_, map, map-map}
-use Prim.Native.Nat.{ℕ, _+_, _-_, _≤_, _<_, min}
+use Prim.Native.Nat.{ℕ, _+_, _-_, _≤_, min}
 use native.Mathlib.Omega.{arith}
-use borrow.Author.Tests.{leb-true, leb-false}
 use lib.Dec.{leb}
 use lib.ListN.{length, take, drop, length-append}
-use lib.Seq.{take-all}
-use Rattle.lists.proofs.Lists.{by}
+use Rattle.lists.proofs.Arrays.{take-least}
 use Rattle.record.specs.declared.Record as declared
-use Rattle.record.specs.Stored.{recordOf}
+use Rattle.record.specs.Stored.{editLimit, constraintLimit, recordOf}
 use Rattle.record_rows.specs.row.Row.{editRow, constraintRow}
 use Rattle.text_forms.specs.decimal.Written.{Written}
 use Rattle.text_forms.proofs.decimal.Parts.{inside, second-room, written-both}
@@ -22,13 +20,10 @@ use Rattle.text_writer.specs.Placed.{editText, constraintText}
 use Rattle.text_writer.proofs.Writing.{fits-both}
 
 -- a count past the table's end takes all of it
-take-least : {A : Type 0} (a : List A) (n limit : ℕ) {r : ℕ} → length a ≡ limit → r ≡ min n limit → take r a ≡ take n a
-take-least a n limit {r} l e =
-    by (leb n limit)
-    (λ (h : leb n limit ≡ true). let q : r ≡ n = omega (arith, leb-true n limit h) in rw q)
-    (λ (h : leb n limit ≡ false). let g : limit < n = leb-false n limit h in take-all r a (omega arith) ∙ sym (take-all n a (omega arith)))
+taken : {A : Type 0} (a : List A) (n limit : ℕ) {r : ℕ} → length a ≡ limit → r ≡ min n limit → take r a ≡ take n a
+taken a n limit l e = rw e (take-least n limit a l)
 
-module _ (content : declared.Record) (a : length (content .edits) ≡ 127) (b : length (content .constraints) ≡ 512) {n m : ℕ} (e : n ≡ min (content .editcount) 127) (f : m ≡ min (content .constraintcount) 512) where
+module _ (content : declared.Record) (a : length (content .edits) ≡ editLimit) (b : length (content .constraints) ≡ constraintLimit) {n m : ℕ} (e : n ≡ min (content .editcount) editLimit) (f : m ≡ min (content .constraintcount) constraintLimit) where
   abbrev edits-text : List ℕ
   edits-text = joinedLines (map editText (take n (content .edits)))
 
@@ -38,7 +33,7 @@ module _ (content : declared.Record) (a : length (content .edits) ≡ 127) (b : 
   text-is : textOf (recordOf content) ≡ edits-text ++ constraints-text
   unfolding rowsText
   text-is =
-      rw (take-least (content .edits) (content .editcount) 127 a e, take-least (content .constraints) (content .constraintcount) 512 b f, map-map editLine editRow (take (content .editcount) (content .edits)), map-map constraintLine constraintRow (take (content .constraintcount) (content .constraints)))
+      rw (taken (content .edits) (content .editcount) editLimit a e, taken (content .constraints) (content .constraintcount) constraintLimit b f, map-map editLine editRow (take (content .editcount) (content .edits)), map-map constraintLine constraintRow (take (content .constraintcount) (content .constraints)))
 
   pub text-fits : (room : ℕ) {edits all : Fit} → edits ≡ fitAfter (record { fits = true; left = room }) (length edits-text) → all ≡ fitAfter edits (length constraints-text) → all .fits ≡ leb (length (textOf (recordOf content))) room
   text-fits room p q = rw text-is (fits-both edits-text constraints-text room p q)

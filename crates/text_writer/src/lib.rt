@@ -1,5 +1,7 @@
 // A record is written as a text, and a form where it fits (document 01, "Text").
+use record::CONSTRAINTS;
 use record::Constraint;
+use record::EDITS;
 use record::Edit;
 use record::Record;
 use record_rows::row;
@@ -9,7 +11,7 @@ ghost use mathlib.Core.List.{map};
 ghost use Prim.Native.Nat.{_≤_};
 ghost use lib.Dec.{leb};
 ghost use lib.ListN.{length, take};
-ghost use Rattle.record.specs.Stored.{recordOf};
+ghost use Rattle.record.specs.Stored.{editLimit, constraintLimit, recordOf};
 ghost use Rattle.text_forms.specs.decimal.Written as part;
 ghost use Rattle.text_forms.specs.Form.{fill};
 ghost use Rattle.text_forms.specs.Fit.{fitAfter};
@@ -38,8 +40,8 @@ pub fn place_form(form: &[u8], numbers: &[u64], out: &mut [u8]) -> Written
 }
 
 // What is left after the lines of the first n edits.
-fn edits_fit(fit: Fit, a: [Edit; 127], n: usize) -> Fit
-    requires { ⌜ n ≤ 127 ⌝ }
+fn edits_fit(fit: Fit, a: [Edit; EDITS], n: usize) -> Fit
+    requires { ⌜ n ≤ editLimit ⌝ }
     ensures { λ r. ⌜ r ≡ fitAfter fit (length (joinedLines (map editText (take n a)))) ⌝ }
 {
     let mut rest = fit;
@@ -53,8 +55,8 @@ fn edits_fit(fit: Fit, a: [Edit; 127], n: usize) -> Fit
 }
 
 // What is left after the lines of the first n constraints.
-fn constraints_fit(fit: Fit, a: [Constraint; 512], n: usize) -> Fit
-    requires { ⌜ n ≤ 512 ⌝ }
+fn constraints_fit(fit: Fit, a: [Constraint; CONSTRAINTS], n: usize) -> Fit
+    requires { ⌜ n ≤ constraintLimit ⌝ }
     ensures { λ r. ⌜ r ≡ fitAfter fit (length (joinedLines (map constraintText (take n a)))) ⌝ }
 {
     let mut rest = fit;
@@ -76,8 +78,8 @@ fn text_fits(content: Record, room: usize) -> bool
 {
     let a = content.edits;
     let b = content.constraints;
-    let n = numbers::lesser(content.editcount, 127);
-    let m = numbers::lesser(content.constraintcount, 512);
+    let n = numbers::lesser(content.editcount, EDITS);
+    let m = numbers::lesser(content.constraintcount, CONSTRAINTS);
     let whole = Fit {
         fits: true,
         left: room,
@@ -88,8 +90,8 @@ fn text_fits(content: Record, room: usize) -> bool
 }
 
 // Writes the lines of the first n edits to the start of out, and answers how many bytes that took.
-fn write_edits(out: &mut [u8], a: [Edit; 127], n: usize) -> usize
-    requires { ⌜ (n ≤ 127) × (length (joinedLines (map editText (take n a))) ≤ length (now out)) ⌝ }
+fn write_edits(out: &mut [u8], a: [Edit; EDITS], n: usize) -> usize
+    requires { ⌜ (n ≤ editLimit) × (length (joinedLines (map editText (take n a))) ≤ length (now out)) ⌝ }
     ensures { λ r. ⌜ part.Written (joinedLines (map editText (take n a))) (now (out .entry)) r (now (out .exit)) ⌝ }
 {
     let mut at = 0;
@@ -103,8 +105,8 @@ fn write_edits(out: &mut [u8], a: [Edit; 127], n: usize) -> usize
 }
 
 // Writes the lines of the first n constraints to the start of out, and answers how many bytes that took.
-fn write_constraints(out: &mut [u8], a: [Constraint; 512], n: usize) -> usize
-    requires { ⌜ (n ≤ 512) × (length (joinedLines (map constraintText (take n a))) ≤ length (now out)) ⌝ }
+fn write_constraints(out: &mut [u8], a: [Constraint; CONSTRAINTS], n: usize) -> usize
+    requires { ⌜ (n ≤ constraintLimit) × (length (joinedLines (map constraintText (take n a))) ≤ length (now out)) ⌝ }
     ensures { λ r. ⌜ part.Written (joinedLines (map constraintText (take n a))) (now (out .entry)) r (now (out .exit)) ⌝ }
 {
     let mut at = 0;
@@ -124,8 +126,8 @@ fn write_rows(out: &mut [u8], content: Record) -> usize
 {
     let a = content.edits;
     let b = content.constraints;
-    let n = numbers::lesser(content.editcount, 127);
-    let m = numbers::lesser(content.constraintcount, 512);
+    let n = numbers::lesser(content.editcount, EDITS);
+    let m = numbers::lesser(content.constraintcount, CONSTRAINTS);
     let k = write_edits(&mut out[..], a, n);
     k + write_constraints(&mut out[k..], b, m)
 }

@@ -44,8 +44,9 @@ module _ (a : Weights) where
 pub small-product : (f g : Fraction) → WithinTotals f → WithinTotals g → f .numerator * g .denominator < limit64
 small-product f g p q = let m = mul-le-mul (p .numerator) (q .denominator) in omega arith
 
-pub won-fits : (s : Summed) → Room s → (won : ℕ) → won ≤ 1 → s .won + won < limit64
-won-fits s m won h = let p = m .row in let q = m .won in omega arith
+pub won-fits : (s : Summed) → Room s → (b : Bool) {won : ℕ} → won ≡ cond b 1 0 → s .won + won < limit64
+won-fits s m true e = let p = m .row in let q = m .won in omega arith
+won-fits s m false e = let p = m .row in let q = m .won in omega arith
 
 -- the state with one share more, from what the calls answer
 pub sum-told : (s : Summed) (a : Weights) (share sum lower higher : Fraction) (low high : Bool) (won : ℕ) → low ≡ isBelow share (s .least) → lower ≡ cond (eqb (s .entered) 0 || low) share (s .least)

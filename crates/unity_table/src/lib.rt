@@ -107,15 +107,6 @@ fn extreme(none: bool, before: bool, known: Fraction, share: Fraction) -> Fracti
     known
 }
 
-fn bit(b: bool) -> usize
-    ensures { λ r. ⌜ (r ≡ cond b 1 0) × (r ≤ 1) ⌝ }
-{
-    if b {
-        return 1;
-    }
-    0
-}
-
 // One election with total 0 more.
 fn with_empty(s: Summed) -> Summed
     requires { ⌜ held.Room s ⌝ }
@@ -144,7 +135,7 @@ fn with_sum(s: Summed, a: Weights, share: Fraction, sum: Fraction) -> Summed
         least: lower,
         greatest: higher,
         entered: s.entered + 1,
-        won: s.won + bit(a.total < 2 * a.greatest),
+        won: s.won + numbers::bit(a.total < 2 * a.greatest),
         empty: s.empty,
     }
 }
@@ -246,19 +237,13 @@ pub fn finished(s: Summed) -> Unity
     accepted(s, whole)
 }
 
-fn wide(n: u32) -> u64
-    ensures { λ r. ⌜ r ≡ n ⌝ }
-{
-    n as u64
-}
-
 fn weights_of(row: [u32; 3]) -> Weights
     ensures { λ r. ⌜ r ≡ unity.weightsOf row ⌝ }
 {
     Weights {
-        greatest: wide(row[0]),
-        silent: wide(row[1]),
-        total: wide(row[2]),
+        greatest: numbers::wide32(row[0]),
+        silent: numbers::wide32(row[1]),
+        total: numbers::wide32(row[2]),
     }
 }
 

@@ -1,8 +1,9 @@
 -- `read_set` meets its contract. Assumes nothing.
+use mathlib.Core.Path.{refl}
 use native.Mathlib.Omega.{arith}
 use borrow.Author.Needs.{needs}
 use Rattle.text_lines.proofs.Signs.{name-near}
-use Rattle.text_lines.proofs.Says.{is-id, is-size, is-erase, is-page, no-field}
+use Rattle.text_lines.proofs.Says.{is-field, no-field}
 use Rattle.text_lines.proofs.read_set.Statement.{statement}
 use Rattle.text_lines.proofs.read_set.Tie as tie
 
@@ -34,16 +35,16 @@ fault-requires : tie.Need-fault-requires
 fault-requires c κs = search needs
 
 returns : tie.Need-returns
-returns c = is-id (c .before .before .before .before .before .args .bytes .now) (c .before .before .before .before .before .args .name) (c .before .before .before .before .before .pre .2) (c .before .before .before .before .before .pre .1) (c .before .before .before .before .before .pre .3) (c .before .before .before .number-end .ensures .0) (c .before .before .byte-at .ensures) (c .before .match .keys1) (c .read-edit-as .ensures)
+returns c = is-field (c .before .before .before .before .before .args .bytes .now) (c .before .before .before .before .before .args .name) (c .before .before .before .before .before .pre .2) (c .before .before .before .before .before .pre .1) (c .before .before .before .before .before .pre .3) (c .before .before .before .number-end .ensures .0) (c .before .before .byte-at .ensures) 0 refl (c .before .match .keys1) (c .read-edit-as .ensures)
 
 returns-2 : tie.Need-returns-2
-returns-2 c = is-size (c .before .before .before .before .before .args .bytes .now) (c .before .before .before .before .before .args .name) (c .before .before .before .before .before .pre .2) (c .before .before .before .before .before .pre .1) (c .before .before .before .before .before .pre .3) (c .before .before .before .number-end .ensures .0) (c .before .before .byte-at .ensures) (c .before .match .keys2) (c .read-edit-as2 .ensures)
+returns-2 c = is-field (c .before .before .before .before .before .args .bytes .now) (c .before .before .before .before .before .args .name) (c .before .before .before .before .before .pre .2) (c .before .before .before .before .before .pre .1) (c .before .before .before .before .before .pre .3) (c .before .before .before .number-end .ensures .0) (c .before .before .byte-at .ensures) 1 refl (c .before .match .keys2) (c .read-edit-as2 .ensures)
 
 returns-3 : tie.Need-returns-3
-returns-3 c = is-erase (c .before .before .before .before .before .args .bytes .now) (c .before .before .before .before .before .args .name) (c .before .before .before .before .before .pre .2) (c .before .before .before .before .before .pre .1) (c .before .before .before .before .before .pre .3) (c .before .before .before .number-end .ensures .0) (c .before .before .byte-at .ensures) (c .before .match .keys3) (c .read-edit-as3 .ensures)
+returns-3 c = is-field (c .before .before .before .before .before .args .bytes .now) (c .before .before .before .before .before .args .name) (c .before .before .before .before .before .pre .2) (c .before .before .before .before .before .pre .1) (c .before .before .before .before .before .pre .3) (c .before .before .before .number-end .ensures .0) (c .before .before .byte-at .ensures) 2 refl (c .before .match .keys3) (c .read-edit-as3 .ensures)
 
 returns-4 : tie.Need-returns-4
-returns-4 c = is-page (c .before .before .before .before .before .args .bytes .now) (c .before .before .before .before .before .args .name) (c .before .before .before .before .before .pre .2) (c .before .before .before .before .before .pre .1) (c .before .before .before .before .before .pre .3) (c .before .before .before .number-end .ensures .0) (c .before .before .byte-at .ensures) (c .before .match .keys4) (c .read-edit-as4 .ensures)
+returns-4 c = is-field (c .before .before .before .before .before .args .bytes .now) (c .before .before .before .before .before .args .name) (c .before .before .before .before .before .pre .2) (c .before .before .before .before .before .pre .1) (c .before .before .before .before .before .pre .3) (c .before .before .before .number-end .ensures .0) (c .before .before .byte-at .ensures) 3 refl (c .before .match .keys4) (c .read-edit-as4 .ensures)
 
 returns-5 : tie.Need-returns-5
 returns-5 c = no-field (c .before .before .before .before .before .args .bytes .now) (c .before .before .before .before .before .args .name) (c .before .before .before .before .before .pre .2) (c .before .before .before .before .before .pre .1) (c .before .before .before .before .before .pre .3) (c .before .before .before .number-end .ensures .0) (c .before .before .byte-at .ensures) (c .before .match .rest .0 .0 .0 .1) (c .before .match .rest .0 .0 .1) (c .before .match .rest .0 .1) (c .before .match .rest .1) (c .fault .ensures)

@@ -5,7 +5,7 @@ use borrow.Author.Needs.{needs}
 use Rattle.text_forms.specs.Spelling.{bytes}
 use Rattle.text_lines.specs.Line.{ruleForm, constraintLine}
 use Rattle.text_lines.proofs.Says.{rule-rest}
-use Rattle.text_lines.proofs.Puts.{line-fits-as, line-written-as, constraint-line-is, notafter-words, enables-words, noncommuting-words}
+use Rattle.text_lines.proofs.Puts.{line-fits-as, line-written-as, constraint-line-is, rule-words}
 use Rattle.text_lines.proofs.write_constraint_line.Statement.{statement}
 use Rattle.text_lines.proofs.write_constraint_line.Tie as tie
 
@@ -32,7 +32,7 @@ slice-aggregate-write-pair-2 c = search needs
 
 write-pair-requires : tie.Need-write-pair-requires
 unfolding bytes
-write-pair-requires c κs = let a = c .before .before .before .before .before .before .before .args in line-fits-as (constraintLine (a .t2)) _ (constraint-line-is (a .t2) (ruleForm 0) (ap ruleForm (c .before .before .before .match .keys1)) (c .before .before .before .before .before .wide32 .ensures) (c .before .before .before .before .wide322 .ensures) ∙ notafter-words _ _) (a .out .now) (c .before .before .before .before .before .before .before .pre)
+write-pair-requires c κs = let a = c .before .before .before .before .before .before .before .args in line-fits-as (constraintLine (a .t2)) _ (constraint-line-is (a .t2) (ruleForm 0) (ap ruleForm (c .before .before .before .match .keys1)) (c .before .before .before .before .before .wide32 .ensures) (c .before .before .before .before .wide322 .ensures) ∙ rule-words _ _ 0) (a .out .now) (c .before .before .before .before .before .before .before .pre)
 
 slice-aggregate-write-pair-3 : tie.Need-slice-aggregate-write-pair-3
 slice-aggregate-write-pair-3 c = search needs
@@ -42,7 +42,7 @@ slice-aggregate-write-pair-4 c = search needs
 
 write-pair-requires-2 : tie.Need-write-pair-requires-2
 unfolding bytes
-write-pair-requires-2 c κs = let a = c .before .before .before .before .before .before .before .args in line-fits-as (constraintLine (a .t2)) _ (constraint-line-is (a .t2) (ruleForm 1) (ap ruleForm (c .before .before .before .match .keys2)) (c .before .before .before .before .before .wide32 .ensures) (c .before .before .before .before .wide322 .ensures) ∙ enables-words _ _) (a .out .now) (c .before .before .before .before .before .before .before .pre)
+write-pair-requires-2 c κs = let a = c .before .before .before .before .before .before .before .args in line-fits-as (constraintLine (a .t2)) _ (constraint-line-is (a .t2) (ruleForm 1) (ap ruleForm (c .before .before .before .match .keys2)) (c .before .before .before .before .before .wide32 .ensures) (c .before .before .before .before .wide322 .ensures) ∙ rule-words _ _ 1) (a .out .now) (c .before .before .before .before .before .before .before .pre)
 
 slice-aggregate-write-pair-5 : tie.Need-slice-aggregate-write-pair-5
 slice-aggregate-write-pair-5 c = search needs
@@ -52,28 +52,28 @@ slice-aggregate-write-pair-6 c = search needs
 
 write-pair-requires-3 : tie.Need-write-pair-requires-3
 unfolding bytes
-write-pair-requires-3 c κs = let a = c .before .before .before .before .before .before .before .args in line-fits-as (constraintLine (a .t2)) _ (constraint-line-is (a .t2) (ruleForm 2) (rule-rest (getD (a .t2) 1 0) (c .before .before .before .match .rest .0 .1) (c .before .before .before .match .rest .1)) (c .before .before .before .before .before .wide32 .ensures) (c .before .before .before .before .wide322 .ensures) ∙ noncommuting-words _ _) (a .out .now) (c .before .before .before .before .before .before .before .pre)
+write-pair-requires-3 c κs = let a = c .before .before .before .before .before .before .before .args in line-fits-as (constraintLine (a .t2)) _ (constraint-line-is (a .t2) (ruleForm 2) (rule-rest (getD (a .t2) 1 0) (c .before .before .before .match .rest .0 .1) (c .before .before .before .match .rest .1)) (c .before .before .before .before .before .wide32 .ensures) (c .before .before .before .before .wide322 .ensures) ∙ rule-words _ _ 2) (a .out .now) (c .before .before .before .before .before .before .before .pre)
 
 same-length : tie.Need-same-length
 same-length c = search needs
 
 returns : tie.Need-returns
 unfolding bytes
-returns c = let a = c .before .before .before .before .before .before .before .before .before .before .args in line-written-as (constraintLine (a .t2)) _ (constraint-line-is (a .t2) (ruleForm 0) (ap ruleForm (c .before .before .before .before .before .before .match .keys1)) (c .before .before .before .before .before .before .before .before .wide32 .ensures) (c .before .before .before .before .before .before .before .wide322 .ensures) ∙ notafter-words _ _) (a .out .now) (c .before .before .write-pair .ensures)
+returns c = let a = c .before .before .before .before .before .before .before .before .before .before .args in line-written-as (constraintLine (a .t2)) _ (constraint-line-is (a .t2) (ruleForm 0) (ap ruleForm (c .before .before .before .before .before .before .match .keys1)) (c .before .before .before .before .before .before .before .before .wide32 .ensures) (c .before .before .before .before .before .before .before .wide322 .ensures) ∙ rule-words _ _ 0) (a .out .now) (c .before .before .write-pair .ensures)
 
 same-length-2 : tie.Need-same-length-2
 same-length-2 c = search needs
 
 returns-2 : tie.Need-returns-2
 unfolding bytes
-returns-2 c = let a = c .before .before .before .before .before .before .before .before .before .before .args in line-written-as (constraintLine (a .t2)) _ (constraint-line-is (a .t2) (ruleForm 1) (ap ruleForm (c .before .before .before .before .before .before .match .keys2)) (c .before .before .before .before .before .before .before .before .wide32 .ensures) (c .before .before .before .before .before .before .before .wide322 .ensures) ∙ enables-words _ _) (a .out .now) (c .before .before .write-pair2 .ensures)
+returns-2 c = let a = c .before .before .before .before .before .before .before .before .before .before .args in line-written-as (constraintLine (a .t2)) _ (constraint-line-is (a .t2) (ruleForm 1) (ap ruleForm (c .before .before .before .before .before .before .match .keys2)) (c .before .before .before .before .before .before .before .before .wide32 .ensures) (c .before .before .before .before .before .before .before .wide322 .ensures) ∙ rule-words _ _ 1) (a .out .now) (c .before .before .write-pair2 .ensures)
 
 same-length-3 : tie.Need-same-length-3
 same-length-3 c = search needs
 
 returns-3 : tie.Need-returns-3
 unfolding bytes
-returns-3 c = let a = c .before .before .before .before .before .before .before .before .before .before .args in line-written-as (constraintLine (a .t2)) _ (constraint-line-is (a .t2) (ruleForm 2) (rule-rest (getD (a .t2) 1 0) (c .before .before .before .before .before .before .match .rest .0 .1) (c .before .before .before .before .before .before .match .rest .1)) (c .before .before .before .before .before .before .before .before .wide32 .ensures) (c .before .before .before .before .before .before .before .wide322 .ensures) ∙ noncommuting-words _ _) (a .out .now) (c .before .before .write-pair3 .ensures)
+returns-3 c = let a = c .before .before .before .before .before .before .before .before .before .before .args in line-written-as (constraintLine (a .t2)) _ (constraint-line-is (a .t2) (ruleForm 2) (rule-rest (getD (a .t2) 1 0) (c .before .before .before .before .before .before .match .rest .0 .1) (c .before .before .before .before .before .before .match .rest .1)) (c .before .before .before .before .before .before .before .before .wide32 .ensures) (c .before .before .before .before .before .before .before .wide322 .ensures) ∙ rule-words _ _ 2) (a .out .now) (c .before .before .write-pair3 .ensures)
 
 pub write-constraint-line-spec : {M : Type 1} → statement M
 write-constraint-line-spec =

@@ -1,6 +1,7 @@
 -- `report_fits` meets its contract. Assumes nothing.
 use mathlib.Core.List.{map}
 use borrow.Author.Needs.{needs}
+use Rattle.text_forms.specs.Spelling.{bytes}
 use Rattle.text_forms.specs.Form.{fill}
 use Rattle.text.specs.Text.{joinedLines}
 use Rattle.text_writer.proofs.Writing.{fits-both}
@@ -8,16 +9,20 @@ use Rattle.text_report.specs.Report.{countsForm, reportForm}
 use Rattle.text_report.proofs.report_fits.Statement.{statement}
 use Rattle.text_report.proofs.report_fits.Tie as tie
 
-counts-fit-requires : tie.Need-counts-fit-requires
-counts-fit-requires c κs = search needs
+slice-aggregate-form-fit : tie.Need-slice-aggregate-form-fit
+slice-aggregate-form-fit c = search needs
+
+form-fit-requires : tie.Need-form-fit-requires
+form-fit-requires c κs = search needs
 
 lines-fit-requires : tie.Need-lines-fit-requires
 lines-fit-requires c κs = search needs
 
 returns : tie.Need-returns
+unfolding countsForm bytes
 returns c =
-    let s = c .before .before .before .args in
-    fits-both (fill countsForm (s .counts .now)) (joinedLines (map (fill reportForm) (s .rows .now))) (s .room) (c .before .counts-fit .ensures) (c .lines-fit .ensures)
+    let s = c .before .before .before .before .args in
+    fits-both (fill countsForm (s .counts .now)) (joinedLines (map (fill reportForm) (s .rows .now))) (s .room) (c .before .form-fit .ensures) (c .lines-fit .ensures)
 
 pub report-fits-spec : {M : Type 1} → statement M
-report-fits-spec = tie.close (tie.spec counts-fit-requires lines-fit-requires returns)
+report-fits-spec = tie.close (tie.spec slice-aggregate-form-fit form-fit-requires lines-fit-requires returns)

@@ -1,5 +1,6 @@
 -- `with_sum` meets its contract. Assumes nothing.
 use borrow.Author.Needs.{needs}
+use Rattle.unity_table.specs.Unity.{isWon}
 use Rattle.unity_table.proofs.Steps.{small-product, won-fits, sum-told}
 use Rattle.unity_table.proofs.with_sum.Statement.{statement}
 use Rattle.unity_table.proofs.with_sum.Tie as tie
@@ -29,10 +30,10 @@ bit-requires : tie.Need-bit-requires
 bit-requires c κs = search needs
 
 add-t15 : tie.Need-add-t15
-add-t15 c = let s = c .before .before .before .before .before .before .before .before .before .before .before .before .before in record { fits = won-fits (s .args .s) (s .pre .0) (c .before .bit .result) (c .before .bit .ensures .1) }
+add-t15 c = let s = c .before .before .before .before .before .before .before .before .before .before .before .before .before in record { fits = won-fits (s .args .s) (s .pre .0) (isWon (s .args .a)) (c .before .bit .ensures) }
 
 returns : tie.Need-returns
-returns c = let s = c .before .before .before .before .before .before .before .before .before .before .before .before .before in sum-told (s .args .s) (s .args .a) (s .args .share) (s .args .sum) (c .before .before .before .before .before .before .before .before .before .extreme .result) (c .before .before .before .before .before .before .extreme2 .result) (c .before .before .before .before .before .before .before .before .before .before .is-below .result) (c .before .before .before .before .before .before .before .is-below2 .result) (c .before .bit .result) (c .before .before .before .before .before .before .before .before .before .before .is-below .ensures) (c .before .before .before .before .before .before .before .before .before .extreme .ensures) (c .before .before .before .before .before .before .before .is-below2 .ensures) (c .before .before .before .before .before .before .extreme2 .ensures) (c .before .bit .ensures .0)
+returns c = let s = c .before .before .before .before .before .before .before .before .before .before .before .before .before in sum-told (s .args .s) (s .args .a) (s .args .share) (s .args .sum) (c .before .before .before .before .before .before .before .before .before .extreme .result) (c .before .before .before .before .before .before .extreme2 .result) (c .before .before .before .before .before .before .before .before .before .before .is-below .result) (c .before .before .before .before .before .before .before .is-below2 .result) (c .before .bit .result) (c .before .before .before .before .before .before .before .before .before .before .is-below .ensures) (c .before .before .before .before .before .before .before .before .before .extreme .ensures) (c .before .before .before .before .before .before .before .is-below2 .ensures) (c .before .before .before .before .before .before .extreme2 .ensures) (c .before .bit .ensures)
 
 pub with-sum-spec : {M : Type 1} → statement M
 with-sum-spec =
