@@ -47,8 +47,8 @@ struct catalogue_reply catalogue_rewrite(const uint8_t *text, size_t text_size, 
 
 /* A call log (docs/CALL-LOG.md) run on one bench from empty: the answers to all its lines (what the program `replay` prints for it).
  * A line that is refused is answered as such and is no ground to refuse the log: the one ground is 12. The answers are first written to
- * `work`; what it holds afterwards is not said. Both `work` and `out` need room for all answers; how much that is, only the run tells, so
- * on 12 lend more and call again. */
+ * `work`, up to the first line, record's text or report that does not fit. Both `work` and `out` need room for all answers; how much that is,
+ * only the run tells, so on 12 lend more and call again. */
 struct catalogue_reply catalogue_replay(const uint8_t *log, size_t log_size, uint8_t *work, size_t work_size, uint8_t *out, size_t out_size);
 
 /* A bench between calls is kept by its log: the answers to the lines of `log` alone, on the bench that the lines of `kept` made. To go on,

@@ -13,15 +13,17 @@ use Rattle.record.specs.Stored.{recordOf}
 use Rattle.record.specs.Record.{Record}
 use Rattle.record_tables.proofs.Tables.{stored-back}
 use Rattle.text_lines.specs.Lines.{lines}
-use Rattle.text.specs.Text.{readText, textOf}
+use Rattle.text.specs.Text.{joinedLines, readText, textOf}
 use Rattle.text_reader.specs.declared.Reading.{Reading}
 use Rattle.text_reader.specs.Reading.{readingOf}
 use Rattle.text_writer.specs.declared.Written.{Written}
 use Rattle.text_writer.specs.Placed.{placed, placing}
 use Rattle.text_report.proofs.Reports.{refused, report-accepted}
-use Rattle.log_forms.specs.Printed.{Printed}
+use Rattle.log_forms.specs.Printed.{Texts, Buffer, Printed}
+use Rattle.log_forms.proofs.Printing.{texts-size, printed-length, printed-whole, printed-short}
+use Rattle.log.specs.Log.{logRun}
 use Rattle.c_library.specs.declared.Reply.{Reply}
-use Rattle.c_library.specs.Replies.{checkedReply, rewrittenReply, rewrittenOut, answeredReply, answeredOut, Worked}
+use Rattle.c_library.specs.Replies.{checkedReply, rewrittenReply, rewrittenOut, answersAfter, textsAfter, answeredReply, answeredOut, worked}
 
 module _ (text : List ℕ) {reading : Reading} (e : reading ≡ readingOf (length (lines text)) (readText text)) where
   pub check-refused : (reading .number ≡ 0 → ⊥) → {r : Reply} → r ≡ record { number = reading .number; line = reading .line; size = 0 } → r ≡ checkedReply (readText text)
@@ -44,15 +46,30 @@ module _ (text : List ℕ) {reading : Reading} (e : reading ≡ readingOf (lengt
         let i : w ≡ placing (textOf R) 0 out = f .0 ∙ ap (λ (S : Record). placing (textOf S) 0 out) h in
         (rw p (ap {B = Reply} (λ (v : Written). record { number = v .number; line = 0; size = v .end }) i), rw p (f .1 ∙ ap (λ (S : Record). placed (textOf S) 0 out) h)))
 
--- two logs, printed into the place for work one over the other
-pub worked : (answers before : List ℕ) {between after : List ℕ} {end : ℕ} → length between ≡ length before → Printed answers between 0 after end → Worked answers before after end
-worked answers before {between} {after} {end} e p =
-    let z : 0 + length answers ≡ length answers = omega arith in
+-- answers at the start of the place for work, and the place after them; one past its end where they do not fit
+pub record Worked (answers before after : List ℕ) (end : ℕ) : Type 0 where
+  pub size : length after ≡ length before
+  pub place : end ≡ cond (leb (length answers) (length before)) (length answers) (suc (length before))
+  pub bytes : length answers ≤ length before → take (length answers) after ≡ answers
+
+-- texts printed over what a kept log left there
+work-printed : (texts : Texts) (before : List ℕ) {between after : List ℕ} {end : ℕ} → length between ≡ length before → Printed texts between 0 after end → Worked (joinedLines texts) before after end
+work-printed texts before {between} {after} {end} e p =
+    let z : 0 + length (joinedLines texts) ≡ length (joinedLines texts) = omega arith in
     record {
-      size = p .size ∙ e;
-      place = (rw z at (p .place)) ∙ ap (λ (n : ℕ). cond (leb (length answers) n) (length answers) (suc n)) e;
-      bytes = λ h. rw (p .bytes (omega (arith, e, h)), z) (take-at answers (drop (length answers) between) (length answers) refl);
+      size = printed-length p ∙ e;
+      place =
+          le-by (length (joinedLines texts)) (length before)
+          (λ h. printed-whole p (omega arith) .0 ∙ (z ∙ rw (le-leb (length (joinedLines texts)) (length before) h) refl))
+          (λ h. printed-short p (omega arith) (omega arith) ∙ (ap suc e ∙ rw (lt-leb (length (joinedLines texts)) (length before) h) refl));
+      bytes = λ h. rw (printed-whole p (omega arith) .1, z) (take-at (joinedLines texts) (drop (length (joinedLines texts)) between) (length (joinedLines texts)) refl);
     }
+
+pub work-is : (kept log work : List ℕ) {after : List ℕ} {end : ℕ} → (after ≡ worked kept log work .bytes) × (end ≡ worked kept log work .place) → Worked (answersAfter kept log) work after end
+unfolding worked
+work-is kept log work q =
+    let first : Buffer = record { bytes = work; place = 0 } in
+    work-printed (textsAfter kept log) work (texts-size first (logRun kept .printed)) (record { buffer = λ i. record { bytes = q .0 i; place = q .1 i } })
 
 module _ (answers work out : List ℕ) {after : List ℕ} {size : ℕ} (p : Worked answers work after size) where
   short : length work < length answers → size ≡ suc (length work)

@@ -1,14 +1,14 @@
 -- What the library answers to programs in other languages. Assumes nothing.
-use mathlib.Core.Path.{_≡_}
 use mathlib.Core.Bool.{Bool, _&&_, cond}
 use mathlib.Core.List.{List, _++_}
-use Prim.Native.Nat.{ℕ, suc, _≤_}
+use Prim.Native.Nat.{ℕ}
 use lib.Dec.{leb}
-use lib.ListN.{length, take, drop}
+use lib.ListN.{length, drop}
 use Rattle.text_lines.specs.Lines.{lines}
-use Rattle.text.specs.Text.{Answer, Accepted, Refused, textOf}
+use Rattle.text.specs.Text.{joinedLines, Answer, Accepted, Refused, textOf}
 use Rattle.text_writer.specs.Placed.{placed, placing}
 use Rattle.text_report.specs.declared.Reported.{Reported}
+use Rattle.log_forms.specs.Printed.{Texts, Buffer, withTexts}
 use Rattle.log.specs.Log.{logRun, begun, runLines}
 use Rattle.c_library.specs.declared.Reply.{Reply}
 
@@ -31,10 +31,13 @@ rewrittenOut (Refused number line) out = out
 
 -- the answers to a log; and to the lines that follow a log that was kept
 abbrev pub answersTo : List ℕ → List ℕ
-answersTo log = logRun log .printed
+answersTo log = joinedLines (logRun log .printed)
 
-unfoldable pub answersAfter : List ℕ → List ℕ → List ℕ
-answersAfter kept log = runLines (begun (logRun kept .desk) (logRun kept .count)) (lines log) .printed
+unfoldable pub textsAfter : List ℕ → List ℕ → Texts
+textsAfter kept log = runLines (begun (logRun kept .desk) (logRun kept .count)) (lines log) .printed
+
+abbrev pub answersAfter : List ℕ → List ℕ → List ℕ
+answersAfter kept log = joinedLines (textsAfter kept log)
 
 -- answers are told where both the place for work and the output are long enough
 abbrev pub fitting : List ℕ → List ℕ → List ℕ → Bool
@@ -46,8 +49,7 @@ answeredReply answers work out = cond (fitting answers work out) (record { numbe
 unfoldable pub answeredOut : List ℕ → List ℕ → List ℕ → List ℕ
 answeredOut answers work out = cond (fitting answers work out) (answers ++ drop (length answers) out) out
 
--- answers at the start of the place for work, and the place after them; one past its end where they do not fit
-pub record Worked (answers before after : List ℕ) (end : ℕ) : Type 0 where
-  pub size : length after ≡ length before
-  pub place : end ≡ cond (leb (length answers) (length before)) (length answers) (suc (length before))
-  pub bytes : length answers ≤ length before → take (length answers) after ≡ answers
+-- the place for work afterwards: what the kept log prints, and over it what the log prints
+unfoldable pub worked : List ℕ → List ℕ → List ℕ → Buffer
+worked kept log work =
+    withTexts (record { bytes = withTexts (record { bytes = work; place = 0 }) (logRun kept .printed) .bytes; place = 0 }) (textsAfter kept log)

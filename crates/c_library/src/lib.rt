@@ -2,13 +2,13 @@
 // answers. Nothing is kept between calls: a bench is kept by its log.
 use unity_table::Unity;
 ghost use mathlib.Core.Path.{_≡_};
-ghost use mathlib.Core.List.{_++_, map};
+ghost use mathlib.Core.List.{[], _++_, map};
 ghost use Prim.Native.Nat.{_+_, _≤_};
 ghost use lib.ListN.{length, take, drop};
 ghost use Rattle.text.specs.Text.{readText};
 ghost use Rattle.text_report.specs.Report.{reported, reportedOut};
 ghost use Rattle.unity_table.specs.Unity.{weightsOf, unityOf};
-ghost use Rattle.c_library.specs.Replies.{replyOf, checkedReply, rewrittenReply, rewrittenOut, answersTo, answersAfter, answeredReply, answeredOut, Worked};
+ghost use Rattle.c_library.specs.Replies.{replyOf, checkedReply, rewrittenReply, rewrittenOut, answersTo, answersAfter, answeredReply, answeredOut, worked};
 
 // Number 0: how many bytes were written. 12: they do not fit, or the place for them is too short. Any other: the text is refused, at this line.
 #[repr(C)]
@@ -95,7 +95,8 @@ fn log_size(
 ) -> usize
     ensures { λ r. ⌜ (length (now (edits .entry)) ≡ 1152 → length (now (constraints .entry)) ≡ 4617
         → length (now (kept .entry)) + length (now (log .entry)) ≤ 4611686018427387904
-        → Worked (answersAfter (now (kept .entry)) (now (log .entry))) (now (work .entry)) (now (work .exit)) r) ⌝ }
+        → (now (work .exit) ≡ worked (now (kept .entry)) (now (log .entry)) (now (work .entry)) .bytes)
+        × (r ≡ worked (now (kept .entry)) (now (log .entry)) (now (work .entry)) .place)) ⌝ }
 {
     let bench = bench::empty_bench();
     let lending = log_lent::nothing_lent();
@@ -127,7 +128,8 @@ fn log_size(
 fn answered(kept: &[u8], log: &[u8], work: &mut [u8], out: &mut [u8]) -> Reply
     ensures { λ r. ⌜ (length (now (kept .entry)) + length (now (log .entry)) ≤ 4611686018427387904
         → (r ≡ answeredReply (answersAfter (now (kept .entry)) (now (log .entry))) (now (work .entry)) (now (out .entry)))
-        × (now (out .exit) ≡ answeredOut (answersAfter (now (kept .entry)) (now (log .entry))) (now (work .entry)) (now (out .entry)))) ⌝ }
+        × (now (out .exit) ≡ answeredOut (answersAfter (now (kept .entry)) (now (log .entry))) (now (work .entry)) (now (out .entry)))
+        × (now (work .exit) ≡ worked (now (kept .entry)) (now (log .entry)) (now (work .entry)) .bytes)) ⌝ }
 {
     let mut edits = [[0u32; 5]; 1152];
     let mut constraints = [[0u32; 3]; 4617];
@@ -146,13 +148,14 @@ fn answered(kept: &[u8], log: &[u8], work: &mut [u8], out: &mut [u8]) -> Reply
     }
 }
 
-// THE ANSWERS to a call log from an empty bench, at the start of out. Refused with 12, out stays as it was. What stands in work afterwards is
-// not said.
+// THE ANSWERS to a call log from an empty bench, at the start of out. Refused with 12, out stays as it was. Work has the answers, up to the first
+// text of them that does not fit.
 #[no_mangle]
 pub extern "C" fn catalogue_replay(log: &[u8], work: &mut [u8], out: &mut [u8]) -> Reply
     ensures { λ r. ⌜ (length (now (log .entry)) ≤ 4611686018427387904
         → (r ≡ answeredReply (answersTo (now (log .entry))) (now (work .entry)) (now (out .entry)))
-        × (now (out .exit) ≡ answeredOut (answersTo (now (log .entry))) (now (work .entry)) (now (out .entry)))) ⌝ }
+        × (now (out .exit) ≡ answeredOut (answersTo (now (log .entry))) (now (work .entry)) (now (out .entry)))
+        × (now (work .exit) ≡ worked [] (now (log .entry)) (now (work .entry)) .bytes)) ⌝ }
 {
     answered(&log[..0], log, &mut work[..], &mut out[..])
 }
@@ -167,7 +170,8 @@ pub extern "C" fn catalogue_continue(
 ) -> Reply
     ensures { λ r. ⌜ (length (now (kept .entry)) + length (now (log .entry)) ≤ 4611686018427387904
         → (r ≡ answeredReply (answersAfter (now (kept .entry)) (now (log .entry))) (now (work .entry)) (now (out .entry)))
-        × (now (out .exit) ≡ answeredOut (answersAfter (now (kept .entry)) (now (log .entry))) (now (work .entry)) (now (out .entry)))) ⌝ }
+        × (now (out .exit) ≡ answeredOut (answersAfter (now (kept .entry)) (now (log .entry))) (now (work .entry)) (now (out .entry)))
+        × (now (work .exit) ≡ worked (now (kept .entry)) (now (log .entry)) (now (work .entry)) .bytes)) ⌝ }
 {
     answered(kept, log, &mut work[..], &mut out[..])
 }

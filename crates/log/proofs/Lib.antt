@@ -1,4 +1,6 @@
 pub mod Accepted
-pub mod Orders
+pub mod Called
+pub mod Performed
 pub mod Running
 pub mod Paging
+pub mod Runs

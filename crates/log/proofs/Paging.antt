@@ -1,36 +1,44 @@
 -- Lines that turn pages or ask for the open page: the turner tells what they come to, and the bench is opened after the last. Assumes nothing.
 use mathlib.Core.Path.{_≡_, refl, sym, ap, _∙_}
-use mathlib.Core.Bool.{Bool, true, false}
-use mathlib.Core.Logic.{_⊎_, ⊎-elim}
+use mathlib.Core.Bool.{Bool, true, false, _||_}
 use mathlib.Core.List.{List}
 use Prim.Native.Nat.{ℕ, suc, _+_, _-_, _≤_, _<_}
 use native.Mathlib.Omega.{arith}
+use lib.IntN.{ℤ}
 use lib.ListN.{length, take, drop}
-use Rattle.lists.proofs.Lists.{is-by, clash}
-use Rattle.record_rows.specs.row.Row.{cell}
+use mir.Syntax.{w32}
+use mir.Val.{SFits, toZ, ofZ}
+use Rattle.lists.proofs.Lists.{is-by, clash, or-by, or-no-l}
 use Rattle.record_rows.specs.ground.Ground.{Rows}
 use Rattle.pages_turner.specs.declared.Turner.{Turner}
 use Rattle.pages_turner.specs.declared.turning.Turning.{Turning}
+use Rattle.pages_turner.specs.turning.Turning.{turningOf}
 use Rattle.ledger.specs.declared.Answer.{Answer}
 use Rattle.ledger.specs.declared.Bench.{Bench}
-use Rattle.ledger.specs.Bench.{benchOf}
-use Rattle.bench.specs.Changes.{plainAnswer, openAt, turnReply, Opens}
-use Rattle.bench.proofs.Moves.{open-same}
-use Rattle.log_forms.specs.declared.Order.{Order}
+use Rattle.ledger.specs.Ledger.{turn, plainAnswer}
+use Rattle.ledger.specs.Bench.{Answers, benchOf}
+use Rattle.bench.specs.Changes.{openAt, turnReply, Opens}
+use Rattle.bench.proofs.Moves.{open-same, turn-answers}
 use Rattle.log_forms.specs.Printed.{Printed}
 use Rattle.text_lines.specs.Lines.{firstLine}
 use Rattle.text_lines.proofs.Ends.{first-taken}
-use Rattle.log_forms.specs.orders.Orders.{orderRead}
 use Rattle.log_answers.specs.bench_answers.Asks.{pageText}
+use Rattle.log_commands.specs.declared.Call.{Call as Calls}
+use Rattle.log_commands.specs.declared.Call.the-variants.{AddEdit, AddConstraint, Merge, Hide, Show, Turn, Adopt}
+use Rattle.log_commands.specs.declared.Ask.the-variants.{Text, Report, Hidden, Schedule, Catalogue, Journal, Page}
+use Rattle.log_commands.specs.declared.Command.{Command}
+use Rattle.log_commands.specs.declared.Command.the-variants.{Refused, Lend, Propose, Call, Vote, Ask}
+use Rattle.log_commands.specs.Grammar.{commandRead}
 use Rattle.log_lent.specs.declared.Lending.{Lending}
-use Rattle.log_session.specs.Desk.{Desk, Cells, ledgerOf, benchIn, replied}
-use Rattle.log_session.specs.Requests.{isTurn, turnRequest}
-use Rattle.log_session.proofs.Cases.{ledger-valid, turn-reply}
+use Rattle.log_session.specs.Desk.{Desk, make, ledgerOf, benchIn, replied}
+use Rattle.log_session.specs.Requests.{requestOf}
 use Rattle.log_session.specs.calls.Lines.{Holds, outcomeText}
-use Rattle.log_session.proofs.questions.Answered.{page-asked}
-use Rattle.log.specs.Effects.{orderEffect, requestPlace, paging}
+use Rattle.log_session.specs.questions.Questions.{askText}
+use Rattle.log_session.proofs.Cases.{ledger-valid}
+use Rattle.log.specs.Branches.{isTurn, isPageQuestion, callMade, pagesTurned}
+use Rattle.log.specs.Effects.{effect}
 use Rattle.log.specs.Running.{Running}
-use Rattle.log.proofs.Orders.{Performed, done-as, asked-done, ask-effect, call-done, line-done, call-place, paging-in-form, paging-turns, turn-paging}
+use Rattle.log.proofs.Performed.{Performed, call-performed, ask-performed}
 use Rattle.log.proofs.Running.{running-next}
 
 -- the open page opened
@@ -38,52 +46,82 @@ pub open-again : (D : Desk) {bench : Bench} → bench ≡ benchIn D → {turner 
 unfolding benchIn
 open-again D {bench} e t = sym (ap (λ (u : Turner). openAt bench (u .opened)) (sym t) ∙ open-same (ledgerOf D) (ledger-valid D) bench e)
 
-turning : (k : ℕ) → (k ≡ 11) ⊎ (k ≡ 12) → isTurn (k - 8) ≡ true
-unfolding isTurn
-turning k e = ⊎-elim (λ q. rw q refl) (λ q. rw q refl) e
+-- which command it is
+turn-by : {P : Type 0} (command : Command) → isTurn command ≡ true → ((pages : ℤ) → command ≡ Call (Turn pages) → P) → P
+turn-by (Refused number) t f = clash t refl
+turn-by (Lend lend) t f = clash t refl
+turn-by (Propose asked) t f = clash t refl
+turn-by (Call (AddEdit cells)) t f = clash t refl
+turn-by (Call (AddConstraint cells)) t f = clash t refl
+turn-by (Call (Merge k)) t f = clash t refl
+turn-by (Call (Hide edit)) t f = clash t refl
+turn-by (Call (Show edit)) t f = clash t refl
+turn-by (Call (Turn pages)) t f = f pages refl
+turn-by (Call (Adopt edit)) t f = clash t refl
+turn-by (Vote vote) t f = clash t refl
+turn-by (Ask ask) t f = clash t refl
 
-module _ (D : Desk) (line : ℕ) (order : Order) (p : paging order ≡ true) {bench : Bench} {lending : Lending} {edits constraints : Rows} (H : Holds D bench lending edits constraints)
+page-by : {P : Type 0} (command : Command) → isPageQuestion command ≡ true → (command ≡ Ask Page → P) → P
+page-by (Refused number) t f = clash t refl
+page-by (Lend lend) t f = clash t refl
+page-by (Propose asked) t f = clash t refl
+page-by (Call call) t f = clash t refl
+page-by (Vote vote) t f = clash t refl
+page-by (Ask Text) t f = clash t refl
+page-by (Ask Report) t f = clash t refl
+page-by (Ask Hidden) t f = clash t refl
+page-by (Ask Schedule) t f = clash t refl
+page-by (Ask Catalogue) t f = clash t refl
+page-by (Ask Journal) t f = clash t refl
+page-by (Ask Page) t f = f refl
+
+-- a turn of the bench's turner is the ledger's
+turn-replied : (turner : Turner) (pages : ℤ) → SFits w32 pages → (t : Turning) → t ≡ turningOf turner (toZ w32 (ofZ w32 pages))
+    → (D : Desk) (bench : Bench) → bench ≡ benchIn D → bench .turner ≡ turner → turnReply bench t ≡ replied D (make (turn pages))
+unfolding replied Answers ledgerOf benchIn
+turn-replied turner pages fits t h D bench b q =
+    turn-answers bench pages fits t (h ∙ ap (λ (u : Turner). turningOf u (toZ w32 (ofZ w32 pages))) (sym q)) (D .calls) b
+
+module _ (D : Desk) (line : ℕ) (command : Command) {bench : Bench} {lending : Lending} {edits constraints : Rows} (H : Holds D bench lending edits constraints)
     {turner : Turner} (t : bench .turner ≡ turner) {before after : List ℕ} {at end : ℕ} where
-  pub page-done : order .kind ≡ 25 → Printed (pageText (turner .opened) (turner .last)) before at after end
-      → Performed line (openAt bench (turner .opened)) lending edits constraints before at after end (orderEffect D order)
-  page-done k q =
-      let x = ap (λ (u : Turner). pageText (u .opened) (u .last)) (sym t) in
-      let w : order .kind - 19 ≡ 6 = omega arith in
-      let d = asked-done line D (order .kind - 19) (order .cells) H (page-asked D (order .kind - 19) bench (H .benched) w (rw x at q)) in
-      rw (sym (open-again D (H .benched) t)) (done-as line (ask-effect D order (paging-in-form order p) (omega arith) (omega arith)) d)
+  pub page-performed : isPageQuestion command ≡ true → Printed (pageText (turner .opened) (turner .last)) before at after end
+      → Performed line (openAt bench (turner .opened)) lending edits constraints before at after end (effect D command)
+  unfolding askText
+  page-performed p q =
+      let x : pageText (turner .opened) (turner .last) ≡ askText Page D =
+      ap (λ (u : Turner). pageText (u .opened) (u .last)) (sym t ∙ ap (λ (b : Bench). b .turner) (H .benched)) in
+      page-by command p (λ e. rw (sym (open-again D (H .benched) t)) (ask-performed D line Page e H (rw x at q)))
 
-  pub turn-done : (order .kind ≡ 25 → ⊥) → (r : Turning)
-      → (r .turner .last ≡ turner .last) × ((E : Desk) (b : Bench) (c : Cells) → b ≡ benchIn E → b .turner ≡ turner → cell c 0 ≡ cell (order .cells) 0 → turnReply b r ≡ replied E (turnRequest (order .kind - 8) E c))
-      → (a : Answer) → a ≡ plainAnswer (r .number) → Printed (outcomeText (order .kind - 8) a (r .turner) line) before at after end
-      → Performed line (openAt bench (r .turner .opened)) lending edits constraints before at after end (orderEffect D order)
-  unfolding turnReply openAt
-  turn-done n r f a q w =
-      let k = paging-turns order p n in
-      let g : 8 ≤ order .kind = ⊎-elim (λ e. omega arith) (λ e. omega arith) k in
-      let h : order .kind < 14 = ⊎-elim (λ e. omega arith) (λ e. omega arith) k in
-      let l : order .kind - 8 < 8 = omega arith in
-      let c : isTurn (order .kind - 8) ≡ true = turning (order .kind) k in
+  pub turn-performed : (isTurn command || isPageQuestion command) ≡ true → isPageQuestion command ≡ false → (call : Calls) → call ≡ callMade command
+      → (pages : ℤ) → SFits w32 pages → pages ≡ pagesTurned call → (r : Turning) → r ≡ turningOf turner (toZ w32 (ofZ w32 pages))
+      → (a : Answer) → a ≡ plainAnswer (r .number) → Printed (outcomeText call a (r .turner) line) before at after end
+      → Performed line (openAt bench (r .turner .opened)) lending edits constraints before at after end (effect D command)
+  unfolding turnReply openAt requestOf
+  turn-performed p n call k pages fits z r h a q w =
+      turn-by command (or-by (isTurn command) (isPageQuestion command) p (λ y. y) (λ y. clash y n)) (λ by e.
       let u : r .turner ≡ record { opened = r .turner .opened; last = bench .turner .last } =
-      λ i. record { opened = r .turner .opened; last = (f .0 ∙ ap (λ (v : Turner). v .last) (sym t)) i } in
-      let s = turn-reply D bench (turnReply bench r) (H .benched) (order .kind - 8) (order .cells) c (f .1 D bench (order .cells) (H .benched) t refl) in
-      call-done D line order (call-place order (paging-in-form order p) g h) l (turnReply bench r) s (rw (q, u) at w) H
+      λ i. record { opened = r .turner .opened; last = (ap (λ (v : Turning). v .turner .last) h ∙ ap (λ (v : Turner). v .last) (sym t)) i } in
+      let m : call ≡ Turn by = k ∙ ap callMade e in
+      let y : pages ≡ by = z ∙ ap pagesTurned m in
+      let s : turnReply bench r ≡ replied D (requestOf D (Turn by)) = turn-replied turner pages fits r h D bench (H .benched) t ∙ ap (λ (k : ℤ). replied D (make (turn k))) y in
+      call-performed D line (Turn by) e (turnReply bench r) s (rw (q, u, m) at w) H)
 
 -- the line that starts at a place, as it is read
-pub read-first : (log : List ℕ) (from : ℕ) {end : ℕ} → end ≡ from + length (firstLine (drop from log)) → {order : Order} → order ≡ orderRead (take (end - from) (drop from log))
-    → order ≡ orderRead (firstLine (drop from log))
+read-first : (log : List ℕ) (from : ℕ) {end : ℕ} → end ≡ from + length (firstLine (drop from log)) → {command : Command} → command ≡ commandRead (take (end - from) (drop from log))
+    → command ≡ commandRead (firstLine (drop from log))
 read-first log from {end} e q = let n : end - from ≡ length (firstLine (drop from log)) = omega arith in rw (n, first-taken (drop from log)) at q
 
--- a turn among the requests
-pub first-paging : (log : List ℕ) (from : ℕ) {end : ℕ} → end ≡ from + length (firstLine (drop from log)) → {order : Order} → order ≡ orderRead (take (end - from) (drop from log))
-    → {which : ℕ} → which ≡ requestPlace order → {r : Bool} → r ≡ isTurn which → r ≡ true → paging (orderRead (firstLine (drop from log))) ≡ true
-first-paging log from e o w q t = ap paging (sym (read-first log from e o)) ∙ turn-paging _ w (sym q ∙ t)
+pub first-turn : (log : List ℕ) (from : ℕ) {end : ℕ} → end ≡ from + length (firstLine (drop from log)) → (command : Command) → command ≡ commandRead (take (end - from) (drop from log))
+    → {r : Bool} → r ≡ isTurn command → r ≡ true → isTurn (commandRead (firstLine (drop from log))) ≡ true
+first-turn log from e command o q t = ap isTurn (sym (read-first log from e o)) ∙ (sym q ∙ t)
 
--- where lines stop that start with such a line
-pub stopped-after : (log : List ℕ) {start from : ℕ} → start ≤ from → paging (orderRead (firstLine (drop start log))) ≡ true
-    → {end : ℕ} → end ≡ from + length (firstLine (drop from log)) → {order : Order} → order ≡ orderRead (take (end - from) (drop from log)) → {r : Bool} → r ≡ paging order → r ≡ false → start < from
-stopped-after log {start} {from} h p e o q f =
+-- where lines stop that start with a turn
+pub stopped-after : (log : List ℕ) {start from : ℕ} → start ≤ from → isTurn (commandRead (firstLine (drop start log))) ≡ true
+    → {end : ℕ} → end ≡ from + length (firstLine (drop from log)) → (command : Command) → command ≡ commandRead (take (end - from) (drop from log))
+    → {r : Bool} → r ≡ (isTurn command || isPageQuestion command) → r ≡ false → start < from
+stopped-after log {start} {from} h p e command o q f =
     is-by from start
-    (λ s. clash p (ap (λ (k : ℕ). paging (orderRead (firstLine (drop k log)))) (sym s) ∙ (ap paging (sym (read-first log from e o)) ∙ (sym q ∙ f))))
+    (λ s. clash p (ap (λ (k : ℕ). isTurn (commandRead (firstLine (drop k log)))) (sym s) ∙ (ap isTurn (sym (read-first log from e o)) ∙ or-no-l (isTurn command) (isPageQuestion command) (sym q ∙ f))))
     (λ n. omega arith)
 
 -- a run of lines whose bench is opened at another page
@@ -110,12 +148,12 @@ opened-there log D count before start {bench = bench} page R S o =
 -- one such line more
 module _ (log : List ℕ) (D : Desk) (count : ℕ) (before : List ℕ) (start : ℕ) {from : ℕ} (bench : Bench) {lending : Lending} {edits constraints : Rows} {n : ℕ} {out : List ℕ} {at : ℕ} (held : Turner)
     (R : Running log D count before start from (openAt bench (held .opened)) lending edits constraints n out at) (l : bench .turner .last ≡ held .last) where
-  pub paged-next : (h : from < length log) {end : ℕ} → end ≡ from + length (firstLine (drop from log)) → {m : ℕ} → m ≡ suc n → {order : Order} → order ≡ orderRead (take (end - from) (drop from log))
+  pub paged-next : (h : from < length log) {end : ℕ} → end ≡ from + length (firstLine (drop from log)) → {m : ℕ} → m ≡ suc n → {command : Command} → command ≡ commandRead (take (end - from) (drop from log))
       → {after : List ℕ} {place : ℕ} (page : ℕ)
       → ((E : Desk) (b : Bench) (lending : Lending) (edits constraints : Rows) → Holds E b lending edits constraints → b .turner ≡ held
-      → Performed m (openAt b page) lending edits constraints out at after place (orderEffect E order))
+      → Performed m (openAt b page) lending edits constraints out at after place (effect E command))
       → Running log D count before start end (openAt bench page) lending edits constraints m after place
   unfolding openAt
-  paged-next h e {m} q o page f =
-      running-next log D count before start R h e q
-      (λ E G a. line-done E m _ o (f E (openAt bench (held .opened)) lending edits constraints G (λ i. record { opened = held .opened; last = l i })))
+  paged-next h e q o page f =
+      running-next log D count before start R h e q o
+      (λ E G. f E (openAt bench (held .opened)) lending edits constraints G (λ i. record { opened = held .opened; last = l i }))

@@ -1,5 +1,5 @@
 -- The loop over the lines of a log. Assumes nothing.
-use mathlib.Core.Path.{_≡_, refl, ap, _∙_}
+use mathlib.Core.Path.{_≡_, refl, sym, ap, _∙_}
 use mathlib.Core.List.{List}
 use Prim.Native.Nat.{ℕ, suc, _+_, _-_, _≤_, _<_}
 use native.Mathlib.Omega.{arith}
@@ -10,46 +10,44 @@ use Rattle.ledger.specs.declared.Bench.{Bench}
 use Rattle.text_lines.specs.Lines.{lines, firstLine}
 use Rattle.text_lines.proofs.Ends.{next-line, no-lines}
 use Rattle.log_forms.specs.Printed.{Printed}
-use Rattle.log_forms.proofs.Printing.{printed-nothing, printed-both, printed-end}
-use Rattle.log_forms.specs.orders.Orders.{orderRead}
+use Rattle.log_forms.proofs.Printing.{printed-nothing, printed-both}
+use Rattle.log_commands.specs.declared.Command.{Command}
+use Rattle.log_commands.specs.Grammar.{commandRead}
 use Rattle.log_lent.specs.declared.Lending.{Lending}
 use Rattle.log_session.specs.Desk.{Desk, printedOf}
 use Rattle.log_session.specs.calls.Lines.{Holds}
-use Rattle.log.specs.Effects.{orderEffect}
+use Rattle.log.specs.Effects.{effect}
 use Rattle.log.specs.Log.{begun, runLine, runLines}
 use Rattle.log.specs.Running.{Running, Stops}
+use Rattle.log.proofs.Performed.{Performed, performed-as}
 
 module _ (log : List ℕ) (D : Desk) (count : ℕ) (before : List ℕ) (start : ℕ) where
-  pub running-start : {bench : Bench} {lending : Lending} {edits constraints : Rows} → Holds D bench lending edits constraints → start ≤ suc (length before)
+  pub running-start : {bench : Bench} {lending : Lending} {edits constraints : Rows} → Holds D bench lending edits constraints
       → Running log D count before start 0 bench lending edits constraints count before start
-  running-start h s = record { run = begun D count; rest = refl; held = h; counted = refl; told = printed-nothing before start s; few = omega arith }
+  running-start h = record { run = begun D count; rest = refl; held = h; counted = refl; told = printed-nothing before start; few = omega arith }
 
   module _ {from : ℕ} {bench : Bench} {lending : Lending} {edits constraints : Rows} {n : ℕ} {out : List ℕ} {at : ℕ}
       (R : Running log D count before start from bench lending edits constraints n out at) where
     pub running-few : from < length log → count + length log ≤ 4611686018427387904 → n < 4611686018427387904
     running-few h k = let f = R .few in omega arith
 
-    pub running-place : at ≤ suc (length out)
-    running-place = printed-end (R .run .printed) before start (R .told)
-
     pub running-next : (h : from < length log) {end : ℕ} → end ≡ from + length (firstLine (drop from log)) → {m : ℕ} → m ≡ suc n
+        → {command : Command} → command ≡ commandRead (take (end - from) (drop from log))
         → {held : Bench} {lent : Lending} {editsafter constraintsafter : Rows} {after : List ℕ} {place : ℕ}
-        → ((E : Desk) → Holds E bench lending edits constraints → at ≤ suc (length out)
-        → Holds (orderEffect E (orderRead (take (end - from) (drop from log))) .after) held lent editsafter constraintsafter
-        × Printed (printedOf (orderEffect E (orderRead (take (end - from) (drop from log)))) m) out at after place)
+        → ((E : Desk) → Holds E bench lending edits constraints → Performed m held lent editsafter constraintsafter out at after place (effect E command))
         → Running log D count before start end held lent editsafter constraintsafter m after place
     unfolding runLines runLine
-    running-next h {end} e {m} q {after = after} {place = place} f =
+    running-next h {end} e {m} q o {after = after} {place = place} f =
         let x = next-line log from h e in
-        let p = f (R .run .desk) (R .held) running-place in
+        let p = performed-as (R .run .desk) m (sym o) (f (R .run .desk) (R .held)) in
         let c : m ≡ suc (R .run .count) = q ∙ ap suc (R .counted) in
-        let t : Printed (printedOf (orderEffect (R .run .desk) (orderRead (take (end - from) (drop from log)))) (suc (R .run .count))) out at after place = rw c at (p .1) in
+        let t : Printed (printedOf (effect (R .run .desk) (commandRead (take (end - from) (drop from log)))) (suc (R .run .count))) out at after place = rw c at (p .1) in
         record {
           run = runLine (R .run) (take (end - from) (drop from log));
           rest = R .rest ∙ ap (runLines (R .run)) (x .lines-are);
           held = p .0;
           counted = c;
-          told = printed-both (R .run .printed) (printedOf (orderEffect (R .run .desk) (orderRead (take (end - from) (drop from log)))) (suc (R .run .count))) before start (R .told) t;
+          told = printed-both (R .run .printed) (printedOf (effect (R .run .desk) (commandRead (take (end - from) (drop from log)))) (suc (R .run .count))) before start (R .told) t;
           few = let g = R .few in let i = x .forward in let j = x .inside in omega arith;
         }
 

@@ -1,3 +1,4 @@
+pub mod Branches
 pub mod Effects
 pub mod Log
 pub mod Running

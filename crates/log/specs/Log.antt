@@ -5,15 +5,16 @@ use Prim.Native.Nat.{ℕ, suc}
 use lib.Dec.{eqb}
 use Rattle.text_lines.specs.Lines.{lines}
 use Rattle.ledger.specs.Ledger.{Ledger, Call, judge, step}
-use Rattle.log_forms.specs.orders.Orders.{orderRead}
+use Rattle.log_forms.specs.Printed.{Texts}
+use Rattle.log_commands.specs.Grammar.{commandRead}
 use Rattle.log_session.specs.Desk.{Desk, emptyDesk, printedOf}
-use Rattle.log.specs.Effects.{orderEffect}
+use Rattle.log.specs.Effects.{effect}
 
 -- a desk, how many lines were run, and all that was printed
 pub record Run : Type 0 where
   pub desk : Desk
   pub count : ℕ
-  pub printed : List ℕ
+  pub printed : Texts
 
 -- a desk after so many lines, nothing printed yet
 abbrev pub begun : Desk → ℕ → Run
@@ -22,7 +23,7 @@ begun D count = record { desk = D; count = count; printed = [] }
 -- a refusal tells the line's number, from 1
 unfoldable pub runLine : Run → List ℕ → Run
 runLine r line =
-    let e = orderEffect (r .desk) (orderRead line) in
+    let e = effect (r .desk) (commandRead line) in
     record { desk = e .after; count = suc (r .count); printed = r .printed ++ printedOf e (suc (r .count)) }
 
 unfoldable pub runLines : Run → List (List ℕ) → Run

@@ -1,47 +1,128 @@
-// A call log, run line by line on a desk.
+// A call log, run line by line on a bench and what is lent.
 use ledger::Bench;
 use log_answers::bench_answers;
-use log_forms::Order;
-use log_forms::orders;
+use log_commands::Ask;
+use log_commands::Call;
+use log_commands::Command;
+use log_commands::Vote;
 use log_lent::Lending;
-use log_session::Told;
 use log_session::calls;
 use log_session::questions;
 use log_session::votes;
 use pages_turner::Turner;
+use pages_turner::turning;
 ghost use mathlib.Core.Path.{_≡_};
-ghost use mathlib.Core.Bool.{true, false};
+ghost use mathlib.Core.Bool.{true, cond, _||_};
+ghost use mathlib.Core.List.{List, [], _∷_};
 ghost use Prim.Native.Nat.{ℕ, suc, _+_, _<_, _≤_};
+ghost use lib.Dec.{eqb};
 ghost use lib.ListN.{length, drop};
-ghost use Rattle.log_forms.specs.Printed.{Printed};
 ghost use Rattle.text_lines.specs.Lines.{lines, firstLine};
-ghost use Rattle.log_forms.specs.orders.Orders.{orderRead};
-ghost use mathlib.Core.List.{List};
+ghost use Rattle.text_report.specs.Report.{refusalLine};
 ghost use Rattle.record_rows.specs.ground.Ground.{Rows};
 ghost use Rattle.ledger.specs.declared.Bench.{Bench};
-ghost use Rattle.log_lent.specs.declared.Lending.{Lending};
 ghost use Rattle.bench.specs.Changes.{openAt};
+ghost use Rattle.log_forms.specs.Printed.{Printed};
+ghost use Rattle.log_commands.specs.Grammar.{commandRead};
+ghost use Rattle.log_lent.specs.declared.Lending.{Lending};
 ghost use Rattle.log_session.specs.Desk.{Desk, printedOf};
-ghost use Rattle.log_session.specs.Requests.{isTurn};
 ghost use Rattle.log_session.specs.calls.Lines.{Holds};
-ghost use Rattle.log_session.specs.votes.Votes.{voteOf};
-ghost use Rattle.log.specs.Effects.{requestPlace, orderEffect, paging, mayLend};
+ghost use Rattle.log_session.specs.votes.Votes.{voteEffect};
+ghost use Rattle.log.specs.Branches.{turnsPages, asksPage, isTurn, isPageQuestion, callMade, pagesTurned};
+ghost use Rattle.log.specs.Effects.{effect};
 ghost use Rattle.log.specs.Log.{begun, runLines};
 ghost use Rattle.log.specs.Running.{Running, Stops};
 
-// Whether an order turns pages or asks for the open page.
-fn is_paging(order: Order) -> bool
-    ensures { λ r. ⌜ r ≡ paging order ⌝ }
+fn turns_pages(call: Call) -> bool
+    ensures { λ r. ⌜ r ≡ turnsPages call ⌝ }
 {
-    if order.number != 0 {
-        return false;
+    match call {
+        Call::AddEdit(_) => false,
+        Call::AddConstraint(_) => false,
+        Call::Merge(_) => false,
+        Call::Hide(_) => false,
+        Call::Show(_) => false,
+        Call::Turn(_) => true,
+        Call::Adopt(_) => false,
     }
-    let kind = order.kind;
-    match kind {
-        11 => true,
-        12 => true,
-        25 => true,
-        _ => false,
+}
+
+fn asks_page(ask: Ask) -> bool
+    ensures { λ r. ⌜ r ≡ asksPage ask ⌝ }
+{
+    match ask {
+        Ask::Text => false,
+        Ask::Report => false,
+        Ask::Hidden => false,
+        Ask::Schedule => false,
+        Ask::Catalogue => false,
+        Ask::Journal => false,
+        Ask::Page => true,
+    }
+}
+
+fn is_turn(command: Command) -> bool
+    ensures { λ r. ⌜ r ≡ isTurn command ⌝ }
+{
+    match command {
+        Command::Refused(_) => false,
+        Command::Lend(_) => false,
+        Command::Propose(_) => false,
+        Command::Call(call) => turns_pages(call),
+        Command::Vote(_) => false,
+        Command::Ask(_) => false,
+    }
+}
+
+fn is_page_question(command: Command) -> bool
+    ensures { λ r. ⌜ r ≡ isPageQuestion command ⌝ }
+{
+    match command {
+        Command::Refused(_) => false,
+        Command::Lend(_) => false,
+        Command::Propose(_) => false,
+        Command::Call(_) => false,
+        Command::Vote(_) => false,
+        Command::Ask(ask) => asks_page(ask),
+    }
+}
+
+// Whether the turner alone tells what a line comes to.
+fn is_paging(command: Command) -> bool
+    ensures { λ r. ⌜ r ≡ (isTurn command || isPageQuestion command) ⌝ }
+{
+    if is_turn(command) {
+        return true;
+    }
+    is_page_question(command)
+}
+
+// The call that a line makes; a line that makes none gives one that stands in for it.
+fn call_made(command: Command) -> Call
+    ensures { λ r. ⌜ r ≡ callMade command ⌝ }
+{
+    match command {
+        Command::Refused(_) => Call::Hide(0),
+        Command::Lend(_) => Call::Hide(0),
+        Command::Propose(_) => Call::Hide(0),
+        Command::Call(call) => call,
+        Command::Vote(_) => Call::Hide(0),
+        Command::Ask(_) => Call::Hide(0),
+    }
+}
+
+// The pages that a call turns; 0 where it is no turn.
+fn pages_turned(call: Call) -> i32
+    ensures { λ r. ⌜ r ≡ pagesTurned call ⌝ }
+{
+    match call {
+        Call::AddEdit(_) => 0,
+        Call::AddConstraint(_) => 0,
+        Call::Merge(_) => 0,
+        Call::Hide(_) => 0,
+        Call::Show(_) => 0,
+        Call::Turn(pages) => pages,
+        Call::Adopt(_) => 0,
     }
 }
 
@@ -51,88 +132,40 @@ struct Paged {
     at: usize,
 }
 
-// A line that turns pages or asks for the open page.
-fn run_page(turner: Turner, order: Order, line: usize, out: &mut [u8], at: usize) -> Paged
-    requires { ⌜ paging order ≡ true ⌝ }
+// A line that turns pages or asks for the open page. The bench itself is not needed: what a row of turns comes to is opened once, after the last.
+fn run_page(turner: Turner, command: Command, line: usize, out: &mut [u8], at: usize) -> Paged
+    requires { ⌜ (isTurn command || isPageQuestion command) ≡ true ⌝ }
     ensures { λ r. ⌜ (r .turner .last ≡ turner .last)
         × ((D : Desk) (bench : Bench) (lending : Lending) (edits constraints : Rows) → Holds D bench lending edits constraints → bench .turner ≡ turner
-        → Holds (orderEffect D order .after) (openAt bench (r .turner .opened)) lending edits constraints
-        × Printed (printedOf (orderEffect D order) line) (now (out .entry)) at (now (out .exit)) (r .at)) ⌝ }
+        → Holds (effect D command .after) (openAt bench (r .turner .opened)) lending edits constraints
+        × Printed (printedOf (effect D command) line) (now (out .entry)) at (now (out .exit)) (r .at)) ⌝ }
 {
-    let kind = order.kind;
-    let cells = order.cells;
-    if kind == 25 {
+    if is_page_question(command) {
         let place = bench_answers::print_page(&mut out[..], at, turner);
         return Paged {
             turner: turner,
             at: place,
         };
     }
-    let which = kind - 8;
-    let turning = log_session::turn_by(turner, which, cells[0]);
+    let call = call_made(command);
+    let turning = turning::turned(turner, pages_turned(call));
     let after = turning.turner;
     let answer = bench::plain_answer(turning.number as u32);
-    let place = calls::print_outcome(answer, after, which, line, &mut out[..], at);
+    let place = calls::print_outcome(answer, after, call, line, &mut out[..], at);
     Paged {
         turner: after,
         at: place,
     }
 }
 
-// Whether something else may be lent after an order.
-fn is_lending(order: Order) -> bool
-    ensures { λ r. ⌜ r ≡ mayLend order ⌝ }
+// The refusal of a line that is not in form. Number 0 is no refusal.
+fn print_refused(number: u32, line: usize, out: &mut [u8], at: usize) -> usize
+    ensures { λ r. ⌜ Printed (cond (eqb number 0) [] (refusalLine number line ∷ [])) (now (out .entry)) at (now (out .exit)) r ⌝ }
 {
-    if order.number != 0 {
-        return false;
+    if number == 0 {
+        return at;
     }
-    let kind = order.kind;
-    if kind < 8 {
-        return true;
-    }
-    kind == 16
-}
-
-// A line that lends, or makes a proposal.
-fn run_lending(
-    bench: Bench,
-    lending: Lending,
-    edits: &mut [[u32; 5]],
-    constraints: &mut [[u32; 3]],
-    order: Order,
-    line: usize,
-    out: &mut [u8],
-    at: usize,
-) -> Told
-    requires { ⌜ mayLend order ≡ true ⌝ }
-    ensures { λ r. ⌜ ((D : Desk) → Holds D bench lending (now (edits .entry)) (now (constraints .entry)) → at ≤ suc (length (now (out .entry)))
-        → Holds (orderEffect D order .after) bench (r .lending) (now (edits .exit)) (now (constraints .exit))
-        × Printed (printedOf (orderEffect D order) line) (now (out .entry)) at (now (out .exit)) (r .at)) ⌝ }
-{
-    let kind = order.kind;
-    let cells = order.cells;
-    if kind < 8 {
-        return calls::run_lend(
-            bench,
-            lending,
-            &mut edits[..],
-            &mut constraints[..],
-            kind,
-            cells,
-            line,
-            &mut out[..],
-            at,
-        );
-    }
-    votes::print_proposal(
-        lending,
-        &mut edits[..],
-        &mut constraints[..],
-        cells,
-        line,
-        &mut out[..],
-        at,
-    )
+    log_answers::print_refusal(number, line, &mut out[..], at)
 }
 
 // A line about votes that makes no proposal. The record is taken out here, so that no other line copies it.
@@ -141,14 +174,13 @@ fn print_vote(
     lending: Lending,
     edits: &[[u32; 5]],
     constraints: &[[u32; 3]],
-    which: usize,
-    cells: [u32; 8],
+    vote: Vote,
     line: usize,
     out: &mut [u8],
     at: usize,
 ) -> usize
-    ensures { λ r. ⌜ ((D : Desk) → Holds D bench lending (now (edits .entry)) (now (constraints .entry)) → which < 5 → (which ≡ 2 → ⊥)
-        → Printed (printedOf (voteOf which D cells) line) (now (out .entry)) at (now (out .exit)) r) ⌝ }
+    ensures { λ r. ⌜ ((D : Desk) → Holds D bench lending (now (edits .entry)) (now (constraints .entry))
+        → Printed (printedOf (voteEffect D vote) line) (now (out .entry)) at (now (out .exit)) r) ⌝ }
 {
     let multilog = bench.multilog;
     votes::print_vote(
@@ -156,72 +188,11 @@ fn print_vote(
         edits,
         constraints,
         multilog,
-        which,
-        cells,
+        vote,
         line,
         &mut out[..],
         at,
     )
-}
-
-// A line that makes no call and leaves what is lent.
-fn print_told(
-    bench: Bench,
-    lending: Lending,
-    edits: &[[u32; 5]],
-    constraints: &[[u32; 3]],
-    order: Order,
-    line: usize,
-    out: &mut [u8],
-    at: usize,
-) -> usize
-    requires { ⌜ (8 ≤ requestPlace order) × (mayLend order ≡ false) ⌝ }
-    ensures { λ r. ⌜ ((D : Desk) → Holds D bench lending (now (edits .entry)) (now (constraints .entry))
-        → Holds (orderEffect D order .after) bench lending (now (edits .entry)) (now (constraints .entry))
-        × Printed (printedOf (orderEffect D order) line) (now (out .entry)) at (now (out .exit)) r) ⌝ }
-{
-    let kind = order.kind;
-    let cells = order.cells;
-    if order.number != 0 {
-        return log_answers::print_refusal(order.number, line, &mut out[..], at);
-    }
-    if kind < 19 {
-        return print_vote(
-            bench,
-            lending,
-            edits,
-            constraints,
-            kind - 14,
-            cells,
-            line,
-            &mut out[..],
-            at,
-        );
-    }
-    if kind < 26 {
-        return questions::print_ask(bench, kind - 19, &mut out[..], at);
-    }
-    log_answers::print_refusal(2, line, &mut out[..], at)
-}
-
-// The place among the requests of the call that an order makes; 8 or more where it makes none.
-fn request_of(order: Order) -> usize
-    ensures { λ r. ⌜ r ≡ requestPlace order ⌝ }
-{
-    let kind = order.kind;
-    if order.number != 0 {
-        return 8;
-    }
-    if kind < 8 {
-        return 8;
-    }
-    if kind < 14 {
-        return kind - 8;
-    }
-    if kind < 26 {
-        return 8;
-    }
-    kind - 20
 }
 
 // The number of the next line. Past 2^62 lines it stays, which no log reaches.
@@ -232,17 +203,6 @@ fn next(n: usize) -> usize
         return n + 1;
     }
     n
-}
-
-// Whether a request is a turn.
-fn is_turn(which: usize) -> bool
-    ensures { λ r. ⌜ r ≡ isTurn which ⌝ }
-{
-    match which {
-        3 => true,
-        4 => true,
-        _ => false,
-    }
 }
 
 // The turner after lines that turn pages or ask for the open page, how many lines were run, the place after what they printed, and after them.
@@ -263,7 +223,7 @@ fn run_turns(
     at: usize,
     limit: usize,
 ) -> Turns
-    requires { ⌜ (start < length (now log)) × (at ≤ limit) × (paging (orderRead (firstLine (drop start (now log)))) ≡ true) ⌝ }
+    requires { ⌜ (start < length (now log)) × (at ≤ limit) × (isTurn (commandRead (firstLine (drop start (now log)))) ≡ true) ⌝ }
     ensures { λ r. ⌜ (start < r .from) × (r .from ≤ length (now (log .entry)))
         × ((D : Desk) (first : ℕ) (before : List ℕ) (begin : ℕ) (bench : Bench) (lending : Lending) (edits constraints : Rows)
         → Running (now (log .entry)) D first before begin start bench lending edits constraints count (now (out .entry)) at → bench .turner ≡ turner
@@ -276,12 +236,12 @@ fn run_turns(
     let mut from = start;
     while from < log.len() && place <= limit {
         let end = text_lines::line_end(log, from);
-        let order = orders::read_order(&log[from..end]);
-        if !is_paging(order) {
+        let command = log_commands::read_command(&log[from..end]);
+        if !is_paging(command) {
             break;
         }
         n = next(n);
-        let paged = run_page(held, order, n, &mut out[..], place);
+        let paged = run_page(held, command, n, &mut out[..], place);
         held = paged.turner;
         place = paged.at;
         from = end;
@@ -317,7 +277,7 @@ pub fn run_some(
     limit: usize,
 ) -> Logged
     ensures { λ r. ⌜ Stops (length (now (log .entry))) limit at (r .from) (r .at)
-        × ((D : Desk) → Holds D bench lending (now (edits .entry)) (now (constraints .entry)) → at ≤ suc (length (now (out .entry)))
+        × ((D : Desk) → Holds D bench lending (now (edits .entry)) (now (constraints .entry))
         → count + length (now (log .entry)) ≤ 4611686018427387904
         → Running (now (log .entry)) D count (now (out .entry)) at (r .from) (r .bench) (r .lending) (now (edits .exit)) (now (constraints .exit)) (r .count) (now (out .exit)) (r .at)) ⌝ }
 {
@@ -328,9 +288,8 @@ pub fn run_some(
     let mut from = 0;
     while from < log.len() && place <= limit {
         let end = text_lines::line_end(log, from);
-        let order = orders::read_order(&log[from..end]);
-        let which = request_of(order);
-        if is_turn(which) {
+        let command = log_commands::read_command(&log[from..end]);
+        if is_turn(command) {
             let turner = held.turner;
             let turns = run_turns(turner, log, from, n, &mut out[..], place, limit);
             let after = turns.turner;
@@ -342,44 +301,65 @@ pub fn run_some(
         } else {
             n = next(n);
             from = end;
-            if which < 8 {
-                let cells = order.cells;
-                let outcome = log_session::call(
-                    held,
-                    lent,
-                    &edits[..],
-                    &constraints[..],
-                    which,
-                    cells,
-                );
-                let answer = outcome.answer;
-                held = outcome.bench;
-                let turner = held.turner;
-                place = calls::print_outcome(answer, turner, which, n, &mut out[..], place);
-            } else if is_lending(order) {
-                let told = run_lending(
-                    held,
-                    lent,
-                    &mut edits[..],
-                    &mut constraints[..],
-                    order,
-                    n,
-                    &mut out[..],
-                    place,
-                );
-                lent = told.lending;
-                place = told.at;
-            } else {
-                place = print_told(
-                    held,
-                    lent,
-                    &edits[..],
-                    &constraints[..],
-                    order,
-                    n,
-                    &mut out[..],
-                    place,
-                );
+            match command {
+                Command::Refused(number) => {
+                    place = print_refused(number, n, &mut out[..], place);
+                }
+                Command::Lend(lend) => {
+                    let told = calls::run_lend(
+                        held,
+                        lent,
+                        &mut edits[..],
+                        &mut constraints[..],
+                        lend,
+                        n,
+                        &mut out[..],
+                        place,
+                    );
+                    lent = told.lending;
+                    place = told.at;
+                }
+                Command::Propose(asked) => {
+                    let told = votes::print_proposal(
+                        lent,
+                        &mut edits[..],
+                        &mut constraints[..],
+                        asked,
+                        n,
+                        &mut out[..],
+                        place,
+                    );
+                    lent = told.lending;
+                    place = told.at;
+                }
+                Command::Call(call) => {
+                    let outcome = log_session::make_call(
+                        held,
+                        lent,
+                        &edits[..],
+                        &constraints[..],
+                        call,
+                    );
+                    let answer = outcome.answer;
+                    held = outcome.bench;
+                    let turner = held.turner;
+                    place = calls::print_outcome(answer, turner, call, n, &mut out[..], place);
+                }
+                Command::Vote(vote) => {
+                    place = print_vote(
+                        held,
+                        lent,
+                        &edits[..],
+                        &constraints[..],
+                        vote,
+                        n,
+                        &mut out[..],
+                        place,
+                    );
+                }
+                Command::Ask(ask) => {
+                    place = questions::print_ask(held, ask, &mut out[..], place);
+                }
             }
         }
     }
@@ -403,7 +383,7 @@ pub fn run_log(
     out: &mut [u8],
     at: usize,
 ) -> Logged
-    ensures { λ r. ⌜ ((D : Desk) → Holds D bench lending (now (edits .entry)) (now (constraints .entry)) → at ≤ suc (length (now (out .entry)))
+    ensures { λ r. ⌜ ((D : Desk) → Holds D bench lending (now (edits .entry)) (now (constraints .entry))
         → count + length (now (log .entry)) ≤ 4611686018427387904
         → Holds (runLines (begun D count) (lines (now (log .entry))) .desk) (r .bench) (r .lending) (now (edits .exit)) (now (constraints .exit))
         × (r .count ≡ runLines (begun D count) (lines (now (log .entry))) .count)

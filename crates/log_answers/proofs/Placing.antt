@@ -1,7 +1,7 @@
 -- Texts that a writer places, said as printed. Assumes nothing.
 use mathlib.Core.Path.{_≡_, ap, _∙_}
 use mathlib.Core.Logic.{_≢_}
-use mathlib.Core.List.{List, _++_}
+use mathlib.Core.List.{List, [], _∷_, _++_}
 use Prim.Native.Nat.{ℕ, _+_, _-_, _≤_, _<_}
 use native.Mathlib.Nat.{zero-add}
 use native.Mathlib.Omega.{arith}
@@ -33,17 +33,17 @@ module _ (text out : List ℕ) (at : ℕ) {w : Written} {after : List ℕ} (p : 
       let e : leb (at + length text) (length out) ≡ _ = lt-leb (at + length text) (length out) h in
       (ap (λ (x : Written). x .number) (rw e at (p .0)), rw e at (p .1))
 
-  pub text-printed : w .number ≡ 0 → Printed text out at after (w .end)
+  pub text-printed : w .number ≡ 0 → Printed (text ∷ []) out at after (w .end)
   text-printed n =
       le-by (at + length text) (length out)
       (λ h. let q = placed-there h in form-printed-fits text out at h (q .1 .0) (q .1 .1))
       (λ h. absurd (omega (arith, not-placed h .0)))
 
-  pub answer-text-refused : w .number ≢ 0 → Printed text out at after (length out + 1)
+  pub answer-text-refused : w .number ≢ 0 → Printed (text ∷ []) out at after (length out + 1)
   answer-text-refused n =
       le-by (at + length text) (length out)
       (λ h. absurd (n (placed-there h .0)))
-      (λ h. printed-over text out at h (omega arith) (ap length (not-placed h .1)))
+      (λ h. printed-over text out at h (omega arith) (not-placed h .1))
 
 -- the same of a text at the start of the part from a place on
 module _ (text out : List ℕ) (at : ℕ) (near : at ≤ length out) {w : Written} {after : List ℕ} (p : Places text 0 (take (length out - at) (drop at out)) w after) where
@@ -64,20 +64,20 @@ module _ (text out : List ℕ) (at : ℕ) (near : at ≤ length out) {w : Writte
       let q = not-placed text (take (length out - at) (drop at out)) 0 p (omega (arith, part-size)) in
       (q .0, rw (q .1, take-append-drop (length out - at) (drop at out)) (take-append-drop at out))
 
-  pub part-printed : w .number ≡ 0 → Printed text out at whole (at + w .end)
+  pub part-printed : w .number ≡ 0 → Printed (text ∷ []) out at whole (at + w .end)
   part-printed n =
       le-by (at + length text) (length out)
       (λ h. let q = part-there h in form-printed-fits text out at h (ap (λ (k : ℕ). at + k) (q .1 .0)) (q .1 .1))
       (λ h. absurd (omega (arith, part-not h .0)))
 
-  pub part-refused : w .number ≢ 0 → Printed text out at whole (length out + 1)
+  pub part-refused : w .number ≢ 0 → Printed (text ∷ []) out at whole (length out + 1)
   part-refused n =
       le-by (at + length text) (length out)
       (λ h. absurd (n (part-there h .0)))
-      (λ h. printed-over text out at h (omega arith) (ap length (part-not h .1)))
+      (λ h. printed-over text out at h (omega arith) (part-not h .1))
 
   -- what was placed ends inside
-  pub part-inside : w .number ≡ 0 → length out - at < w .end → Printed text out at whole (length out + 1)
+  pub part-inside : w .number ≡ 0 → length out - at < w .end → Printed (text ∷ []) out at whole (length out + 1)
   part-inside n l =
       le-by (at + length text) (length out)
       (λ h. absurd (omega (arith, part-there h .1 .0)))

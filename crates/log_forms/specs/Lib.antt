@@ -1,3 +1,2 @@
-pub mod Forms
 pub mod Printed
-pub mod orders
+pub mod productions

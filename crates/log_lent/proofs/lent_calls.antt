@@ -1,2 +1,3 @@
+pub mod FirstRows
 pub mod Given
 pub mod Named

@@ -20,8 +20,11 @@ pub record Lent : Type 0 where
 unfoldable pub nothingLent : Lent
 nothingLent = record { edits = λ k. []; constraints = λ k. []; roll = []; row = [] }
 
+abbrev pub lentRecords : ℕ
+lentRecords = 9
+
 abbrev pub isLent : ℕ → Bool
-isLent k = ltb k 9
+isLent k = ltb k lentRecords
 
 -- table k becomes these rows
 unfoldable pub with : ℕ → Rows → (ℕ → Rows) → ℕ → Rows
@@ -33,6 +36,10 @@ editPlaces = 128
 
 abbrev pub constraintPlaces : ℕ
 constraintPlaces = 513
+
+-- one more than a roll without fault can have: with this row it is faulty, and later rows change no answer
+abbrev pub rollPlaces : ℕ
+rollPlaces = 9
 
 -- one more than a sound schedule can have
 abbrev pub rowPlaces : ℕ

@@ -1,9 +1,12 @@
 // Calls whose records, roll and row are what the lines of a call log lend. Public for the crates of this workspace that run logs.
 use crate::Lending;
+use crate::ROW_PLACES;
+use bench_elections::roll_array;
 use judgement::lent_record;
 use judgement::lent_record::RowAnswer;
 use ledger::Bench;
 use ledger::Outcome;
+use record::EDITS;
 use record::Record;
 use record_rows::row;
 use record_tables::lookup;
@@ -24,7 +27,7 @@ ghost use Rattle.voting_roll.specs.Election.{electionOf};
 ghost use Rattle.ledger.specs.Ledger.{Call};
 ghost use Rattle.ledger.specs.Bench.{Answers};
 ghost use Rattle.bench.specs.Changes.{refusedWith};
-ghost use Rattle.log_lent.specs.Lent.{Lent};
+ghost use Rattle.log_lent.specs.Lent.{Lent, lentRecords, rowPlaces};
 ghost use Rattle.log_lent.specs.Kept.{Kept};
 ghost use Rattle.log_lent.specs.lent_calls.Calls.{proposalsOf, bundleIn, rowIn, suggestedIn};
 
@@ -37,7 +40,7 @@ pub fn merge_lent(
     k: u32,
 ) -> Outcome
     ensures { λ r. ⌜ (8 < k → r ≡ refusedWith bench 2)
-        × ((L : Lent) → Kept L lending (now (edits .entry)) (now (constraints .entry)) → k < 9 → Answers bench (Call.merge (L .edits k) (L .constraints k)) r) ⌝ }
+        × ((L : Lent) → Kept L lending (now (edits .entry)) (now (constraints .entry)) → k < lentRecords → Answers bench (Call.merge (L .edits k) (L .constraints k)) r) ⌝ }
 {
     if 8 < k {
         return bench::refused(bench, 2);
@@ -61,31 +64,16 @@ pub fn elect_lent(
 ) -> Election
     ensures { λ r. ⌜ ((L : Lent) → Kept L lending (now (edits .entry)) (now (constraints .entry)) → r ≡ electionOf edit (proposalsOf L) (L .roll)) ⌝ }
 {
-    let a = lending.editcounts;
-    let b = lending.constraintcounts;
-    voting_count::election(
+    let editcounts = lending.editcounts;
+    let constraintcounts = lending.constraintcounts;
+    let roll = lending.roll;
+    let count = lending.rollcount;
+    roll_array::election(
         edit,
-        [
-            crate::edits_of(a, edits, 1),
-            crate::edits_of(a, edits, 2),
-            crate::edits_of(a, edits, 3),
-            crate::edits_of(a, edits, 4),
-            crate::edits_of(a, edits, 5),
-            crate::edits_of(a, edits, 6),
-            crate::edits_of(a, edits, 7),
-            crate::edits_of(a, edits, 8),
-        ],
-        [
-            crate::constraints_of(b, constraints, 1),
-            crate::constraints_of(b, constraints, 2),
-            crate::constraints_of(b, constraints, 3),
-            crate::constraints_of(b, constraints, 4),
-            crate::constraints_of(b, constraints, 5),
-            crate::constraints_of(b, constraints, 6),
-            crate::constraints_of(b, constraints, 7),
-            crate::constraints_of(b, constraints, 8),
-        ],
-        lending.roll,
+        crate::proposed_edits(editcounts, edits),
+        crate::proposed_constraints(constraintcounts, constraints),
+        roll,
+        count,
     )
 }
 
@@ -117,8 +105,13 @@ pub fn bundle_lent(
 }
 
 // Whether the first n names of a row are a sound schedule of a lent record.
-fn test_names(edits: &[[u32; 5]], constraints: &[[u32; 3]], row: [u32; 129], n: usize) -> RowAnswer
-    requires { ⌜ n ≤ 129 ⌝ }
+fn test_names(
+    edits: &[[u32; 5]],
+    constraints: &[[u32; 3]],
+    row: [u32; ROW_PLACES],
+    n: usize,
+) -> RowAnswer
+    requires { ⌜ n ≤ rowPlaces ⌝ }
     ensures { λ r. ⌜ r ≡ rowAnswerOf (now (edits .entry)) (now (constraints .entry)) (take n row) ⌝ }
 {
     lent_record::test_row(edits, constraints, &row[0..n])
@@ -140,7 +133,7 @@ pub fn test_lent(
             sound: false,
         };
     }
-    if 129 < n {
+    if ROW_PLACES < n {
         return RowAnswer {
             number: 2,
             sound: false,
@@ -168,32 +161,17 @@ pub fn adopt_lent(
 ) -> Outcome
     ensures { λ r. ⌜ ((L : Lent) → Kept L lending (now (edits .entry)) (now (constraints .entry)) → Answers bench (Call.adopt edit (proposalsOf L) (L .roll)) r) ⌝ }
 {
-    let a = lending.editcounts;
-    let b = lending.constraintcounts;
-    bench_adoption::adopt(
+    let editcounts = lending.editcounts;
+    let constraintcounts = lending.constraintcounts;
+    let roll = lending.roll;
+    let count = lending.rollcount;
+    roll_array::adopt(
         bench,
         edit,
-        [
-            crate::edits_of(a, edits, 1),
-            crate::edits_of(a, edits, 2),
-            crate::edits_of(a, edits, 3),
-            crate::edits_of(a, edits, 4),
-            crate::edits_of(a, edits, 5),
-            crate::edits_of(a, edits, 6),
-            crate::edits_of(a, edits, 7),
-            crate::edits_of(a, edits, 8),
-        ],
-        [
-            crate::constraints_of(b, constraints, 1),
-            crate::constraints_of(b, constraints, 2),
-            crate::constraints_of(b, constraints, 3),
-            crate::constraints_of(b, constraints, 4),
-            crate::constraints_of(b, constraints, 5),
-            crate::constraints_of(b, constraints, 6),
-            crate::constraints_of(b, constraints, 7),
-            crate::constraints_of(b, constraints, 8),
-        ],
-        lending.roll,
+        crate::proposed_edits(editcounts, edits),
+        crate::proposed_constraints(constraintcounts, constraints),
+        roll,
+        count,
     )
 }
 
@@ -215,7 +193,7 @@ fn row_named(multilog: Record, name: u16) -> [u32; 5]
 {
     let place = lookup::place_of(multilog, name);
     let edits = multilog.edits;
-    if place < 127 {
+    if place < EDITS {
         let e = edits[place];
         return row::edit_row(e);
     }

@@ -2,9 +2,28 @@
 use crate::Lending;
 use record_joining::Joined;
 ghost use mathlib.Core.Path.{_≡_};
+ghost use Rattle.record_rows.specs.ground.Ground.{Rows};
+ghost use Rattle.voting_proposals.specs.Propose.{newOutcome};
 ghost use Rattle.log_lent.specs.Lent.{Lent};
 ghost use Rattle.log_lent.specs.Kept.{Kept};
-ghost use Rattle.log_lent.specs.lent_proposals.Made.{proposalIn};
+ghost use Rattle.log_lent.specs.lent_proposals.Made.{tablesWith, proposalOf, proposalIn};
+
+// A new proposal, if n edits and m constraints have a place for it.
+fn fitted(new: Joined, n: u32, m: u32) -> Joined
+    ensures { λ r. ⌜ ((E C D F : Rows) → new ≡ newOutcome E C D F → r ≡ proposalOf (tablesWith E C D F n m)) ⌝ }
+{
+    if new.number != 0 {
+        return new;
+    }
+    let after = new.after;
+    if (n as usize) < after.editcount {
+        return voting_proposals::stopped(12);
+    }
+    if (m as usize) < after.constraintcount {
+        return voting_proposals::stopped(12);
+    }
+    new
+}
 
 // The new proposal from record k and the old one, where n edits and m constraints have a place.
 pub fn propose_lent(
@@ -32,15 +51,5 @@ pub fn propose_lent(
         crate::edits_of(a, edits, old as usize),
         crate::constraints_of(b, constraints, old as usize),
     );
-    if new.number != 0 {
-        return new;
-    }
-    let after = new.after;
-    if (n as usize) < after.editcount {
-        return voting_proposals::stopped(12);
-    }
-    if (m as usize) < after.constraintcount {
-        return voting_proposals::stopped(12);
-    }
-    new
+    fitted(new, n, m)
 }

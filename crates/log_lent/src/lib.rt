@@ -3,112 +3,120 @@
 pub mod lent_calls;
 pub mod lent_proposals;
 
+use record::CONSTRAINTS;
 use record::Constraint;
+use record::EDITS;
 use record::Edit;
 use record::Record;
 use record_rows::row;
 use voting::RollRow;
-use voting_roll::Roll;
 ghost use mathlib.Core.Path.{_≡_};
 ghost use mathlib.Core.List.{[], map};
-ghost use Prim.Native.Nat.{ℕ, _<_, _≤_};
-ghost use lib.ListN.{length, take};
+ghost use Prim.Native.Nat.{ℕ, _-_, _<_, _≤_};
+ghost use lib.ListN.{length, set, take, drop};
 ghost use Rattle.record.specs.Record as theory;
 ghost use Rattle.record.specs.Stored.{stored};
-ghost use Rattle.record_rows.specs.row.Row.{editRow, constraintRow};
+ghost use Rattle.record_rows.specs.row.Row.{Row, editRow, constraintRow};
 ghost use Rattle.record_rows.specs.ground.Ground.{Rows};
-ghost use Rattle.log_lent.specs.Lent.{Lent, nothingLent, with, rowsFault, added, withEdit, withConstraint, withRecord, recordNumber, seatNumber, withSeat, withoutRoll, nameNumber, withName, withoutRow};
+ghost use Rattle.voting_roll.specs.Election.{benches};
+ghost use Rattle.log_lent.specs.Lent.{Lent, nothingLent, lentRecords, with, editPlaces, constraintPlaces, rowsFault, added, withEdit, withConstraint, withRecord, recordNumber, seatNumber, withSeat, withoutRoll, nameNumber, withName, withoutRow};
 ghost use Rattle.log_lent.specs.Kept.{Tables, Kept};
 
-// How many rows each table has; the roll; the row to be tested.
+// The records that lines lend to, and how many rows of each kind are kept; specs/Lent.antt has the same numbers, and why.
+pub const RECORDS: usize = 9;
+
+pub const EDIT_PLACES: usize = EDITS + 1;
+
+pub const CONSTRAINT_PLACES: usize = CONSTRAINTS + 1;
+
+pub const ROW_PLACES: usize = EDITS + 2;
+
+pub const ROLL_PLACES: usize = 9;
+
+// How many rows each table has; the first rows of the roll; the row to be tested.
 pub struct Lending {
-    pub editcounts: [usize; 9],
-    pub constraintcounts: [usize; 9],
-    pub roll: Roll,
-    pub row: [u32; 129],
+    pub editcounts: [usize; RECORDS],
+    pub constraintcounts: [usize; RECORDS],
+    pub roll: [RollRow; ROLL_PLACES],
+    pub rollcount: usize,
+    pub row: [u32; ROW_PLACES],
     pub rowcount: usize,
 }
 
-// The number of a refusal, 0 for none, and how many rows each table has then.
-pub struct Counts {
+// What one row more comes to: the number of a refusal, 0 for none; the row's place, past the end for a refusal; how many rows each table has then.
+pub struct Placing {
     pub number: u32,
-    pub counts: [usize; 9],
+    pub place: usize,
+    pub counts: [usize; RECORDS],
+}
+
+// Where a row joins table k, of tables with so many places each that stand in one of a size.
+fn next_place(counts: [usize; RECORDS], places: usize, size: usize, k: usize) -> Placing
+    requires { ⌜ places ≤ constraintPlaces ⌝ }
+    ensures { λ r. ⌜ ((tables : ℕ → Rows) (kept : Rows) (row : Row) → Tables places tables counts kept → length kept ≡ size
+        → (r .number ≡ rowsFault places tables k) × Tables places (added places tables k row) (r .counts) (set kept (r .place) row)) ⌝ }
+{
+    if RECORDS <= k {
+        return Placing {
+            number: 2,
+            place: size,
+            counts: counts,
+        };
+    }
+    let n = counts[k];
+    if places <= n {
+        return Placing {
+            number: 3,
+            place: size,
+            counts: counts,
+        };
+    }
+    let mut more = counts;
+    more[k] = n + 1;
+    Placing {
+        number: 0,
+        place: k * places + n,
+        counts: more,
+    }
 }
 
 // A row joins table k of the lent edits.
-fn add_edit(counts: [usize; 9], kept: &mut [[u32; 5]], k: usize, row: [u32; 5]) -> Counts
-    ensures { λ r. ⌜ ((tables : ℕ → Rows) → Tables 128 tables counts (now (kept .entry))
-        → (r .number ≡ rowsFault 128 tables k) × Tables 128 (added 128 tables k row) (r .counts) (now (kept .exit))) ⌝ }
+fn add_edit(counts: [usize; RECORDS], kept: &mut [[u32; 5]], k: usize, row: [u32; 5]) -> Placing
+    ensures { λ r. ⌜ ((tables : ℕ → Rows) → Tables editPlaces tables counts (now (kept .entry))
+        → (r .number ≡ rowsFault editPlaces tables k) × Tables editPlaces (added editPlaces tables k row) (r .counts) (now (kept .exit))) ⌝ }
 {
-    if 9 <= k {
-        return Counts {
-            number: 2,
-            counts: counts,
-        };
+    let placing = next_place(counts, EDIT_PLACES, kept.len(), k);
+    let place = placing.place;
+    if place < kept.len() {
+        kept[place] = row;
     }
-    let n = counts[k];
-    if 128 <= n {
-        return Counts {
-            number: 3,
-            counts: counts,
-        };
-    }
-    let at = k * 128 + n;
-    if kept.len() <= at {
-        return Counts {
-            number: 3,
-            counts: counts,
-        };
-    }
-    kept[at] = row;
-    let mut more = counts;
-    more[k] = n + 1;
-    Counts {
-        number: 0,
-        counts: more,
-    }
+    placing
 }
 
 // A row joins table k of the lent constraints.
-fn add_constraint(counts: [usize; 9], kept: &mut [[u32; 3]], k: usize, row: [u32; 3]) -> Counts
-    ensures { λ r. ⌜ ((tables : ℕ → Rows) → Tables 513 tables counts (now (kept .entry))
-        → (r .number ≡ rowsFault 513 tables k) × Tables 513 (added 513 tables k row) (r .counts) (now (kept .exit))) ⌝ }
+fn add_constraint(
+    counts: [usize; RECORDS],
+    kept: &mut [[u32; 3]],
+    k: usize,
+    row: [u32; 3],
+) -> Placing
+    ensures { λ r. ⌜ ((tables : ℕ → Rows) → Tables constraintPlaces tables counts (now (kept .entry))
+        → (r .number ≡ rowsFault constraintPlaces tables k) × Tables constraintPlaces (added constraintPlaces tables k row) (r .counts) (now (kept .exit))) ⌝ }
 {
-    if 9 <= k {
-        return Counts {
-            number: 2,
-            counts: counts,
-        };
+    let placing = next_place(counts, CONSTRAINT_PLACES, kept.len(), k);
+    let place = placing.place;
+    if place < kept.len() {
+        kept[place] = row;
     }
-    let n = counts[k];
-    if 513 <= n {
-        return Counts {
-            number: 3,
-            counts: counts,
-        };
-    }
-    let at = k * 513 + n;
-    if kept.len() <= at {
-        return Counts {
-            number: 3,
-            counts: counts,
-        };
-    }
-    kept[at] = row;
-    let mut more = counts;
-    more[k] = n + 1;
-    Counts {
-        number: 0,
-        counts: more,
-    }
+    placing
 }
 
 // Table k has no rows.
-fn without_rows(counts: [usize; 9], k: usize) -> [usize; 9]
+fn without_rows(counts: [usize; RECORDS], k: usize) -> [usize; RECORDS]
     ensures { λ r. ⌜ ((places : ℕ) (tables : ℕ → Rows) (kept : Rows) → Tables places tables counts kept → Tables places (with k [] tables) r kept) ⌝ }
 {
     let mut fewer = counts;
-    if k < 9 {
+    if k < RECORDS {
         fewer[k] = 0;
     }
     fewer
@@ -116,15 +124,15 @@ fn without_rows(counts: [usize; 9], k: usize) -> [usize; 9]
 
 // The rows of n edits join table k.
 fn add_edits(
-    counts: [usize; 9],
+    counts: [usize; RECORDS],
     kept: &mut [[u32; 5]],
     k: usize,
-    edits: [Edit; 127],
+    edits: [Edit; EDITS],
     n: usize,
-) -> [usize; 9]
+) -> [usize; RECORDS]
     requires { ⌜ n ≤ 127 ⌝ }
-    ensures { λ r. ⌜ ((tables : ℕ → Rows) → Tables 128 tables counts (now (kept .entry)) → tables k ≡ [] → k < 9
-        → Tables 128 (with k (map editRow (take n edits)) tables) r (now (kept .exit))) ⌝ }
+    ensures { λ r. ⌜ ((tables : ℕ → Rows) → Tables editPlaces tables counts (now (kept .entry)) → tables k ≡ [] → k < lentRecords
+        → Tables editPlaces (with k (map editRow (take n edits)) tables) r (now (kept .exit))) ⌝ }
 {
     let mut more = counts;
     let mut i = 0;
@@ -140,15 +148,15 @@ fn add_edits(
 
 // The rows of n constraints join table k.
 fn add_constraints(
-    counts: [usize; 9],
+    counts: [usize; RECORDS],
     kept: &mut [[u32; 3]],
     k: usize,
-    constraints: [Constraint; 512],
+    constraints: [Constraint; CONSTRAINTS],
     n: usize,
-) -> [usize; 9]
+) -> [usize; RECORDS]
     requires { ⌜ n ≤ 512 ⌝ }
-    ensures { λ r. ⌜ ((tables : ℕ → Rows) → Tables 513 tables counts (now (kept .entry)) → tables k ≡ [] → k < 9
-        → Tables 513 (with k (map constraintRow (take n constraints)) tables) r (now (kept .exit))) ⌝ }
+    ensures { λ r. ⌜ ((tables : ℕ → Rows) → Tables constraintPlaces tables counts (now (kept .entry)) → tables k ≡ [] → k < lentRecords
+        → Tables constraintPlaces (with k (map constraintRow (take n constraints)) tables) r (now (kept .exit))) ⌝ }
 {
     let mut more = counts;
     let mut i = 0;
@@ -162,40 +170,95 @@ fn add_constraints(
     more
 }
 
-// The rows of table k of the lent edits.
-pub fn edits_of<'a>(counts: [usize; 9], kept: &'a [[u32; 5]], k: usize) -> &'a [[u32; 5]]
-    ensures { λ r. ⌜ ((tables : ℕ → Rows) → Tables 128 tables counts (now (kept .entry)) → k < 9 → now r ≡ tables k) ⌝ }
+// Where the rows of a table stand: from a place up to another.
+pub struct Part {
+    pub start: usize,
+    pub stop: usize,
+}
+
+// Where the rows of table k stand, of tables with so many places each that stand in one of a size.
+fn part_of(counts: [usize; RECORDS], places: usize, size: usize, k: usize) -> Part
+    requires { ⌜ places ≤ constraintPlaces ⌝ }
+    ensures { λ r. ⌜ (r .start ≤ r .stop) × (r .stop ≤ size)
+        × ((tables : ℕ → Rows) (kept : Rows) → Tables places tables counts kept → length kept ≡ size → k < lentRecords
+        → take (r .stop - r .start) (drop (r .start) kept) ≡ tables k) ⌝ }
 {
-    if 9 <= k {
-        return &kept[0..0];
+    let none = Part { start: 0, stop: 0 };
+    if RECORDS <= k {
+        return none;
     }
     let n = counts[k];
-    if 128 < n {
-        return &kept[0..0];
+    if places < n {
+        return none;
     }
-    let at = k * 128;
-    if kept.len() < at + n {
-        return &kept[0..0];
+    let start = k * places;
+    let stop = start + n;
+    if size < stop {
+        return none;
     }
-    &kept[at..at + n]
+    Part {
+        start: start,
+        stop: stop,
+    }
+}
+
+// The rows of table k of the lent edits.
+pub fn edits_of<'a>(counts: [usize; RECORDS], kept: &'a [[u32; 5]], k: usize) -> &'a [[u32; 5]]
+    ensures { λ r. ⌜ ((tables : ℕ → Rows) → Tables editPlaces tables counts (now (kept .entry)) → k < lentRecords → now r ≡ tables k) ⌝ }
+{
+    let part = part_of(counts, EDIT_PLACES, kept.len(), k);
+    let start = part.start;
+    let stop = part.stop;
+    &kept[start..stop]
 }
 
 // The rows of table k of the lent constraints.
-pub fn constraints_of<'a>(counts: [usize; 9], kept: &'a [[u32; 3]], k: usize) -> &'a [[u32; 3]]
-    ensures { λ r. ⌜ ((tables : ℕ → Rows) → Tables 513 tables counts (now (kept .entry)) → k < 9 → now r ≡ tables k) ⌝ }
+pub fn constraints_of<'a>(
+    counts: [usize; RECORDS],
+    kept: &'a [[u32; 3]],
+    k: usize,
+) -> &'a [[u32; 3]]
+    ensures { λ r. ⌜ ((tables : ℕ → Rows) → Tables constraintPlaces tables counts (now (kept .entry)) → k < lentRecords → now r ≡ tables k) ⌝ }
 {
-    if 9 <= k {
-        return &kept[0..0];
-    }
-    let n = counts[k];
-    if 513 < n {
-        return &kept[0..0];
-    }
-    let at = k * 513;
-    if kept.len() < at + n {
-        return &kept[0..0];
-    }
-    &kept[at..at + n]
+    let part = part_of(counts, CONSTRAINT_PLACES, kept.len(), k);
+    let start = part.start;
+    let stop = part.stop;
+    &kept[start..stop]
+}
+
+// The lent edits of the eight proposals.
+pub fn proposed_edits<'a>(counts: [usize; RECORDS], kept: &'a [[u32; 5]]) -> [&'a [[u32; 5]]; 8]
+    ensures { λ r. ⌜ ((tables : ℕ → Rows) → Tables editPlaces tables counts (now (kept .entry)) → map now r ≡ map tables benches) ⌝ }
+{
+    [
+        edits_of(counts, kept, 1),
+        edits_of(counts, kept, 2),
+        edits_of(counts, kept, 3),
+        edits_of(counts, kept, 4),
+        edits_of(counts, kept, 5),
+        edits_of(counts, kept, 6),
+        edits_of(counts, kept, 7),
+        edits_of(counts, kept, 8),
+    ]
+}
+
+// The lent constraints of the eight proposals.
+pub fn proposed_constraints<'a>(
+    counts: [usize; RECORDS],
+    kept: &'a [[u32; 3]],
+) -> [&'a [[u32; 3]]; 8]
+    ensures { λ r. ⌜ ((tables : ℕ → Rows) → Tables constraintPlaces tables counts (now (kept .entry)) → map now r ≡ map tables benches) ⌝ }
+{
+    [
+        constraints_of(counts, kept, 1),
+        constraints_of(counts, kept, 2),
+        constraints_of(counts, kept, 3),
+        constraints_of(counts, kept, 4),
+        constraints_of(counts, kept, 5),
+        constraints_of(counts, kept, 6),
+        constraints_of(counts, kept, 7),
+        constraints_of(counts, kept, 8),
+    ]
 }
 
 // The number of a refusal, 0 for none, and what is lent then.
@@ -207,12 +270,18 @@ pub struct Setting {
 pub fn nothing_lent() -> Lending
     ensures { λ r. ⌜ ((edits constraints : Rows) → length edits ≡ 1152 → length constraints ≡ 4617 → Kept nothingLent r edits constraints) ⌝ }
 {
-    let counts = [0usize; 9];
-    let row = [0u32; 129];
+    let counts = [0usize; RECORDS];
+    let seat = RollRow {
+        bench: 0,
+        weight: 0,
+    };
+    let roll = [seat; ROLL_PLACES];
+    let row = [0u32; ROW_PLACES];
     Lending {
         editcounts: counts,
         constraintcounts: counts,
-        roll: voting_roll::empty_roll(),
+        roll: roll,
+        rollcount: 0,
         row: row,
         rowcount: 0,
     }
@@ -221,7 +290,7 @@ pub fn nothing_lent() -> Lending
 // A row of edits for record k.
 pub fn lend_edit(lending: Lending, kept: &mut [[u32; 5]], k: u32, row: [u32; 5]) -> Setting
     ensures { λ r. ⌜ ((L : Lent) (constraints : Rows) → Kept L lending (now (kept .entry)) constraints
-        → (r .number ≡ rowsFault 128 (L .edits) k) × Kept (withEdit L k row) (r .lending) (now (kept .exit)) constraints) ⌝ }
+        → (r .number ≡ rowsFault editPlaces (L .edits) k) × Kept (withEdit L k row) (r .lending) (now (kept .exit)) constraints) ⌝ }
 {
     let counts = lending.editcounts;
     let added = add_edit(counts, &mut kept[..], k as usize, row);
@@ -237,7 +306,7 @@ pub fn lend_edit(lending: Lending, kept: &mut [[u32; 5]], k: u32, row: [u32; 5])
 // A row of constraints for record k.
 pub fn lend_constraint(lending: Lending, kept: &mut [[u32; 3]], k: u32, row: [u32; 3]) -> Setting
     ensures { λ r. ⌜ ((L : Lent) (edits : Rows) → Kept L lending edits (now (kept .entry))
-        → (r .number ≡ rowsFault 513 (L .constraints) k) × Kept (withConstraint L k row) (r .lending) edits (now (kept .exit))) ⌝ }
+        → (r .number ≡ rowsFault constraintPlaces (L .constraints) k) × Kept (withConstraint L k row) (r .lending) edits (now (kept .exit))) ⌝ }
 {
     let counts = lending.constraintcounts;
     let added = add_constraint(counts, &mut kept[..], k as usize, row);
@@ -271,13 +340,13 @@ pub fn lend_record(
     let place = k as usize;
     let n = multilog.editcount;
     let m = multilog.constraintcount;
-    if 127 < n {
+    if EDITS < n {
         return Setting {
             number: 2,
             lending: lending,
         };
     }
-    if 512 < m {
+    if CONSTRAINTS < m {
         return Setting {
             number: 2,
             lending: lending,
@@ -306,7 +375,7 @@ pub fn lend_record(
     }
 }
 
-// A row of the roll.
+// A row of the roll. After nine rows it need not be kept: with them the roll is faulty already.
 pub fn lend_seat(lending: Lending, bench: u32, weight: u32) -> Setting
     ensures { λ r. ⌜ ((L : Lent) (edits constraints : Rows) → Kept L lending edits constraints
         → (r .number ≡ seatNumber bench weight) × Kept (withSeat L bench weight) (r .lending) edits constraints) ⌝ }
@@ -323,13 +392,20 @@ pub fn lend_seat(lending: Lending, bench: u32, weight: u32) -> Setting
             lending: lending,
         };
     }
+    let n = lending.rollcount;
+    if ROLL_PLACES <= n {
+        return Setting {
+            number: 0,
+            lending: lending,
+        };
+    }
     let seat = RollRow {
         bench: bench as u8,
         weight: weight as u16,
     };
-    let seats = lending.roll;
     let mut lent = lending;
-    lent.roll = voting_roll::with_row(seats, seat);
+    lent.roll[n] = seat;
+    lent.rollcount = n + 1;
     Setting {
         number: 0,
         lending: lent,
@@ -341,7 +417,7 @@ pub fn lend_no_roll(lending: Lending) -> Lending
     ensures { λ r. ⌜ ((L : Lent) (edits constraints : Rows) → Kept L lending edits constraints → Kept (withoutRoll L) r edits constraints) ⌝ }
 {
     let mut lent = lending;
-    lent.roll = voting_roll::empty_roll();
+    lent.rollcount = 0;
     lent
 }
 
@@ -351,7 +427,7 @@ pub fn lend_name(lending: Lending, name: u32) -> Setting
         → (r .number ≡ nameNumber L) × Kept (withName L name) (r .lending) edits constraints) ⌝ }
 {
     let n = lending.rowcount;
-    if 129 <= n {
+    if ROW_PLACES <= n {
         return Setting {
             number: 3,
             lending: lending,

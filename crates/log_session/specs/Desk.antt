@@ -1,6 +1,7 @@
 -- A desk: one bench, and what the lines of a call log have lent. Assumes nothing.
 use mathlib.Core.List.{List, [], _∷_, _++_}
 use Prim.Native.Nat.{ℕ}
+use Rattle.log_forms.specs.Printed.{Texts}
 use Rattle.log_answers.specs.Answers.{answeredText}
 use Rattle.ledger.specs.declared.Answer.{Answer}
 use Rattle.ledger.specs.declared.Bench.{Bench}
@@ -29,29 +30,22 @@ benchIn D = benchOf (ledgerOf D)
 pub record Effect : Type 0 where
   pub number : ℕ
   pub after : Desk
-  pub text : List ℕ
-
--- the numbers of a line
-abbrev pub Cells : Type 0
-Cells = List ℕ
+  pub text : Texts
 
 -- something else is lent, and nothing is printed
 abbrev pub lends : Desk → ℕ → Lent → Effect
 lends D n L = record { number = n; after = record { calls = D .calls; lent = L }; text = [] }
 
 -- nothing changes
-abbrev pub tells : Desk → ℕ → List ℕ → Effect
+abbrev pub tells : Desk → ℕ → Texts → Effect
 tells D n text = record { number = n; after = D; text = text }
-
-abbrev pub noEffect : Desk → Cells → Effect
-noEffect D c = tells D 1 []
 
 -- a call that is made on the bench; or a number of its line is outside its range, and none is made
 pub data Request : Type 0 where
   outside : Request
   make : Call → Request
 
-unfoldable pub requested : Desk → (Answer → Ledger → List ℕ) → Request → Effect
+unfoldable pub requested : Desk → (Answer → Ledger → Texts) → Request → Effect
 requested D text outside = tells D 2 []
 requested D text (make call) =
     let reply = step (ledgerOf D) call in
@@ -67,5 +61,5 @@ replied D outside = refusedWith (benchIn D) 2
 replied D (make call) = outcome (step (ledgerOf D) call)
 
 -- what is printed of a line: its answer, or its refusal with the line's number
-unfoldable pub printedOf : Effect → ℕ → List ℕ
+unfoldable pub printedOf : Effect → ℕ → Texts
 printedOf e line = answeredText (e .number) (e .text) line

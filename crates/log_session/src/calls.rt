@@ -2,23 +2,24 @@
 use crate::Told;
 use ledger::Answer;
 use ledger::Bench;
+use log_commands::Call;
+use log_commands::Lend;
 use log_lent::Lending;
 use pages_turner::Turner;
 ghost use mathlib.Core.Path.{_≡_};
 ghost use mathlib.Core.Bool.{cond};
 ghost use mathlib.Core.List.{[], _∷_};
-ghost use Prim.Native.Nat.{suc, _<_, _≤_};
 ghost use lib.Dec.{eqb};
-ghost use lib.ListN.{length};
 ghost use Rattle.log_forms.specs.Printed.{Printed};
-ghost use Rattle.log_answers.specs.Answers.{answerLine, bit};
+ghost use Rattle.text_report.specs.Report.{refusalLine};
+ghost use Rattle.log_answers.specs.Answers.{bit};
 ghost use Rattle.log_session.specs.Desk.{Desk, printedOf};
-ghost use Rattle.log_session.specs.Lends.{lendingOf};
-ghost use Rattle.log_session.specs.calls.Lines.{Holds, pagesText, adoptionText, outcomeText};
+ghost use Rattle.log_session.specs.Lends.{lendEffect};
+ghost use Rattle.log_session.specs.calls.Lines.{Holds, pagesText, adoptionText, isAdoption, outcomeText};
 
 // An accepted line that lends prints nothing.
 fn print_setting(number: u32, line: usize, out: &mut [u8], at: usize) -> usize
-    ensures { λ r. ⌜ (at ≤ suc (length (now (out .entry))) → Printed (cond (eqb number 0) [] (answerLine 0 (number ∷ line ∷ []))) (now (out .entry)) at (now (out .exit)) r) ⌝ }
+    ensures { λ r. ⌜ Printed (cond (eqb number 0) [] (refusalLine number line ∷ [])) (now (out .entry)) at (now (out .exit)) r ⌝ }
 {
     if number == 0 {
         return at;
@@ -44,7 +45,12 @@ fn print_pages(answer: Answer, turner: Turner, out: &mut [u8], at: usize) -> usi
         turner.opened as u64,
         turner.last as u64,
     ];
-    log_answers::tell(&mut out[..], at, 1, &numbers)
+    log_forms::print(
+        &mut out[..],
+        at,
+        b"undone=# redone=# open=# last=#\n",
+        &numbers,
+    )
 }
 
 fn print_adoption(answer: Answer, turner: Turner, out: &mut [u8], at: usize) -> usize
@@ -61,24 +67,44 @@ fn print_adoption(answer: Answer, turner: Turner, out: &mut [u8], at: usize) -> 
         turner.opened as u64,
         turner.last as u64,
     ];
-    log_answers::tell(&mut out[..], at, 3, &numbers)
+    log_forms::print(
+        &mut out[..],
+        at,
+        b"won=? greatest=# silent=# total=# undone=# redone=# open=# last=#\n",
+        &numbers,
+    )
 }
 
-// What a call answers, or its refusal, by its place among the requests.
+// Whether a call is an adoption, whose answer has the election's too.
+fn is_adoption(call: Call) -> bool
+    ensures { λ r. ⌜ r ≡ isAdoption call ⌝ }
+{
+    match call {
+        Call::AddEdit(_) => false,
+        Call::AddConstraint(_) => false,
+        Call::Merge(_) => false,
+        Call::Hide(_) => false,
+        Call::Show(_) => false,
+        Call::Turn(_) => false,
+        Call::Adopt(_) => true,
+    }
+}
+
+// What a call answers, or its refusal.
 pub fn print_outcome(
     answer: Answer,
     turner: Turner,
-    which: usize,
+    call: Call,
     line: usize,
     out: &mut [u8],
     at: usize,
 ) -> usize
-    ensures { λ r. ⌜ Printed (outcomeText which answer turner line) (now (out .entry)) at (now (out .exit)) r ⌝ }
+    ensures { λ r. ⌜ Printed (outcomeText call answer turner line) (now (out .entry)) at (now (out .exit)) r ⌝ }
 {
     if answer.number != 0 {
         return log_answers::print_refusal(answer.number, line, &mut out[..], at);
     }
-    if which == 5 {
+    if is_adoption(call) {
         return print_adoption(answer, turner, &mut out[..], at);
     }
     print_pages(answer, turner, &mut out[..], at)
@@ -90,24 +116,16 @@ pub fn run_lend(
     lending: Lending,
     edits: &mut [[u32; 5]],
     constraints: &mut [[u32; 3]],
-    kind: usize,
-    cells: [u32; 8],
+    lend: Lend,
     line: usize,
     out: &mut [u8],
     at: usize,
 ) -> Told
-    ensures { λ r. ⌜ ((D : Desk) → Holds D bench lending (now (edits .entry)) (now (constraints .entry)) → kind < 8 → at ≤ suc (length (now (out .entry)))
-        → Holds (lendingOf kind D cells .after) bench (r .lending) (now (edits .exit)) (now (constraints .exit))
-        × Printed (printedOf (lendingOf kind D cells) line) (now (out .entry)) at (now (out .exit)) (r .at)) ⌝ }
+    ensures { λ r. ⌜ ((D : Desk) → Holds D bench lending (now (edits .entry)) (now (constraints .entry))
+        → Holds (lendEffect D lend .after) bench (r .lending) (now (edits .exit)) (now (constraints .exit))
+        × Printed (printedOf (lendEffect D lend) line) (now (out .entry)) at (now (out .exit)) (r .at)) ⌝ }
 {
-    let setting = crate::lend(
-        lending,
-        &mut edits[..],
-        &mut constraints[..],
-        bench,
-        kind,
-        cells,
-    );
+    let setting = crate::lend_line(lending, &mut edits[..], &mut constraints[..], bench, lend);
     let place = print_setting(setting.number, line, &mut out[..], at);
     let lent = setting.lending;
     Told {

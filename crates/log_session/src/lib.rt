@@ -1,4 +1,4 @@
-// A desk: one bench, and what the lines of a call log have lent. Here are the lines that lend, and those that make a call on the bench.
+// A session: one bench, and what the lines of a call log have lent. Here are the lines that lend, and those that make a call on the bench.
 pub mod calls;
 pub mod questions;
 pub mod votes;
@@ -6,23 +6,18 @@ pub mod votes;
 use bench_edits::visibility;
 use ledger::Bench;
 use ledger::Outcome;
+use log_commands::Call;
+use log_commands::ConstraintCells;
+use log_commands::EditCells;
+use log_commands::Lend;
 use log_lent::Lending;
 use log_lent::Setting;
 use log_lent::lent_calls;
-use pages_turner::Turner;
-use pages_turner::turning;
-use pages_turner::turning::Turning;
 ghost use mathlib.Core.Path.{_≡_};
-ghost use mathlib.Core.Bool.{false};
-ghost use Prim.Native.Nat.{_<_, _≤_};
 ghost use Rattle.log_lent.specs.Kept.{Kept};
-ghost use Rattle.record_rows.specs.row.Row.{cell};
-ghost use Rattle.record_rows.specs.ground.Ground.{Rows};
-ghost use Rattle.ledger.specs.declared.Bench.{Bench};
-ghost use Rattle.bench.specs.Changes.{turnReply};
-ghost use Rattle.log_session.specs.Desk.{Desk, Cells, benchIn, replied};
-ghost use Rattle.log_session.specs.Lends.{lendingOf};
-ghost use Rattle.log_session.specs.Requests.{isTurn, signedPages, turnRequest, requestOf};
+ghost use Rattle.log_session.specs.Desk.{Desk, benchIn, replied};
+ghost use Rattle.log_session.specs.Lends.{editCellsRow, constraintCellsRow, lendEffect};
+ghost use Rattle.log_session.specs.Requests.{requestOf};
 
 // What is lent after a line that makes no call, and the place after what it printed. Such a line hands back no bench, which is long to copy.
 pub struct Told {
@@ -30,49 +25,22 @@ pub struct Told {
     pub at: usize,
 }
 
-// A row, no rows or the bench's record for one of the lent records: kinds 0 to 3.
-fn lend_rows(
-    lending: Lending,
-    edits: &mut [[u32; 5]],
-    constraints: &mut [[u32; 3]],
-    bench: Bench,
-    kind: usize,
-    cells: [u32; 8],
-) -> Setting
-    ensures { λ r. ⌜ ((D : Desk) → Kept (D .lent) lending (now (edits .entry)) (now (constraints .entry)) → bench ≡ benchIn D → kind < 4
-        → (r .number ≡ lendingOf kind D cells .number) × Kept (lendingOf kind D cells .after .lent) (r .lending) (now (edits .exit)) (now (constraints .exit))) ⌝ }
+fn edit_row(cells: EditCells) -> [u32; 5]
+    ensures { λ r. ⌜ r ≡ editCellsRow cells ⌝ }
 {
-    match kind {
-        0 => log_lent::lend_edit(
-            lending,
-            &mut edits[..],
-            cells[0],
-            [cells[1], cells[2], cells[3], cells[4], cells[5]],
-        ),
-        1 => log_lent::lend_constraint(
-            lending,
-            &mut constraints[..],
-            cells[0],
-            [cells[1], cells[2], cells[3]],
-        ),
-        2 => log_lent::lend_record(
-            lending,
-            &mut edits[..],
-            &mut constraints[..],
-            cells[0],
-            record::empty(),
-        ),
-        _ => {
-            let multilog = bench.multilog;
-            log_lent::lend_record(
-                lending,
-                &mut edits[..],
-                &mut constraints[..],
-                cells[0],
-                multilog,
-            )
-        }
-    }
+    [
+        cells.name,
+        cells.kind,
+        cells.place,
+        cells.field,
+        cells.value,
+    ]
+}
+
+fn constraint_row(cells: ConstraintCells) -> [u32; 3]
+    ensures { λ r. ⌜ r ≡ constraintCellsRow cells ⌝ }
+{
+    [cells.left, cells.rule, cells.right]
 }
 
 fn set(lending: Lending) -> Setting
@@ -84,96 +52,60 @@ fn set(lending: Lending) -> Setting
     }
 }
 
-// A row of the roll, a name of the row to be tested, or none of them: kinds 4 to 7.
-fn lend_names(lending: Lending, kind: usize, cells: [u32; 8]) -> Setting
-    ensures { λ r. ⌜ ((D : Desk) (edits constraints : Rows) → Kept (D .lent) lending edits constraints → 4 ≤ kind → kind < 8
-        → (r .number ≡ lendingOf kind D cells .number) × Kept (lendingOf kind D cells .after .lent) (r .lending) edits constraints) ⌝ }
-{
-    match kind {
-        4 => log_lent::lend_seat(lending, cells[0], cells[1]),
-        5 => set(log_lent::lend_no_roll(lending)),
-        6 => log_lent::lend_name(lending, cells[0]),
-        _ => set(log_lent::lend_no_row(lending)),
-    }
-}
-
-// A line that lends, by its kind.
-pub fn lend(
+// A line that lends.
+pub fn lend_line(
     lending: Lending,
     edits: &mut [[u32; 5]],
     constraints: &mut [[u32; 3]],
     bench: Bench,
-    kind: usize,
-    cells: [u32; 8],
+    lend: Lend,
 ) -> Setting
-    ensures { λ r. ⌜ ((D : Desk) → Kept (D .lent) lending (now (edits .entry)) (now (constraints .entry)) → bench ≡ benchIn D → kind < 8
-        → (r .number ≡ lendingOf kind D cells .number) × Kept (lendingOf kind D cells .after .lent) (r .lending) (now (edits .exit)) (now (constraints .exit))) ⌝ }
+    ensures { λ r. ⌜ ((D : Desk) → Kept (D .lent) lending (now (edits .entry)) (now (constraints .entry)) → bench ≡ benchIn D
+        → (r .number ≡ lendEffect D lend .number) × Kept (lendEffect D lend .after .lent) (r .lending) (now (edits .exit)) (now (constraints .exit))) ⌝ }
 {
-    if kind < 4 {
-        return lend_rows(
+    match lend {
+        Lend::EditRow(k, cells) => {
+            log_lent::lend_edit(lending, &mut edits[..], k, edit_row(cells))
+        }
+        Lend::ConstraintRow(k, cells) => {
+            log_lent::lend_constraint(lending, &mut constraints[..], k, constraint_row(cells))
+        }
+        Lend::NoRows(k) => log_lent::lend_record(
             lending,
             &mut edits[..],
             &mut constraints[..],
-            bench,
-            kind,
-            cells,
-        );
-    }
-    lend_names(lending, kind, cells)
-}
-
-// A number of pages, which has 31 bits, with its sign: forward for request 3, else back.
-fn signed(which: usize, pages: u32) -> i32
-    requires { ⌜ pages < 2147483648 ⌝ }
-    ensures { λ r. ⌜ r ≡ signedPages which pages ⌝ }
-{
-    if which == 3 {
-        return pages as i32;
-    }
-    0 - (pages as i32)
-}
-
-// A turn of the bench's turner by so many pages. The bench itself is not needed: what a row of turns comes to is opened once, after the last.
-pub fn turn_by(turner: Turner, which: usize, pages: u32) -> Turning
-    ensures { λ r. ⌜ (r .turner .last ≡ turner .last)
-        × ((D : Desk) (bench : Bench) (c : Cells) → bench ≡ benchIn D → bench .turner ≡ turner → cell c 0 ≡ pages → turnReply bench r ≡ replied D (turnRequest which D c)) ⌝ }
-{
-    if 2147483647 < pages {
-        return Turning {
-            number: 2,
-            turner: turner,
-        };
-    }
-    turning::turned(turner, signed(which, pages))
-}
-
-// A call on the bench that is lent nothing and is no turn, by its place among the requests.
-fn call_alone(bench: Bench, which: usize, cells: [u32; 8]) -> Outcome
-    ensures { λ r. ⌜ ((D : Desk) → bench ≡ benchIn D → which < 8 → (which ≡ 0 → ⊥) → (which ≡ 5 → ⊥) → isTurn which ≡ false → r ≡ replied D (requestOf which D cells)) ⌝ }
-{
-    match which {
-        1 => visibility::hide(bench, cells[0]),
-        2 => visibility::show(bench, cells[0]),
-        6 => bench_edits::add_edit(bench, [cells[0], cells[1], cells[2], cells[3], cells[4]]),
-        _ => bench_edits::add_constraint(bench, [cells[0], cells[1], cells[2]]),
+            k,
+            record::empty(),
+        ),
+        Lend::BenchRows(k) => {
+            let multilog = bench.multilog;
+            log_lent::lend_record(lending, &mut edits[..], &mut constraints[..], k, multilog)
+        }
+        Lend::RollRow(seat, weight) => log_lent::lend_seat(lending, seat, weight),
+        Lend::NoRoll => set(log_lent::lend_no_roll(lending)),
+        Lend::RowName(name) => log_lent::lend_name(lending, name),
+        Lend::NoRow => set(log_lent::lend_no_row(lending)),
     }
 }
 
-// A call on the bench that is no turn, by its place among the requests.
-pub fn call(
+// A call on the bench.
+pub fn make_call(
     bench: Bench,
     lending: Lending,
     edits: &[[u32; 5]],
     constraints: &[[u32; 3]],
-    which: usize,
-    cells: [u32; 8],
+    call: Call,
 ) -> Outcome
-    ensures { λ r. ⌜ ((D : Desk) → bench ≡ benchIn D → Kept (D .lent) lending (now (edits .entry)) (now (constraints .entry)) → which < 8 → isTurn which ≡ false
-        → r ≡ replied D (requestOf which D cells)) ⌝ }
+    ensures { λ r. ⌜ ((D : Desk) → bench ≡ benchIn D → Kept (D .lent) lending (now (edits .entry)) (now (constraints .entry))
+        → r ≡ replied D (requestOf D call)) ⌝ }
 {
-    match which {
-        0 => lent_calls::merge_lent(bench, lending, edits, constraints, cells[0]),
-        5 => lent_calls::adopt_lent(bench, lending, edits, constraints, cells[0]),
-        _ => call_alone(bench, which, cells),
+    match call {
+        Call::AddEdit(cells) => bench_edits::add_edit(bench, edit_row(cells)),
+        Call::AddConstraint(cells) => bench_edits::add_constraint(bench, constraint_row(cells)),
+        Call::Merge(k) => lent_calls::merge_lent(bench, lending, edits, constraints, k),
+        Call::Hide(edit) => visibility::hide(bench, edit),
+        Call::Show(edit) => visibility::show(bench, edit),
+        Call::Turn(pages) => bench::turn(bench, pages),
+        Call::Adopt(edit) => lent_calls::adopt_lent(bench, lending, edits, constraints, edit),
     }
 }

@@ -1,6 +1,8 @@
 // The lines of a call log about votes, proposals, suggestions and the test of a row: what each prints.
 use crate::Told;
 use judgement::lent_record::RowAnswer;
+use log_commands::Proposing;
+use log_commands::Vote;
 use log_lent::Lending;
 use log_lent::lent_calls;
 use log_lent::lent_proposals;
@@ -11,12 +13,11 @@ use voting::Election;
 use voting_bundles::BundleAnswer;
 ghost use mathlib.Core.Path.{_≡_};
 ghost use mathlib.Core.Bool.{cond};
-ghost use Prim.Native.Nat.{_+_, _<_};
 ghost use Rattle.log_forms.specs.Printed.{Printed};
 ghost use Rattle.log_lent.specs.Kept.{Kept};
 ghost use Rattle.log_session.specs.Desk.{Desk, benchIn, printedOf};
 ghost use Rattle.log_answers.specs.Answers.{answeredText, recordText};
-ghost use Rattle.log_session.specs.votes.Votes.{electionLine, bundleText, ruleLine, suggestionText, testLine, voteOf};
+ghost use Rattle.log_session.specs.votes.Votes.{electionLine, bundleText, ruleLine, suggestionText, testLine, proposalEffect, voteEffect};
 
 fn bit(b: bool) -> u64
     ensures { λ r. ⌜ r ≡ cond b 1 0 ⌝ }
@@ -31,10 +32,10 @@ fn print_election(election: Election, line: usize, out: &mut [u8], at: usize) ->
         return log_answers::print_refusal(election.number, line, &mut out[..], at);
     }
     let won = bit(election.won);
-    log_answers::tell(
+    log_forms::print(
         &mut out[..],
         at,
-        2,
+        b"won=? greatest=# silent=# total=#\n",
         &[
             won,
             election.greatest as u64,
@@ -52,10 +53,10 @@ fn print_bundle(answer: BundleAnswer, line: usize, out: &mut [u8], at: usize) ->
     }
     let small = answer.bundle;
     let eligible = bit(answer.eligible);
-    let head = log_answers::tell(
+    let head = log_forms::print(
         &mut out[..],
         at,
-        4,
+        b"eligible=? edits=# rules=#\n",
         &[
             eligible,
             small.editcount as u64,
@@ -65,26 +66,27 @@ fn print_bundle(answer: BundleAnswer, line: usize, out: &mut [u8], at: usize) ->
     log_answers::print_text(&mut out[..], head, small)
 }
 
-// The answer of a suggested constraint by its rule.
-fn rule_kind(rule: u32) -> usize
-    ensures { λ r. ⌜ r ≡ 25 + rule ⌝ }
-{
-    25 + rule as usize
-}
-
-// The line of a suggested constraint.
+// The line of a suggested constraint, by its rule.
 fn print_rule(row: [u32; 3], out: &mut [u8], at: usize) -> usize
     ensures { λ r. ⌜ Printed (ruleLine row) (now (out .entry)) at (now (out .exit)) r ⌝ }
 {
-    let left = row[0];
     let rule = row[1];
-    let right = row[2];
-    log_answers::tell(
-        &mut out[..],
-        at,
-        rule_kind(rule),
-        &[left as u64, right as u64],
-    )
+    let numbers = [row[0] as u64, row[2] as u64];
+    match rule {
+        0 => log_forms::print(
+            &mut out[..],
+            at,
+            b"left=@ rule=notafter right=@\n",
+            &numbers,
+        ),
+        1 => log_forms::print(&mut out[..], at, b"left=@ rule=enables right=@\n", &numbers),
+        _ => log_forms::print(
+            &mut out[..],
+            at,
+            b"left=@ rule=noncommuting right=@\n",
+            &numbers,
+        ),
+    }
 }
 
 fn print_rules(suggested: Suggested, out: &mut [u8], at: usize) -> usize
@@ -93,7 +95,7 @@ fn print_rules(suggested: Suggested, out: &mut [u8], at: usize) -> usize
     let count = suggested.count;
     let first = suggested.first;
     let second = suggested.second;
-    let head = log_answers::tell(&mut out[..], at, 6, &[count as u64]);
+    let head = log_forms::print(&mut out[..], at, b"rules=#\n", &[count as u64]);
     if count < 1 {
         return head;
     }
@@ -120,45 +122,44 @@ fn print_test(answer: RowAnswer, line: usize, out: &mut [u8], at: usize) -> usiz
         return log_answers::print_refusal(answer.number, line, &mut out[..], at);
     }
     let sound = bit(answer.sound);
-    log_answers::tell(&mut out[..], at, 7, &[sound])
+    log_forms::print(&mut out[..], at, b"sound=?\n", &[sound])
 }
 
-// What a line about votes prints, by its place among them, but for making a proposal.
+// What a line about votes prints.
 pub fn print_vote(
     lending: Lending,
     edits: &[[u32; 5]],
     constraints: &[[u32; 3]],
     multilog: Record,
-    which: usize,
-    cells: [u32; 8],
+    vote: Vote,
     line: usize,
     out: &mut [u8],
     at: usize,
 ) -> usize
-    ensures { λ r. ⌜ ((D : Desk) → Kept (D .lent) lending (now (edits .entry)) (now (constraints .entry)) → multilog ≡ benchIn D .multilog → which < 5 → (which ≡ 2 → ⊥)
-        → Printed (printedOf (voteOf which D cells) line) (now (out .entry)) at (now (out .exit)) r) ⌝ }
+    ensures { λ r. ⌜ ((D : Desk) → Kept (D .lent) lending (now (edits .entry)) (now (constraints .entry)) → multilog ≡ benchIn D .multilog
+        → Printed (printedOf (voteEffect D vote) line) (now (out .entry)) at (now (out .exit)) r) ⌝ }
 {
-    match which {
-        0 => print_election(
-            lent_calls::elect_lent(lending, edits, constraints, cells[0]),
+    match vote {
+        Vote::Elect(edit) => print_election(
+            lent_calls::elect_lent(lending, edits, constraints, edit),
             line,
             &mut out[..],
             at,
         ),
-        1 => print_bundle(
-            lent_calls::bundle_lent(lending, edits, constraints, cells[1], cells[0]),
+        Vote::Bundle(edit, k) => print_bundle(
+            lent_calls::bundle_lent(lending, edits, constraints, k, edit),
             line,
             &mut out[..],
             at,
         ),
-        3 => print_suggestion(
-            lent_calls::suggest_named(multilog, cells[0], cells[1], cells[2]),
+        Vote::Suggest(asked) => print_suggestion(
+            lent_calls::suggest_named(multilog, asked.first, asked.second, asked.case),
             line,
             &mut out[..],
             at,
         ),
-        _ => print_test(
-            lent_calls::test_lent(lending, edits, constraints, cells[0]),
+        Vote::Test(k) => print_test(
+            lent_calls::test_lent(lending, edits, constraints, k),
             line,
             &mut out[..],
             at,
@@ -174,13 +175,7 @@ fn print_made(made: Joined, line: usize, out: &mut [u8], at: usize) -> usize
         return log_answers::print_refusal(made.number, line, &mut out[..], at);
     }
     let after = made.after;
-    let head = log_answers::tell(
-        &mut out[..],
-        at,
-        5,
-        &[after.editcount as u64, after.constraintcount as u64],
-    );
-    log_answers::print_text(&mut out[..], head, after)
+    log_answers::print_record(&mut out[..], at, after)
 }
 
 // Makes a proposal from what is lent and prints it; kept, it takes the place of the old one.
@@ -188,23 +183,23 @@ pub fn print_proposal(
     lending: Lending,
     edits: &mut [[u32; 5]],
     constraints: &mut [[u32; 3]],
-    cells: [u32; 8],
+    asked: Proposing,
     line: usize,
     out: &mut [u8],
     at: usize,
 ) -> Told
     ensures { λ r. ⌜ ((D : Desk) → Kept (D .lent) lending (now (edits .entry)) (now (constraints .entry))
-        → Kept (voteOf 2 D cells .after .lent) (r .lending) (now (edits .exit)) (now (constraints .exit))
-        × Printed (printedOf (voteOf 2 D cells) line) (now (out .entry)) at (now (out .exit)) (r .at)) ⌝ }
+        → Kept (proposalEffect D asked .after .lent) (r .lending) (now (edits .exit)) (now (constraints .exit))
+        × Printed (printedOf (proposalEffect D asked) line) (now (out .entry)) at (now (out .exit)) (r .at)) ⌝ }
 {
     let made = lent_proposals::propose_lent(
         lending,
         &edits[..],
         &constraints[..],
-        cells[0],
-        cells[1],
-        cells[2],
-        cells[3],
+        asked.lent,
+        asked.old,
+        asked.edits,
+        asked.rules,
     );
     let end = print_made(made, line, &mut out[..], at);
     if made.number != 0 {
@@ -213,8 +208,7 @@ pub fn print_proposal(
             at: end,
         };
     }
-    let keep = cells[4];
-    if keep != 1 {
+    if !asked.keep {
         return Told {
             lending: lending,
             at: end,
@@ -225,7 +219,7 @@ pub fn print_proposal(
         lending,
         &mut edits[..],
         &mut constraints[..],
-        cells[1],
+        asked.old,
         new,
     );
     let lent = setting.lending;

@@ -1,7 +1,7 @@
 -- `answered` meets its contract. Assumes nothing.
 use mathlib.Core.Path.{refl}
 use borrow.Author.Needs.{needs}
-use Rattle.c_library.proofs.Told.{work-short, out-short, out-told}
+use Rattle.c_library.proofs.Told.{work-is, work-short, out-short, out-told}
 use Rattle.c_library.proofs.answered.Statement.{statement}
 use Rattle.c_library.proofs.answered.Tie as tie
 
@@ -21,7 +21,7 @@ same-length : tie.Need-same-length
 same-length c = search needs
 
 returns : tie.Need-returns
-returns c = λ l. work-short _ _ _ (c .before .before .before .before .before .before .log-size .ensures refl refl l) (c .before .if1 .taken) (c .refused .ensures)
+returns c = λ l. let w = c .before .before .before .before .before .before .log-size .ensures refl refl l in let q = work-short _ _ _ (work-is _ _ _ w) (c .before .if1 .taken) (c .refused .ensures) in (q .0, q .1, w .0)
 
 refused-requires-2 : tie.Need-refused-requires-2
 refused-requires-2 c κs = search needs
@@ -30,7 +30,7 @@ same-length-2 : tie.Need-same-length-2
 same-length-2 c = search needs
 
 returns-2 : tie.Need-returns-2
-returns-2 c = λ l. out-short _ _ _ (c .before .before .before .before .before .before .before .log-size .ensures refl refl l) (c .before .before .if1 .left) (c .before .if2 .taken) (c .refused2 .ensures)
+returns-2 c = λ l. let w = c .before .before .before .before .before .before .before .log-size .ensures refl refl l in let q = out-short _ _ _ (work-is _ _ _ w) (c .before .before .if1 .left) (c .before .if2 .taken) (c .refused2 .ensures) in (q .0, q .1, w .0)
 
 copy-requires : tie.Need-copy-requires
 copy-requires c κs = search needs
@@ -42,7 +42,7 @@ same-length-4 : tie.Need-same-length-4
 same-length-4 c = search needs
 
 returns-3 : tie.Need-returns-3
-returns-3 c = λ l. out-told _ _ _ (c .before .before .before .before .before .before .before .before .before .before .before .log-size .ensures refl refl l) (c .before .before .before .before .before .before .if1 .left) (c .before .before .before .before .before .if2 .left) (c .before .before .copy .ensures)
+returns-3 c = λ l. let w = c .before .before .before .before .before .before .before .before .before .before .before .log-size .ensures refl refl l in let q = out-told _ _ _ (work-is _ _ _ w) (c .before .before .before .before .before .before .if1 .left) (c .before .before .before .before .before .if2 .left) (c .before .before .copy .ensures) in (q .0, q .1, w .0)
 
 pub answered-spec : {M : Type 1} → statement M
 answered-spec =

@@ -3,7 +3,7 @@ use native.Mathlib.Omega.{arith}
 use borrow.Author.Needs.{needs}
 use Rattle.text_lines.specs.Lines.{lines}
 use Rattle.log.specs.Log.{logRun, runLines}
-use Rattle.c_library.specs.Replies.{answersAfter}
+use Rattle.c_library.specs.Replies.{textsAfter}
 use Rattle.c_library.proofs.catalogue_replay.Statement.{statement}
 use Rattle.c_library.proofs.catalogue_replay.Tie as tie
 
@@ -20,7 +20,7 @@ same-length-2 : tie.Need-same-length-2
 same-length-2 c = search needs
 
 returns : tie.Need-returns
-unfolding answersAfter logRun runLines lines
+unfolding textsAfter logRun runLines lines
 returns c = λ l. c .before .before .before .before .answered .ensures (omega (arith, l))
 
 pub catalogue-replay-spec : {M : Type 1} → statement M

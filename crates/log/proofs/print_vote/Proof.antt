@@ -12,7 +12,7 @@ same-length : tie.Need-same-length
 same-length c = search needs
 
 returns : tie.Need-returns
-returns c = λ D H w n. c .before .before .print-vote .ensures D (H .kept) (ap (λ (x : Bench). x .multilog) (H .benched)) w n
+returns c = λ D H. c .before .before .print-vote .ensures D (H .kept) (ap (λ (x : Bench). x .multilog) (H .benched))
 
 pub print-vote-spec : {M : Type 1} → statement M
 print-vote-spec = tie.close (tie.spec print-vote-requires same-length returns)

@@ -1,7 +1,7 @@
 -- `run_log` meets its contract. Assumes nothing.
 use native.Mathlib.Omega.{arith}
 use borrow.Author.Needs.{needs}
-use Rattle.log.proofs.Running.{running-place, running-end}
+use Rattle.log.proofs.Running.{running-end}
 use Rattle.log.proofs.run_log.Statement.{statement}
 use Rattle.log.proofs.run_log.Tie as tie
 
@@ -18,7 +18,7 @@ same-length-3 : tie.Need-same-length-3
 same-length-3 c = search needs
 
 returns : tie.Need-returns
-returns c = λ D H s k. let q = c .before .before .before .before .run-some .ensures in let R = q .1 D H s k in let p = running-place _ D _ _ _ R in let e = q .0 .ended (omega arith) in running-end _ D _ _ _ R (omega arith)
+returns c = λ D H k. let q = c .before .before .before .before .run-some .ensures in let R = q .1 D H k in let e = q .0 .ended (search needs) in running-end _ D _ _ _ R (omega arith)
 
 pub run-log-spec : {M : Type 1} → statement M
 run-log-spec =

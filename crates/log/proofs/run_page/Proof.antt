@@ -1,12 +1,13 @@
 -- `run_page` meets its contract. Assumes nothing.
-use mathlib.Core.Path.{refl}
-use mathlib.Core.Logic.{⊎-elim}
-use native.Mathlib.Omega.{arith}
+use mathlib.Core.Path.{refl, sym, ap, _∙_}
 use borrow.Author.Needs.{needs}
-use Rattle.log.proofs.Orders.{paging-turns}
-use Rattle.log.proofs.Paging.{page-done, turn-done}
+use Rattle.pages_turner.specs.declared.turning.Turning.{Turning}
+use Rattle.log.proofs.Paging.{page-performed, turn-performed}
 use Rattle.log.proofs.run_page.Statement.{statement}
 use Rattle.log.proofs.run_page.Tie as tie
+
+is-page-question-requires : tie.Need-is-page-question-requires
+is-page-question-requires c κs = search needs
 
 print-page-requires : tie.Need-print-page-requires
 print-page-requires c κs = search needs
@@ -16,17 +17,20 @@ same-length c = search needs
 
 returns : tie.Need-returns
 returns c =
-    let b = c .before .before in
-    (refl, λ D bench lending edits constraints H t. page-done D _ _ (b .before .before .before .before .before .pre) H t (b .before .before .if1 .taken) (b .print-page .ensures))
+    let b = c .before .before .before .before in (
+      refl,
+      λ D bench lending edits constraints H t.
+          page-performed D _ (b .before .before .before .args .command) H t (sym (b .before .is-page-question .ensures) ∙ b .if1 .taken) (c .before .before .print-page .ensures),
+    )
 
-sub-which : tie.Need-sub-which
-sub-which c = ⊎-elim (λ e. omega arith) (λ e. omega arith) (paging-turns _ (c .before .before .before .pre) (c .if1 .left))
+call-made-requires : tie.Need-call-made-requires
+call-made-requires c κs = search needs
 
-array-read-turn-by : tie.Need-array-read-turn-by
-array-read-turn-by c = search needs
+pages-turned-requires : tie.Need-pages-turned-requires
+pages-turned-requires c κs = search needs
 
-turn-by-requires : tie.Need-turn-by-requires
-turn-by-requires c κs = search needs
+turned-requires : tie.Need-turned-requires
+turned-requires c κs = search needs
 
 cast-plain-answer : tie.Need-cast-plain-answer
 cast-plain-answer c = search needs
@@ -42,24 +46,26 @@ same-length-2 c = search needs
 
 returns-2 : tie.Need-returns-2
 returns-2 c =
-    let b = c .before .before in
-    let a = b .before .before in
-    let t = a .before .before .before in (
-      t .turn-by .ensures .0,
+    let t = c .before .before .before .before .before .before .before in
+    let b = t .before .before .before in
+    let s = b .before .before .before in (
+      ap (λ (u : Turning). u .turner .last) (t .turned .ensures),
       λ D bench lending edits constraints H q.
-          turn-done D _ _ (t .before .before .before .before .pre) H q (t .before .if1 .left) (t .turn-by .result) (t .turn-by .ensures) _ (a .plain-answer .ensures) (b .print-outcome .ensures),
+          turn-performed D _ (s .args .command) H q (s .pre) (sym (b .before .is-page-question .ensures) ∙ b .if1 .left) _ (t .before .before .call-made .ensures)
+          _ (search needs) (t .before .pages-turned .ensures) _ (t .turned .ensures) _ (c .before .before .before .before .plain-answer .ensures) (c .before .before .print-outcome .ensures),
     )
 
 pub run-page-spec : {M : Type 1} → statement M
 run-page-spec =
     tie.close
     (tie.spec
+    is-page-question-requires
     print-page-requires
     same-length
     returns
-    sub-which
-    array-read-turn-by
-    turn-by-requires
+    call-made-requires
+    pages-turned-requires
+    turned-requires
     cast-plain-answer
     plain-answer-requires
     print-outcome-requires

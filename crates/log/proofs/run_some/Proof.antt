@@ -1,24 +1,24 @@
 -- `run_some` meets its contract. Assumes nothing.
-use Prim.Native.Nat.{suc, _+_, _-_, _≤_}
-use mathlib.Core.Path.{_≡_, refl, sym, _∙_}
+use Prim.Native.Nat.{_+_, _-_, _≤_}
+use mathlib.Core.Path.{_≡_, refl}
 use lib.ListN.{length}
 use native.Mathlib.Omega.{arith}
 use borrow.Author.Needs.{needs}
 use borrow.Author.Tests.{leb-false}
-use Rattle.log.proofs.Running.{running-start, running-few, running-next, stopped-above, stopped-end}
-use Rattle.log.proofs.Orders.{call-done, line-done}
-use Rattle.log.proofs.Paging.{first-paging, opened-there}
-use Rattle.log.specs.Running.{Running}
-use Rattle.log_session.specs.calls.Lines.{Holds}
-use Rattle.log_session.specs.Desk.{Desk}
 use Rattle.text_lines.proofs.Ends.{next-line}
+use Rattle.log_session.specs.Desk.{Desk}
+use Rattle.log_session.specs.calls.Lines.{Holds}
+use Rattle.log.specs.Running.{Running}
+use Rattle.log.proofs.Performed.{refusal-performed, lend-performed, proposal-performed, call-performed, vote-performed, ask-performed}
+use Rattle.log.proofs.Running.{running-start, running-few, running-next, stopped-above, stopped-end}
+use Rattle.log.proofs.Paging.{first-turn, opened-there}
 use Rattle.log.proofs.run_some.Statement.{statement}
 use Rattle.log.proofs.run_some.Tie as tie
 
 abbrev Inv-loop : tie.InvT-loop
 Inv-loop edits₀ constraints₀ log count out₀ at limit held₀ lent₀ n₀ place₀ from₀ edits constraints out held lent n place from =
     (from ≤ length log) × (length edits ≡ length edits₀) × (length constraints ≡ length constraints₀) × (length out ≡ length out₀) × (from ≡ 0 → place ≡ place₀)
-    × ((D : Desk) → Holds D held₀ lent₀ edits₀ constraints₀ → place₀ ≤ suc (length out₀) → n₀ + length log ≤ 4611686018427387904
+    × ((D : Desk) → Holds D held₀ lent₀ edits₀ constraints₀ → n₀ + length log ≤ 4611686018427387904
     → Running log D n₀ out₀ place₀ from held lent edits constraints n out place)
 
 abbrev μ-loop : tie.MeasureT-loop
@@ -26,33 +26,30 @@ abbrev μ-loop : tie.MeasureT-loop
     length log - from
 
 loop-holds : tie.Need-loop-holds Inv-loop μ-loop
-loop-holds c = (search needs, search needs, search needs, search needs, λ e. refl, λ D H s k. running-start _ D _ _ _ H s)
+loop-holds c = (search needs, search needs, search needs, search needs, λ e. refl, λ D H k. running-start _ D _ _ _ H)
 
 line-end-requires : tie.Need-line-end-requires Inv-loop μ-loop
 line-end-requires c κs = search needs
 
-sub-read-order : tie.Need-sub-read-order Inv-loop μ-loop
-sub-read-order c = let x = next-line (c .before .before .before .before .before .before .args .log .now) (c .before .before .before .loop .from) (c .before .before .loop-test .taken) (c .line-end .ensures) in omega (arith, x .forward)
+sub-read-command : tie.Need-sub-read-command Inv-loop μ-loop
+sub-read-command c = let x = next-line (c .before .before .before .before .before .before .args .log .now) (c .before .before .before .loop .from) (c .before .before .loop-test .taken) (c .line-end .ensures) in omega (arith, x .forward)
 
-part-read-order-start : tie.Need-part-read-order-start Inv-loop μ-loop
-part-read-order-start c = let x = next-line (c .before .before .before .before .before .before .args .log .now) (c .before .before .before .loop .from) (c .before .before .loop-test .taken) (c .line-end .ensures) in omega (arith, x .forward, x .inside)
+part-read-command-start : tie.Need-part-read-command-start Inv-loop μ-loop
+part-read-command-start c = let x = next-line (c .before .before .before .before .before .before .args .log .now) (c .before .before .before .loop .from) (c .before .before .loop-test .taken) (c .line-end .ensures) in omega (arith, x .forward, x .inside)
 
-part-read-order-end : tie.Need-part-read-order-end Inv-loop μ-loop
-part-read-order-end c = let x = next-line (c .before .before .before .before .before .before .args .log .now) (c .before .before .before .loop .from) (c .before .before .loop-test .taken) (c .line-end .ensures) in omega (arith, x .inside)
+part-read-command-end : tie.Need-part-read-command-end Inv-loop μ-loop
+part-read-command-end c = let x = next-line (c .before .before .before .before .before .before .args .log .now) (c .before .before .before .loop .from) (c .before .before .loop-test .taken) (c .line-end .ensures) in omega (arith, x .inside)
 
-read-order-requires : tie.Need-read-order-requires Inv-loop μ-loop
-read-order-requires c κs = search needs
-
-request-of-requires : tie.Need-request-of-requires Inv-loop μ-loop
-request-of-requires c κs = search needs
+read-command-requires : tie.Need-read-command-requires Inv-loop μ-loop
+read-command-requires c κs = search needs
 
 is-turn-requires : tie.Need-is-turn-requires Inv-loop μ-loop
 is-turn-requires c κs = search needs
 
 run-turns-requires : tie.Need-run-turns-requires Inv-loop μ-loop
 run-turns-requires c κs =
-    let b = c .before .before .before .before .before .before .before in
-    (b .before .before .loop-test .taken, search needs, first-paging _ _ (b .line-end .ensures) (c .before .before .before .before .before .read-order .ensures) (c .before .before .before .before .request-of .ensures) (c .before .before .before .is-turn .ensures) (c .before .before .if2 .taken))
+    let b = c .before .before .before .before .before .before in
+    (b .before .before .loop-test .taken, search needs, first-turn _ _ (b .line-end .ensures) _ (c .before .before .before .before .read-command .ensures) (c .before .before .before .is-turn .ensures) (c .before .before .if2 .taken))
 
 open-at-requires : tie.Need-open-at-requires Inv-loop μ-loop
 open-at-requires c κs = search needs
@@ -63,105 +60,193 @@ loop-less c = let t = c .before .before .before .before .run-turns .ensures in o
 loop-again : tie.Need-loop-again Inv-loop μ-loop
 loop-again c =
     let t = c .before .before .before .before .run-turns .ensures in
-    let v = c .before .before .before .before .before .before .before .before .before .before .before .before .before .before .before .loop .inv in (
+    let v = c .before .before .before .before .before .before .before .before .before .before .before .before .before .before .loop .inv in (
       t .1,
       search needs,
       search needs,
       search needs,
       λ e. absurd (omega (arith, t .0)),
-      λ D H s k.
-          let R = v .5 D H s k in
-          opened-there _ D _ _ _ _ R (t .2 D _ _ _ _ _ _ _ R refl k) (c .open-at .ensures),
+      λ D H k. let R = v .5 D H k in opened-there _ D _ _ _ _ R (t .2 D _ _ _ _ _ _ _ R refl k) (c .open-at .ensures),
     )
 
 next-requires : tie.Need-next-requires Inv-loop μ-loop
 next-requires c κs = search needs
 
-call-requires : tie.Need-call-requires Inv-loop μ-loop
-call-requires c κs = search needs
+enum-known-command : tie.Need-enum-known-command Inv-loop μ-loop
+enum-known-command c = search needs
 
-print-outcome-requires : tie.Need-print-outcome-requires Inv-loop μ-loop
-print-outcome-requires c κs = search needs
+print-refused-requires : tie.Need-print-refused-requires Inv-loop μ-loop
+print-refused-requires c κs = search needs
 
 loop-less-2 : tie.Need-loop-less-2 Inv-loop μ-loop
 loop-less-2 c =
-    let b = c .before .before .before .before .before .before .before .before .before .before .before .before .before .before .before .before .before .before in
+    let b = c .before .before .before .before .before .before .before .before .before .before .before .before in
     let x = next-line (b .before .before .before .before .before .before .args .log .now) (b .before .before .before .loop .from) (b .before .before .loop-test .taken) (b .line-end .ensures) in
     omega (arith, x .forward, x .inside)
 
 loop-again-2 : tie.Need-loop-again-2 Inv-loop μ-loop
 loop-again-2 c =
-    let b = c .before .before .before .before .before .before .before .before .before .before .before .before .before .before .before .before .before .before in
-    let v = b .before .before .before .loop .inv in
+    let k = c .before .before .before .before .before in
+    let b = k .before .before .before .before .before .before .before in
     let h = b .before .before .loop-test .taken in
-    let x = next-line (b .before .before .before .before .before .before .args .log .now) (b .before .before .before .loop .from) (b .before .before .loop-test .taken) (b .line-end .ensures) in (
+    let x = next-line (b .before .before .before .before .before .before .args .log .now) (b .before .before .before .loop .from) h (b .line-end .ensures) in (
       x .inside,
       search needs,
       search needs,
       search needs,
       λ e. absurd (omega (arith, x .forward)),
-      λ D H s k.
-          let R = v .5 D H s k in
-          running-next _ D _ _ _ R h (b .line-end .ensures) (c .before .before .before .before .before .before .before .before .before .before .before .before .next .ensures (running-few _ D _ _ _ R h k))
-          (λ E G a. line-done E _ _ (c .before .before .before .before .before .before .before .before .before .before .before .before .before .before .before .before .read-order .ensures) (call-done E _ _ (c .before .before .before .before .before .before .before .before .before .before .before .before .before .before .before .request-of .ensures) (c .before .before .before .before .before .before .before .before .before .before .before .if3 .taken) _ (c .before .before .before .before .before .before .before .call .ensures E (G .benched) (G .kept) (c .before .before .before .before .before .before .before .before .before .before .before .if3 .taken) (sym (c .before .before .before .before .before .before .before .before .before .before .before .before .before .before .is-turn .ensures) ∙ c .before .before .before .before .before .before .before .before .before .before .before .before .before .if2 .left)) (c .before .before .print-outcome .ensures) G)),
+      λ D H q.
+          let R = b .before .before .before .loop .inv .5 D H q in
+          running-next _ D _ _ _ R h (b .line-end .ensures) (k .before .before .next .ensures (running-few _ D _ _ _ R h q)) (k .before .before .before .before .before .read-command .ensures)
+          (λ E G. refusal-performed E _ _ (k .command .given .1) G (c .before .before .print-refused .ensures)),
     )
 
-is-lending-requires : tie.Need-is-lending-requires Inv-loop μ-loop
-is-lending-requires c κs = search needs
+enum-known-command-2 : tie.Need-enum-known-command-2 Inv-loop μ-loop
+enum-known-command-2 c = search needs
 
-run-lending-requires : tie.Need-run-lending-requires Inv-loop μ-loop
-run-lending-requires c κs = sym (c .before .before .before .before .is-lending .ensures) ∙ c .before .before .before .if4 .taken
+run-lend-requires : tie.Need-run-lend-requires Inv-loop μ-loop
+run-lend-requires c κs = search needs
 
 loop-less-3 : tie.Need-loop-less-3 Inv-loop μ-loop
 loop-less-3 c =
-    let b = c .before .before .before .before .before .before .before .before .before .before .before .before .before .before .before .before .before .before in
+    let b = c .before .before .before .before .before .before .before .before .before .before .before .before .before .before .before .before .before in
     let x = next-line (b .before .before .before .before .before .before .args .log .now) (b .before .before .before .loop .from) (b .before .before .loop-test .taken) (b .line-end .ensures) in
     omega (arith, x .forward, x .inside)
 
 loop-again-3 : tie.Need-loop-again-3 Inv-loop μ-loop
 loop-again-3 c =
-    let b = c .before .before .before .before .before .before .before .before .before .before .before .before .before .before .before .before .before .before in
-    let v = b .before .before .before .loop .inv in
+    let k = c .before .before .before .before .before .before .before .before .before .before in
+    let b = k .before .before .before .before .before .before .before in
     let h = b .before .before .loop-test .taken in
-    let x = next-line (b .before .before .before .before .before .before .args .log .now) (b .before .before .before .loop .from) (b .before .before .loop-test .taken) (b .line-end .ensures) in (
+    let x = next-line (b .before .before .before .before .before .before .args .log .now) (b .before .before .before .loop .from) h (b .line-end .ensures) in (
       x .inside,
       search needs,
       search needs,
       search needs,
       λ e. absurd (omega (arith, x .forward)),
-      λ D H s k.
-          let R = v .5 D H s k in
-          running-next _ D _ _ _ R h (b .line-end .ensures) (c .before .before .before .before .before .before .before .before .before .before .before .before .next .ensures (running-few _ D _ _ _ R h k))
-          (λ E G a. line-done E _ _ (c .before .before .before .before .before .before .before .before .before .before .before .before .before .before .before .before .read-order .ensures) (c .before .before .before .before .before .run-lending .ensures E G a)),
+      λ D H q.
+          let R = b .before .before .before .loop .inv .5 D H q in
+          running-next _ D _ _ _ R h (b .line-end .ensures) (k .before .before .next .ensures (running-few _ D _ _ _ R h q)) (k .before .before .before .before .before .read-command .ensures)
+          (λ E G. lend-performed E _ _ (k .command2 .given .1) (c .before .before .before .before .before .run-lend .ensures E G)),
     )
 
-print-told-requires : tie.Need-print-told-requires Inv-loop μ-loop
-print-told-requires c κs =
-    let q = c .before .before .before .before .before .before .before .before .before .request-of .ensures in
-    let h = c .before .before .before .before .before .if3 .left in
-    (omega arith, sym (c .before .before .before .before .is-lending .ensures) ∙ c .before .before .before .if4 .left)
+enum-known-command-3 : tie.Need-enum-known-command-3 Inv-loop μ-loop
+enum-known-command-3 c = search needs
+
+print-proposal-requires : tie.Need-print-proposal-requires Inv-loop μ-loop
+print-proposal-requires c κs = search needs
 
 loop-less-4 : tie.Need-loop-less-4 Inv-loop μ-loop
 loop-less-4 c =
-    let b = c .before .before .before .before .before .before .before .before .before .before .before .before .before .before .before in
+    let b = c .before .before .before .before .before .before .before .before .before .before .before .before .before .before .before .before .before in
     let x = next-line (b .before .before .before .before .before .before .args .log .now) (b .before .before .before .loop .from) (b .before .before .loop-test .taken) (b .line-end .ensures) in
     omega (arith, x .forward, x .inside)
 
 loop-again-4 : tie.Need-loop-again-4 Inv-loop μ-loop
 loop-again-4 c =
-    let b = c .before .before .before .before .before .before .before .before .before .before .before .before .before .before .before in
-    let v = b .before .before .before .loop .inv in
+    let k = c .before .before .before .before .before .before .before .before .before .before in
+    let b = k .before .before .before .before .before .before .before in
     let h = b .before .before .loop-test .taken in
-    let x = next-line (b .before .before .before .before .before .before .args .log .now) (b .before .before .before .loop .from) (b .before .before .loop-test .taken) (b .line-end .ensures) in (
+    let x = next-line (b .before .before .before .before .before .before .args .log .now) (b .before .before .before .loop .from) h (b .line-end .ensures) in (
       x .inside,
       search needs,
       search needs,
       search needs,
       λ e. absurd (omega (arith, x .forward)),
-      λ D H s k.
-          let R = v .5 D H s k in
-          running-next _ D _ _ _ R h (b .line-end .ensures) (c .before .before .before .before .before .before .before .before .before .next .ensures (running-few _ D _ _ _ R h k))
-          (λ E G a. line-done E _ _ (c .before .before .before .before .before .before .before .before .before .before .before .before .before .read-order .ensures) (c .before .before .print-told .ensures E G)),
+      λ D H q.
+          let R = b .before .before .before .loop .inv .5 D H q in
+          running-next _ D _ _ _ R h (b .line-end .ensures) (k .before .before .next .ensures (running-few _ D _ _ _ R h q)) (k .before .before .before .before .before .read-command .ensures)
+          (λ E G. proposal-performed E _ _ (k .command3 .given .1) (G .benched) (c .before .before .before .before .before .print-proposal .ensures E (G .kept))),
+    )
+
+enum-known-command-4 : tie.Need-enum-known-command-4 Inv-loop μ-loop
+enum-known-command-4 c = search needs
+
+make-call-requires : tie.Need-make-call-requires Inv-loop μ-loop
+make-call-requires c κs = search needs
+
+print-outcome-requires : tie.Need-print-outcome-requires Inv-loop μ-loop
+print-outcome-requires c κs = search needs
+
+loop-less-5 : tie.Need-loop-less-5 Inv-loop μ-loop
+loop-less-5 c =
+    let b = c .before .before .before .before .before .before .before .before .before .before .before .before .before .before .before .before .before .before in
+    let x = next-line (b .before .before .before .before .before .before .args .log .now) (b .before .before .before .loop .from) (b .before .before .loop-test .taken) (b .line-end .ensures) in
+    omega (arith, x .forward, x .inside)
+
+loop-again-5 : tie.Need-loop-again-5 Inv-loop μ-loop
+loop-again-5 c =
+    let k = c .before .before .before .before .before .before .before .before .before .before .before in
+    let b = k .before .before .before .before .before .before .before in
+    let h = b .before .before .loop-test .taken in
+    let x = next-line (b .before .before .before .before .before .before .args .log .now) (b .before .before .before .loop .from) h (b .line-end .ensures) in (
+      x .inside,
+      search needs,
+      search needs,
+      search needs,
+      λ e. absurd (omega (arith, x .forward)),
+      λ D H q.
+          let R = b .before .before .before .loop .inv .5 D H q in
+          running-next _ D _ _ _ R h (b .line-end .ensures) (k .before .before .next .ensures (running-few _ D _ _ _ R h q)) (k .before .before .before .before .before .read-command .ensures)
+          (λ E G. call-performed E _ _ (k .command4 .given .1) _ (c .before .before .before .before .before .before .before .make-call .ensures E (G .benched) (G .kept)) (c .before .before .print-outcome .ensures) G),
+    )
+
+enum-known-command-5 : tie.Need-enum-known-command-5 Inv-loop μ-loop
+enum-known-command-5 c = search needs
+
+print-vote-requires : tie.Need-print-vote-requires Inv-loop μ-loop
+print-vote-requires c κs = search needs
+
+loop-less-6 : tie.Need-loop-less-6 Inv-loop μ-loop
+loop-less-6 c =
+    let b = c .before .before .before .before .before .before .before .before .before .before .before .before .before .before in
+    let x = next-line (b .before .before .before .before .before .before .args .log .now) (b .before .before .before .loop .from) (b .before .before .loop-test .taken) (b .line-end .ensures) in
+    omega (arith, x .forward, x .inside)
+
+loop-again-6 : tie.Need-loop-again-6 Inv-loop μ-loop
+loop-again-6 c =
+    let k = c .before .before .before .before .before .before .before in
+    let b = k .before .before .before .before .before .before .before in
+    let h = b .before .before .loop-test .taken in
+    let x = next-line (b .before .before .before .before .before .before .args .log .now) (b .before .before .before .loop .from) h (b .line-end .ensures) in (
+      x .inside,
+      search needs,
+      search needs,
+      search needs,
+      λ e. absurd (omega (arith, x .forward)),
+      λ D H q.
+          let R = b .before .before .before .loop .inv .5 D H q in
+          running-next _ D _ _ _ R h (b .line-end .ensures) (k .before .before .next .ensures (running-few _ D _ _ _ R h q)) (k .before .before .before .before .before .read-command .ensures)
+          (λ E G. vote-performed E _ _ (k .command5 .given .1) G (c .before .before .print-vote .ensures E G)),
+    )
+
+enum-known-command-6 : tie.Need-enum-known-command-6 Inv-loop μ-loop
+enum-known-command-6 c = search needs
+
+print-ask-requires : tie.Need-print-ask-requires Inv-loop μ-loop
+print-ask-requires c κs = search needs
+
+loop-less-7 : tie.Need-loop-less-7 Inv-loop μ-loop
+loop-less-7 c =
+    let b = c .before .before .before .before .before .before .before .before .before .before .before .before in
+    let x = next-line (b .before .before .before .before .before .before .args .log .now) (b .before .before .before .loop .from) (b .before .before .loop-test .taken) (b .line-end .ensures) in
+    omega (arith, x .forward, x .inside)
+
+loop-again-7 : tie.Need-loop-again-7 Inv-loop μ-loop
+loop-again-7 c =
+    let k = c .before .before .before .before .before in
+    let b = k .before .before .before .before .before .before .before in
+    let h = b .before .before .loop-test .taken in
+    let x = next-line (b .before .before .before .before .before .before .args .log .now) (b .before .before .before .loop .from) h (b .line-end .ensures) in (
+      x .inside,
+      search needs,
+      search needs,
+      search needs,
+      λ e. absurd (omega (arith, x .forward)),
+      λ D H q.
+          let R = b .before .before .before .loop .inv .5 D H q in
+          running-next _ D _ _ _ R h (b .line-end .ensures) (k .before .before .next .ensures (running-few _ D _ _ _ R h q)) (k .before .before .before .before .before .read-command .ensures)
+          (λ E G. ask-performed E _ _ (k .command6 .given .1) G (c .before .before .print-ask .ensures E (G .benched))),
     )
 
 same-length : tie.Need-same-length Inv-loop μ-loop
@@ -196,28 +281,41 @@ run-some-spec =
     μ-loop
     loop-holds
     line-end-requires
-    sub-read-order
-    part-read-order-start
-    part-read-order-end
-    read-order-requires
-    request-of-requires
+    sub-read-command
+    part-read-command-start
+    part-read-command-end
+    read-command-requires
     is-turn-requires
     run-turns-requires
     open-at-requires
     loop-less
     loop-again
     next-requires
-    call-requires
-    print-outcome-requires
+    enum-known-command
+    print-refused-requires
     loop-less-2
     loop-again-2
-    is-lending-requires
-    run-lending-requires
+    enum-known-command-2
+    run-lend-requires
     loop-less-3
     loop-again-3
-    print-told-requires
+    enum-known-command-3
+    print-proposal-requires
     loop-less-4
     loop-again-4
+    enum-known-command-4
+    make-call-requires
+    print-outcome-requires
+    loop-less-5
+    loop-again-5
+    enum-known-command-5
+    print-vote-requires
+    loop-less-6
+    loop-again-6
+    enum-known-command-6
+    print-ask-requires
+    loop-less-7
+    loop-again-7
     same-length
     same-length-2
     same-length-3

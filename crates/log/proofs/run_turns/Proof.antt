@@ -38,17 +38,17 @@ loop-holds c =
 line-end-requires : tie.Need-line-end-requires Inv-loop μ-loop
 line-end-requires c κs = search needs
 
-sub-read-order : tie.Need-sub-read-order Inv-loop μ-loop
-sub-read-order c = let x = next-line (c .before .before .before .before .before .before .args .log .now) (c .before .before .before .loop .from) (c .before .before .loop-test .taken) (c .line-end .ensures) in omega (arith, x .forward)
+sub-read-command : tie.Need-sub-read-command Inv-loop μ-loop
+sub-read-command c = let x = next-line (c .before .before .before .before .before .before .args .log .now) (c .before .before .before .loop .from) (c .before .before .loop-test .taken) (c .line-end .ensures) in omega (arith, x .forward)
 
-part-read-order-start : tie.Need-part-read-order-start Inv-loop μ-loop
-part-read-order-start c = let x = next-line (c .before .before .before .before .before .before .args .log .now) (c .before .before .before .loop .from) (c .before .before .loop-test .taken) (c .line-end .ensures) in omega (arith, x .forward, x .inside)
+part-read-command-start : tie.Need-part-read-command-start Inv-loop μ-loop
+part-read-command-start c = let x = next-line (c .before .before .before .before .before .before .args .log .now) (c .before .before .before .loop .from) (c .before .before .loop-test .taken) (c .line-end .ensures) in omega (arith, x .forward, x .inside)
 
-part-read-order-end : tie.Need-part-read-order-end Inv-loop μ-loop
-part-read-order-end c = let x = next-line (c .before .before .before .before .before .before .args .log .now) (c .before .before .before .loop .from) (c .before .before .loop-test .taken) (c .line-end .ensures) in omega (arith, x .inside)
+part-read-command-end : tie.Need-part-read-command-end Inv-loop μ-loop
+part-read-command-end c = let x = next-line (c .before .before .before .before .before .before .args .log .now) (c .before .before .before .loop .from) (c .before .before .loop-test .taken) (c .line-end .ensures) in omega (arith, x .inside)
 
-read-order-requires : tie.Need-read-order-requires Inv-loop μ-loop
-read-order-requires c κs = search needs
+read-command-requires : tie.Need-read-command-requires Inv-loop μ-loop
+read-command-requires c κs = search needs
 
 is-paging-requires : tie.Need-is-paging-requires Inv-loop μ-loop
 is-paging-requires c κs = search needs
@@ -80,7 +80,7 @@ loop-again c =
       λ D first before begin bench lending edits constraints R t k.
           let S = v .5 D first before begin bench lending edits constraints R t k in
           paged-next _ D first before begin bench _ S (ap (λ (u : Turner). u .last) t ∙ sym (v .4)) h (b .line-end .ensures) (c .before .before .before .before .before .next .ensures (running-few _ D first before begin S h k))
-          (c .before .before .before .before .before .before .before .before .read-order .ensures) _ (r .1),
+          (c .before .before .before .before .before .before .before .before .read-command .ensures) _ (r .1),
     )
 
 same-length : tie.Need-same-length Inv-loop μ-loop
@@ -109,7 +109,7 @@ returns-3 c =
     let b = c .before .before .before .before in
     let v = b .before .before .before .loop .inv in
     let p = b .before .before .before .before .before .before .pre in
-    (stopped-after _ (v .2) (p .2) (b .line-end .ensures) (c .before .before .read-order .ensures) (c .before .is-paging .ensures) (not-true _ (c .if2 .taken)), v .0, v .5)
+    (stopped-after _ (v .2) (p .2) (b .line-end .ensures) _ (c .before .before .read-command .ensures) (c .before .is-paging .ensures) (not-true _ (c .if2 .taken)), v .0, v .5)
 
 pub run-turns-spec : {M : Type 1} → statement M
 run-turns-spec =
@@ -119,10 +119,10 @@ run-turns-spec =
     μ-loop
     loop-holds
     line-end-requires
-    sub-read-order
-    part-read-order-start
-    part-read-order-end
-    read-order-requires
+    sub-read-command
+    part-read-command-start
+    part-read-command-end
+    read-command-requires
     is-paging-requires
     next-requires
     run-page-requires

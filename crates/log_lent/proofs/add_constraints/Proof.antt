@@ -1,30 +1,27 @@
 -- `add_constraints` meets its contract. Assumes nothing.
-use Prim.Native.Nat.{ℕ, _-_, _≤_, _<_}
+use Prim.Native.Nat.{_-_, _≤_}
 use mathlib.Core.Path.{_≡_}
 use mathlib.Core.List.{[]}
-use lib.ListN.{length, take}
+use lib.ListN.{length}
 use native.Mathlib.Omega.{arith}
 use borrow.Author.Needs.{needs}
-use mathlib.Core.List.{map}
 use Rattle.record.specs.Stored.{fillerConstraint}
 use Rattle.record_rows.specs.row.Row.{constraintRow}
-use Rattle.record_rows.specs.ground.Ground.{Rows}
-use Rattle.log_lent.specs.Lent.{with}
-use Rattle.log_lent.specs.Kept.{Tables}
-use Rattle.log_lent.proofs.Rows.{lent-rows-none, lent-rows-next}
+use Rattle.log_lent.specs.Lent.{constraintPlaces}
+use Rattle.log_lent.proofs.Rows.{RowsJoined, rows-joined-none, rows-joined-next}
 use Rattle.log_lent.proofs.add_constraints.Statement.{statement}
 use Rattle.log_lent.proofs.add_constraints.Tie as tie
 
 abbrev Inv-loop : tie.InvT-loop
 Inv-loop kept₀ k n constraints more₀ i₀ kept more i =
     (i ≤ n) × (n ≤ 512) × (length constraints ≡ 512) × (length kept ≡ length kept₀)
-    × ((tables : ℕ → Rows) → Tables 513 tables more₀ kept₀ → tables k ≡ [] → k < 9 → Tables 513 (with k (map constraintRow (take i constraints)) tables) more kept)
+    × RowsJoined constraintRow constraints constraintPlaces k more₀ kept₀ i more kept
 
 abbrev μ-loop : tie.MeasureT-loop
 μ-loop kept₀ k n constraints more₀ i₀ kept more i = n - i
 
 loop-holds : tie.Need-loop-holds Inv-loop μ-loop
-loop-holds c = (search needs, c .pre, search needs, search needs, λ tables T e h. lent-rows-none constraintRow [] tables _ h e T)
+loop-holds c = (search needs, c .pre, search needs, search needs, rows-joined-none constraintRow [] constraintPlaces _ _ _)
 
 mul-c : tie.Need-mul-c Inv-loop μ-loop
 mul-c c = search needs
@@ -52,7 +49,7 @@ loop-again c =
       v .1,
       v .2,
       search needs,
-      λ tables T e h. lent-rows-next constraintRow _ tables _ h (o .loop .i) fillerConstraint (omega arith) (omega arith) (c .before .before .before .before .constraint-row .ensures) (c .before .before .add-constraint .ensures _ (v .4 tables T e h) .1),
+      rows-joined-next constraintRow _ constraintPlaces _ _ _ (o .loop .i) fillerConstraint (omega arith) (omega arith) (c .before .before .before .before .constraint-row .ensures) (c .before .before .add-constraint .ensures) (v .4),
     )
 
 same-length : tie.Need-same-length Inv-loop μ-loop

@@ -1,30 +1,27 @@
 -- `add_edits` meets its contract. Assumes nothing.
-use Prim.Native.Nat.{ℕ, _-_, _≤_, _<_}
+use Prim.Native.Nat.{_-_, _≤_}
 use mathlib.Core.Path.{_≡_}
 use mathlib.Core.List.{[]}
-use lib.ListN.{length, take}
+use lib.ListN.{length}
 use native.Mathlib.Omega.{arith}
 use borrow.Author.Needs.{needs}
-use mathlib.Core.List.{map}
 use Rattle.record.specs.Stored.{fillerEdit}
 use Rattle.record_rows.specs.row.Row.{editRow}
-use Rattle.record_rows.specs.ground.Ground.{Rows}
-use Rattle.log_lent.specs.Lent.{with}
-use Rattle.log_lent.specs.Kept.{Tables}
-use Rattle.log_lent.proofs.Rows.{lent-rows-none, lent-rows-next}
+use Rattle.log_lent.specs.Lent.{editPlaces}
+use Rattle.log_lent.proofs.Rows.{RowsJoined, rows-joined-none, rows-joined-next}
 use Rattle.log_lent.proofs.add_edits.Statement.{statement}
 use Rattle.log_lent.proofs.add_edits.Tie as tie
 
 abbrev Inv-loop : tie.InvT-loop
 Inv-loop kept₀ k n edits more₀ i₀ kept more i =
     (i ≤ n) × (n ≤ 127) × (length edits ≡ 127) × (length kept ≡ length kept₀)
-    × ((tables : ℕ → Rows) → Tables 128 tables more₀ kept₀ → tables k ≡ [] → k < 9 → Tables 128 (with k (map editRow (take i edits)) tables) more kept)
+    × RowsJoined editRow edits editPlaces k more₀ kept₀ i more kept
 
 abbrev μ-loop : tie.MeasureT-loop
 μ-loop kept₀ k n edits more₀ i₀ kept more i = n - i
 
 loop-holds : tie.Need-loop-holds Inv-loop μ-loop
-loop-holds c = (search needs, c .pre, search needs, search needs, λ tables T e h. lent-rows-none editRow [] tables _ h e T)
+loop-holds c = (search needs, c .pre, search needs, search needs, rows-joined-none editRow [] editPlaces _ _ _)
 
 mul-e : tie.Need-mul-e Inv-loop μ-loop
 mul-e c = search needs
@@ -52,7 +49,7 @@ loop-again c =
       v .1,
       v .2,
       search needs,
-      λ tables T e h. lent-rows-next editRow _ tables _ h (o .loop .i) fillerEdit (omega arith) (omega arith) (c .before .before .before .before .edit-row .ensures) (c .before .before .add-edit .ensures _ (v .4 tables T e h) .1),
+      rows-joined-next editRow _ editPlaces _ _ _ (o .loop .i) fillerEdit (omega arith) (omega arith) (c .before .before .before .before .edit-row .ensures) (c .before .before .add-edit .ensures) (v .4),
     )
 
 same-length : tie.Need-same-length Inv-loop μ-loop

@@ -1,6 +1,6 @@
 -- `lend_seat` meets its contract. Assumes nothing.
 use borrow.Author.Needs.{needs}
-use Rattle.log_lent.proofs.Settings.{seat-bench, seat-weight, seat-lent}
+use Rattle.log_lent.proofs.Settings.{seat-bench, seat-weight, seat-past, seat-lent}
 use Rattle.log_lent.proofs.lend_seat.Statement.{statement}
 use Rattle.log_lent.proofs.lend_seat.Tie as tie
 
@@ -10,17 +10,37 @@ returns c = λ L edits constraints K. seat-bench K _ _ (c .if1 .taken)
 returns-2 : tie.Need-returns-2
 returns-2 c = λ L edits constraints K. seat-weight K _ _ (c .if2 .taken)
 
+returns-3 : tie.Need-returns-3
+returns-3 c = λ L edits constraints K. seat-past K _ _ (c .before .before .if1 .left) (c .before .if2 .left) (c .if3 .taken)
+
 cast-t8 : tie.Need-cast-t8
 cast-t8 c = search needs
 
 cast-t9 : tie.Need-cast-t9
 cast-t9 c = search needs
 
-with-row-requires : tie.Need-with-row-requires
-with-row-requires c κs = search needs
+mul-seat : tie.Need-mul-seat
+mul-seat c = search needs
 
-returns-3 : tie.Need-returns-3
-returns-3 c = λ L edits constraints K. seat-lent K _ _ (c .before .before .before .if1 .left) (c .before .before .if2 .left) (c .with-row .ensures)
+element-set-from-seat : tie.Need-element-set-from-seat
+element-set-from-seat c = search needs
+
+add-lent : tie.Need-add-lent
+add-lent c = search needs
+
+returns-4 : tie.Need-returns-4
+returns-4 c = λ L edits constraints K. seat-lent K _ _ (c .before .before .if1 .left) (c .before .if2 .left) (c .if3 .left)
 
 pub lend-seat-spec : {M : Type 1} → statement M
-lend-seat-spec = tie.close (tie.spec returns returns-2 cast-t8 cast-t9 with-row-requires returns-3)
+lend-seat-spec =
+    tie.close
+    (tie.spec
+    returns
+    returns-2
+    returns-3
+    cast-t8
+    cast-t9
+    mul-seat
+    element-set-from-seat
+    add-lent
+    returns-4)

@@ -1,7 +1,7 @@
 -- Calls with what is lent, where it is kept. Assumes nothing.
-use mathlib.Core.Path.{_≡_, refl}
+use mathlib.Core.Path.{_≡_, refl, _∙_}
 use mathlib.Core.Bool.{true, false}
-use mathlib.Core.List.{List, [], _∷_, map}
+use mathlib.Core.List.{List, map}
 use Prim.Native.Nat.{ℕ, _-_, _≤_, _<_}
 use native.Mathlib.Omega.{arith}
 use lib.Dec.{ltb}
@@ -10,6 +10,7 @@ use borrow.Author.Tests.{lt-ltb, le-ltb}
 use Rattle.record.specs.Stored.{emptyRecord}
 use Rattle.record_rows.specs.ground.Ground.{Rows}
 use Rattle.voting.specs.declared.Election.{Election}
+use Rattle.voting.specs.declared.RollRow.{RollRow}
 use Rattle.voting_roll.specs.Election.{electionOf, benches}
 use Rattle.voting_count.specs.Count.{lentProposals}
 use Rattle.voting_bundles.specs.declared.BundleAnswer.{BundleAnswer}
@@ -20,25 +21,20 @@ use Rattle.ledger.specs.declared.Bench.{Bench}
 use Rattle.ledger.specs.declared.Outcome.{Outcome}
 use Rattle.ledger.specs.Ledger.{merge, adopt}
 use Rattle.ledger.specs.Bench.{Answers}
-use Rattle.log_lent.specs.Lent.{Lent}
+use Rattle.log_lent.specs.Lent.{Lent, rollPlaces}
 use Rattle.log_lent.specs.lent_calls.Calls.{proposalsOf, bundleIn, rowIn}
+use Rattle.log_lent.proofs.lent_calls.FirstRows.{first-elected, first-adopted}
 
 pub merge-given : (bench : Bench) {E C : Rows} (r : Outcome) → Answers bench (merge E C) r → {F D : Rows} → E ≡ F → C ≡ D → Answers bench (merge F D) r
 merge-given bench r a e f = rw (e, f) at a
 
--- eight tables, each the one that is lent
-pub eight-lent : {A : Type 0} (f : ℕ → A) {a b c d e g h i : A} → a ≡ f 1 → b ≡ f 2 → c ≡ f 3 → d ≡ f 4 → e ≡ f 5 → g ≡ f 6 → h ≡ f 7 → i ≡ f 8
-    → a ∷ b ∷ c ∷ d ∷ e ∷ g ∷ h ∷ i ∷ [] ≡ map f benches
-eight-lent f p q r s t u v w = rw (p, q, r, s, t, u, v, w) refl
-
 module _ (L : Lent) where
-  pub election-given : {r : Election} (x : ℕ) {E C : List Rows} → E ≡ map (L .edits) benches → C ≡ map (L .constraints) benches
-      → r ≡ electionOf x (lentProposals E C) (L .roll) → r ≡ electionOf x (proposalsOf L) (L .roll)
-  election-given x e f q = rw (e, f) at q
+  module _ (x : ℕ) {E C : List Rows} {seats : List RollRow} (e : E ≡ map (L .edits) benches) (f : C ≡ map (L .constraints) benches) (g : seats ≡ take rollPlaces (L .roll)) where
+    pub election-given : {r : Election} → r ≡ electionOf x (lentProposals E C) seats → r ≡ electionOf x (proposalsOf L) (L .roll)
+    election-given q = (rw (e, f, g) at q) ∙ first-elected x (proposalsOf L) (L .roll)
 
-  pub adoption-given : (bench : Bench) (r : Outcome) (x : ℕ) {E C : List Rows} → E ≡ map (L .edits) benches → C ≡ map (L .constraints) benches
-      → Answers bench (adopt x (lentProposals E C) (L .roll)) r → Answers bench (adopt x (proposalsOf L) (L .roll)) r
-  adoption-given bench r x e f a = rw (e, f) at a
+    pub adoption-given : (bench : Bench) (r : Outcome) → Answers bench (adopt x (lentProposals E C) seats) r → Answers bench (adopt x (proposalsOf L) (L .roll)) r
+    adoption-given bench r a = first-adopted x (proposalsOf L) (L .roll) bench r (rw (e, f, g) at a)
 
   module _ (k : ℕ) where
     pub bundle-elsewhere : (x : ℕ) → 8 < k → {R : _} → R ≡ emptyRecord → record { number = 2; eligible = false; bundle = R } ≡ bundleIn L k x

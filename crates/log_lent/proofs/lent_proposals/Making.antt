@@ -16,7 +16,7 @@ use Rattle.voting_proposals.specs.Propose as proposal
 use Rattle.voting_proposals.specs.Propose.{proposeFault, newProposal, newOutcome, tooShort}
 use Rattle.voting_proposals.proofs.Answers.{fault, new, short, fault-is, number-is, none-new, new-held, editcount-is, constraintcount-is, proposal-accepted, given-new}
 use Rattle.log_lent.specs.Lent.{Lent}
-use Rattle.log_lent.specs.lent_proposals.Made.{tablesOf, proposalOf, proposalIn}
+use Rattle.log_lent.specs.lent_proposals.Made.{tablesWith, proposalOf, proposalIn}
 
 module _ (t : proposal.LentToPropose) where
   stopped-as : (n : ℕ) → proposeFault t ≡ n → (n ≡ 0 → ⊥) → record { number = n; after = stored emptyTables } ≡ proposalOf t
@@ -24,28 +24,28 @@ module _ (t : proposal.LentToPropose) where
   stopped-as n e z = let b : eqb (proposeFault t) 0 ≡ false = ap (λ (m : ℕ). eqb m 0) e ∙ ne-eqb n 0 z in rw (b, e) refl
 
   module _ (made : Joined) (e : made ≡ newOutcome (t .edits) (t .constraints) (t .oldedits) (t .oldconstraints)) where
-    pub tables-stop : (made .number ≡ 0 → ⊥) → made ≡ proposalOf t
+    tables-stop : (made .number ≡ 0 → ⊥) → made ≡ proposalOf t
     tables-stop z =
         let n : made .number ≡ fault t = number-is (fault t) (new t) made e in
         let f : eqb (fault t) 0 ≡ false = ne-eqb (fault t) 0 (λ q. z (n ∙ q)) in
         e ∙ rw f (stopped-as (fault t) (fault-is t ∙ orelse-first (fault t) (short t) (λ q. z (n ∙ q))) (λ q. z (n ∙ q)))
 
     module _ (z : made .number ≡ 0) where
-      pub edits-short : length (t .newedits) < made .after .editcount → {r : Joined} → r ≡ record { number = 12; after = stored emptyTables } → r ≡ proposalOf t
+      edits-short : length (t .newedits) < made .after .editcount → {r : Joined} → r ≡ record { number = 12; after = stored emptyTables } → r ≡ proposalOf t
       unfolding tooShort
       edits-short h q =
           let l : ltb (length (t .newedits)) (length (new t .edits)) ≡ true = lt-ltb (length (t .newedits)) (length (new t .edits)) (let p = editcount-is t made e z in omega arith) in
           q ∙ stopped-as 12 (fault-is t ∙ orelse-second (fault t) (short t) (none-new t made e z) ∙ rw l) (λ p. omega arith)
 
       module _ (h : made .after .editcount ≤ length (t .newedits)) where
-        pub constraints-short : length (t .newconstraints) < made .after .constraintcount → {r : Joined} → r ≡ record { number = 12; after = stored emptyTables } → r ≡ proposalOf t
+        constraints-short : length (t .newconstraints) < made .after .constraintcount → {r : Joined} → r ≡ record { number = 12; after = stored emptyTables } → r ≡ proposalOf t
         unfolding tooShort
         constraints-short i q =
             let k : ltb (length (t .newedits)) (length (new t .edits)) ≡ false = le-ltb (length (t .newedits)) (length (new t .edits)) (let p = editcount-is t made e z in omega arith) in
             let l : ltb (length (t .newconstraints)) (length (new t .constraints)) ≡ true = lt-ltb (length (t .newconstraints)) (length (new t .constraints)) (let p = constraintcount-is t made e z in omega arith) in
             q ∙ stopped-as 12 (fault-is t ∙ orelse-second (fault t) (short t) (none-new t made e z) ∙ rw (k, l)) (λ p. omega arith)
 
-        pub made-whole : made .after .constraintcount ≤ length (t .newconstraints) → made ≡ proposalOf t
+        made-whole : made .after .constraintcount ≤ length (t .newconstraints) → made ≡ proposalOf t
         unfolding proposalOf
         made-whole i =
             let a : made .number ≡ proposeFault t = z ∙ sym (proposal-accepted t made e z h i) in
@@ -61,31 +61,29 @@ module _ (L : Lent) (k old n m : ℕ) where
   unfolding proposalIn
   old-elsewhere h q = let e : ltb old 9 ≡ false = le-ltb old 9 (omega arith) in rw (e, and-false (ltb k 9)) q
 
-  module _ (h : k ≤ 8) (i : old ≤ 8) where
-    inside : {r : Joined} → r ≡ proposalOf (tablesOf L k old n m) → r ≡ proposalIn L k old n m
-    unfolding proposalIn
-    inside q = let e : ltb k 9 ≡ true = lt-ltb k 9 (omega arith) in let f : ltb old 9 ≡ true = lt-ltb old 9 (omega arith) in rw (e, f) q
+  pub proposal-inside : k ≤ 8 → old ≤ 8 → {r : Joined} {E C D F : Rows} → r ≡ proposalOf (tablesWith E C D F n m)
+      → E ≡ L .edits k → C ≡ L .constraints k → D ≡ L .edits old → F ≡ L .constraints old → r ≡ proposalIn L k old n m
+  unfolding proposalIn
+  proposal-inside h i q e c d f =
+      let a : ltb k 9 ≡ true = lt-ltb k 9 (omega arith) in let b : ltb old 9 ≡ true = lt-ltb old 9 (omega arith) in rw (a, b) (rw (e, c, d, f) at q)
 
-    module _ {E C D F : Rows} (made : Joined) (q : made ≡ newOutcome E C D F) (e : E ≡ L .edits k) (c : C ≡ L .constraints k) (d : D ≡ L .edits old) (f : F ≡ L .constraints old) where
-      lent : made ≡ newOutcome (L .edits k) (L .constraints k) (L .edits old) (L .constraints old)
-      lent = rw (e, c, d, f) at q
+module _ (E C D F : Rows) (n m : ℕ) (made : Joined) (q : made ≡ newOutcome E C D F) where
+  pub rows-stop : (made .number ≡ 0 → ⊥) → made ≡ proposalOf (tablesWith E C D F n m)
+  rows-stop z = tables-stop (tablesWith E C D F n m) made q z
 
-      pub rows-stop : (made .number ≡ 0 → ⊥) → made ≡ proposalIn L k old n m
-      rows-stop z = inside (tables-stop (tablesOf L k old n m) made lent z)
+  edit-room : length (tablesWith E C D F n m .newedits) ≡ n
+  edit-room = length-replicate n []
 
-      edit-room : length (tablesOf L k old n m .newedits) ≡ n
-      edit-room = length-replicate n []
+  constraint-room : length (tablesWith E C D F n m .newconstraints) ≡ m
+  constraint-room = length-replicate m []
 
-      constraint-room : length (tablesOf L k old n m .newconstraints) ≡ m
-      constraint-room = length-replicate m []
+  module _ (z : made .number ≡ 0) where
+    pub lent-few-edits : n < made .after .editcount → {r : Joined} → r ≡ record { number = 12; after = stored emptyTables } → r ≡ proposalOf (tablesWith E C D F n m)
+    lent-few-edits l p = edits-short (tablesWith E C D F n m) made q z (rw edit-room l) p
 
-      module _ (z : made .number ≡ 0) where
-        pub lent-few-edits : n < made .after .editcount → {r : Joined} → r ≡ record { number = 12; after = stored emptyTables } → r ≡ proposalIn L k old n m
-        lent-few-edits l p = inside (edits-short (tablesOf L k old n m) made lent z (rw edit-room l) p)
+    module _ (l : made .after .editcount ≤ n) where
+      pub lent-few-constraints : m < made .after .constraintcount → {r : Joined} → r ≡ record { number = 12; after = stored emptyTables } → r ≡ proposalOf (tablesWith E C D F n m)
+      lent-few-constraints g p = constraints-short (tablesWith E C D F n m) made q z (rw edit-room l) (rw constraint-room g) p
 
-        module _ (l : made .after .editcount ≤ n) where
-          pub lent-few-constraints : m < made .after .constraintcount → {r : Joined} → r ≡ record { number = 12; after = stored emptyTables } → r ≡ proposalIn L k old n m
-          lent-few-constraints g p = inside (constraints-short (tablesOf L k old n m) made lent z (rw edit-room l) (rw constraint-room g) p)
-
-          pub proposal-whole : made .after .constraintcount ≤ m → made ≡ proposalIn L k old n m
-          proposal-whole g = inside (made-whole (tablesOf L k old n m) made lent z (rw edit-room l) (rw constraint-room g))
+      pub proposal-whole : made .after .constraintcount ≤ m → made ≡ proposalOf (tablesWith E C D F n m)
+      proposal-whole g = made-whole (tablesWith E C D F n m) made q z (rw edit-room l) (rw constraint-room g)

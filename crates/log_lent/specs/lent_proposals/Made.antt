@@ -4,22 +4,26 @@ use mathlib.Core.List.{[]}
 use Prim.Native.Nat.{ℕ}
 use lib.ListN.{replicate}
 use Rattle.record.specs.Stored.{stored}
+use Rattle.record_rows.specs.ground.Ground.{Rows}
 use Rattle.record_tables.specs.Table.{emptyTables}
 use Rattle.record_joining.specs.declared.Joined.{Joined}
 use Rattle.voting_proposals.specs.Propose as proposal
 use Rattle.voting_proposals.specs.Propose.{proposeFault, newProposal}
 use Rattle.log_lent.specs.Lent.{Lent, isLent}
 
--- from record k and the old proposal, into tables of n and m places
-abbrev pub tablesOf : Lent → ℕ → ℕ → ℕ → ℕ → proposal.LentToPropose
-tablesOf L k old n m = record {
-  edits = L .edits k;
-  constraints = L .constraints k;
-  oldedits = L .edits old;
-  oldconstraints = L .constraints old;
+-- from the tables of a record and of the old proposal, into tables of n and m places
+abbrev pub tablesWith : Rows → Rows → Rows → Rows → ℕ → ℕ → proposal.LentToPropose
+tablesWith edits constraints oldedits oldconstraints n m = record {
+  edits = edits;
+  constraints = constraints;
+  oldedits = oldedits;
+  oldconstraints = oldconstraints;
   newedits = replicate n [];
   newconstraints = replicate m [];
 }
+
+abbrev pub tablesOf : Lent → ℕ → ℕ → ℕ → ℕ → proposal.LentToPropose
+tablesOf L k old n m = tablesWith (L .edits k) (L .constraints k) (L .edits old) (L .constraints old) n m
 
 -- the number, and the new proposal; the empty record where it is refused
 unfoldable pub proposalOf : proposal.LentToPropose → Joined

@@ -11,7 +11,6 @@ use Rattle.record.specs.declared.Record as declared
 use Rattle.record.specs.Record.{Record}
 use Rattle.record.specs.Stored.{stored, recordOf}
 use Rattle.lists.proofs.Lists.{by}
-use Rattle.record_rows.specs.row.Row.{cell}
 use Rattle.record_rows.specs.ground.Ground.{Rows}
 use Rattle.record_rows.proofs.ground.Grounds.{orelse-none}
 use Rattle.record_tables.proofs.Tables.{stored-back}
@@ -20,13 +19,14 @@ use Rattle.voting_proposals.specs.Propose as proposal
 use Rattle.voting_proposals.specs.Propose.{proposeFault, newProposal, newOutcome}
 use Rattle.voting_proposals.proofs.Answers.{fault, new, short, fault-is, number-is, new-few, editcount-is, constraintcount-is}
 use Rattle.log_forms.specs.Printed.{Printed}
+use Rattle.log_commands.specs.declared.Proposing.{Proposing}
 use Rattle.log_lent.specs.declared.Lending.{Lending}
 use Rattle.log_lent.specs.Lent.{Lent, isLent, withRecord}
 use Rattle.log_lent.specs.Kept.{Kept}
 use Rattle.log_lent.specs.lent_proposals.Made.{tablesOf, proposalOf, proposalIn}
-use Rattle.log_session.specs.Desk.{Desk, Cells, printedOf}
+use Rattle.log_session.specs.Desk.{Desk, printedOf}
 use Rattle.log_answers.specs.Answers.{answeredText, recordText}
-use Rattle.log_session.specs.votes.Votes.{makeProposal, votes, voteOf}
+use Rattle.log_session.specs.votes.Votes.{proposalEffect}
 
 -- a new proposal is within the limits
 module _ (t : proposal.LentToPropose) (z : proposeFault t ≡ 0) where
@@ -64,30 +64,29 @@ made-storable L k old n m z =
     (λ (e : (ltb k 9 && ltb old 9) ≡ true). let t = tablesOf L k old n m in let f = few t (rw e at z) in rw e (storable (newProposal t) (f .0) (f .1) (stored (newProposal t)) refl))
     (λ (e : (ltb k 9 && ltb old 9) ≡ false). absurd (let w : _≡_ {A = ℕ} 2 0 = rw e at z in omega arith))
 
-module _ (D : Desk) (c : Cells) (made : Joined) (q : made ≡ proposalIn (D .lent) (cell c 0) (cell c 1) (cell c 2) (cell c 3)) where
+module _ (D : Desk) (w : Proposing) (made : Joined) (q : made ≡ proposalIn (D .lent) (w .lent) (w .old) (w .edits) (w .rules)) where
   pub new-storable : made .number ≡ 0 → Storable (made .after)
   new-storable z =
-      let w : Storable (proposalIn (D .lent) (cell c 0) (cell c 1) (cell c 2) (cell c 3) .after) =
-      made-storable (D .lent) (cell c 0) (cell c 1) (cell c 2) (cell c 3) (rw q at z) in
-      rw q w
+      let stores : Storable (proposalIn (D .lent) (w .lent) (w .old) (w .edits) (w .rules) .after) =
+      made-storable (D .lent) (w .lent) (w .old) (w .edits) (w .rules) (rw q at z) in
+      rw q stores
 
   pub proposal-printed : (line : ℕ) (before : List ℕ) (at : ℕ) {after : List ℕ} {end : ℕ}
-      → Printed (answeredText (made .number) (recordText (made .after)) line) before at after end → Printed (printedOf (voteOf 2 D c) line) before at after end
-  unfolding voteOf votes makeProposal printedOf
+      → Printed (answeredText (made .number) (recordText (made .after)) line) before at after end → Printed (printedOf (proposalEffect D w) line) before at after end
+  unfolding proposalEffect printedOf
   proposal-printed line before at p = rw q at p
 
   module _ {lending : Lending} {edits constraints : Rows} where
-    pub refused-lent : (made .number ≡ 0 → ⊥) → Kept (D .lent) lending edits constraints → Kept (voteOf 2 D c .after .lent) lending edits constraints
-    unfolding voteOf votes makeProposal
+    pub refused-lent : (made .number ≡ 0 → ⊥) → Kept (D .lent) lending edits constraints → Kept (proposalEffect D w .after .lent) lending edits constraints
+    unfolding proposalEffect
     refused-lent z K = let e : eqb (made .number) 0 ≡ false = ne-eqb (made .number) 0 z in rw (← q, e) K
 
-    pub unkept-lent : (cell c 4 ≡ 1 → ⊥) → Kept (D .lent) lending edits constraints → Kept (voteOf 2 D c .after .lent) lending edits constraints
-    unfolding voteOf votes makeProposal
-    unkept-lent z K = let e : eqb (cell c 4) 1 ≡ false = ne-eqb (cell c 4) 1 z in rw (e, and-false) K
+    pub unkept-lent : w .keep ≡ false → Kept (D .lent) lending edits constraints → Kept (proposalEffect D w .after .lent) lending edits constraints
+    unfolding proposalEffect
+    unkept-lent e K = rw (e, and-false) K
 
-    pub kept-lent : made .number ≡ 0 → cell c 4 ≡ 1 → Kept (withRecord (D .lent) (cell c 1) (recordOf (made .after))) lending edits constraints → Kept (voteOf 2 D c .after .lent) lending edits constraints
-    unfolding voteOf votes makeProposal
+    pub kept-lent : made .number ≡ 0 → w .keep ≡ true → Kept (withRecord (D .lent) (w .old) (recordOf (made .after))) lending edits constraints → Kept (proposalEffect D w .after .lent) lending edits constraints
+    unfolding proposalEffect
     kept-lent z k K =
         let e : eqb (made .number) 0 ≡ true = eq-eqb (made .number) 0 z in
-        let f : eqb (cell c 4) 1 ≡ true = eq-eqb (cell c 4) 1 k in
-        rw (← q, e, f) K
+        rw (← q, e, k) K

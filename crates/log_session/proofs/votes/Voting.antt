@@ -1,11 +1,9 @@
--- What a line about votes prints, vote by vote. Assumes nothing.
-use mathlib.Core.Path.{_≡_, ap}
+-- What a line about votes prints. Assumes nothing.
+use mathlib.Core.Path.{_≡_}
 use mathlib.Core.List.{List}
-use Prim.Native.Nat.{ℕ, _<_}
-use native.Mathlib.Omega.{arith}
+use Prim.Native.Nat.{ℕ}
 use Rattle.record.specs.declared.Record as declared
 use Rattle.record.specs.Stored.{stored}
-use Rattle.record_rows.specs.row.Row.{cell}
 use Rattle.record_tables.specs.Checked.{Checked}
 use Rattle.voting.specs.declared.Election.{Election}
 use Rattle.voting_roll.specs.Election.{electionOf}
@@ -16,10 +14,13 @@ use Rattle.ledger.specs.Ledger.{start}
 use Rattle.ledger.specs.Bench.{benchOf}
 use Rattle.ledger.proofs.Valid.{start-valid, fed-valid}
 use Rattle.log_forms.specs.Printed.{Printed}
+use Rattle.log_commands.specs.declared.Suggesting.{Suggesting}
+use Rattle.log_commands.specs.declared.Vote.{Vote}
+use Rattle.log_commands.specs.declared.Vote.the-variants.{Elect, Bundle, Suggest, Test}
 use Rattle.log_lent.specs.lent_calls.Calls.{proposalsOf, bundleIn, rowIn, suggestedIn}
-use Rattle.log_session.specs.Desk.{Desk, Cells, Effect, ledgerOf, benchIn, printedOf}
+use Rattle.log_session.specs.Desk.{Desk, ledgerOf, benchIn, printedOf}
 use Rattle.log_answers.specs.Answers.{answeredText}
-use Rattle.log_session.specs.votes.Votes.{electionLine, bundleText, suggestionText, testLine, electEdit, askBundle, askSuggestion, testRow, votes, voteOf}
+use Rattle.log_session.specs.votes.Votes.{electionLine, bundleText, suggestionText, testLine, voteEffect}
 
 -- the bench's record in memory, and what holds of it
 pub bench-stored : (D : Desk) {multilog : declared.Record} → multilog ≡ benchIn D .multilog → multilog ≡ stored (ledgerOf D .multilog)
@@ -30,28 +31,24 @@ pub bench-checked : (D : Desk) → Checked (ledgerOf D .multilog)
 unfolding ledgerOf
 bench-checked D = fed-valid start (D .calls) start-valid .checked
 
-module _ (D : Desk) (which : ℕ) (c : Cells) (line : ℕ) (before : List ℕ) (at : ℕ) {after : List ℕ} {end : ℕ} where
-  effect-as : (E : Effect) → voteOf which D c ≡ E → Printed (printedOf E line) before at after end → Printed (printedOf (voteOf which D c) line) before at after end
-  effect-as E q p = rw q p
+-- of the line that it is
+module _ (D : Desk) {vote : Vote} (line : ℕ) (before : List ℕ) (at : ℕ) {after : List ℕ} {end : ℕ} where
+  pub vote-election : (edit : ℕ) → vote ≡ Elect edit → (E : Election) → E ≡ electionOf edit (proposalsOf (D .lent)) (D .lent .roll)
+      → Printed (answeredText (E .number) (electionLine E) line) before at after end → Printed (printedOf (voteEffect D vote) line) before at after end
+  unfolding voteEffect printedOf
+  vote-election edit q E e p = rw q (rw e at p)
 
-  pub vote-election : which ≡ 0 → (E : Election) → E ≡ electionOf (cell c 0) (proposalsOf (D .lent)) (D .lent .roll)
-      → Printed (answeredText (E .number) (electionLine E) line) before at after end → Printed (printedOf (voteOf which D c) line) before at after end
-  unfolding voteOf votes electEdit printedOf
-  vote-election q E e p = effect-as (electEdit D c) (ap (λ (k : ℕ). voteOf k D c) q) (rw e at p)
+  pub vote-bundle : (edit k : ℕ) → vote ≡ Bundle edit k → (b : BundleAnswer) → b ≡ bundleIn (D .lent) k edit
+      → Printed (answeredText (b .number) (bundleText b) line) before at after end → Printed (printedOf (voteEffect D vote) line) before at after end
+  unfolding voteEffect printedOf
+  vote-bundle edit k q b e p = rw q (rw e at p)
 
-  pub vote-bundle : which ≡ 1 → (b : BundleAnswer) → b ≡ bundleIn (D .lent) (cell c 1) (cell c 0)
-      → Printed (answeredText (b .number) (bundleText b) line) before at after end → Printed (printedOf (voteOf which D c) line) before at after end
-  unfolding voteOf votes askBundle printedOf
-  vote-bundle q b e p = effect-as (askBundle D c) (ap (λ (k : ℕ). voteOf k D c) q) (rw e at p)
+  pub vote-suggestion : (asked : Suggesting) → vote ≡ Suggest asked → (s : Suggested) → s ≡ suggestedIn (ledgerOf D .multilog) (asked .first) (asked .second) (asked .case)
+      → Printed (answeredText (s .number) (suggestionText s) line) before at after end → Printed (printedOf (voteEffect D vote) line) before at after end
+  unfolding voteEffect printedOf
+  vote-suggestion asked q s e p = rw q (rw e at p)
 
-  pub vote-suggestion : which ≡ 3 → (s : Suggested) → s ≡ suggestedIn (ledgerOf D .multilog) (cell c 0) (cell c 1) (cell c 2)
-      → Printed (answeredText (s .number) (suggestionText s) line) before at after end → Printed (printedOf (voteOf which D c) line) before at after end
-  unfolding voteOf votes askSuggestion printedOf
-  vote-suggestion q s e p = effect-as (askSuggestion D c) (ap (λ (k : ℕ). voteOf k D c) q) (rw e at p)
-
-  pub vote-test : (which ≡ 0 → ⊥) → (which ≡ 1 → ⊥) → (which ≡ 2 → ⊥) → (which ≡ 3 → ⊥) → which < 5 → (a : RowAnswer) → a ≡ rowIn (D .lent) (cell c 0)
-      → Printed (answeredText (a .number) (testLine a) line) before at after end → Printed (printedOf (voteOf which D c) line) before at after end
-  unfolding voteOf votes testRow printedOf
-  vote-test first second third fourth h a e p =
-      let q : which ≡ 4 = omega arith in
-      effect-as (testRow D c) (ap (λ (k : ℕ). voteOf k D c) q) (rw e at p)
+  pub vote-test : (k : ℕ) → vote ≡ Test k → (a : RowAnswer) → a ≡ rowIn (D .lent) k
+      → Printed (answeredText (a .number) (testLine a) line) before at after end → Printed (printedOf (voteEffect D vote) line) before at after end
+  unfolding voteEffect printedOf
+  vote-test k q a e p = rw q (rw e at p)

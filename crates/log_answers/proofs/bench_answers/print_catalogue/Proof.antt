@@ -1,29 +1,42 @@
 -- `bench_answers::print_catalogue` meets its contract. Assumes nothing.
 use borrow.Author.Needs.{needs}
 use mathlib.Core.Path.{_∙_}
-use mathlib.Core.List.{[], _∷_}
-use Rattle.log_forms.proofs.Printing.{printed-end}
+use Rattle.text_forms.specs.Spelling.{bytes}
+use Rattle.log_forms.proofs.Printing.{printed-length}
 use Rattle.log_answers.proofs.bench_answers.Questions.{catalogue-printed}
-use Rattle.log_answers.specs.Answers.{answerLine}
 use Rattle.log_answers.proofs.bench_answers.print_catalogue.Statement.{statement}
 use Rattle.log_answers.proofs.bench_answers.print_catalogue.Tie as tie
 
 count-present-requires : tie.Need-count-present-requires
 count-present-requires c κs = search needs
 
-tell-one-requires : tie.Need-tell-one-requires
-tell-one-requires c κs = search needs
+slice-aggregate-print : tie.Need-slice-aggregate-print
+slice-aggregate-print c = search needs
+
+slice-aggregate-print-2 : tie.Need-slice-aggregate-print-2
+slice-aggregate-print-2 c = search needs
+
+print-requires : tie.Need-print-requires
+print-requires c κs = search needs
 
 print-entries-requires : tie.Need-print-entries-requires
-print-entries-requires c κs = printed-end (answerLine 12 (c .before .before .before .before .before .count-present .result ∷ [])) (c .before .before .before .before .before .before .before .before .before .before .args .out .now) (c .before .before .before .before .before .before .before .before .before .before .args .at) (c .before .before .before .tell-one .ensures)
+print-entries-requires c κs = search needs
 
 same-length : tie.Need-same-length
-same-length c = (c .before .before .print-entries .ensures .size) ∙ (c .before .before .before .before .before .before .tell-one .ensures .size)
+same-length c = printed-length (c .before .before .print-entries .ensures) ∙ printed-length (c .before .before .before .before .before .before .print .ensures)
 
 returns : tie.Need-returns
-returns c = let s = c .before .before .before .before .before .before .before .before .before .before .before .before .before .args in catalogue-printed (s .out .now) (s .at) (s .bench .view .catalogue .entries) (c .before .before .before .before .before .before .before .before .count-present .ensures) (c .before .before .before .before .before .before .tell-one .ensures) (c .before .before .print-entries .ensures)
+unfolding bytes
+returns c = let s = c .before .before .before .before .before .before .before .before .before .before .before .before .before .before .before .args in catalogue-printed (s .out .now) (s .at) (s .bench .view .catalogue .entries) (c .before .before .before .before .before .before .before .before .before .before .count-present .ensures) (c .before .before .before .before .before .before .print .ensures) (c .before .before .print-entries .ensures)
 
 pub print-catalogue-spec : {M : Type 1} → statement M
 print-catalogue-spec =
     tie.close
-    (tie.spec count-present-requires tell-one-requires print-entries-requires same-length returns)
+    (tie.spec
+    count-present-requires
+    slice-aggregate-print
+    slice-aggregate-print-2
+    print-requires
+    print-entries-requires
+    same-length
+    returns)

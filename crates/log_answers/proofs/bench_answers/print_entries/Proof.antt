@@ -5,7 +5,7 @@ use Prim.Native.Nat.{_-_}
 use mathlib.Core.Path.{_≡_, ap}
 use lib.ListN.{length, take}
 use Rattle.lists.proofs.Lists.{length-mapped}
-use Rattle.log_forms.proofs.Printing.{Printing, printing-start, printing-place, printing-next, printing-end, printed-as}
+use Rattle.log_forms.proofs.Printing.{Printing, printing-start, printing-next, printing-end, printed-as, printed-length}
 use Rattle.log_answers.specs.bench_answers.Asks.{entryText}
 use Rattle.log_answers.proofs.bench_answers.Questions.{all-of}
 use Rattle.log_forms.specs.Printed.{textsFrom}
@@ -19,7 +19,7 @@ abbrev μ-loop : tie.MeasureT-loop
 μ-loop out₀ at entries place₀ i₀ out place i = 64 - i
 
 loop-holds : tie.Need-loop-holds Inv-loop μ-loop
-loop-holds c = let s = c .before .args in let l : length (s .t3) ≡ 64 = search (needs, length-mapped) in printing-start entryText 0 (s .t3) 64 (s .out .now) (s .at) (omega arith) (c .before .pre)
+loop-holds c = let s = c .before .args in let l : length (s .t3) ≡ 64 = search (needs, length-mapped) in printing-start entryText 0 (s .t3) 64 (s .out .now) (s .at) (omega arith)
 
 mul-entry : tie.Need-mul-entry Inv-loop μ-loop
 mul-entry c = search needs
@@ -28,7 +28,7 @@ array-copy-out-entry : tie.Need-array-copy-out-entry Inv-loop μ-loop
 array-copy-out-entry c = search needs
 
 print-entry-requires : tie.Need-print-entry-requires Inv-loop μ-loop
-print-entry-requires c κs = let s = c .before .before .before .before .before .args in printing-place entryText 0 (s .t3) 64 (s .out .now) (s .at) (c .before .before .before .loop .inv)
+print-entry-requires c κs = search needs
 
 add-i : tie.Need-add-i Inv-loop μ-loop
 add-i c = search needs
@@ -40,7 +40,7 @@ loop-again : tie.Need-loop-again Inv-loop μ-loop
 loop-again c = let s = c .before .before .before .before .before .before .before .before .args in printing-next entryText 0 (s .t3) 64 (s .out .now) (s .at) (c .before .before .before .before .before .before .loop .inv) _ (c .before .before .before .before .before .before .loop .i) (omega arith) (c .before .before .before .before .before .loop-test .taken) (c .before .before .print-entry .ensures)
 
 same-length : tie.Need-same-length Inv-loop μ-loop
-same-length c = c .before .loop .inv .so-far .size
+same-length c = printed-length (c .before .loop .inv .so-far)
 
 returns : tie.Need-returns Inv-loop μ-loop
 returns c = let s = c .before .before .before .args in let l : length (s .t3) ≡ 64 = search (needs, length-mapped) in printed-as (textsFrom entryText 0 (take 64 (s .t3))) (s .out .now) (s .at) (ap (textsFrom entryText 0) (all-of (s .t3) 64 l)) (printing-end entryText 0 (s .t3) 64 (s .out .now) (s .at) (c .before .loop .inv) (c .loop-test .left))

@@ -2,11 +2,9 @@
 use borrow.Author.Needs.{needs}
 use native.Mathlib.Omega.{arith}
 use mathlib.Core.Path.{_∙_}
-use mathlib.Core.List.{[], _∷_}
-use Rattle.lists.proofs.Lists.{length-mapped}
-use Rattle.log_forms.proofs.Printing.{printed-end}
+use Rattle.text_forms.specs.Spelling.{bytes}
+use Rattle.log_forms.proofs.Printing.{printed-length}
 use Rattle.log_answers.proofs.bench_answers.Questions.{hidden-printed}
-use Rattle.log_answers.specs.Answers.{answerLine}
 use Rattle.log_answers.proofs.bench_answers.print_hidden.Statement.{statement}
 use Rattle.log_answers.proofs.bench_answers.print_hidden.Tie as tie
 
@@ -16,17 +14,24 @@ lesser-requires c κs = search needs
 count-hidden-requires : tie.Need-count-hidden-requires
 count-hidden-requires c κs = omega (arith, c .lesser .ensures)
 
-tell-one-requires : tie.Need-tell-one-requires
-tell-one-requires c κs = search needs
+slice-aggregate-print : tie.Need-slice-aggregate-print
+slice-aggregate-print c = search needs
+
+slice-aggregate-print-2 : tie.Need-slice-aggregate-print-2
+slice-aggregate-print-2 c = search needs
+
+print-requires : tie.Need-print-requires
+print-requires c κs = search needs
 
 print-hidden-edits-requires : tie.Need-print-hidden-edits-requires
-print-hidden-edits-requires c κs = (omega (arith, c .before .before .before .before .before .before .lesser .ensures), printed-end (answerLine 8 (c .before .before .before .before .before .count-hidden .result ∷ [])) (c .before .before .before .before .before .before .before .before .before .before .before .args .out .now) (c .before .before .before .before .before .before .before .before .before .before .before .args .at) (c .before .before .before .tell-one .ensures))
+print-hidden-edits-requires c κs = omega (arith, c .before .before .before .before .before .before .before .before .lesser .ensures)
 
 same-length : tie.Need-same-length
-same-length c = (c .before .before .print-hidden-edits .ensures .size) ∙ (c .before .before .before .before .before .before .tell-one .ensures .size)
+same-length c = printed-length (c .before .before .print-hidden-edits .ensures .0) ∙ printed-length (c .before .before .before .before .before .before .print .ensures)
 
 returns : tie.Need-returns
-returns c = let s = c .before .before .before .before .before .before .before .before .before .before .before .before .before .before .args in hidden-printed (s .bench .multilog .edits) (s .bench .multilog .editcount) (search (needs, length-mapped)) (c .before .before .before .before .before .before .before .before .before .lesser .ensures) (s .out .now) (s .at) (s .bench .hidden) (c .before .before .before .before .before .before .before .before .count-hidden .ensures) (c .before .before .before .before .before .before .tell-one .ensures) (c .before .before .print-hidden-edits .ensures)
+unfolding bytes
+returns c = let s = c .before .before .before .before .before .before .before .before .before .before .before .before .before .before .before .before .args in hidden-printed (s .bench .multilog .edits) (s .bench .multilog .editcount) (c .before .before .print-hidden-edits .ensures .1) (c .before .before .before .before .before .before .before .before .before .before .before .lesser .ensures) (s .out .now) (s .at) (s .bench .hidden) (c .before .before .before .before .before .before .before .before .before .before .count-hidden .ensures) (c .before .before .before .before .before .before .print .ensures) (c .before .before .print-hidden-edits .ensures .0)
 
 pub print-hidden-spec : {M : Type 1} → statement M
 print-hidden-spec =
@@ -34,7 +39,9 @@ print-hidden-spec =
     (tie.spec
     lesser-requires
     count-hidden-requires
-    tell-one-requires
+    slice-aggregate-print
+    slice-aggregate-print-2
+    print-requires
     print-hidden-edits-requires
     same-length
     returns)

@@ -1,6 +1,7 @@
 -- `bench_answers::print_if_hidden` meets its contract. Assumes nothing.
 use borrow.Author.Needs.{needs}
 use mathlib.Core.List.{[], _∷_}
+use Rattle.text_forms.specs.Spelling.{bytes}
 use Rattle.log_answers.proofs.bench_answers.Questions.{printed-not, printed-so, not-hidden, is-hidden}
 use Rattle.log_answers.specs.Answers.{answerLine}
 use Rattle.log_answers.specs.bench_answers.Asks.{hides}
@@ -8,16 +9,31 @@ use Rattle.log_answers.proofs.bench_answers.print_if_hidden.Statement.{
 use Rattle.log_answers.proofs.bench_answers.print_if_hidden.Tie as tie
 
 returns : tie.Need-returns
-returns c = let s = c .before .before .args in printed-not (hides (s .mark)) (answerLine 9 (s .name ∷ [])) (s .out .now) (s .at) (not-hidden (s .mark) (c .if1 .taken)) (c .before .before .pre)
+returns c = let s = c .before .before .args in printed-not (hides (s .mark)) (answerLine "edit=@\n" (s .name ∷ [])) (s .out .now) (s .at) (not-hidden (s .mark) (c .if1 .taken))
 
-tell-one-requires : tie.Need-tell-one-requires
-tell-one-requires c κs = search needs
+slice-aggregate-print : tie.Need-slice-aggregate-print
+slice-aggregate-print c = search needs
+
+slice-aggregate-print-2 : tie.Need-slice-aggregate-print-2
+slice-aggregate-print-2 c = search needs
+
+print-requires : tie.Need-print-requires
+print-requires c κs = search needs
 
 same-length : tie.Need-same-length
 same-length c = search needs
 
 returns-2 : tie.Need-returns-2
-returns-2 c = let s = c .before .before .before .before .before .before .args in printed-so (hides (s .mark)) (answerLine 9 (s .name ∷ [])) (s .out .now) (s .at) (is-hidden (s .mark) (c .before .before .before .before .if1 .left)) (c .before .before .tell-one .ensures)
+unfolding bytes
+returns-2 c = let s = c .before .before .before .before .before .before .before .before .args in printed-so (hides (s .mark)) (answerLine "edit=@\n" (s .name ∷ [])) (s .out .now) (s .at) (is-hidden (s .mark) (c .before .before .before .before .before .before .if1 .left)) (c .before .before .print .ensures)
 
 pub print-if-hidden-spec : {M : Type 1} → statement M
-print-if-hidden-spec = tie.close (tie.spec returns tell-one-requires same-length returns-2)
+print-if-hidden-spec =
+    tie.close
+    (tie.spec
+    returns
+    slice-aggregate-print
+    slice-aggregate-print-2
+    print-requires
+    same-length
+    returns-2)

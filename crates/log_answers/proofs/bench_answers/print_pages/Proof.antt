@@ -4,20 +4,21 @@ use native.Mathlib.Omega.{arith}
 use Prim.Native.Nat.{_-_, _+_}
 use mathlib.Core.Path.{_≡_}
 use lib.ListN.{length}
+use Rattle.text_forms.specs.Spelling.{bytes}
 use Rattle.lists.proofs.Lists.{length-mapped}
-use Rattle.log_forms.proofs.Printing.{Printing, printing-start, printing-next, printing-end}
+use Rattle.log_forms.proofs.Printing.{Printing, printing-start, printing-next, printing-end, printed-length}
 use Rattle.log_answers.specs.bench_answers.Asks.{pageLine}
 use Rattle.log_answers.proofs.bench_answers.print_pages.Statement.{statement}
 use Rattle.log_answers.proofs.bench_answers.print_pages.Tie as tie
 
 abbrev Inv-loop : tie.InvT-loop
-Inv-loop out₀ at n edits place₀ i₀ out place i = Printing pageLine 1 edits n out₀ at out place i
+Inv-loop out₀ at n edits place₀ i₀ t10 out place i = Printing pageLine 1 edits n out₀ at out place i
 
 abbrev μ-loop : tie.MeasureT-loop
-μ-loop out₀ at n edits place₀ i₀ out place i = n - i
+μ-loop out₀ at n edits place₀ i₀ t10 out place i = n - i
 
 loop-holds : tie.Need-loop-holds Inv-loop μ-loop
-loop-holds c = let s = c .before .args in let l : length (s .t3) ≡ 127 = search (needs, length-mapped) in printing-start pageLine 1 (s .t3) (s .n) (s .out .now) (s .at) (omega (arith, c .before .pre .0)) (c .before .pre .1)
+loop-holds c = let s = c .before .args in let l : length (s .t3) ≡ 127 = search (needs, length-mapped) in printing-start pageLine 1 (s .t3) (s .n) (s .out .now) (s .at) (omega (arith, c .before .pre))
 
 mul-e : tie.Need-mul-e Inv-loop μ-loop
 mul-e c = search needs
@@ -28,20 +29,27 @@ array-copy-out-e c = search needs
 add-i : tie.Need-add-i Inv-loop μ-loop
 add-i c = search needs
 
-cast-tell-two : tie.Need-cast-tell-two Inv-loop μ-loop
-cast-tell-two c = search needs
+cast-t17 : tie.Need-cast-t17 Inv-loop μ-loop
+cast-t17 c = search needs
 
-tell-two-requires : tie.Need-tell-two-requires Inv-loop μ-loop
-tell-two-requires c κs = search needs
+slice-aggregate-print : tie.Need-slice-aggregate-print Inv-loop μ-loop
+slice-aggregate-print c = search needs
+
+slice-aggregate-print-2 : tie.Need-slice-aggregate-print-2 Inv-loop μ-loop
+slice-aggregate-print-2 c = search needs
+
+print-requires : tie.Need-print-requires Inv-loop μ-loop
+print-requires c κs = search needs
 
 loop-less : tie.Need-loop-less Inv-loop μ-loop
-loop-less c = omega (arith, c .before .before .before .before .before .before .loop-test .taken)
+loop-less c = omega (arith, c .before .before .before .before .before .before .before .before .loop-test .taken)
 
 loop-again : tie.Need-loop-again Inv-loop μ-loop
-loop-again c = let s = c .before .before .before .before .before .before .before .before .before .args in printing-next pageLine 1 (s .t3) (s .n) (s .out .now) (s .at) (c .before .before .before .before .before .before .before .loop .inv) _ (c .before .before .before .before .before .before .before .loop .i + 1) (omega arith) (c .before .before .before .before .before .before .loop-test .taken) (c .before .before .tell-two .ensures)
+unfolding bytes
+loop-again c = let s = c .before .before .before .before .before .before .before .before .before .before .before .args in printing-next pageLine 1 (s .t3) (s .n) (s .out .now) (s .at) (c .before .before .before .before .before .before .before .before .before .loop .inv) _ (c .before .before .before .before .before .before .before .before .before .loop .i + 1) (omega arith) (c .before .before .before .before .before .before .before .before .loop-test .taken) (c .before .before .print .ensures)
 
 same-length : tie.Need-same-length Inv-loop μ-loop
-same-length c = c .before .loop .inv .so-far .size
+same-length c = printed-length (c .before .loop .inv .so-far)
 
 returns : tie.Need-returns Inv-loop μ-loop
 returns c = let s = c .before .before .before .args in (printing-end pageLine 1 (s .t3) (s .n) (s .out .now) (s .at) (c .before .loop .inv) (c .loop-test .left), search (needs, length-mapped))
@@ -56,8 +64,10 @@ print-pages-spec =
     mul-e
     array-copy-out-e
     add-i
-    cast-tell-two
-    tell-two-requires
+    cast-t17
+    slice-aggregate-print
+    slice-aggregate-print-2
+    print-requires
     loop-less
     loop-again
     same-length

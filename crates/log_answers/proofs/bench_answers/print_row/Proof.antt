@@ -1,11 +1,9 @@
 -- `bench_answers::print_row` meets its contract. Assumes nothing.
 use borrow.Author.Needs.{needs}
-use native.Mathlib.Omega.{arith}
 use mathlib.Core.Path.{_∙_}
-use mathlib.Core.List.{[], _∷_}
-use Rattle.log_forms.proofs.Printing.{printed-end}
+use Rattle.text_forms.specs.Spelling.{bytes}
+use Rattle.log_forms.proofs.Printing.{printed-length}
 use Rattle.log_answers.proofs.bench_answers.Questions.{row-printed}
-use Rattle.log_answers.specs.Answers.{answerLine}
 use Rattle.log_answers.proofs.bench_answers.print_row.Statement.{statement}
 use Rattle.log_answers.proofs.bench_answers.print_row.Tie as tie
 
@@ -15,23 +13,27 @@ place-of-requires c κs = search needs
 bit-requires : tie.Need-bit-requires
 bit-requires c κs = search needs
 
-cast-t13 : tie.Need-cast-t13
-cast-t13 c = search needs
+cast-t14 : tie.Need-cast-t14
+cast-t14 c = search needs
 
-slice-aggregate-tell : tie.Need-slice-aggregate-tell
-slice-aggregate-tell c = search needs
+slice-aggregate-print : tie.Need-slice-aggregate-print
+slice-aggregate-print c = search needs
 
-tell-requires : tie.Need-tell-requires
-tell-requires c κs = search needs
+slice-aggregate-print-2 : tie.Need-slice-aggregate-print-2
+slice-aggregate-print-2 c = search needs
+
+print-requires : tie.Need-print-requires
+print-requires c κs = search needs
 
 print-cells-requires : tie.Need-print-cells-requires
-print-cells-requires c κs = let s = c .before .before .before .before .before .before .before .before .before .before .args in (omega arith, printed-end (answerLine 19 (s .page ∷ c .before .before .before .before .before .before .before .before .place-of .result ∷ c .before .before .before .before .before .before .before .bit .result ∷ [])) (s .out .now) (s .at) (c .before .before .before .tell .ensures))
+print-cells-requires c κs = search needs
 
 same-length : tie.Need-same-length
-same-length c = (c .before .before .print-cells .ensures .size) ∙ (c .before .before .before .before .before .before .tell .ensures .size)
+same-length c = printed-length (c .before .before .print-cells .ensures) ∙ printed-length (c .before .before .before .before .before .before .print .ensures)
 
 returns : tie.Need-returns
-returns c = let s = c .before .before .before .before .before .before .before .before .before .before .before .before .before .args in row-printed (s .out .now) (s .at) (s .page) (s .edit) (s .row) (c .before .before .before .before .before .before .before .before .before .before .before .place-of .ensures) (c .before .before .before .before .before .before .before .before .before .before .bit .ensures) (c .before .before .before .before .before .before .tell .ensures) (c .before .before .print-cells .ensures)
+unfolding bytes
+returns c = let s = c .before .before .before .before .before .before .before .before .before .before .before .before .before .before .args in row-printed (s .out .now) (s .at) (s .page) (s .edit) (s .row) (c .before .before .before .before .before .before .before .before .before .before .before .before .place-of .ensures) (c .before .before .before .before .before .before .before .before .before .before .before .bit .ensures) (c .before .before .before .before .before .before .print .ensures) (c .before .before .print-cells .ensures)
 
 pub print-row-spec : {M : Type 1} → statement M
 print-row-spec =
@@ -39,9 +41,10 @@ print-row-spec =
     (tie.spec
     place-of-requires
     bit-requires
-    cast-t13
-    slice-aggregate-tell
-    tell-requires
+    cast-t14
+    slice-aggregate-print
+    slice-aggregate-print-2
+    print-requires
     print-cells-requires
     same-length
     returns)

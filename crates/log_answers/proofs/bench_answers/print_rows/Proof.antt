@@ -5,7 +5,7 @@ use Prim.Native.Nat.{_-_, _+_}
 use mathlib.Core.Path.{_≡_}
 use lib.ListN.{length}
 use Rattle.lists.proofs.Lists.{length-mapped}
-use Rattle.log_forms.proofs.Printing.{Printing, printing-start, printing-next, printing-end, printed-as}
+use Rattle.log_forms.proofs.Printing.{Printing, printing-start, printing-next, printing-end, printed-as, printed-length}
 use Rattle.log_answers.specs.bench_answers.Asks.{rowAt}
 use Rattle.log_answers.proofs.bench_answers.Questions.{row-before}
 use Rattle.log_answers.proofs.bench_answers.print_rows.Statement.{statement}
@@ -18,7 +18,7 @@ abbrev μ-loop : tie.MeasureT-loop
 μ-loop out₀ at n edits rows place₀ i₀ out place i = n - i
 
 loop-holds : tie.Need-loop-holds Inv-loop μ-loop
-loop-holds c = let s = c .before .args in let l : length (s .t3) ≡ 127 = search (needs, length-mapped) in printing-start (rowAt (s .t5)) 1 (s .t3) (s .n) (s .out .now) (s .at) (omega (arith, c .before .pre .0)) (c .before .pre .1)
+loop-holds c = let s = c .before .args in let l : length (s .t3) ≡ 127 = search (needs, length-mapped) in printing-start (rowAt (s .t5)) 1 (s .t3) (s .n) (s .out .now) (s .at) (omega (arith, c .before .pre))
 
 mul-e : tie.Need-mul-e Inv-loop μ-loop
 mul-e c = search needs
@@ -42,10 +42,10 @@ loop-less : tie.Need-loop-less Inv-loop μ-loop
 loop-less c = omega (arith, c .before .before .before .before .before .before .loop-test .taken)
 
 loop-again : tie.Need-loop-again Inv-loop μ-loop
-loop-again c = let s = c .before .before .before .before .before .before .before .before .before .args in let l : length (s .t5) ≡ 127 = search (needs, length-mapped) in printing-next (rowAt (s .t5)) 1 (s .t3) (s .n) (s .out .now) (s .at) (c .before .before .before .before .before .before .before .loop .inv) _ (c .before .before .before .before .before .before .before .loop .i + 1) (omega arith) (c .before .before .before .before .before .before .loop-test .taken) (printed-as _ (c .before .before .before .before .before .before .before .loop .out) (c .before .before .before .before .before .before .before .loop .place) (row-before (s .t5) (c .before .before .before .before .before .before .before .loop .i) _ _ (omega (arith, c .before .before .before .before .before .before .loop-test .taken, c .before .before .before .before .before .before .before .before .before .pre .0))) (c .before .before .print-row .ensures))
+loop-again c = let s = c .before .before .before .before .before .before .before .before .before .args in let l : length (s .t5) ≡ 127 = search (needs, length-mapped) in printing-next (rowAt (s .t5)) 1 (s .t3) (s .n) (s .out .now) (s .at) (c .before .before .before .before .before .before .before .loop .inv) _ (c .before .before .before .before .before .before .before .loop .i + 1) (omega arith) (c .before .before .before .before .before .before .loop-test .taken) (printed-as _ (c .before .before .before .before .before .before .before .loop .out) (c .before .before .before .before .before .before .before .loop .place) (row-before (s .t5) (c .before .before .before .before .before .before .before .loop .i) _ _ (omega (arith, c .before .before .before .before .before .before .loop-test .taken, c .before .before .before .before .before .before .before .before .before .pre))) (c .before .before .print-row .ensures))
 
 same-length : tie.Need-same-length Inv-loop μ-loop
-same-length c = c .before .loop .inv .so-far .size
+same-length c = printed-length (c .before .loop .inv .so-far)
 
 returns : tie.Need-returns Inv-loop μ-loop
 returns c = let s = c .before .before .before .args in (printing-end (rowAt (s .t5)) 1 (s .t3) (s .n) (s .out .now) (s .at) (c .before .loop .inv) (c .loop-test .left), search (needs, length-mapped))

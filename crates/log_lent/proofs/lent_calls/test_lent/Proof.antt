@@ -9,7 +9,7 @@ returns : tie.Need-returns
 returns c = λ L K. row-elsewhere L _ (c .if1 .taken)
 
 returns-2 : tie.Need-returns-2
-returns-2 c = λ L K. absurd (let h = c .if2 .taken in let g = K .rowfew in omega arith)
+returns-2 c = λ L K. absurd (let h = c .if2 .taken in let g = K .row .few in omega arith)
 
 edits-of-requires : tie.Need-edits-of-requires
 edits-of-requires c κs = search needs
@@ -21,7 +21,7 @@ test-names-requires : tie.Need-test-names-requires
 test-names-requires c κs = search needs
 
 returns-3 : tie.Need-returns-3
-returns-3 c = λ L K. let h = c .before .before .before .before .before .before .before .if1 .left in row-given L _ h (c .test-names .ensures) (c .before .before .edits-of .ensures (L .edits) (K .edits) (omega arith)) (c .before .constraints-of .ensures (L .constraints) (K .constraints) (omega arith)) (K .row)
+returns-3 c = λ L K. let h = c .before .before .before .before .before .before .before .if1 .left in row-given L _ h (c .test-names .ensures) (c .before .before .edits-of .ensures (L .edits) (K .edits) (omega arith)) (c .before .constraints-of .ensures (L .constraints) (K .constraints) (omega arith)) (K .row .rows)
 
 pub test-lent-spec : {M : Type 1} → statement M
 test-lent-spec =

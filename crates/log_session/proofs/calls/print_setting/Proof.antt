@@ -5,7 +5,7 @@ use Rattle.log_session.proofs.calls.print_setting.Statement.{statement}
 use Rattle.log_session.proofs.calls.print_setting.Tie as tie
 
 returns : tie.Need-returns
-returns c = λ h. setting-none _ _ (c .if1 .taken) h
+returns c = setting-none _ _ (c .if1 .taken)
 
 print-refusal-requires : tie.Need-print-refusal-requires
 print-refusal-requires c κs = search needs
@@ -14,7 +14,7 @@ same-length : tie.Need-same-length
 same-length c = search needs
 
 returns-2 : tie.Need-returns-2
-returns-2 c = λ h. setting-some _ _ (c .before .before .before .before .if1 .left) (c .before .before .print-refusal .ensures)
+returns-2 c = setting-some _ _ (c .before .before .before .before .if1 .left) (c .before .before .print-refusal .ensures)
 
 pub print-setting-spec : {M : Type 1} → statement M
 print-setting-spec = tie.close (tie.spec returns print-refusal-requires same-length returns-2)

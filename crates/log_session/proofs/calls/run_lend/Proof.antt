@@ -1,11 +1,11 @@
 -- `calls::run_lend` meets its contract. Assumes nothing.
-use borrow.Author.Needs.{needs}
 use Rattle.log_session.proofs.calls.Telling.{lend-holds, lend-printed}
+use borrow.Author.Needs.{needs}
 use Rattle.log_session.proofs.calls.run_lend.Statement.{statement}
 use Rattle.log_session.proofs.calls.run_lend.Tie as tie
 
-lend-requires : tie.Need-lend-requires
-lend-requires c κs = search needs
+lend-line-requires : tie.Need-lend-line-requires
+lend-line-requires c κs = search needs
 
 print-setting-requires : tie.Need-print-setting-requires
 print-setting-requires c κs = search needs
@@ -20,12 +20,15 @@ same-length-3 : tie.Need-same-length-3
 same-length-3 c = search needs
 
 returns : tie.Need-returns
-returns c =
-    λ D H h a.
-    let q = c .before .before .before .before .before .before .before .lend .ensures D (H .kept) (H .benched) h in
-    (lend-holds D _ _ 0 h (H .benched) (q .1), lend-printed D _ _ _ h (H .benched) (q .0) (c .before .before .before .print-setting .ensures a))
+returns c = λ D H. let q = c .before .before .before .before .before .before .before .lend-line .ensures D (H .kept) (H .benched) in (lend-holds D _ 0 (H .benched) (q .1), lend-printed D _ _ (H .benched) (q .0) (c .before .before .before .print-setting .ensures))
 
 pub run-lend-spec : {M : Type 1} → statement M
 run-lend-spec =
     tie.close
-    (tie.spec lend-requires print-setting-requires same-length same-length-2 same-length-3 returns)
+    (tie.spec
+    lend-line-requires
+    print-setting-requires
+    same-length
+    same-length-2
+    same-length-3
+    returns)

@@ -1,5 +1,6 @@
 -- `votes::print_election` meets its contract. Assumes nothing.
 use borrow.Author.Needs.{needs}
+use Rattle.text_forms.specs.Spelling.{bytes}
 use Rattle.log_session.proofs.votes.Answered.{refused-so, election-answered}
 use Rattle.log_session.proofs.votes.print_election.Statement.{statement}
 use Rattle.log_session.proofs.votes.print_election.Tie as tie
@@ -16,26 +17,30 @@ returns c = refused-so _ _ _ _ _ (c .before .before .before .before .if1 .taken)
 bit-requires : tie.Need-bit-requires
 bit-requires c κs = search needs
 
-cast-t12 : tie.Need-cast-t12
-cast-t12 c = search needs
+slice-aggregate-print : tie.Need-slice-aggregate-print
+slice-aggregate-print c = search needs
 
-cast-t13 : tie.Need-cast-t13
-cast-t13 c = search needs
+cast-t15 : tie.Need-cast-t15
+cast-t15 c = search needs
 
-cast-t14 : tie.Need-cast-t14
-cast-t14 c = search needs
+cast-t16 : tie.Need-cast-t16
+cast-t16 c = search needs
 
-slice-aggregate-tell : tie.Need-slice-aggregate-tell
-slice-aggregate-tell c = search needs
+cast-t17 : tie.Need-cast-t17
+cast-t17 c = search needs
 
-tell-requires : tie.Need-tell-requires
-tell-requires c κs = search needs
+slice-aggregate-print-2 : tie.Need-slice-aggregate-print-2
+slice-aggregate-print-2 c = search needs
+
+print-requires : tie.Need-print-requires
+print-requires c κs = search needs
 
 same-length-2 : tie.Need-same-length-2
 same-length-2 c = search needs
 
 returns-2 : tie.Need-returns-2
-returns-2 c = let s = c .before .before .before .before .before .before .before .before .before .before .before .before .args in election-answered (s .line) (s .out .now) (s .at) (s .election) (c .before .before .before .before .before .before .before .before .before .if1 .left) (c .before .before .before .before .before .before .before .before .bit .ensures) (c .before .before .tell .ensures)
+unfolding bytes
+returns-2 c = let s = c .before .before .before .before .before .before .before .before .before .before .before .before .before .args in election-answered (s .line) (s .out .now) (s .at) (s .election) (c .before .before .before .before .before .before .before .before .before .before .if1 .left) (c .before .before .before .before .before .before .before .before .before .bit .ensures) (c .before .before .print .ensures)
 
 pub print-election-spec : {M : Type 1} → statement M
 print-election-spec =
@@ -45,10 +50,11 @@ print-election-spec =
     same-length
     returns
     bit-requires
-    cast-t12
-    cast-t13
-    cast-t14
-    slice-aggregate-tell
-    tell-requires
+    slice-aggregate-print
+    cast-t15
+    cast-t16
+    cast-t17
+    slice-aggregate-print-2
+    print-requires
     same-length-2
     returns-2)

@@ -1,6 +1,6 @@
 -- `votes::print_made` meets its contract. Assumes nothing.
 use borrow.Author.Needs.{needs}
-use Rattle.log_session.proofs.votes.Answered.{refused-so, record-answered}
+use Rattle.log_session.proofs.votes.Answered.{refused-so, answered-so}
 use Rattle.log_session.proofs.votes.print_made.Statement.{statement}
 use Rattle.log_session.proofs.votes.print_made.Tie as tie
 
@@ -13,20 +13,14 @@ same-length c = search needs
 returns : tie.Need-returns
 returns c = refused-so _ _ _ _ _ (c .before .before .before .before .if1 .taken) (c .before .before .print-refusal .ensures)
 
-slice-aggregate-tell : tie.Need-slice-aggregate-tell
-slice-aggregate-tell c = search needs
-
-tell-requires : tie.Need-tell-requires
-tell-requires c κs = search needs
-
-print-text-requires : tie.Need-print-text-requires
-print-text-requires c κs = search needs
+print-record-requires : tie.Need-print-record-requires
+print-record-requires c κs = search needs
 
 same-length-2 : tie.Need-same-length-2
 same-length-2 c = search needs
 
 returns-2 : tie.Need-returns-2
-returns-2 c = let s = c .before .before .before .before .before .before .before .before .before .before .before .before .before .args in record-answered (s .line) (s .out .now) (s .at) (s .made) (c .before .before .before .before .before .before .before .before .before .before .if1 .left) (c .before .before .before .before .before .before .tell .ensures) (c .before .before .print-text .ensures)
+returns-2 c = answered-so _ _ _ _ _ (c .before .before .before .before .before .if1 .left) (c .before .before .print-record .ensures)
 
 pub print-made-spec : {M : Type 1} → statement M
 print-made-spec =
@@ -35,8 +29,6 @@ print-made-spec =
     print-refusal-requires
     same-length
     returns
-    slice-aggregate-tell
-    tell-requires
-    print-text-requires
+    print-record-requires
     same-length-2
     returns-2)

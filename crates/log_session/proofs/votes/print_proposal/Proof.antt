@@ -1,20 +1,9 @@
 -- `votes::print_proposal` meets its contract. Assumes nothing.
-use borrow.Author.Needs.{needs}
+use borrow.Author.Tests.{not-true, not-false}
 use Rattle.log_session.proofs.votes.Making.{new-storable, proposal-printed, refused-lent, unkept-lent, kept-lent}
+use borrow.Author.Needs.{needs}
 use Rattle.log_session.proofs.votes.print_proposal.Statement.{statement}
 use Rattle.log_session.proofs.votes.print_proposal.Tie as tie
-
-array-read-propose-lent : tie.Need-array-read-propose-lent
-array-read-propose-lent c = search needs
-
-array-read-propose-lent-2 : tie.Need-array-read-propose-lent-2
-array-read-propose-lent-2 c = search needs
-
-array-read-propose-lent-3 : tie.Need-array-read-propose-lent-3
-array-read-propose-lent-3 c = search needs
-
-array-read-propose-lent-4 : tie.Need-array-read-propose-lent-4
-array-read-propose-lent-4 c = search needs
 
 propose-lent-requires : tie.Need-propose-lent-requires
 propose-lent-requires c κs = search needs
@@ -32,10 +21,7 @@ same-length-3 : tie.Need-same-length-3
 same-length-3 c = search needs
 
 returns : tie.Need-returns
-returns c = λ D K. let s = c .before .before .before .before .before .before .before .before .before .before .args in let q = c .before .before .before .before .before .before .propose-lent .ensures (D .lent) K in (refused-lent D (s .t4) _ q (c .if1 .taken) K, proposal-printed D (s .t4) _ q (s .line) (s .out .now) (s .at) (c .before .before .before .before .print-made .ensures))
-
-array-read-keep : tie.Need-array-read-keep
-array-read-keep c = search needs
+returns c = λ D K. let s = c .before .before .before .before .before .before .before .before .before .before .args in let q = c .before .before .before .before .before .before .propose-lent .ensures (D .lent) K in (refused-lent D (s .asked) _ q (c .if1 .taken) K, proposal-printed D (s .asked) _ q (s .line) (s .out .now) (s .at) (c .before .before .before .before .print-made .ensures))
 
 same-length-4 : tie.Need-same-length-4
 same-length-4 c = search needs
@@ -47,10 +33,7 @@ same-length-6 : tie.Need-same-length-6
 same-length-6 c = search needs
 
 returns-2 : tie.Need-returns-2
-returns-2 c = λ D K. let s = c .before .before .before .before .before .before .before .before .before .before .before .args in let q = c .before .before .before .before .before .before .before .propose-lent .ensures (D .lent) K in (unkept-lent D (s .t4) _ q (c .if2 .taken) K, proposal-printed D (s .t4) _ q (s .line) (s .out .now) (s .at) (c .before .before .before .before .before .print-made .ensures))
-
-array-read-lend-record : tie.Need-array-read-lend-record
-array-read-lend-record c = search needs
+returns-2 c = λ D K. let s = c .before .before .before .before .before .before .before .before .before .before .before .before .args in let q = c .before .before .before .before .before .before .before .before .propose-lent .ensures (D .lent) K in (unkept-lent D (s .asked) _ q (not-true _ (c .if2 .taken)) K, proposal-printed D (s .asked) _ q (s .line) (s .out .now) (s .at) (c .before .before .before .before .before .before .print-made .ensures))
 
 lend-record-requires : tie.Need-lend-record-requires
 lend-record-requires c κs = search needs
@@ -65,28 +48,22 @@ same-length-9 : tie.Need-same-length-9
 same-length-9 c = search needs
 
 returns-3 : tie.Need-returns-3
-returns-3 c = λ D K. let s = c .before .before .before .before .before .before .before .before .before .before .before .before .before .before .before .before .before .before .args in let q = c .before .before .before .before .before .before .before .before .before .before .before .before .before .before .propose-lent .ensures (D .lent) K in let z = c .before .before .before .before .before .before .before .before .if1 .left in let w = new-storable D (s .t4) _ q z in (kept-lent D (s .t4) _ q z (c .before .before .before .before .before .before .before .if2 .left) (c .before .before .before .lend-record .ensures (D .lent) _ K (w .holds) (w .edits-few) (w .constraints-few) .1), proposal-printed D (s .t4) _ q (s .line) (s .out .now) (s .at) (c .before .before .before .before .before .before .before .before .before .before .before .before .print-made .ensures))
+returns-3 c = λ D K. let s = c .before .before .before .before .before .before .before .before .before .before .before .before .before .before .before .before .before .before .before .args in let q = c .before .before .before .before .before .before .before .before .before .before .before .before .before .before .before .propose-lent .ensures (D .lent) K in let z = c .before .before .before .before .before .before .before .before .before .if1 .left in let w = new-storable D (s .asked) _ q z in (kept-lent D (s .asked) _ q z (not-false _ (c .before .before .before .before .before .before .before .if2 .left)) (c .before .before .before .lend-record .ensures (D .lent) _ K (w .holds) (w .edits-few) (w .constraints-few) .1), proposal-printed D (s .asked) _ q (s .line) (s .out .now) (s .at) (c .before .before .before .before .before .before .before .before .before .before .before .before .before .print-made .ensures))
 
 pub print-proposal-spec : {M : Type 1} → statement M
 print-proposal-spec =
     tie.close
     (tie.spec
-    array-read-propose-lent
-    array-read-propose-lent-2
-    array-read-propose-lent-3
-    array-read-propose-lent-4
     propose-lent-requires
     print-made-requires
     same-length
     same-length-2
     same-length-3
     returns
-    array-read-keep
     same-length-4
     same-length-5
     same-length-6
     returns-2
-    array-read-lend-record
     lend-record-requires
     same-length-7
     same-length-8

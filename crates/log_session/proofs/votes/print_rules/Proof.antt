@@ -1,20 +1,25 @@
 -- `votes::print_rules` meets its contract. Assumes nothing.
 use borrow.Author.Needs.{needs}
+use Rattle.text_forms.specs.Spelling.{bytes}
 use Rattle.log_session.proofs.votes.Answered.{no-rule-answer, one-rule, two-rules}
 use Rattle.log_session.proofs.votes.print_rules.Statement.{statement}
 use Rattle.log_session.proofs.votes.print_rules.Tie as tie
 
-slice-aggregate-tell : tie.Need-slice-aggregate-tell
-slice-aggregate-tell c = search needs
+slice-aggregate-print : tie.Need-slice-aggregate-print
+slice-aggregate-print c = search needs
 
-tell-requires : tie.Need-tell-requires
-tell-requires c κs = search needs
+slice-aggregate-print-2 : tie.Need-slice-aggregate-print-2
+slice-aggregate-print-2 c = search needs
+
+print-requires : tie.Need-print-requires
+print-requires c κs = search needs
 
 same-length : tie.Need-same-length
 same-length c = search needs
 
 returns : tie.Need-returns
-returns c = let s = c .before .before .before .before .before .before .before .before .before .args in no-rule-answer (s .suggested) (s .out .now) (s .at) (c .before .before .before .tell .ensures) (c .if1 .taken)
+unfolding bytes
+returns c = let s = c .before .before .before .before .before .before .before .before .before .before .args in no-rule-answer (s .suggested) (s .out .now) (s .at) (c .before .before .before .print .ensures) (c .if1 .taken)
 
 print-rule-requires : tie.Need-print-rule-requires
 print-rule-requires c κs = search needs
@@ -23,7 +28,8 @@ same-length-2 : tie.Need-same-length-2
 same-length-2 c = search needs
 
 returns-2 : tie.Need-returns-2
-returns-2 c = let s = c .before .before .before .before .before .before .before .before .before .before .before .before .before .before .args in one-rule (s .suggested) (s .out .now) (s .at) (c .before .before .before .before .before .before .before .before .tell .ensures) (c .before .before .before .before .before .if1 .left) (c .before .before .before .print-rule .ensures) (c .if2 .taken)
+unfolding bytes
+returns-2 c = let s = c .before .before .before .before .before .before .before .before .before .before .before .before .before .before .before .args in one-rule (s .suggested) (s .out .now) (s .at) (c .before .before .before .before .before .before .before .before .print .ensures) (c .before .before .before .before .before .if1 .left) (c .before .before .before .print-rule .ensures) (c .if2 .taken)
 
 print-rule-requires-2 : tie.Need-print-rule-requires-2
 print-rule-requires-2 c κs = search needs
@@ -32,14 +38,16 @@ same-length-3 : tie.Need-same-length-3
 same-length-3 c = search needs
 
 returns-3 : tie.Need-returns-3
-returns-3 c = let s = c .before .before .before .before .before .before .before .before .before .before .before .before .before .before .before .before .before .before .args in two-rules (s .suggested) (s .out .now) (s .at) (c .before .before .before .before .before .before .before .before .before .before .before .before .tell .ensures) (c .before .before .before .before .before .before .before .before .before .if1 .left) (c .before .before .before .before .before .before .before .print-rule .ensures) (c .before .before .before .before .if2 .left) (c .before .before .print-rule2 .ensures)
+unfolding bytes
+returns-3 c = let s = c .before .before .before .before .before .before .before .before .before .before .before .before .before .before .before .before .before .before .before .args in two-rules (s .suggested) (s .out .now) (s .at) (c .before .before .before .before .before .before .before .before .before .before .before .before .print .ensures) (c .before .before .before .before .before .before .before .before .before .if1 .left) (c .before .before .before .before .before .before .before .print-rule .ensures) (c .before .before .before .before .if2 .left) (c .before .before .print-rule2 .ensures)
 
 pub print-rules-spec : {M : Type 1} → statement M
 print-rules-spec =
     tie.close
     (tie.spec
-    slice-aggregate-tell
-    tell-requires
+    slice-aggregate-print
+    slice-aggregate-print-2
+    print-requires
     same-length
     returns
     print-rule-requires

@@ -1,0 +1,2 @@
+pub mod Grammar
+pub mod Groups
