@@ -3,7 +3,9 @@
 use crate::print;
 use catalogue::Catalogue;
 use catalogue::Changed;
+use catalogue::View;
 use record::Body;
+use record::EDITS;
 use record::Edit;
 use record::Field;
 use record::Schedule;
@@ -12,31 +14,32 @@ use record::Schedule;
 fn tell_turn(label: &[u8], by: i32) {
     let answer = pages_turner::turn_answer(3, pages_turner::turn_step(3, 3, by));
     let number = answer.number;
-    let page = answer.opened;
-    print::text(label);
-    print::number(b"number=", numbers::wide32(number as u32));
-    print::number(b" page=", page as u64);
-    print::text(b"\n");
+    print::line(
+        label,
+        b"number=# page=#\n",
+        &[number as u64, answer.opened as u64],
+    );
 }
 
 // The entry at place 5 and its size.
 fn tell_entry(label: &[u8], catalogue: Catalogue) {
     let entry = catalogue.entries[5];
     let size = entry.cells[1];
-    print::text(label);
-    print::number(b"present=", print::bit(entry.present));
-    print::number(b" filled=", print::bit(size.filled));
-    print::number(b" size=", numbers::wide32(size.value));
-    print::text(b"\n");
+    let present = print::bit(entry.present);
+    let filled = print::bit(size.filled);
+    print::line(
+        label,
+        b"present=# filled=# size=#\n",
+        &[present, filled, numbers::wide32(size.value)],
+    );
 }
 
 fn tell_change(label: &[u8], changed: Changed) {
-    let undone = changed.undone;
-    let redone = changed.redone;
-    print::text(label);
-    print::number(b"undone=", undone as u64);
-    print::number(b" redone=", redone as u64);
-    print::text(b"\n");
+    print::line(
+        label,
+        b"undone=# redone=#\n",
+        &[changed.undone as u64, changed.redone as u64],
+    );
 }
 
 fn insert() -> Edit {
@@ -65,38 +68,63 @@ fn three(third: Edit) -> Schedule {
     let mut edits = [Edit {
         name: 0,
         body: Body::Insert(0),
-    }; 127];
+    }; EDITS];
     edits[0] = insert();
     edits[1] = set(258, 8192);
     edits[2] = third;
     Schedule { edits, count: 3 }
 }
 
-pub fn all() {
+// P10, and both ends of a turn.
+fn turns() {
     tell_turn(b"turn -3: ", -3);
     tell_turn(b"turn -4: ", -4);
     tell_turn(b"turn +1: ", 1);
+}
+
+fn far_turns() {
     tell_turn(b"turn 0: ", 0);
     tell_turn(b"turn -2147483648: ", -2147483648);
     tell_turn(b"turn +2147483647: ", 2147483647);
+}
 
-    let old = three(remove());
-    let empty = catalogue::empty_view();
-    let third = catalogue::turn_to(empty, old, 0, 3);
-    tell_entry(b"after the remove: ", third.catalogue);
+// After all three pages.
+fn third(old: Schedule) -> View {
+    let view = catalogue::turn_to(catalogue::empty_view(), old, 0, 3);
+    tell_entry(b"after the remove: ", view.catalogue);
+    view
+}
+
+fn one_back(third: View, old: Schedule) {
     let second = catalogue::turn_to(third, old, 3, 2);
     tell_entry(b"one page back: ", second.catalogue);
     tell_entry(
         b"an insert there: ",
         catalogue::run_edit(second.catalogue, insert()),
     );
+}
+
+fn set_on_absent() {
+    let empty = catalogue::empty_view();
     tell_entry(
         b"a set at page 0: ",
         catalogue::run_edit(empty.catalogue, set(258, 8192)),
     );
+}
 
+fn changes(third: View, old: Schedule) {
     let changed = catalogue::change(third, old, 3, three(set(260, 16384)));
     tell_change(b"another third edit: ", changed);
     let view = changed.view;
     tell_entry(b"then: ", view.catalogue);
+}
+
+pub fn all() {
+    turns();
+    far_turns();
+    let old = three(remove());
+    let view = third(old);
+    one_back(view, old);
+    set_on_absent();
+    changes(view, old);
 }

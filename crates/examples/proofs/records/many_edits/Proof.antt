@@ -1,45 +1,39 @@
-use Prim.Native.Nat.{_-_, _≤_}
+-- `many_edits` meets its contract. Assumes nothing.
+use Prim.Native.Nat.{_+_, _-_, _≤_}
 use mathlib.Core.Path.{_≡_}
 use lib.ListN.{length}
+use Rattle.record.specs.Stored.{editLimit}
 use borrow.Author.Needs.{needs}
 use Rattle.examples.proofs.records.many_edits.Statement.{statement}
 use Rattle.examples.proofs.records.many_edits.Tie as tie
 
 abbrev Inv-loop : tie.InvT-loop
-Inv-loop edits₀ i₀ edits i = (length edits ≡ 128) × (i ≤ 128)
+Inv-loop edits₀ i₀ edits i = (length edits ≡ editLimit + 1) × (i ≤ editLimit + 1)
 
 abbrev μ-loop : tie.MeasureT-loop
-μ-loop edits₀ i₀ edits i = 128 - i
+μ-loop edits₀ i₀ edits i = (editLimit + 1) - i
 
--- src/records.rt:512:5
 loop-holds : tie.Need-loop-holds Inv-loop μ-loop
 loop-holds c = search needs
 
--- src/records.rt:513:20
 edit-at-requires : tie.Need-edit-at-requires Inv-loop μ-loop
 edit-at-requires c κs = search needs
 
--- src/records.rt:513:9
 mul-edits : tie.Need-mul-edits Inv-loop μ-loop
 mul-edits c = search needs
 
--- src/records.rt:513:9
 array-set-from-edits : tie.Need-array-set-from-edits Inv-loop μ-loop
 array-set-from-edits c = search needs
 
--- src/records.rt:514:9
 add-i : tie.Need-add-i Inv-loop μ-loop
 add-i c = search needs
 
--- src/records.rt:512:5
 loop-less : tie.Need-loop-less Inv-loop μ-loop
 loop-less c = search needs
 
--- src/records.rt:512:5
 loop-again : tie.Need-loop-again Inv-loop μ-loop
 loop-again c = search needs
 
--- src/records.rt:507:1
 returns : tie.Need-returns Inv-loop μ-loop
 returns c = search needs
 
