@@ -1,6 +1,12 @@
 // Prints the report of the text on standard input, or its refusal (document 01, "Text").
-use stdio::text_input;
+// With an argument, as --help, it prints how it is used.
 
 fn main() {
-    text_input::show_input();
+    if 1 < os::arg_count() {
+        stdio::print(
+            b"usage: shelf < TEXT\n  prints the report of the text of a record, or its first fault\n",
+        );
+        return;
+    }
+    stdio::text_input::show_input();
 }

@@ -10,7 +10,7 @@ use std::collections::{BTreeMap, BTreeSet};
 const LIST: &str = "crates.txt";
 
 /// Libraries of the kit, which have no line.
-const KIT: [&str; 2] = ["io", "libc"];
+const KIT: [&str; 3] = ["io", "libc", "os"];
 
 struct Entry<'a> {
     line: usize,

@@ -1,0 +1,73 @@
+-- `replayed` meets its contract. Assumes nothing.
+use borrow.Author.Needs.{needs}
+use Rattle.lists.proofs.Lists.{clash}
+use Rattle.stdio_log.proofs.Streams.{streaming-end}
+use Rattle.stdio_log.proofs.replayed.Statement.{statement}
+use Rattle.stdio_log.proofs.replayed.Tie as tie
+
+read-all-requires : tie.Need-read-all-requires
+read-all-requires c κs = c .before .before .before .before .before .before .pre
+
+same-length : tie.Need-same-length
+same-length c = search needs
+
+same-length-2 : tie.Need-same-length-2
+same-length-2 c = search needs
+
+same-length-3 : tie.Need-same-length-3
+same-length-3 c = search needs
+
+same-length-4 : tie.Need-same-length-4
+same-length-4 c = search needs
+
+returns : tie.Need-returns
+returns c = λ e. clash (c .if1 .taken) e
+
+sub-run-lines : tie.Need-sub-run-lines
+sub-run-lines c = search needs
+
+part-run-lines-start : tie.Need-part-run-lines-start
+part-run-lines-start c = search needs
+
+part-run-lines-end : tie.Need-part-run-lines-end
+part-run-lines-end c = search (needs, c .before .before .before .before .before .before .before .before .before .before .before .before .read-all .ensures .0, c .before .before .before .before .before .before .before .before .before .chunk .given)
+
+run-lines-requires : tie.Need-run-lines-requires
+run-lines-requires c κs = search needs
+
+same-length-5 : tie.Need-same-length-5
+same-length-5 c = search (needs, c .before .before .before .before .before .before .before .before .before .before .before .before .before .before .before .before .before .before .edits .given, c .before .before .before .edits2 .given)
+
+same-length-6 : tie.Need-same-length-6
+same-length-6 c = search (needs, c .before .before .before .before .before .before .before .before .before .before .before .before .before .before .before .before .before .constraints .given, c .before .before .constraints2 .given)
+
+same-length-7 : tie.Need-same-length-7
+same-length-7 c = search (needs, c .before .before .before .before .before .before .before .before .before .before .before .before .before .before .before .before .chunk .given)
+
+same-length-8 : tie.Need-same-length-8
+same-length-8 c = search (needs, c .before .before .before .before .before .before .before .before .before .before .before .before .before .before .out .given, c .before .out2 .given)
+
+returns-2 : tie.Need-returns-2
+returns-2 c = λ e.
+    let q = c .before .before .before .before .before .before .before .before .before .before .before .before .before .before .before .before .before .before .before .read-all .ensures .1 (c .before .before .before .before .before .before .before .before .before .before .before .before .if1 .left) in
+    streaming-end (q .0) (q .1) (λ D H k. c .before .before .before .before .run-lines .ensures D H k e)
+
+pub replayed-spec : {M : Type 1} → statement M
+replayed-spec =
+    tie.close
+    (tie.spec
+    read-all-requires
+    same-length
+    same-length-2
+    same-length-3
+    same-length-4
+    returns
+    sub-run-lines
+    part-run-lines-start
+    part-run-lines-end
+    run-lines-requires
+    same-length-5
+    same-length-6
+    same-length-7
+    same-length-8
+    returns-2)

@@ -1,0 +1,103 @@
+-- `run_lines` meets its contract. Assumes nothing.
+use Prim.Native.Nat.{_+_, _-_, _≤_}
+use mathlib.Core.Path.{_≡_, refl}
+use lib.ListN.{length}
+use native.Mathlib.Omega.{arith}
+use borrow.Author.Needs.{needs}
+use Rattle.lists.proofs.Lists.{clash}
+use Rattle.log_session.specs.Desk.{Desk}
+use Rattle.log_session.specs.calls.Lines.{Holds}
+use Rattle.stdio_log.proofs.Parts.{further, UpTo, up-to-start, up-to-next, up-to-end}
+use Rattle.stdio_log.proofs.run_lines.Statement.{statement}
+use Rattle.stdio_log.proofs.run_lines.Tie as tie
+
+abbrev Inv-loop : tie.InvT-loop
+Inv-loop edits₀ constraints₀ log count out₀ held₀ lent₀ lines₀ from₀ edits constraints out held lent lines from =
+    (from ≤ length log) × (length edits ≡ length edits₀) × (length constraints ≡ length constraints₀) × (length out ≡ length out₀)
+    × ((D : Desk) → Holds D held₀ lent₀ edits₀ constraints₀ → lines₀ + length log ≤ 4611686018427387904 → UpTo log D lines₀ from held lent edits constraints lines)
+
+abbrev μ-loop : tie.MeasureT-loop
+μ-loop edits₀ constraints₀ log count out₀ held₀ lent₀ lines₀ from₀ edits constraints out held lent lines from =
+    length log - from
+
+loop-holds : tie.Need-loop-holds Inv-loop μ-loop
+loop-holds c = (search needs, search needs, search needs, search needs, λ D H k. up-to-start _ D _ H)
+
+sub-run-some : tie.Need-sub-run-some Inv-loop μ-loop
+sub-run-some c = search needs
+
+part-run-some-start : tie.Need-part-run-some-start Inv-loop μ-loop
+part-run-some-start c = search needs
+
+part-run-some-end : tie.Need-part-run-some-end Inv-loop μ-loop
+part-run-some-end c = search needs
+
+run-some-requires : tie.Need-run-some-requires Inv-loop μ-loop
+run-some-requires c κs = search needs
+
+add-from : tie.Need-add-from Inv-loop μ-loop
+add-from c =
+    let x = further (c .before .before .before .before .before .before .before .before .before .before .before .before .before .before .before .before .args .log .now) (c .before .before .before .before .before .before .before .before .before .before .before .before .before .loop .from) 32768 (c .before .before .before .before .before .before .before .before .before .before .before .before .loop-test .taken) (c .before .before .before .before .before .before .before .run-some .ensures .0) in
+    omega (arith, x .1, c .before .before .before .before .before .before .before .before .before .before .before .before .before .before .before .before .good)
+
+print-requires : tie.Need-print-requires Inv-loop μ-loop
+print-requires c κs = search needs
+
+same-length : tie.Need-same-length Inv-loop μ-loop
+same-length c = search (needs, c .before .before .before .before .before .before .before .before .before .before .before .before .before .before .before .before .loop .inv .1)
+
+same-length-2 : tie.Need-same-length-2 Inv-loop μ-loop
+same-length-2 c = search (needs, c .before .before .before .before .before .before .before .before .before .before .before .before .before .before .before .before .loop .inv .2)
+
+same-length-3 : tie.Need-same-length-3 Inv-loop μ-loop
+same-length-3 c = search (needs, c .before .before .before .before .before .before .before .before .before .before .before .before .before .before .before .before .loop .inv .3)
+
+returns : tie.Need-returns Inv-loop μ-loop
+returns c = λ D H k e. clash refl e
+
+loop-less : tie.Need-loop-less Inv-loop μ-loop
+loop-less c =
+    let x = further (c .before .before .before .before .before .before .before .before .before .before .before .before .before .before .before .before .before .before .before .args .log .now) (c .before .before .before .before .before .before .before .before .before .before .before .before .before .before .before .before .loop .from) 32768 (c .before .before .before .before .before .before .before .before .before .before .before .before .before .before .before .loop-test .taken) (c .before .before .before .before .before .before .before .before .before .before .run-some .ensures .0) in
+    omega (arith, x .0, x .1)
+
+loop-again : tie.Need-loop-again Inv-loop μ-loop
+loop-again c =
+    let x = further (c .before .before .before .before .before .before .before .before .before .before .before .before .before .before .before .before .before .before .before .args .log .now) (c .before .before .before .before .before .before .before .before .before .before .before .before .before .before .before .before .loop .from) 32768 (c .before .before .before .before .before .before .before .before .before .before .before .before .before .before .before .loop-test .taken) (c .before .before .before .before .before .before .before .before .before .before .run-some .ensures .0) in
+    let v = c .before .before .before .before .before .before .before .before .before .before .before .before .before .before .before .before .loop .inv in
+    (omega (arith, x .1), search (needs, v .1), search (needs, v .2), search (needs, v .3), λ D H k. up-to-next _ D _ (v .4 D H k) 32768 (c .before .before .before .before .before .before .before .before .before .before .before .before .before .before .before .loop-test .taken) k (c .before .before .before .before .before .before .before .before .before .before .run-some .ensures))
+
+same-length-4 : tie.Need-same-length-4 Inv-loop μ-loop
+same-length-4 c = search needs
+
+same-length-5 : tie.Need-same-length-5 Inv-loop μ-loop
+same-length-5 c = search needs
+
+same-length-6 : tie.Need-same-length-6 Inv-loop μ-loop
+same-length-6 c = search needs
+
+returns-2 : tie.Need-returns-2 Inv-loop μ-loop
+returns-2 c = λ D H k e. up-to-end _ D _ (c .before .loop .inv .4 D H k) (c .loop-test .left)
+
+pub run-lines-spec : {M : Type 1} → statement M
+run-lines-spec =
+    tie.close
+    (tie.spec
+    Inv-loop
+    μ-loop
+    loop-holds
+    sub-run-some
+    part-run-some-start
+    part-run-some-end
+    run-some-requires
+    add-from
+    print-requires
+    same-length
+    same-length-2
+    same-length-3
+    returns
+    loop-less
+    loop-again
+    same-length-4
+    same-length-5
+    same-length-6
+    returns-2)
