@@ -169,7 +169,13 @@ fn accepted_results(kind: Kind) -> &'static [&'static str] {
 /// The numbers with which a line in form can be refused.
 fn numbers(kind: Kind) -> &'static [u8] {
     match kind {
-        Kind::LentEdit | Kind::LentConstraint | Kind::Row => &[2, 3],
+        Kind::LentEdit
+        | Kind::LentConstraint
+        | Kind::LentInsert
+        | Kind::LentSet
+        | Kind::LentRemove
+        | Kind::LentRule
+        | Kind::Row => &[2, 3],
         Kind::LentNone | Kind::LentBench | Kind::Roll => &[2],
         Kind::Insert | Kind::Set | Kind::Remove => &[2, 3, 4],
         Kind::Constraint => &[2, 3, 5, 6, 7, 8],

@@ -28,6 +28,24 @@ pub fn constraint_row([left, rule, right, ..]: Numbers) -> ConstraintRow {
     ConstraintRow { left, rule, right }
 }
 
+/// The line of the text that says this row, if there is one.
+pub fn edit_text(row: &EditRow) -> Option<String> {
+    let EditRow { name, kind, place, field, value } = row;
+    let word = Field::ALL.get(*field as usize)?.word();
+    match (kind, field, value) {
+        (0, 0, 0) => Some(format!("edit={name} do=insert chip={place}")),
+        (1, ..) => Some(format!("edit={name} do=set chip={place} field={word} value={value}")),
+        (2, 0, 0) => Some(format!("edit={name} do=remove chip={place}")),
+        _ => None,
+    }
+}
+
+pub fn constraint_text(row: &ConstraintRow) -> Option<String> {
+    let ConstraintRow { left, rule, right } = row;
+    let word = Rule::ALL.get(*rule as usize)?.word();
+    Some(format!("left={left} rule={word} right={right}"))
+}
+
 /// What stands at the marks, in order; a word is read as its place in its list.
 #[derive(Clone, Copy, Debug, Default)]
 pub struct Values {
@@ -150,6 +168,27 @@ mod tests {
         let (_, numbers) = find(&FORMS, b"is=yes field=erase rule=noncommuting").unwrap();
         assert_eq!(numbers.unwrap()[..3], [1, 2, 2]);
         assert_eq!(found("is=yes field=erases rule=enables"), None);
+    }
+
+    #[test]
+    fn a_row_with_a_text_is_read_back() {
+        let forms = [(0, INSERT), (1, SET), (2, REMOVE)];
+        let row = |kind, field, value| EditRow { name: 256, kind, place: 64, field, value };
+        for row in [row(0, 0, 0), row(1, 3, 256), row(2, 0, 0)] {
+            let text = edit_text(&row).unwrap();
+            let (kind, numbers) = find(&forms, text.as_bytes()).unwrap();
+            assert_eq!(edit_row(kind, numbers.unwrap()), row);
+        }
+        for row in [row(0, 1, 0), row(0, 0, 1), row(1, 4, 0), row(2, 0, 7), row(3, 0, 0)] {
+            assert_eq!(edit_text(&row), None);
+        }
+        for rule in 0..3 {
+            let row = ConstraintRow { left: 257, rule, right: 0 };
+            let text = constraint_text(&row).unwrap();
+            let (_, numbers) = find(&[(0, CONSTRAINT)], text.as_bytes()).unwrap();
+            assert_eq!(constraint_row(numbers.unwrap()), row);
+        }
+        assert_eq!(constraint_text(&ConstraintRow { left: 257, rule: 3, right: 0 }), None);
     }
 
     #[test]

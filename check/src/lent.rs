@@ -1,5 +1,6 @@
 //! What is lent to the calls of a log: its limits, and the lines that lend rows.
 
+use crate::form::{constraint_text, edit_text};
 use crate::model::{
     ConstraintRow, EditRow, Ground, RollRow, Tables, BENCHES, CONSTRAINT_LIMIT, EDIT_LIMIT,
 };
@@ -46,6 +47,15 @@ pub fn edit_line(number: u32, row: &EditRow) -> String {
 pub fn constraint_line(number: u32, row: &ConstraintRow) -> String {
     let ConstraintRow { left, rule, right } = row;
     format!("lent={number} left={left} rule={rule} right={right}")
+}
+
+/// The line that lends this row by a line of the text, if one says it.
+pub fn edit_text_line(number: u32, row: &EditRow) -> Option<String> {
+    edit_text(row).map(|text| format!("lent={number} {text}"))
+}
+
+pub fn constraint_text_line(number: u32, row: &ConstraintRow) -> Option<String> {
+    constraint_text(row).map(|text| format!("lent={number} {text}"))
 }
 
 /// The lines that lend a record, in place of what was lent before.

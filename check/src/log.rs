@@ -18,6 +18,10 @@ use crate::model::{
 pub enum Kind {
     LentEdit,
     LentConstraint,
+    LentInsert,
+    LentSet,
+    LentRemove,
+    LentRule,
     LentNone,
     LentBench,
     Roll,
@@ -48,9 +52,13 @@ pub enum Kind {
     AskPage,
 }
 
-pub const FORMS: [(Kind, &str); 30] = [
+pub const FORMS: [(Kind, &str); 34] = [
     (Kind::LentEdit, "lent=# edit=# kind=# chip=# field=# value=#"),
     (Kind::LentConstraint, "lent=# left=# rule=# right=#"),
+    (Kind::LentInsert, "lent=# edit=@ do=insert chip=#"),
+    (Kind::LentSet, "lent=# edit=@ do=set chip=# field=F value=#"),
+    (Kind::LentRemove, "lent=# edit=@ do=remove chip=#"),
+    (Kind::LentRule, "lent=# left=@ rule=R right=@"),
     (Kind::LentNone, "lent=# rows=none"),
     (Kind::LentBench, "lent=# rows=bench"),
     (Kind::Roll, "roll=# weight=#"),
@@ -146,9 +154,15 @@ impl Session {
     fn call(&mut self, kind: Kind, numbers: Numbers, out: &mut Vec<u8>) -> Result<(), Ground> {
         let [first, second, third, ..] = numbers;
         match kind {
-            Kind::LentEdit | Kind::LentConstraint | Kind::LentNone | Kind::LentBench => {
-                self.lend(kind, numbers)
+            Kind::LentEdit => self.lend_edit(first, row_of_numbers(after_first(numbers))),
+            Kind::LentInsert => self.lend_edit(first, edit_row(0, after_first(numbers))),
+            Kind::LentSet => self.lend_edit(first, edit_row(1, after_first(numbers))),
+            Kind::LentRemove => self.lend_edit(first, edit_row(2, after_first(numbers))),
+            Kind::LentConstraint | Kind::LentRule => {
+                self.lend_constraint(first, constraint_row(after_first(numbers)))
             }
+            Kind::LentNone => self.lend(first, Tables::default()),
+            Kind::LentBench => self.lend(first, Tables::from(self.bench.record())),
             Kind::Roll => push_roll(&mut self.roll, first, second),
             Kind::RollNone => {
                 self.roll.clear();
@@ -178,8 +192,8 @@ impl Session {
                 let pages = self.bench.show(first)?;
                 self.write_change(pages, out)
             }
-            Kind::TurnForward => self.turn(first, 1, out),
-            Kind::TurnBack => self.turn(first, -1, out),
+            Kind::TurnForward => self.turn(i64::from(first), out),
+            Kind::TurnBack => self.turn(-i64::from(first), out),
             Kind::Adopt => self.adopt(first, out),
             Kind::Elect => self.elect(first, out),
             Kind::Bundle => self.bundle(first, second, out),
@@ -207,23 +221,18 @@ impl Session {
         }
     }
 
-    /// Changes a lent record.
-    fn lend(&mut self, kind: Kind, numbers: Numbers) -> Result<(), Ground> {
-        let [number, second, third, fourth, fifth, sixth, ..] = numbers;
+    fn lend_edit(&mut self, number: u32, row: EditRow) -> Result<(), Ground> {
+        push_within(&mut self.lent[record_number(number)?].edits, row, LENT_EDIT_LIMIT)
+    }
+
+    fn lend_constraint(&mut self, number: u32, row: ConstraintRow) -> Result<(), Ground> {
         let lent = &mut self.lent[record_number(number)?];
-        match kind {
-            Kind::LentEdit => {
-                let (name, kind, place, field, value) = (second, third, fourth, fifth, sixth);
-                let row = EditRow { name, kind, place, field, value };
-                push_within(&mut lent.edits, row, LENT_EDIT_LIMIT)?;
-            }
-            Kind::LentConstraint => {
-                let row = ConstraintRow { left: second, rule: third, right: fourth };
-                push_within(&mut lent.constraints, row, LENT_CONSTRAINT_LIMIT)?;
-            }
-            Kind::LentBench => *lent = Tables::from(self.bench.record()),
-            _ => *lent = Tables::default(),
-        }
+        push_within(&mut lent.constraints, row, LENT_CONSTRAINT_LIMIT)
+    }
+
+    /// Puts a record in the place of a lent one.
+    fn lend(&mut self, number: u32, tables: Tables) -> Result<(), Ground> {
+        self.lent[record_number(number)?] = tables;
         Ok(())
     }
 
@@ -242,9 +251,8 @@ impl Session {
         format!("open={} last={}", book.open_page(), book.last_page())
     }
 
-    fn turn(&mut self, pages: u32, direction: i32, out: &mut Vec<u8>) -> Result<(), Ground> {
-        let pages = i32::try_from(pages).map_err(|_| Ground::Range)?;
-        self.bench.turn(pages * direction)?;
+    fn turn(&mut self, pages: i64, out: &mut Vec<u8>) -> Result<(), Ground> {
+        self.bench.turn(i32::try_from(pages).map_err(|_| Ground::Range)?)?;
         self.write_change(Pages::default(), out)
     }
 
@@ -341,6 +349,16 @@ impl Session {
             write_cells(&format!("page={page}"), before, out);
         }
     }
+}
+
+/// The numbers after that of the lent record.
+fn after_first(mut numbers: Numbers) -> Numbers {
+    numbers.rotate_left(1);
+    numbers
+}
+
+fn row_of_numbers([name, kind, place, field, value, ..]: Numbers) -> EditRow {
+    EditRow { name, kind, place, field, value }
 }
 
 /// All lent records but the loose one.
@@ -443,7 +461,16 @@ mod tests {
             ("lent=9 rows=none\n", "refused=2 line=1\n"),
             ("do=turn pages=2147483647\n", "refused=10 line=1\n"),
             ("do=turn pages=2147483648\n", "refused=2 line=1\n"),
-            ("do=turn pages=-2147483648\n", "refused=2 line=1\n"),
+            ("do=turn pages=-2147483648\n", "refused=10 line=1\n"),
+            ("do=turn pages=-2147483649\n", "refused=2 line=1\n"),
+            ("do=turn pages=-4294967296\n", "refused=2 line=1\n"),
+            ("lent=9 edit=257 do=insert chip=5\n", "refused=2 line=1\n"),
+            ("lent=9 left=257 rule=enables right=0\n", "refused=2 line=1\n"),
+            ("lent=8 edit=257 do=set chip=5 field=size value=4294967296\n", "refused=2 line=1\n"),
+            ("lent=8 edit=257 do=insert chip=5 field=size value=1\n", "refused=1 line=1\n"),
+            ("lent=8 edit=257 kind=insert chip=5\n", "refused=1 line=1\n"),
+            ("lent=8 left=257 rule=requires right=0\n", "refused=1 line=1\n"),
+            ("lent=8 lent=8 left=257 rule=enables right=0\n", "refused=1 line=1\n"),
             ("do=turn pages=-0\n", "undone=0 redone=0 open=0 last=0\n"),
             ("roll=256 weight=0\n", "refused=2 line=1\n"),
             ("roll=9 weight=0\ndo=elect edit=0\n", "refused=14 line=2\n"),
@@ -459,6 +486,51 @@ mod tests {
     }
 
     #[test]
+    fn a_line_of_the_text_lends_the_row_that_it_says() {
+        let cases = [
+            ("edit=257 do=insert chip=5", "edit=257 kind=0 chip=5 field=0 value=0"),
+            (
+                "edit=258 do=set chip=5 field=erase value=4096",
+                "edit=258 kind=1 chip=5 field=2 value=4096",
+            ),
+            ("edit=259 do=remove chip=64", "edit=259 kind=2 chip=64 field=0 value=0"),
+            ("left=257 rule=notafter right=258", "left=257 rule=0 right=258"),
+            ("left=257 rule=enables right=0", "left=257 rule=1 right=0"),
+            ("left=257 rule=noncommuting right=256", "left=257 rule=2 right=256"),
+        ];
+        for (text, row) in cases {
+            let lent = |line: &str| {
+                let mut session = Session::default();
+                session.feed(format!("lent=2 {line}\n").as_bytes());
+                session.lent
+            };
+            assert_eq!(lent(text), lent(row), "{text}");
+            assert_ne!(lent(text)[2], Tables::default(), "{text}");
+        }
+    }
+
+    #[test]
+    fn a_decision_lent_by_its_text_is_merged() {
+        let log = "lent=2 edit=257 do=insert chip=5\n\
+                   lent=2 left=257 rule=enables right=0\n\
+                   do=merge lent=2\n\
+                   ask=text\n";
+        let expected = "undone=0 redone=1 open=1 last=1\n\
+                        edits=1 rules=1\n\
+                        edit=257 do=insert chip=5\n\
+                        left=257 rule=enables right=0\n";
+        assert_eq!(answers(log), expected);
+    }
+
+    #[test]
+    fn the_record_number_counts_among_the_bytes_of_a_line() {
+        let begin = "lent=2 edit=257 do=insert chip=";
+        let long = |length: usize| format!("{begin}{}\n", "9".repeat(length - begin.len()));
+        assert_eq!(answers(&long(100)), "refused=2 line=1\n");
+        assert_eq!(answers(&long(101)), "refused=1 line=1\n");
+    }
+
+    #[test]
     fn what_is_lent_has_its_limits() {
         let count_refused = |line: &str, times: usize| {
             let answers = answers(&line.repeat(times));
@@ -467,7 +539,9 @@ mod tests {
         };
         let edit = "lent=8 edit=1 kind=2 chip=3 field=4 value=5\n";
         assert_eq!(count_refused(edit, 130), 2);
+        assert_eq!(count_refused("lent=8 edit=1 do=remove chip=3\n", 130), 2);
         assert_eq!(count_refused("lent=0 left=1 rule=2 right=3\n", 515), 2);
+        assert_eq!(count_refused("lent=0 left=1 rule=enables right=3\n", 515), 2);
         assert_eq!(count_refused("row=7\n", 131), 2);
         assert_eq!(count_refused("roll=1 weight=1\n", 100), 0);
     }

@@ -10,7 +10,7 @@ const LINE_LIMIT: usize = 100;
 pub enum Order {
     Lend(Lend),
     Change(Change),
-    Turn { pages: u32, back: bool },
+    Turn { pages: i64 },
     Adopt { edit: u32 },
     Elect { edit: u32 },
     Bundle { edit: u32, lent: u32 },
@@ -81,7 +81,10 @@ impl<'line> Reader<'line> {
             b"roll" => self.roll().map(Order::Lend),
             b"row" if self.take(b"none") => Some(Order::Lend(Lend::NoRow)),
             b"row" => Some(Order::Lend(Lend::Name(self.number()?))),
-            b"edit" => self.edit().map(|row| Order::Change(Change::Edit(row))),
+            b"edit" => {
+                let name = self.number()?;
+                self.edit(name).map(|row| Order::Change(Change::Edit(row)))
+            }
             b"left" => self.constraint().map(|row| Order::Change(Change::Constraint(row))),
             b"do" => self.call(),
             b"ask" => self.question().map(Order::Ask),
@@ -144,15 +147,21 @@ impl<'line> Reader<'line> {
         match self.key()? {
             b"edit" => {
                 let name = self.number()?;
-                let kind = self.number_of(b" kind=")?;
-                let place = self.number_of(b" chip=")?;
-                let field = self.number_of(b" field=")?;
-                let value = self.number_of(b" value=")?;
-                Some(Lend::Edit { lent, row: EditRow { name, kind, place, field, value } })
+                let row = match self.take(b" kind=") {
+                    true => self.edit_of_numbers(name)?,
+                    false => self.edit(name)?,
+                };
+                Some(Lend::Edit { lent, row })
             }
             b"left" => {
                 let left = self.number()?;
-                let rule = self.number_of(b" rule=")?;
+                if !self.take(b" rule=") {
+                    return None;
+                }
+                let rule = match self.rest.first()?.is_ascii_digit() {
+                    true => self.number()?,
+                    false => self.rule()?,
+                };
                 let right = self.number_of(b" right=")?;
                 Some(Lend::Constraint { lent, row: ConstraintRow { left, rule, right } })
             }
@@ -173,8 +182,15 @@ impl<'line> Reader<'line> {
         Some(Lend::Seat { bench, weight: self.number_of(b" weight=")? })
     }
 
-    fn edit(&mut self) -> Option<EditRow> {
-        let name = self.number()?;
+    fn edit_of_numbers(&mut self, name: u32) -> Option<EditRow> {
+        let kind = self.number()?;
+        let place = self.number_of(b" chip=")?;
+        let field = self.number_of(b" field=")?;
+        Some(EditRow { name, kind, place, field, value: self.number_of(b" value=")? })
+    }
+
+    /// The edit of a line of the text, after its name.
+    fn edit(&mut self, name: u32) -> Option<EditRow> {
         if !self.take(b" do=") {
             return None;
         }
@@ -199,9 +215,14 @@ impl<'line> Reader<'line> {
         if !self.take(b" rule=") {
             return None;
         }
-        let word = self.word();
-        let rule = Rule::ALL.iter().position(|rule| rule.word().as_bytes() == word)? as u32;
+        let rule = self.rule()?;
         Some(ConstraintRow { left, rule, right: self.number_of(b" right=")? })
+    }
+
+    fn rule(&mut self) -> Option<u32> {
+        let word = self.word();
+        let place = Rule::ALL.iter().position(|rule| rule.word().as_bytes() == word)?;
+        Some(place as u32)
     }
 
     fn call(&mut self) -> Option<Order> {
@@ -210,8 +231,8 @@ impl<'line> Reader<'line> {
             b"hide" => Some(Order::Change(Change::Hide { edit: self.number_of(b" edit=")? })),
             b"show" => Some(Order::Change(Change::Show { edit: self.number_of(b" edit=")? })),
             b"turn" if self.take(b" pages=") => {
-                let back = self.take(b"-");
-                Some(Order::Turn { pages: self.number()?, back })
+                let sign = if self.take(b"-") { -1 } else { 1 };
+                Some(Order::Turn { pages: i64::from(self.number()?) * sign })
             }
             b"adopt" => Some(Order::Adopt { edit: self.number_of(b" edit=")? }),
             b"elect" => Some(Order::Elect { edit: self.number_of(b" edit=")? }),

@@ -51,7 +51,7 @@ impl Session {
                 self.print_change(pages, out);
                 Ok(())
             }
-            Order::Turn { pages, back } => self.turn(pages, back, out),
+            Order::Turn { pages } => self.turn(pages, out),
             Order::Adopt { edit } => self.adopt(edit, out),
             Order::Elect { edit } => self.elect(edit, out),
             Order::Bundle { edit, lent } => self.bundle(edit, lent, out),
@@ -115,9 +115,8 @@ impl Session {
         out.text(" last=").number(book.last_page()).text("\n");
     }
 
-    fn turn(&mut self, pages: u32, back: bool, out: &mut Vec<u8>) -> Result<(), Ground> {
-        let pages = i32::try_from(pages).map_err(|_| Ground::Range)?;
-        self.bench.turn(if back { -pages } else { pages })?;
+    fn turn(&mut self, pages: i64, out: &mut Vec<u8>) -> Result<(), Ground> {
+        self.bench.turn(i32::try_from(pages).map_err(|_| Ground::Range)?)?;
         self.print_change(Pages::default(), out);
         Ok(())
     }

@@ -1,8 +1,9 @@
 //! Calls on the bench, questions and suggestions.
 
 use super::Maker;
+use crate::form::edit_text;
 use crate::model::text::write_constraint;
-use crate::model::{Constraint, Edit, EditRow, Field, Record, Rule, Tables};
+use crate::model::{Constraint, Edit, EditRow, Record, Rule, Tables};
 
 impl Maker {
     pub(super) fn on_the_bench(&mut self) {
@@ -29,15 +30,7 @@ impl Maker {
             3 => row.place = self.random.pick(&[63, 64]),
             _ => {}
         }
-        let EditRow { name, place, value, .. } = row;
-        match row.kind {
-            0 => self.say(&format!("edit={name} do=insert chip={place}")),
-            2 => self.say(&format!("edit={name} do=remove chip={place}")),
-            _ => {
-                let field = Field::ALL[row.field as usize].word();
-                self.say(&format!("edit={name} do=set chip={place} field={field} value={value}"))
-            }
-        }
+        self.say(&edit_text(&row).expect("only the name and the place are odd"));
     }
 
     pub(super) fn add_constraint(&mut self) {

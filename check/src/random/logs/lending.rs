@@ -2,8 +2,8 @@
 
 use super::super::tables::spoil;
 use super::Maker;
-use crate::lent::{constraint_line, edit_line};
-use crate::model::{Constraint, Edit, Record, Sound, Tables};
+use crate::lent::{constraint_line, constraint_text_line, edit_line, edit_text_line};
+use crate::model::{Constraint, ConstraintRow, Edit, EditRow, Record, Sound, Tables};
 
 impl Maker {
     /// Lends tables as a record, most often in place of what it was before.
@@ -14,12 +14,25 @@ impl Maker {
         }
         for row in &tables.edits {
             let slot = self.said_slot(slot);
-            self.say(&edit_line(slot, row));
+            let line = self.line_of_edit(slot, row);
+            self.say(&line);
         }
         for row in &tables.constraints {
             let slot = self.said_slot(slot);
-            self.say(&constraint_line(slot, row));
+            let line = self.line_of_constraint(slot, row);
+            self.say(&line);
         }
+    }
+
+    /// A row is lent by its numbers or, if it has one, by its line of the text.
+    fn line_of_edit(&mut self, slot: u32, row: &EditRow) -> String {
+        let text = edit_text_line(slot, row).filter(|_| self.random.one_in(3));
+        text.unwrap_or_else(|| edit_line(slot, row))
+    }
+
+    fn line_of_constraint(&mut self, slot: u32, row: &ConstraintRow) -> String {
+        let text = constraint_text_line(slot, row).filter(|_| self.random.one_in(3));
+        text.unwrap_or_else(|| constraint_line(slot, row))
     }
 
     pub(super) fn lend_bench(&mut self, slot: usize) {
