@@ -9,15 +9,9 @@ use Rattle.ledger.specs.Bench.{benchOf, pageEdits, openEdits}
 use Rattle.bench.proofs.empty_bench.Statement.{statement}
 use Rattle.bench.proofs.empty_bench.Tie as tie
 
-empty-requires : tie.Need-empty-requires
-empty-requires c κs = search needs
-
-empty-view-requires : tie.Need-empty-view-requires
-empty-view-requires c κs = search needs
-
 returns : tie.Need-returns
 unfolding benchOf start padded marksOf valuesOf scheduleOf last pages pageEdits openEdits names written mem
 returns c = rw (c .before .before .empty .ensures, c .empty-view .ensures)
 
 pub empty-bench-spec : {M : Type 1} → statement M
-empty-bench-spec = tie.close (tie.spec empty-requires empty-view-requires returns)
+empty-bench-spec = tie.close (tie.spec (λ c κs. search needs) (λ c κs. search needs) returns)

@@ -4,11 +4,8 @@ use Rattle.ledger.specs.declared.Answer.{Answer}
 use Rattle.bench.proofs.refused.Statement.{statement}
 use Rattle.bench.proofs.refused.Tie as tie
 
-plain-answer-requires : tie.Need-plain-answer-requires
-plain-answer-requires c κs = search needs
-
 returns : tie.Need-returns
 returns c = ap (λ (a : Answer). record { answer = a; bench = c .before .args .bench }) (c .plain-answer .ensures)
 
 pub refused-spec : {M : Type 1} → statement M
-refused-spec = tie.close (tie.spec plain-answer-requires returns)
+refused-spec = tie.close (tie.spec (λ c κs. search needs) returns)

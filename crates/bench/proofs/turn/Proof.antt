@@ -5,23 +5,11 @@ use Rattle.bench.proofs.Moves.{turn-refused, turn-opens}
 use Rattle.bench.proofs.turn.Statement.{statement}
 use Rattle.bench.proofs.turn.Tie as tie
 
-turned-requires : tie.Need-turned-requires
-turned-requires c κs = search needs
-
-refused-requires : tie.Need-refused-requires
-refused-requires c κs = search needs
-
 returns : tie.Need-returns
 returns c =
     let a = c .before .before .before in
     let s = a .before .before in
     from-valid _ _ _ (λ L v e. c .refused .ensures ∙ turn-refused L v (s .args .bench) e (s .args .by) (s .fits .by) (a .turned .result) (a .turned .ensures) (c .before .if1 .taken))
-
-plain-answer-requires : tie.Need-plain-answer-requires
-plain-answer-requires c κs = search needs
-
-open-at-requires : tie.Need-open-at-requires
-open-at-requires c κs = search needs
 
 returns-2 : tie.Need-returns-2
 returns-2 c =
@@ -34,9 +22,9 @@ pub turn-spec : {M : Type 1} → statement M
 turn-spec =
     tie.close
     (tie.spec
-    turned-requires
-    refused-requires
+    (λ c κs. search needs)
+    (λ c κs. search needs)
     returns
-    plain-answer-requires
-    open-at-requires
+    (λ c κs. search needs)
+    (λ c κs. search needs)
     returns-2)

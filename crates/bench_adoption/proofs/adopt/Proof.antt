@@ -7,12 +7,6 @@ use Rattle.bench_adoption.proofs.Adopted.{adopt-answers}
 use Rattle.bench_adoption.proofs.adopt.Statement.{statement}
 use Rattle.bench_adoption.proofs.adopt.Tie as tie
 
-count-requires : tie.Need-count-requires
-count-requires c κs = search needs
-
-adopted-bench-requires : tie.Need-adopted-bench-requires
-adopted-bench-requires c κs = search needs
-
 returns : tie.Need-returns
 returns c = λ rows e.
     let k = c .before .before .before in
@@ -21,4 +15,4 @@ returns c = λ rows e.
     (c .adopted-bench .result) (k .count .ensures rows e) (c .adopted-bench .ensures)
 
 pub adopt-spec : {M : Type 1} → statement M
-adopt-spec = tie.close (tie.spec count-requires adopted-bench-requires returns)
+adopt-spec = tie.close (tie.spec (λ c κs. search needs) (λ c κs. search needs) returns)

@@ -3,15 +3,6 @@ use Rattle.bench_edits.proofs.Rows.{added-constraint}
 use Rattle.bench_edits.proofs.add_constraint.Statement.{statement}
 use Rattle.bench_edits.proofs.add_constraint.Tie as tie
 
-add-constraint-requires : tie.Need-add-constraint-requires
-add-constraint-requires c κs = search needs
-
-no-election-requires : tie.Need-no-election-requires
-no-election-requires c κs = search needs
-
-joined-bench-requires : tie.Need-joined-bench-requires
-joined-bench-requires c κs = search needs
-
 returns : tie.Need-returns
 returns c =
     let p = c .before .before in
@@ -19,4 +10,4 @@ returns c =
     added-constraint (s .args .bench) (p .add-constraint .result) (c .before .no-election .result) (c .before .no-election .ensures) _ (c .joined-bench .ensures) (s .args .row) (p .add-constraint .ensures)
 
 pub add-constraint-spec : {M : Type 1} → statement M
-add-constraint-spec = tie.close (tie.spec add-constraint-requires no-election-requires joined-bench-requires returns)
+add-constraint-spec = tie.close (tie.spec (λ c κs. search needs) (λ c κs. search needs) (λ c κs. search needs) returns)

@@ -3,15 +3,6 @@ use Rattle.bench_edits.proofs.Rows.{added-edit}
 use Rattle.bench_edits.proofs.add_edit.Statement.{statement}
 use Rattle.bench_edits.proofs.add_edit.Tie as tie
 
-add-edit-requires : tie.Need-add-edit-requires
-add-edit-requires c κs = search needs
-
-no-election-requires : tie.Need-no-election-requires
-no-election-requires c κs = search needs
-
-joined-bench-requires : tie.Need-joined-bench-requires
-joined-bench-requires c κs = search needs
-
 returns : tie.Need-returns
 returns c =
     let p = c .before .before in
@@ -19,4 +10,4 @@ returns c =
     added-edit (s .args .bench) (p .add-edit .result) (c .before .no-election .result) (c .before .no-election .ensures) _ (c .joined-bench .ensures) (s .args .row) (p .add-edit .ensures)
 
 pub add-edit-spec : {M : Type 1} → statement M
-add-edit-spec = tie.close (tie.spec add-edit-requires no-election-requires joined-bench-requires returns)
+add-edit-spec = tie.close (tie.spec (λ c κs. search needs) (λ c κs. search needs) (λ c κs. search needs) returns)

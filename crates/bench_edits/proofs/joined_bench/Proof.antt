@@ -13,23 +13,11 @@ use Rattle.bench_edits.proofs.Rows.{keeps-within, none, merge-rows-refu
 use Rattle.bench_edits.proofs.joined_bench.Statement.{statement}
 use Rattle.bench_edits.proofs.joined_bench.Tie as tie
 
-refused-requires : tie.Need-refused-requires
-refused-requires c κs = search needs
-
 returns : tie.Need-returns
 unfolding Joins
 returns c =
     let s = c .before .before in
     λ calls n U e j k keeps. c .refused .ensures ∙ merge-rows-refused calls (s .args .bench) (s .args .joined) (s .args .election) n U e j (c .before .if1 .taken)
-
-carried-requires : tie.Need-carried-requires
-carried-requires c κs = search needs
-
-plan-requires : tie.Need-plan-requires
-plan-requires c κs = search needs
-
-refused-requires-2 : tie.Need-refused-requires-2
-refused-requires-2 c κs = search needs
 
 returns-2 : tie.Need-returns-2
 unfolding Joins
@@ -42,9 +30,6 @@ returns-2 c =
     let u = merge-union-is calls (s .args .bench) (s .args .joined) (s .args .election) n U e j z in
     let t : sound U ≡ false = sym (p .plan .ensures U u (checked-fit U (k o)) .0) ∙ not-true _ (c .before .if2 .taken) in
     c .refused2 .ensures ∙ merge-unsound-refused calls (s .args .bench) (s .args .joined) (s .args .election) n U e j z t
-
-reschedule-requires : tie.Need-reschedule-requires
-reschedule-requires c κs = search needs
 
 returns-3 : tie.Need-returns-3
 unfolding Joins
@@ -67,11 +52,11 @@ pub joined-bench-spec : {M : Type 1} → statement M
 joined-bench-spec =
     tie.close
     (tie.spec
-    refused-requires
+    (λ c κs. search needs)
     returns
-    carried-requires
-    plan-requires
-    refused-requires-2
+    (λ c κs. search needs)
+    (λ c κs. search needs)
+    (λ c κs. search needs)
     returns-2
-    reschedule-requires
+    (λ c κs. search needs)
     returns-3)

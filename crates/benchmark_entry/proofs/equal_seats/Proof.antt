@@ -16,18 +16,9 @@ Inv-loop roll₀ bench₀ roll bench = (bench ≤ 8) × (roll ≡ rollOf (take b
 abbrev μ-loop : tie.MeasureT-loop
 μ-loop roll₀ bench₀ roll bench = 8 - bench
 
-empty-roll-requires : tie.Need-empty-roll-requires Inv-loop μ-loop
-empty-roll-requires c κs = search needs
-
 loop-holds : tie.Need-loop-holds Inv-loop μ-loop
 unfolding equalSeats
 loop-holds c = (omega arith, c .empty-roll .ensures)
-
-add-bench : tie.Need-add-bench Inv-loop μ-loop
-add-bench c = search needs
-
-with-row-requires : tie.Need-with-row-requires Inv-loop μ-loop
-with-row-requires c κs = search needs
 
 loop-less : tie.Need-loop-less Inv-loop μ-loop
 loop-less c = omega arith
@@ -46,10 +37,10 @@ equal-seats-spec =
     (tie.spec
     Inv-loop
     μ-loop
-    empty-roll-requires
+    (λ c κs. search needs)
     loop-holds
-    add-bench
-    with-row-requires
+    (λ c. search needs)
+    (λ c κs. search needs)
     loop-less
     loop-again
     returns)

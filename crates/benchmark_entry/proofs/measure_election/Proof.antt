@@ -5,18 +5,6 @@ use Rattle.benchmark_entry.proofs.Answers.{measured-election}
 use Rattle.benchmark_entry.proofs.measure_election.Statement.{statement}
 use Rattle.benchmark_entry.proofs.measure_election.Tie as tie
 
-equal-seats-requires : tie.Need-equal-seats-requires
-equal-seats-requires c κs = search needs
-
-election-requires : tie.Need-election-requires
-election-requires c κs = search needs
-
-bit8-requires : tie.Need-bit8-requires
-bit8-requires c κs = search needs
-
-cast-t11 : tie.Need-cast-t11
-cast-t11 c = search needs
-
 returns : tie.Need-returns
 returns c =
     let e = c .before in
@@ -27,4 +15,4 @@ returns c =
 
 pub measure-election-spec : {M : Type 1} → statement M
 measure-election-spec =
-    tie.close (tie.spec equal-seats-requires election-requires bit8-requires cast-t11 returns)
+    tie.close (tie.spec (λ c κs. search needs) (λ c κs. search needs) (λ c κs. search needs) (λ c. search needs) returns)

@@ -5,11 +5,8 @@ use Rattle.benchmark_entry.specs.Measured.{judgementNumbers}
 use Rattle.benchmark_entry.proofs.measure_judgement.Statement.{statement}
 use Rattle.benchmark_entry.proofs.measure_judgement.Tie as tie
 
-judge-lent-requires : tie.Need-judge-lent-requires
-judge-lent-requires c κs = search needs
-
 returns : tie.Need-returns
 returns c = ap judgementNumbers (c .before .before .before .before .judge-lent .ensures)
 
 pub measure-judgement-spec : {M : Type 1} → statement M
-measure-judgement-spec = tie.close (tie.spec judge-lent-requires returns)
+measure-judgement-spec = tie.close (tie.spec (λ c κs. search needs) returns)

@@ -4,15 +4,6 @@ use Rattle.benchmark_entry.proofs.Answers.{merged-twice}
 use Rattle.benchmark_entry.proofs.measure_merge.Statement.{statement}
 use Rattle.benchmark_entry.proofs.measure_merge.Tie as tie
 
-empty-bench-requires : tie.Need-empty-bench-requires
-empty-bench-requires c κs = search needs
-
-merge-requires : tie.Need-merge-requires
-merge-requires c κs = search needs
-
-merge-requires-2 : tie.Need-merge-requires-2
-merge-requires-2 c κs = search needs
-
 returns : tie.Need-returns
 returns c =
     let second = c .before in
@@ -24,4 +15,4 @@ returns c =
 
 pub measure-merge-spec : {M : Type 1} → statement M
 measure-merge-spec =
-    tie.close (tie.spec empty-bench-requires merge-requires merge-requires-2 returns)
+    tie.close (tie.spec (λ c κs. search needs) (λ c κs. search needs) (λ c κs. search needs) returns)

@@ -5,11 +5,8 @@ use Rattle.benchmark_entry.specs.Measured.{scheduledOf}
 use Rattle.benchmark_entry.proofs.measure_schedule.Statement.{statement}
 use Rattle.benchmark_entry.proofs.measure_schedule.Tie as tie
 
-schedule-lent-requires : tie.Need-schedule-lent-requires
-schedule-lent-requires c κs = search needs
-
 returns : tie.Need-returns
 returns c = ap scheduledOf (c .before .schedule-lent .ensures)
 
 pub measure-schedule-spec : {M : Type 1} → statement M
-measure-schedule-spec = tie.close (tie.spec schedule-lent-requires returns)
+measure-schedule-spec = tie.close (tie.spec (λ c κs. search needs) returns)

@@ -7,18 +7,6 @@ use Rattle.c_library.specs.Replies.{textsAfter}
 use Rattle.c_library.proofs.catalogue_replay.Statement.{statement}
 use Rattle.c_library.proofs.catalogue_replay.Tie as tie
 
-slice-aggregate-answered : tie.Need-slice-aggregate-answered
-slice-aggregate-answered c = search needs
-
-answered-requires : tie.Need-answered-requires
-answered-requires c κs = search needs
-
-same-length : tie.Need-same-length
-same-length c = search needs
-
-same-length-2 : tie.Need-same-length-2
-same-length-2 c = search needs
-
 returns : tie.Need-returns
 unfolding textsAfter logRun runLines lines
 returns c = λ l. c .before .before .before .before .answered .ensures (omega (arith, l))
@@ -26,4 +14,4 @@ returns c = λ l. c .before .before .before .before .answered .ensures (omega (a
 pub catalogue-replay-spec : {M : Type 1} → statement M
 catalogue-replay-spec =
     tie.close
-    (tie.spec slice-aggregate-answered answered-requires same-length same-length-2 returns)
+    (tie.spec (λ c. search needs) (λ c κs. search needs) (λ c. search needs) (λ c. search needs) returns)

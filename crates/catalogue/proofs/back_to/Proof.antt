@@ -20,54 +20,12 @@ Inv-loop from to schedule catalogue₀ journal₀ page₀ catalogue journal page
 abbrev μ-loop : tie.MeasureT-loop
 μ-loop from to schedule catalogue₀ journal₀ page₀ catalogue journal page = page
 
-lesser-requires : tie.Need-lesser-requires Inv-loop μ-loop
-lesser-requires c κs = search needs
-
 loop-holds : tie.Need-loop-holds Inv-loop μ-loop
 loop-holds c =
     let s = c .before .before .before in
     let e : length (s .args .view .catalogue .entries) ≡ places = search (needs, length-mapped) in
     let j : length (s .args .view .journal .rows) ≡ rows = search (needs, length-mapped) in
     (record { sized = record { catalogue = e; journal = j }; rest = refl }, omega arith)
-
-sub-page : tie.Need-sub-page Inv-loop μ-loop
-sub-page c = search needs
-
-mul-edit : tie.Need-mul-edit Inv-loop μ-loop
-mul-edit c = search needs
-
-element-copy-out-edit : tie.Need-element-copy-out-edit Inv-loop μ-loop
-element-copy-out-edit c = search needs
-
-place-of-requires : tie.Need-place-of-requires Inv-loop μ-loop
-place-of-requires c κs = search needs
-
-cast-place : tie.Need-cast-place Inv-loop μ-loop
-cast-place c = search needs
-
-mul-entry : tie.Need-mul-entry Inv-loop μ-loop
-mul-entry c = search needs
-
-element-copy-out-entry : tie.Need-element-copy-out-entry Inv-loop μ-loop
-element-copy-out-entry c = search needs
-
-absent-entry-requires : tie.Need-absent-entry-requires Inv-loop μ-loop
-absent-entry-requires c κs = search needs
-
-mul-absent : tie.Need-mul-absent Inv-loop μ-loop
-mul-absent c = search needs
-
-element-set-from-absent : tie.Need-element-set-from-absent Inv-loop μ-loop
-element-set-from-absent c = search needs
-
-mul-entry-2 : tie.Need-mul-entry-2 Inv-loop μ-loop
-mul-entry-2 c = search needs
-
-element-set-from-entry : tie.Need-element-set-from-entry Inv-loop μ-loop
-element-set-from-entry c = search needs
-
-loop-less : tie.Need-loop-less Inv-loop μ-loop
-loop-less c = search needs
 
 loop-again : tie.Need-loop-again Inv-loop μ-loop
 loop-again c =
@@ -80,9 +38,6 @@ loop-again c =
           _ _ (c .before .absent-entry .ensures),
       omega arith,
     )
-
-loop-less-2 : tie.Need-loop-less-2 Inv-loop μ-loop
-loop-less-2 c = search needs
 
 loop-again-2 : tie.Need-loop-again-2 Inv-loop μ-loop
 loop-again-2 c =
@@ -109,22 +64,22 @@ back-to-spec =
     (tie.spec
     Inv-loop
     μ-loop
-    lesser-requires
+    (λ c κs. search needs)
     loop-holds
-    sub-page
-    mul-edit
-    element-copy-out-edit
-    place-of-requires
-    cast-place
-    mul-entry
-    element-copy-out-entry
-    absent-entry-requires
-    mul-absent
-    element-set-from-absent
-    mul-entry-2
-    element-set-from-entry
-    loop-less
+    (λ c. search needs)
+    (λ c. search needs)
+    (λ c. search needs)
+    (λ c κs. search needs)
+    (λ c. search needs)
+    (λ c. search needs)
+    (λ c. search needs)
+    (λ c κs. search needs)
+    (λ c. search needs)
+    (λ c. search needs)
+    (λ c. search needs)
+    (λ c. search needs)
+    (λ c. search needs)
     loop-again
-    loop-less-2
+    (λ c. search needs)
     loop-again-2
     returns)

@@ -5,15 +5,6 @@ use Rattle.catalogue.proofs.Moves.{common-le, change-moves, change-open
 use Rattle.catalogue.proofs.change.Statement.{statement}
 use Rattle.catalogue.proofs.change.Tie as tie
 
-common-beginning-requires : tie.Need-common-beginning-requires
-common-beginning-requires c κs = search needs
-
-back-to-requires : tie.Need-back-to-requires
-back-to-requires c κs = search needs
-
-forward-to-requires : tie.Need-forward-to-requires
-forward-to-requires c κs = search needs
-
 sub-t9 : tie.Need-sub-t9
 sub-t9 c =
     let p = c .before .before in
@@ -39,9 +30,9 @@ pub change-spec : {M : Type 1} → statement M
 change-spec =
     tie.close
     (tie.spec
-    common-beginning-requires
-    back-to-requires
-    forward-to-requires
+    (λ c κs. search needs)
+    (λ c κs. search needs)
+    (λ c κs. search needs)
     sub-t9
     sub-t10
     returns)

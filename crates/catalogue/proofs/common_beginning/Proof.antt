@@ -19,26 +19,8 @@ Inv-loop opened old new end same₀ same =
 abbrev μ-loop : tie.MeasureT-loop
 μ-loop opened old new end same₀ same = end - same
 
-lesser-requires : tie.Need-lesser-requires Inv-loop μ-loop
-lesser-requires c κs = search needs
-
-lesser-requires-2 : tie.Need-lesser-requires-2 Inv-loop μ-loop
-lesser-requires-2 c κs = search needs
-
 loop-holds : tie.Need-loop-holds Inv-loop μ-loop
 loop-holds c = (omega arith, below-none _)
-
-mul-before : tie.Need-mul-before Inv-loop μ-loop
-mul-before c = search needs
-
-element-copy-out-before : tie.Need-element-copy-out-before Inv-loop μ-loop
-element-copy-out-before c = search needs
-
-mul-after : tie.Need-mul-after Inv-loop μ-loop
-mul-after c = search needs
-
-element-copy-out-after : tie.Need-element-copy-out-after Inv-loop μ-loop
-element-copy-out-after c = search needs
 
 returns : tie.Need-returns Inv-loop μ-loop
 returns c =
@@ -48,12 +30,6 @@ returns c =
     let h : length (s .args .t3 .edits) ≡ rows = search (needs, length-mapped) in
     let e = l .before .lesser2 .ensures ∙ ap (λ (n : ℕ). min n rows) (l .before .before .lesser .ensures) in
     common-stops (s .args .t1 .edits) (s .args .t3 .edits) _ _ _ _ g h e (l .loop .inv .0) (l .loop .inv .1) (λ _. c .if1 .taken)
-
-add-same : tie.Need-add-same Inv-loop μ-loop
-add-same c = search needs
-
-loop-less : tie.Need-loop-less Inv-loop μ-loop
-loop-less c = search needs
 
 loop-again : tie.Need-loop-again Inv-loop μ-loop
 loop-again c = (omega arith, below-more _ _ (c .before .before .loop .inv .1) (c .if1 .left))
@@ -73,15 +49,15 @@ common-beginning-spec =
     (tie.spec
     Inv-loop
     μ-loop
-    lesser-requires
-    lesser-requires-2
+    (λ c κs. search needs)
+    (λ c κs. search needs)
     loop-holds
-    mul-before
-    element-copy-out-before
-    mul-after
-    element-copy-out-after
+    (λ c. search needs)
+    (λ c. search needs)
+    (λ c. search needs)
+    (λ c. search needs)
     returns
-    add-same
-    loop-less
+    (λ c. search needs)
+    (λ c. search needs)
     loop-again
     returns-2)

@@ -4,11 +4,8 @@ use Rattle.catalogue.proofs.Entries.{empty-view-stored}
 use Rattle.catalogue.proofs.empty_view.Statement.{statement}
 use Rattle.catalogue.proofs.empty_view.Tie as tie
 
-absent-entry-requires : tie.Need-absent-entry-requires
-absent-entry-requires c κs = search needs
-
 returns : tie.Need-returns
 returns c = empty-view-stored _ (c .absent-entry .ensures)
 
 pub empty-view-spec : {M : Type 1} → statement M
-empty-view-spec = tie.close (tie.spec absent-entry-requires returns)
+empty-view-spec = tie.close (tie.spec (λ c κs. search needs) returns)

@@ -18,54 +18,12 @@ Inv-loop from to schedule end catalogue₀ journal₀ page₀ catalogue journal 
 abbrev μ-loop : tie.MeasureT-loop
 μ-loop from to schedule end catalogue₀ journal₀ page₀ catalogue journal page = end - page
 
-lesser-requires : tie.Need-lesser-requires Inv-loop μ-loop
-lesser-requires c κs = search needs
-
 loop-holds : tie.Need-loop-holds Inv-loop μ-loop
 loop-holds c =
     let s = c .before .before .before in
     let e : length (s .args .view .catalogue .entries) ≡ places = search (needs, length-mapped) in
     let j : length (s .args .view .journal .rows) ≡ rows = search (needs, length-mapped) in
     record { sized = record { catalogue = e; journal = j }; rest = refl }
-
-add-page : tie.Need-add-page Inv-loop μ-loop
-add-page c = search needs
-
-mul-edit : tie.Need-mul-edit Inv-loop μ-loop
-mul-edit c = search needs
-
-element-copy-out-edit : tie.Need-element-copy-out-edit Inv-loop μ-loop
-element-copy-out-edit c = search needs
-
-place-of-requires : tie.Need-place-of-requires Inv-loop μ-loop
-place-of-requires c κs = search needs
-
-cast-place : tie.Need-cast-place Inv-loop μ-loop
-cast-place c = search needs
-
-mul-entry : tie.Need-mul-entry Inv-loop μ-loop
-mul-entry c = search needs
-
-element-copy-out-entry : tie.Need-element-copy-out-entry Inv-loop μ-loop
-element-copy-out-entry c = search needs
-
-mul-entry-2 : tie.Need-mul-entry-2 Inv-loop μ-loop
-mul-entry-2 c = search needs
-
-element-set-from-entry : tie.Need-element-set-from-entry Inv-loop μ-loop
-element-set-from-entry c = search needs
-
-run-entry-requires : tie.Need-run-entry-requires Inv-loop μ-loop
-run-entry-requires c κs = search needs
-
-mul-made : tie.Need-mul-made Inv-loop μ-loop
-mul-made c = search needs
-
-element-set-from-made : tie.Need-element-set-from-made Inv-loop μ-loop
-element-set-from-made c = search needs
-
-loop-less : tie.Need-loop-less Inv-loop μ-loop
-loop-less c = search needs
 
 loop-again : tie.Need-loop-again Inv-loop μ-loop
 loop-again c =
@@ -76,18 +34,6 @@ loop-again c =
     let r : l .before .before .before .lesser .result ≤ length (s .args .t2 .edits) = omega arith in
     run-within cells places rows (s .args .t2 .edits) _ _ _ _ _ _ _ (l .loop .inv) (p .before .before .loop-test .taken) r (p .place-of .ensures)
     _ _ (c .before .before .if1 .taken) (c .run-entry .ensures)
-
-absent-entry-requires : tie.Need-absent-entry-requires Inv-loop μ-loop
-absent-entry-requires c κs = search needs
-
-mul-absent : tie.Need-mul-absent Inv-loop μ-loop
-mul-absent c = search needs
-
-element-set-from-absent : tie.Need-element-set-from-absent Inv-loop μ-loop
-element-set-from-absent c = search needs
-
-loop-less-2 : tie.Need-loop-less-2 Inv-loop μ-loop
-loop-less-2 c = search needs
 
 loop-again-2 : tie.Need-loop-again-2 Inv-loop μ-loop
 loop-again-2 c =
@@ -112,25 +58,25 @@ forward-to-spec =
     (tie.spec
     Inv-loop
     μ-loop
-    lesser-requires
+    (λ c κs. search needs)
     loop-holds
-    add-page
-    mul-edit
-    element-copy-out-edit
-    place-of-requires
-    cast-place
-    mul-entry
-    element-copy-out-entry
-    mul-entry-2
-    element-set-from-entry
-    run-entry-requires
-    mul-made
-    element-set-from-made
-    loop-less
+    (λ c. search needs)
+    (λ c. search needs)
+    (λ c. search needs)
+    (λ c κs. search needs)
+    (λ c. search needs)
+    (λ c. search needs)
+    (λ c. search needs)
+    (λ c. search needs)
+    (λ c. search needs)
+    (λ c κs. search needs)
+    (λ c. search needs)
+    (λ c. search needs)
+    (λ c. search needs)
     loop-again
-    absent-entry-requires
-    mul-absent
-    element-set-from-absent
-    loop-less-2
+    (λ c κs. search needs)
+    (λ c. search needs)
+    (λ c. search needs)
+    (λ c. search needs)
     loop-again-2
     returns)

@@ -10,27 +10,6 @@ use Rattle.catalogue.proofs.Entries.{ran-within, ran-past}
 use Rattle.catalogue.proofs.run_edit.Statement.{statement}
 use Rattle.catalogue.proofs.run_edit.Tie as tie
 
-place-of-requires : tie.Need-place-of-requires
-place-of-requires c κs = search needs
-
-cast-place : tie.Need-cast-place
-cast-place c = search needs
-
-mul-entry : tie.Need-mul-entry
-mul-entry c = search needs
-
-element-copy-out-entry : tie.Need-element-copy-out-entry
-element-copy-out-entry c = search needs
-
-run-entry-requires : tie.Need-run-entry-requires
-run-entry-requires c κs = search needs
-
-mul-made : tie.Need-mul-made
-mul-made c = search needs
-
-element-set-from-made : tie.Need-element-set-from-made
-element-set-from-made c = search needs
-
 returns : tie.Need-returns
 returns c =
     let s = c .before .before .before .before in
@@ -49,12 +28,12 @@ pub run-edit-spec : {M : Type 1} → statement M
 run-edit-spec =
     tie.close
     (tie.spec
-    place-of-requires
-    cast-place
-    mul-entry
-    element-copy-out-entry
-    run-entry-requires
-    mul-made
-    element-set-from-made
+    (λ c κs. search needs)
+    (λ c. search needs)
+    (λ c. search needs)
+    (λ c. search needs)
+    (λ c κs. search needs)
+    (λ c. search needs)
+    (λ c. search needs)
     returns
     returns-2)

@@ -4,12 +4,6 @@ use Rattle.catalogue.proofs.Moves.{turned-on, turned-back, view-turn-op
 use Rattle.catalogue.proofs.turn_to.Statement.{statement}
 use Rattle.catalogue.proofs.turn_to.Tie as tie
 
-forward-to-requires : tie.Need-forward-to-requires
-forward-to-requires c κs = search needs
-
-back-to-requires : tie.Need-back-to-requires
-back-to-requires c κs = search needs
-
 returns : tie.Need-returns
 returns c =
     let s = c .before .before in
@@ -23,4 +17,4 @@ returns-2 c =
     (e, view-turn-opens (s .args .schedule) (s .args .opened) (s .args .page) (s .args .view) _ e)
 
 pub turn-to-spec : {M : Type 1} → statement M
-turn-to-spec = tie.close (tie.spec forward-to-requires back-to-requires returns returns-2)
+turn-to-spec = tie.close (tie.spec (λ c κs. search needs) (λ c κs. search needs) returns returns-2)

@@ -17,9 +17,6 @@ abbrev μ-loop : tie.MeasureT-loop
 loop-holds : tie.Need-loop-holds Inv-loop μ-loop
 loop-holds c = refl
 
-rem-rest : tie.Need-rem-rest Inv-loop μ-loop
-rem-rest c = search needs
-
 loop-less : tie.Need-loop-less Inv-loop μ-loop
 loop-less c = mod-lt (c .before .loop .x) (omega arith)
 
@@ -33,4 +30,4 @@ returns c =
     sym (gcd-none x) ∙ ap (gcd x) (sym z) ∙ c .before .loop .inv
 
 pub gcd-spec : {M : Type 1} → statement M
-gcd-spec = tie.close (tie.spec Inv-loop μ-loop loop-holds rem-rest loop-less loop-again returns)
+gcd-spec = tie.close (tie.spec Inv-loop μ-loop loop-holds (λ c. search needs) loop-less loop-again returns)

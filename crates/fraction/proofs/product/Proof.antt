@@ -8,9 +8,6 @@ use Rattle.fraction.proofs.product.Tie as tie
 returns : tie.Need-returns
 returns c = let s = c .before in product-none (s .args .a) (s .args .b) (c .if1 .taken)
 
-div-if2 : tie.Need-div-if2
-div-if2 c = search needs
-
 returns-2 : tie.Need-returns-2
 returns-2 c = let s = c .before .before in product-wide (s .args .a) (s .args .b) (omega arith) (c .if2 .taken)
 
@@ -21,4 +18,4 @@ returns-3 : tie.Need-returns-3
 returns-3 c = let s = c .before .before in bounded-fits _ (product-small (s .args .a) (s .args .b) (omega arith) (c .if2 .left))
 
 pub product-spec : {M : Type 1} → statement M
-product-spec = tie.close (tie.spec returns div-if2 returns-2 mul-t4 returns-3)
+product-spec = tie.close (tie.spec returns (λ c. search needs) returns-2 mul-t4 returns-3)

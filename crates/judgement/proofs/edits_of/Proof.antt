@@ -21,20 +21,8 @@ Inv-loop multilog row edits₀ q₀ edits q =
 abbrev μ-loop : tie.MeasureT-loop
 μ-loop multilog row edits₀ q₀ edits q = row .count - q
 
-filler-requires : tie.Need-filler-requires Inv-loop μ-loop
-filler-requires c κs = search needs
-
 loop-holds : tie.Need-loop-holds Inv-loop μ-loop
 loop-holds c = (omega arith, omega arith, refl, λ R h e f g. listing-start R (schedule R h) _ (c .filler .ensures))
-
-element-copy-out-index8 : tie.Need-element-copy-out-index8 Inv-loop μ-loop
-element-copy-out-index8 c = search needs
-
-index8-requires : tie.Need-index8-requires Inv-loop μ-loop
-index8-requires c κs = search needs
-
-sub-t16 : tie.Need-sub-t16 Inv-loop μ-loop
-sub-t16 c = search needs
 
 returns : tie.Need-returns Inv-loop μ-loop
 returns c =
@@ -58,21 +46,6 @@ element-copy-out-next c =
     let k : c .before .index8 .result - 1 < 127 = omega (arith, c .if1 .left, c .before .index8 .ensures, s .pre .2 (l .q)) in
     search needs
 
-sub-edits : tie.Need-sub-edits Inv-loop μ-loop
-sub-edits c = search needs
-
-mul-edits : tie.Need-mul-edits Inv-loop μ-loop
-mul-edits c = search needs
-
-array-set-from-edits : tie.Need-array-set-from-edits Inv-loop μ-loop
-array-set-from-edits c = search needs
-
-add-q : tie.Need-add-q Inv-loop μ-loop
-add-q c = search needs
-
-loop-less : tie.Need-loop-less Inv-loop μ-loop
-loop-less c = search needs
-
 loop-again : tie.Need-loop-again Inv-loop μ-loop
 loop-again c =
     let s = c .before .before .before .before .before .before .before in
@@ -82,9 +55,6 @@ loop-again c =
       length-set (l .edits) (l .q - 1) _ ∙ l .inv .2,
       λ R h e f g. rw (c .before .before .index8 .ensures) (listing-step R f (s .args .t1) e (s .args .t2) (s .pre .0) (s .pre .1) h g (l .edits) (l .q) _ (omega arith) (omega arith) (omega (arith, c .before .if1 .left, c .before .before .index8 .ensures)) (l .inv .3 R h e f g)),
     )
-
-sub-t24 : tie.Need-sub-t24 Inv-loop μ-loop
-sub-t24 c = search needs
 
 returns-2 : tie.Need-returns-2 Inv-loop μ-loop
 returns-2 c =
@@ -98,20 +68,20 @@ edits-of-spec =
     (tie.spec
     Inv-loop
     μ-loop
-    filler-requires
+    (λ c κs. search needs)
     loop-holds
-    element-copy-out-index8
-    index8-requires
-    sub-t16
+    (λ c. search needs)
+    (λ c κs. search needs)
+    (λ c. search needs)
     returns
     sub-next
     mul-next
     element-copy-out-next
-    sub-edits
-    mul-edits
-    array-set-from-edits
-    add-q
-    loop-less
+    (λ c. search needs)
+    (λ c. search needs)
+    (λ c. search needs)
+    (λ c. search needs)
+    (λ c. search needs)
     loop-again
-    sub-t24
+    (λ c. search needs)
     returns-2)

@@ -5,27 +5,6 @@ use Rattle.judgement.proofs.Judging.{none-hides, judged-is}
 use Rattle.judgement.proofs.judge.Statement.{statement}
 use Rattle.judgement.proofs.judge.Tie as tie
 
-name-count-requires : tie.Need-name-count-requires
-name-count-requires c κs = search needs
-
-resolved-requires : tie.Need-resolved-requires
-resolved-requires c κs = search needs
-
-must-marks-requires : tie.Need-must-marks-requires
-must-marks-requires c κs = search needs
-
-never-marks-requires : tie.Need-never-marks-requires
-never-marks-requires c κs = search needs
-
-settled-marks-requires : tie.Need-settled-marks-requires
-settled-marks-requires c κs = search needs
-
-schedule-row-requires : tie.Need-schedule-row-requires
-schedule-row-requires c κs = search needs
-
-page-values-requires : tie.Need-page-values-requires
-page-values-requires c κs = search needs
-
 returns : tie.Need-returns
 returns c =
     λ R e f. let g = c .before .before .before .before .before .before .before .before .before .before .resolved .ensures .1 R e f in
@@ -39,11 +18,11 @@ pub judge-spec : {M : Type 1} → statement M
 judge-spec =
     tie.close
     (tie.spec
-    name-count-requires
-    resolved-requires
-    must-marks-requires
-    never-marks-requires
-    settled-marks-requires
-    schedule-row-requires
-    page-values-requires
+    (λ c κs. search needs)
+    (λ c κs. search needs)
+    (λ c κs. search needs)
+    (λ c κs. search needs)
+    (λ c κs. search needs)
+    (λ c κs. search needs)
+    (λ c κs. search needs)
     returns)

@@ -6,27 +6,12 @@ use Rattle.judgement_marks.proofs.Standing.{names-some}
 use Rattle.judgement.proofs.needs.Statement.{statement}
 use Rattle.judgement.proofs.needs.Tie as tie
 
-name-count-requires : tie.Need-name-count-requires
-name-count-requires c κs = search needs
-
-resolved-requires : tie.Need-resolved-requires
-resolved-requires c κs = search needs
-
-must-marks-requires : tie.Need-must-marks-requires
-must-marks-requires c κs = search needs
-
-needs-marks-requires : tie.Need-needs-marks-requires
-needs-marks-requires c κs = search needs
-
 returns : tie.Need-returns
 returns c =
     let s = c .before .before .before .before .before .before .before in
     λ R e f. let g = c .before .before .before .before .before .resolved .ensures .1 R e f in
     let n = c .before .before .before .before .before .before .name-count .ensures .1 R e f in
     rw (← name-past R (s .args .index) (omega arith)) (c .needs-marks .ensures .1 R g (names-some R) (c .before .before .before .must-marks .ensures .1 R g))
-
-needs-marks-requires-2 : tie.Need-needs-marks-requires-2
-needs-marks-requires-2 c κs = search needs
 
 returns-2 : tie.Need-returns-2
 returns-2 c =
@@ -38,10 +23,10 @@ pub needs-spec : {M : Type 1} → statement M
 needs-spec =
     tie.close
     (tie.spec
-    name-count-requires
-    resolved-requires
-    must-marks-requires
-    needs-marks-requires
+    (λ c κs. search needs)
+    (λ c κs. search needs)
+    (λ c κs. search needs)
+    (λ c κs. search needs)
     returns
-    needs-marks-requires-2
+    (λ c κs. search needs)
     returns-2)

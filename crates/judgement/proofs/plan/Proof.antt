@@ -7,21 +7,6 @@ use Rattle.record.proofs.Scheduled.{musts-known}
 use Rattle.judgement.proofs.plan.Statement.{statement}
 use Rattle.judgement.proofs.plan.Tie as tie
 
-name-count-requires : tie.Need-name-count-requires
-name-count-requires c κs = search needs
-
-resolved-requires : tie.Need-resolved-requires
-resolved-requires c κs = search needs
-
-must-marks-requires : tie.Need-must-marks-requires
-must-marks-requires c κs = search needs
-
-has-ring-requires : tie.Need-has-ring-requires
-has-ring-requires c κs = search needs
-
-schedule-row-requires : tie.Need-schedule-row-requires
-schedule-row-requires c κs = search needs
-
 edits-of-requires : tie.Need-edits-of-requires
 edits-of-requires c κs = (c .schedule-row .ensures .0, c .schedule-row .ensures .1, c .schedule-row .ensures .2)
 
@@ -40,10 +25,10 @@ pub plan-spec : {M : Type 1} → statement M
 plan-spec =
     tie.close
     (tie.spec
-    name-count-requires
-    resolved-requires
-    must-marks-requires
-    has-ring-requires
-    schedule-row-requires
+    (λ c κs. search needs)
+    (λ c κs. search needs)
+    (λ c κs. search needs)
+    (λ c κs. search needs)
+    (λ c κs. search needs)
     edits-of-requires
     returns)

@@ -4,18 +4,6 @@ use Rattle.judgement.proofs.Judging.{marked-hides}
 use Rattle.judgement.proofs.schedule.Statement.{statement}
 use Rattle.judgement.proofs.schedule.Tie as tie
 
-name-count-requires : tie.Need-name-count-requires
-name-count-requires c κs = search needs
-
-resolved-requires : tie.Need-resolved-requires
-resolved-requires c κs = search needs
-
-must-marks-requires : tie.Need-must-marks-requires
-must-marks-requires c κs = search needs
-
-schedule-row-requires : tie.Need-schedule-row-requires
-schedule-row-requires c κs = search needs
-
 edits-of-requires : tie.Need-edits-of-requires
 edits-of-requires c κs = (c .schedule-row .ensures .0, c .schedule-row .ensures .1, c .schedule-row .ensures .2)
 
@@ -28,9 +16,9 @@ pub schedule-spec : {M : Type 1} → statement M
 schedule-spec =
     tie.close
     (tie.spec
-    name-count-requires
-    resolved-requires
-    must-marks-requires
-    schedule-row-requires
+    (λ c κs. search needs)
+    (λ c κs. search needs)
+    (λ c κs. search needs)
+    (λ c κs. search needs)
     edits-of-requires
     returns)

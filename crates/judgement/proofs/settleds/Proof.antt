@@ -3,21 +3,6 @@ use borrow.Author.Needs.{needs}
 use Rattle.judgement.proofs.settleds.Statement.{statement}
 use Rattle.judgement.proofs.settleds.Tie as tie
 
-name-count-requires : tie.Need-name-count-requires
-name-count-requires c κs = search needs
-
-resolved-requires : tie.Need-resolved-requires
-resolved-requires c κs = search needs
-
-must-marks-requires : tie.Need-must-marks-requires
-must-marks-requires c κs = search needs
-
-never-marks-requires : tie.Need-never-marks-requires
-never-marks-requires c κs = search needs
-
-settled-marks-requires : tie.Need-settled-marks-requires
-settled-marks-requires c κs = search needs
-
 returns : tie.Need-returns
 returns c =
     λ R e f. let g = c .before .before .before .before .before .before .resolved .ensures .1 R e f in
@@ -29,9 +14,9 @@ pub settleds-spec : {M : Type 1} → statement M
 settleds-spec =
     tie.close
     (tie.spec
-    name-count-requires
-    resolved-requires
-    must-marks-requires
-    never-marks-requires
-    settled-marks-requires
+    (λ c κs. search needs)
+    (λ c κs. search needs)
+    (λ c κs. search needs)
+    (λ c κs. search needs)
+    (λ c κs. search needs)
     returns)

@@ -7,18 +7,6 @@ use Rattle.record.proofs.Scheduled.{musts-known}
 use Rattle.judgement.proofs.sound.Statement.{statement}
 use Rattle.judgement.proofs.sound.Tie as tie
 
-name-count-requires : tie.Need-name-count-requires
-name-count-requires c κs = search needs
-
-resolved-requires : tie.Need-resolved-requires
-resolved-requires c κs = search needs
-
-must-marks-requires : tie.Need-must-marks-requires
-must-marks-requires c κs = search needs
-
-has-ring-requires : tie.Need-has-ring-requires
-has-ring-requires c κs = search needs
-
 returns : tie.Need-returns
 returns c =
     λ R e f. let g = c .before .before .before .before .resolved .ensures .1 R e f in
@@ -27,4 +15,4 @@ returns c =
 pub sound-spec : {M : Type 1} → statement M
 sound-spec =
     tie.close
-    (tie.spec name-count-requires resolved-requires must-marks-requires has-ring-requires returns)
+    (tie.spec (λ c κs. search needs) (λ c κs. search needs) (λ c κs. search needs) (λ c κs. search needs) returns)

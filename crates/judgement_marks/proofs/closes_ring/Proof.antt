@@ -6,25 +6,10 @@ use Rattle.judgement_marks.proofs.Entering.{entering-known, entering-ca
 use Rattle.judgement_marks.proofs.closes_ring.Statement.{statement}
 use Rattle.judgement_marks.proofs.closes_ring.Tie as tie
 
-add-any-row : tie.Need-add-any-row
-add-any-row c = search needs
-
-any-row-requires : tie.Need-any-row-requires
-any-row-requires c κs = search needs
-
-has-new-ring-requires : tie.Need-has-new-ring-requires
-has-new-ring-requires c κs = search needs
-
 returns : tie.Need-returns
 returns c =
     let s = c .before .before .before in
     λ R t g h q l cl k o calm m. c .has-new-ring .ensures R t _ (g .notafters) q (entering-known R t (s .args .rows .now) (s .args .old .now) g (s .args .x) (omega arith) cl k o) o calm m
-
-any-row-requires-2 : tie.Need-any-row-requires-2
-any-row-requires-2 c κs = search needs
-
-has-new-ring-requires-2 : tie.Need-has-new-ring-requires-2
-has-new-ring-requires-2 c κs = search needs
 
 returns-2 : tie.Need-returns-2
 returns-2 c =
@@ -40,11 +25,11 @@ pub closes-ring-spec : {M : Type 1} → statement M
 closes-ring-spec =
     tie.close
     (tie.spec
-    add-any-row
-    any-row-requires
-    has-new-ring-requires
+    (λ c. search needs)
+    (λ c κs. search needs)
+    (λ c κs. search needs)
     returns
-    any-row-requires-2
-    has-new-ring-requires-2
+    (λ c κs. search needs)
+    (λ c κs. search needs)
     returns-2
     returns-3)

@@ -8,31 +8,19 @@ use Rattle.record.specs.Record.{notafter}
 use Rattle.judgement_marks.proofs.has_order.Statement.{statement}
 use Rattle.judgement_marks.proofs.has_order.Tie as tie
 
-element-copy-out-if1 : tie.Need-element-copy-out-if1
-element-copy-out-if1 c = search needs
-
 returns : tie.Need-returns
 returns c =
     let s = c .before .before in
     λ R g la lb e. ordered-never R _ _ (marked-on R (never R) _ (s .args .a) e (c .if1 .taken))
-
-element-copy-out-if2 : tie.Need-element-copy-out-if2
-element-copy-out-if2 c = search needs
 
 returns-2 : tie.Need-returns-2
 returns-2 c =
     let s = c .before .before .before .before in
     λ R g la lb e. ordered-never-right R _ _ (marked-on R (never R) _ (s .args .b) e (c .if2 .taken))
 
-leads-to-requires : tie.Need-leads-to-requires
-leads-to-requires c κs = search needs
-
 returns-3 : tie.Need-returns-3
 returns-3 c =
     λ R g la lb e. ordered-row R _ _ (sym (c .before .leads-to .ensures (notafter R) R (g .notafters) la lb) ∙ c .if3 .taken)
-
-leads-to-requires-2 : tie.Need-leads-to-requires-2
-leads-to-requires-2 c κs = search needs
 
 returns-4 : tie.Need-returns-4
 returns-4 c =
@@ -44,11 +32,11 @@ pub has-order-spec : {M : Type 1} → statement M
 has-order-spec =
     tie.close
     (tie.spec
-    element-copy-out-if1
+    (λ c. search needs)
     returns
-    element-copy-out-if2
+    (λ c. search needs)
     returns-2
-    leads-to-requires
+    (λ c κs. search needs)
     returns-3
-    leads-to-requires-2
+    (λ c κs. search needs)
     returns-4)

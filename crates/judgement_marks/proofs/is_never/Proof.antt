@@ -12,16 +12,10 @@ use Rattle.record.proofs.Order.{needs-closed}
 use Rattle.judgement_marks.proofs.is_never.Statement.{statement}
 use Rattle.judgement_marks.proofs.is_never.Tie as tie
 
-array-read-if1 : tie.Need-array-read-if1
-array-read-if1 c = search needs
-
 returns : tie.Need-returns
 returns c =
     let s = c .before in
     λ R g f q l e u v. sym u ∙ never-must (g .formed) _ (must-on R _ (s .args .x) e (c .if1 .taken))
-
-need-below-requires : tie.Need-need-below-requires
-need-below-requires c κs = search needs
 
 element-copy-out-if2 : tie.Need-element-copy-out-if2
 element-copy-out-if2 c = omega (arith, c .need-below .ensures .1)
@@ -66,9 +60,9 @@ pub is-never-spec : {M : Type 1} → statement M
 is-never-spec =
     tie.close
     (tie.spec
-    array-read-if1
+    (λ c. search needs)
     returns
-    need-below-requires
+    (λ c κs. search needs)
     element-copy-out-if2
     returns-2
     needs-marks-requires

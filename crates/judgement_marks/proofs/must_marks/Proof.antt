@@ -10,9 +10,6 @@ use Rattle.record.proofs.Records.{enabler-known}
 use Rattle.judgement_marks.proofs.must_marks.Statement.{statement}
 use Rattle.judgement_marks.proofs.must_marks.Tie as tie
 
-closed-requires : tie.Need-closed-requires
-closed-requires c κs = search needs
-
 returns : tie.Need-returns
 returns c = (
   c .closed .ensures .0,
@@ -20,4 +17,4 @@ returns c = (
 )
 
 pub must-marks-spec : {M : Type 1} → statement M
-must-marks-spec = tie.close (tie.spec closed-requires returns)
+must-marks-spec = tie.close (tie.spec (λ c κs. search needs) returns)

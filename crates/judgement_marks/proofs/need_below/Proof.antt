@@ -6,17 +6,8 @@ use borrow.Author.Needs.{needs}
 use Rattle.judgement_marks.proofs.need_below.Statement.{statement}
 use Rattle.judgement_marks.proofs.need_below.Tie as tie
 
-add-first-row : tie.Need-add-first-row
-add-first-row c = search needs
-
-first-row-requires : tie.Need-first-row-requires
-first-row-requires c κs = search needs
-
 returns : tie.Need-returns
 returns c = (omega arith, omega arith, λ h. h, λ R g l. (omega arith, init-need (g .formed) _))
-
-row-left-requires : tie.Need-row-left-requires
-row-left-requires c κs = search needs
 
 returns-2 : tie.Need-returns-2
 returns-2 c = (omega arith, omega arith, λ h. h, λ R g l. (omega arith, init-need (g .formed) _))
@@ -35,4 +26,4 @@ returns-3 c =
 pub need-below-spec : {M : Type 1} → statement M
 need-below-spec =
     tie.close
-    (tie.spec add-first-row first-row-requires returns row-left-requires returns-2 returns-3)
+    (tie.spec (λ c. search needs) (λ c κs. search needs) returns (λ c κs. search needs) returns-2 returns-3)

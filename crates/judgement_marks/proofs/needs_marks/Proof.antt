@@ -9,9 +9,6 @@ use Rattle.record.proofs.Scheduled.{musts-known}
 use Rattle.judgement_marks.proofs.needs_marks.Statement.{statement}
 use Rattle.judgement_marks.proofs.needs_marks.Tie as tie
 
-closed-requires : tie.Need-closed-requires
-closed-requires c κs = search needs
-
 returns : tie.Need-returns
 returns c = (
   c .closed .ensures .0,
@@ -20,4 +17,4 @@ returns c = (
 )
 
 pub needs-marks-spec : {M : Type 1} → statement M
-needs-marks-spec = tie.close (tie.spec closed-requires returns)
+needs-marks-spec = tie.close (tie.spec (λ c κs. search needs) returns)

@@ -9,21 +9,12 @@ use Rattle.record.proofs.Scheduled.{musts-known}
 use Rattle.judgement_marks.proofs.never_marks.Statement.{statement}
 use Rattle.judgement_marks.proofs.never_marks.Tie as tie
 
-all-marks-requires : tie.Need-all-marks-requires
-all-marks-requires c κs = search needs
-
-has-ring-requires : tie.Need-has-ring-requires
-has-ring-requires c κs = search needs
-
 returns : tie.Need-returns
 returns c = (
   refl,
   λ R g q e. none-marked R (g .notafters .few) ∙ never-nowhere (g .formed) (g .notafters .few)
       (sym (c .before .has-ring .ensures R (names R) (g .notafters) q (λ x k. k) (c .before .before .all-marks .ensures .1 R q)) ∙ not-true _ (c .if1 .taken)),
 )
-
-has-ring-requires-2 : tie.Need-has-ring-requires-2
-has-ring-requires-2 c κs = search needs
 
 returns-2 : tie.Need-returns-2
 returns-2 c =
@@ -32,9 +23,6 @@ returns-2 c =
       λ R g q e. a .ensures .1 R q ∙ never-everywhere (g .formed) (g .notafters .few)
           (sym (c .before .has-ring2 .ensures R _ (g .notafters) q (musts-known R (g .formed)) (e ∙ must-musts R)) ∙ c .if2 .taken),
     )
-
-sound-nevers-requires : tie.Need-sound-nevers-requires
-sound-nevers-requires c κs = search needs
 
 returns-3 : tie.Need-returns-3
 returns-3 c = (
@@ -47,10 +35,10 @@ pub never-marks-spec : {M : Type 1} → statement M
 never-marks-spec =
     tie.close
     (tie.spec
-    all-marks-requires
-    has-ring-requires
+    (λ c κs. search needs)
+    (λ c κs. search needs)
     returns
-    has-ring-requires-2
+    (λ c κs. search needs)
     returns-2
-    sound-nevers-requires
+    (λ c κs. search needs)
     returns-3)

@@ -28,12 +28,6 @@ open-pairs-requires c κs =
     let l = c .before .before .loop in
     (s .pre .0, omega arith, l .inv .1)
 
-add-b : tie.Need-add-b Inv-loop μ-loop
-add-b c = search needs
-
-loop-less : tie.Need-loop-less Inv-loop μ-loop
-loop-less c = search needs
-
 loop-again : tie.Need-loop-again Inv-loop μ-loop
 loop-again c =
     let s = c .before .before .before .before in
@@ -52,4 +46,4 @@ returns c =
 pub open-marks-spec : {M : Type 1} → statement M
 open-marks-spec =
     tie.close
-    (tie.spec Inv-loop μ-loop loop-holds open-pairs-requires add-b loop-less loop-again returns)
+    (tie.spec Inv-loop μ-loop loop-holds open-pairs-requires (λ c. search needs) (λ c. search needs) loop-again returns)

@@ -12,30 +12,15 @@ Inv-loop rows nevermarks openmarks₀ b j₀ openmarks j = (j ≤ 1024) × Openi
 abbrev μ-loop : tie.MeasureT-loop
 μ-loop rows nevermarks openmarks₀ b j₀ openmarks j = j
 
-add-first-row : tie.Need-add-first-row Inv-loop μ-loop
-add-first-row c = search needs
-
-first-row-requires : tie.Need-first-row-requires Inv-loop μ-loop
-first-row-requires c κs = search needs
-
 loop-holds : tie.Need-loop-holds Inv-loop μ-loop
 loop-holds c =
     let s = c .before in
     (c .first-row .ensures .1, opening-start (s .args .rows .now) (s .args .nevermarks .now) (s .args .openmarks .now) (s .args .b) _ (s .pre .2) (s .pre .1) (c .first-row .ensures))
 
-row-left-requires : tie.Need-row-left-requires Inv-loop μ-loop
-row-left-requires c κs = search needs
-
 open-pair-requires : tie.Need-open-pair-requires Inv-loop μ-loop
 open-pair-requires c κs =
     let s = c .before .before .before .before .before in
     (s .pre .0, c .row-left .ensures .1, s .pre .1, c .before .before .before .loop .inv .1 .size)
-
-next-row-requires : tie.Need-next-row-requires Inv-loop μ-loop
-next-row-requires c κs = search needs
-
-loop-less : tie.Need-loop-less Inv-loop μ-loop
-loop-less c = search needs
 
 loop-again : tie.Need-loop-again Inv-loop μ-loop
 loop-again c =
@@ -55,12 +40,12 @@ open-pairs-spec =
     (tie.spec
     Inv-loop
     μ-loop
-    add-first-row
-    first-row-requires
+    (λ c. search needs)
+    (λ c κs. search needs)
     loop-holds
-    row-left-requires
+    (λ c κs. search needs)
     open-pair-requires
-    next-row-requires
-    loop-less
+    (λ c κs. search needs)
+    (λ c. search needs)
     loop-again
     returns)

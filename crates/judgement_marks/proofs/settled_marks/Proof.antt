@@ -21,35 +21,11 @@ Inv-loop n rows mustmarks nevermarks openmarks marks₀ x₀ marks x =
 abbrev μ-loop : tie.MeasureT-loop
 μ-loop n rows mustmarks nevermarks openmarks marks₀ x₀ marks x = n - x
 
-open-marks-requires : tie.Need-open-marks-requires Inv-loop μ-loop
-open-marks-requires c κs = search needs
-
 loop-holds : tie.Need-loop-holds Inv-loop μ-loop
 loop-holds c = (omega arith, refl, λ R g q d e. filled-start R _)
 
-array-read-is-settled : tie.Need-array-read-is-settled Inv-loop μ-loop
-array-read-is-settled c = search needs
-
-array-read-is-settled-2 : tie.Need-array-read-is-settled-2 Inv-loop μ-loop
-array-read-is-settled-2 c = search needs
-
 array-read-is-settled-3 : tie.Need-array-read-is-settled-3 Inv-loop μ-loop
 array-read-is-settled-3 c = omega (arith, c .before .before .open-marks .ensures .0)
-
-is-settled-requires : tie.Need-is-settled-requires Inv-loop μ-loop
-is-settled-requires c κs = search needs
-
-bit8-requires : tie.Need-bit8-requires Inv-loop μ-loop
-bit8-requires c κs = search needs
-
-array-write-marks : tie.Need-array-write-marks Inv-loop μ-loop
-array-write-marks c = search needs
-
-add-x : tie.Need-add-x Inv-loop μ-loop
-add-x c = search needs
-
-loop-less : tie.Need-loop-less Inv-loop μ-loop
-loop-less c = search needs
 
 loop-again : tie.Need-loop-again Inv-loop μ-loop
 loop-again c =
@@ -71,15 +47,15 @@ settled-marks-spec =
     (tie.spec
     Inv-loop
     μ-loop
-    open-marks-requires
+    (λ c κs. search needs)
     loop-holds
-    array-read-is-settled
-    array-read-is-settled-2
+    (λ c. search needs)
+    (λ c. search needs)
     array-read-is-settled-3
-    is-settled-requires
-    bit8-requires
-    array-write-marks
-    add-x
-    loop-less
+    (λ c κs. search needs)
+    (λ c κs. search needs)
+    (λ c. search needs)
+    (λ c. search needs)
+    (λ c. search needs)
     loop-again
     returns)

@@ -22,26 +22,8 @@ Inv-loop n rows mustmarks reversed marks₀ x₀ marks x =
 abbrev μ-loop : tie.MeasureT-loop
 μ-loop n rows mustmarks reversed marks₀ x₀ marks x = n - x
 
-reversed-requires : tie.Need-reversed-requires Inv-loop μ-loop
-reversed-requires c κs = search needs
-
 loop-holds : tie.Need-loop-holds Inv-loop μ-loop
 loop-holds c = (omega arith, refl, λ R g q e u. filled-start R _)
-
-is-never-requires : tie.Need-is-never-requires Inv-loop μ-loop
-is-never-requires c κs = search needs
-
-bit8-requires : tie.Need-bit8-requires Inv-loop μ-loop
-bit8-requires c κs = search needs
-
-array-write-marks : tie.Need-array-write-marks Inv-loop μ-loop
-array-write-marks c = search needs
-
-add-x : tie.Need-add-x Inv-loop μ-loop
-add-x c = search needs
-
-loop-less : tie.Need-loop-less Inv-loop μ-loop
-loop-less c = search needs
 
 loop-again : tie.Need-loop-again Inv-loop μ-loop
 loop-again c =
@@ -64,12 +46,12 @@ sound-nevers-spec =
     (tie.spec
     Inv-loop
     μ-loop
-    reversed-requires
+    (λ c κs. search needs)
     loop-holds
-    is-never-requires
-    bit8-requires
-    array-write-marks
-    add-x
-    loop-less
+    (λ c κs. search needs)
+    (λ c κs. search needs)
+    (λ c. search needs)
+    (λ c. search needs)
+    (λ c. search needs)
     loop-again
     returns)

@@ -7,14 +7,8 @@ use Rattle.log.proofs.print_refused.Tie as tie
 returns : tie.Need-returns
 returns c = setting-none _ _ (c .if1 .taken)
 
-print-refusal-requires : tie.Need-print-refusal-requires
-print-refusal-requires c κs = search needs
-
-same-length : tie.Need-same-length
-same-length c = search needs
-
 returns-2 : tie.Need-returns-2
 returns-2 c = setting-some _ _ (c .before .before .before .before .if1 .left) (c .before .before .print-refusal .ensures)
 
 pub print-refused-spec : {M : Type 1} → statement M
-print-refused-spec = tie.close (tie.spec returns print-refusal-requires same-length returns-2)
+print-refused-spec = tie.close (tie.spec returns (λ c κs. search needs) (λ c. search needs) returns-2)

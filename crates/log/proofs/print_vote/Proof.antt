@@ -5,14 +5,8 @@ use Rattle.ledger.specs.declared.Bench.{Bench}
 use Rattle.log.proofs.print_vote.Statement.{statement}
 use Rattle.log.proofs.print_vote.Tie as tie
 
-print-vote-requires : tie.Need-print-vote-requires
-print-vote-requires c κs = search needs
-
-same-length : tie.Need-same-length
-same-length c = search needs
-
 returns : tie.Need-returns
 returns c = λ D H. c .before .before .print-vote .ensures D (H .kept) (ap (λ (x : Bench). x .multilog) (H .benched))
 
 pub print-vote-spec : {M : Type 1} → statement M
-print-vote-spec = tie.close (tie.spec print-vote-requires same-length returns)
+print-vote-spec = tie.close (tie.spec (λ c κs. search needs) (λ c. search needs) returns)

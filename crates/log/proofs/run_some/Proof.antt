@@ -28,9 +28,6 @@ abbrev μ-loop : tie.MeasureT-loop
 loop-holds : tie.Need-loop-holds Inv-loop μ-loop
 loop-holds c = (search needs, search needs, search needs, search needs, λ e. refl, λ D H k. running-start _ D _ _ _ H)
 
-line-end-requires : tie.Need-line-end-requires Inv-loop μ-loop
-line-end-requires c κs = search needs
-
 sub-read-command : tie.Need-sub-read-command Inv-loop μ-loop
 sub-read-command c = let x = next-line (c .before .before .before .before .before .before .args .log .now) (c .before .before .before .loop .from) (c .before .before .loop-test .taken) (c .line-end .ensures) in omega (arith, x .forward)
 
@@ -40,19 +37,10 @@ part-read-command-start c = let x = next-line (c .before .before .before .before
 part-read-command-end : tie.Need-part-read-command-end Inv-loop μ-loop
 part-read-command-end c = let x = next-line (c .before .before .before .before .before .before .args .log .now) (c .before .before .before .loop .from) (c .before .before .loop-test .taken) (c .line-end .ensures) in omega (arith, x .inside)
 
-read-command-requires : tie.Need-read-command-requires Inv-loop μ-loop
-read-command-requires c κs = search needs
-
-is-turn-requires : tie.Need-is-turn-requires Inv-loop μ-loop
-is-turn-requires c κs = search needs
-
 run-turns-requires : tie.Need-run-turns-requires Inv-loop μ-loop
 run-turns-requires c κs =
     let b = c .before .before .before .before .before .before in
     (b .before .before .loop-test .taken, search needs, first-turn _ _ (b .line-end .ensures) _ (c .before .before .before .before .read-command .ensures) (c .before .before .before .is-turn .ensures) (c .before .before .if2 .taken))
-
-open-at-requires : tie.Need-open-at-requires Inv-loop μ-loop
-open-at-requires c κs = search needs
 
 loop-less : tie.Need-loop-less Inv-loop μ-loop
 loop-less c = let t = c .before .before .before .before .run-turns .ensures in omega (arith, t .0, t .1)
@@ -68,15 +56,6 @@ loop-again c =
       λ e. absurd (omega (arith, t .0)),
       λ D H k. let R = v .5 D H k in opened-there _ D _ _ _ _ R (t .2 D _ _ _ _ _ _ _ R refl k) (c .open-at .ensures),
     )
-
-next-requires : tie.Need-next-requires Inv-loop μ-loop
-next-requires c κs = search needs
-
-enum-known-command : tie.Need-enum-known-command Inv-loop μ-loop
-enum-known-command c = search needs
-
-print-refused-requires : tie.Need-print-refused-requires Inv-loop μ-loop
-print-refused-requires c κs = search needs
 
 loop-less-2 : tie.Need-loop-less-2 Inv-loop μ-loop
 loop-less-2 c =
@@ -101,12 +80,6 @@ loop-again-2 c =
           (λ E G. refusal-performed E _ _ (k .command .given .1) G (c .before .before .print-refused .ensures)),
     )
 
-enum-known-command-2 : tie.Need-enum-known-command-2 Inv-loop μ-loop
-enum-known-command-2 c = search needs
-
-run-lend-requires : tie.Need-run-lend-requires Inv-loop μ-loop
-run-lend-requires c κs = search needs
-
 loop-less-3 : tie.Need-loop-less-3 Inv-loop μ-loop
 loop-less-3 c =
     let b = c .before .before .before .before .before .before .before .before .before .before .before .before .before .before .before .before .before in
@@ -129,12 +102,6 @@ loop-again-3 c =
           running-next _ D _ _ _ R h (b .line-end .ensures) (k .before .before .next .ensures (running-few _ D _ _ _ R h q)) (k .before .before .before .before .before .read-command .ensures)
           (λ E G. lend-performed E _ _ (k .command2 .given .1) (c .before .before .before .before .before .run-lend .ensures E G)),
     )
-
-enum-known-command-3 : tie.Need-enum-known-command-3 Inv-loop μ-loop
-enum-known-command-3 c = search needs
-
-print-proposal-requires : tie.Need-print-proposal-requires Inv-loop μ-loop
-print-proposal-requires c κs = search needs
 
 loop-less-4 : tie.Need-loop-less-4 Inv-loop μ-loop
 loop-less-4 c =
@@ -159,15 +126,6 @@ loop-again-4 c =
           (λ E G. proposal-performed E _ _ (k .command3 .given .1) (G .benched) (c .before .before .before .before .before .print-proposal .ensures E (G .kept))),
     )
 
-enum-known-command-4 : tie.Need-enum-known-command-4 Inv-loop μ-loop
-enum-known-command-4 c = search needs
-
-make-call-requires : tie.Need-make-call-requires Inv-loop μ-loop
-make-call-requires c κs = search needs
-
-print-outcome-requires : tie.Need-print-outcome-requires Inv-loop μ-loop
-print-outcome-requires c κs = search needs
-
 loop-less-5 : tie.Need-loop-less-5 Inv-loop μ-loop
 loop-less-5 c =
     let b = c .before .before .before .before .before .before .before .before .before .before .before .before .before .before .before .before .before .before in
@@ -191,12 +149,6 @@ loop-again-5 c =
           (λ E G. call-performed E _ _ (k .command4 .given .1) _ (c .before .before .before .before .before .before .before .make-call .ensures E (G .benched) (G .kept)) (c .before .before .print-outcome .ensures) G),
     )
 
-enum-known-command-5 : tie.Need-enum-known-command-5 Inv-loop μ-loop
-enum-known-command-5 c = search needs
-
-print-vote-requires : tie.Need-print-vote-requires Inv-loop μ-loop
-print-vote-requires c κs = search needs
-
 loop-less-6 : tie.Need-loop-less-6 Inv-loop μ-loop
 loop-less-6 c =
     let b = c .before .before .before .before .before .before .before .before .before .before .before .before .before .before in
@@ -219,12 +171,6 @@ loop-again-6 c =
           running-next _ D _ _ _ R h (b .line-end .ensures) (k .before .before .next .ensures (running-few _ D _ _ _ R h q)) (k .before .before .before .before .before .read-command .ensures)
           (λ E G. vote-performed E _ _ (k .command5 .given .1) G (c .before .before .print-vote .ensures E G)),
     )
-
-enum-known-command-6 : tie.Need-enum-known-command-6 Inv-loop μ-loop
-enum-known-command-6 c = search needs
-
-print-ask-requires : tie.Need-print-ask-requires Inv-loop μ-loop
-print-ask-requires c κs = search needs
 
 loop-less-7 : tie.Need-loop-less-7 Inv-loop μ-loop
 loop-less-7 c =
@@ -280,40 +226,40 @@ run-some-spec =
     Inv-loop
     μ-loop
     loop-holds
-    line-end-requires
+    (λ c κs. search needs)
     sub-read-command
     part-read-command-start
     part-read-command-end
-    read-command-requires
-    is-turn-requires
+    (λ c κs. search needs)
+    (λ c κs. search needs)
     run-turns-requires
-    open-at-requires
+    (λ c κs. search needs)
     loop-less
     loop-again
-    next-requires
-    enum-known-command
-    print-refused-requires
+    (λ c κs. search needs)
+    (λ c. search needs)
+    (λ c κs. search needs)
     loop-less-2
     loop-again-2
-    enum-known-command-2
-    run-lend-requires
+    (λ c. search needs)
+    (λ c κs. search needs)
     loop-less-3
     loop-again-3
-    enum-known-command-3
-    print-proposal-requires
+    (λ c. search needs)
+    (λ c κs. search needs)
     loop-less-4
     loop-again-4
-    enum-known-command-4
-    make-call-requires
-    print-outcome-requires
+    (λ c. search needs)
+    (λ c κs. search needs)
+    (λ c κs. search needs)
     loop-less-5
     loop-again-5
-    enum-known-command-5
-    print-vote-requires
+    (λ c. search needs)
+    (λ c κs. search needs)
     loop-less-6
     loop-again-6
-    enum-known-command-6
-    print-ask-requires
+    (λ c. search needs)
+    (λ c κs. search needs)
     loop-less-7
     loop-again-7
     same-length

@@ -35,9 +35,6 @@ loop-holds c =
     let p = c .before .before .pre in
     (omega (arith, p .0), search needs, omega arith, λ e. refl, refl, λ D first before begin bench lending edits constraints R t k. running-open _ D first before begin R t)
 
-line-end-requires : tie.Need-line-end-requires Inv-loop μ-loop
-line-end-requires c κs = search needs
-
 sub-read-command : tie.Need-sub-read-command Inv-loop μ-loop
 sub-read-command c = let x = next-line (c .before .before .before .before .before .before .args .log .now) (c .before .before .before .loop .from) (c .before .before .loop-test .taken) (c .line-end .ensures) in omega (arith, x .forward)
 
@@ -46,15 +43,6 @@ part-read-command-start c = let x = next-line (c .before .before .before .before
 
 part-read-command-end : tie.Need-part-read-command-end Inv-loop μ-loop
 part-read-command-end c = let x = next-line (c .before .before .before .before .before .before .args .log .now) (c .before .before .before .loop .from) (c .before .before .loop-test .taken) (c .line-end .ensures) in omega (arith, x .inside)
-
-read-command-requires : tie.Need-read-command-requires Inv-loop μ-loop
-read-command-requires c κs = search needs
-
-is-paging-requires : tie.Need-is-paging-requires Inv-loop μ-loop
-is-paging-requires c κs = search needs
-
-next-requires : tie.Need-next-requires Inv-loop μ-loop
-next-requires c κs = search needs
 
 run-page-requires : tie.Need-run-page-requires Inv-loop μ-loop
 run-page-requires c κs = sym (c .before .before .before .is-paging .ensures) ∙ not-false _ (c .before .before .if2 .left)
@@ -118,13 +106,13 @@ run-turns-spec =
     Inv-loop
     μ-loop
     loop-holds
-    line-end-requires
+    (λ c κs. search needs)
     sub-read-command
     part-read-command-start
     part-read-command-end
-    read-command-requires
-    is-paging-requires
-    next-requires
+    (λ c κs. search needs)
+    (λ c κs. search needs)
+    (λ c κs. search needs)
     run-page-requires
     loop-less
     loop-again

@@ -7,21 +7,6 @@ use Rattle.log_answers.specs.Answers.{recordText}
 use Rattle.log_answers.proofs.print_record.Statement.{statement}
 use Rattle.log_answers.proofs.print_record.Tie as tie
 
-slice-aggregate-print : tie.Need-slice-aggregate-print
-slice-aggregate-print c = search needs
-
-slice-aggregate-print-2 : tie.Need-slice-aggregate-print-2
-slice-aggregate-print-2 c = search needs
-
-print-requires : tie.Need-print-requires
-print-requires c κs = search needs
-
-print-text-requires : tie.Need-print-text-requires
-print-text-requires c κs = search needs
-
-same-length : tie.Need-same-length
-same-length c = search needs
-
 returns : tie.Need-returns
 unfolding recordText countsForm bytes
 returns c = printed-both _ _ _ _ (c .before .before .before .before .before .before .print .ensures) (c .before .before .print-text .ensures)
@@ -30,9 +15,9 @@ pub print-record-spec : {M : Type 1} → statement M
 print-record-spec =
     tie.close
     (tie.spec
-    slice-aggregate-print
-    slice-aggregate-print-2
-    print-requires
-    print-text-requires
-    same-length
+    (λ c. search needs)
+    (λ c. search needs)
+    (λ c κs. search needs)
+    (λ c κs. search needs)
+    (λ c. search needs)
     returns)

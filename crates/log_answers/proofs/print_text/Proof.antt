@@ -6,24 +6,12 @@ use Rattle.log_answers.proofs.Placing.{text-printed, answer-text-refuse
 use Rattle.log_answers.proofs.print_text.Statement.{statement}
 use Rattle.log_answers.proofs.print_text.Tie as tie
 
-write-text-requires : tie.Need-write-text-requires
-write-text-requires c κs = search needs
-
-add-result : tie.Need-add-result
-add-result c = search needs
-
-same-length : tie.Need-same-length
-same-length c = search needs
-
 returns : tie.Need-returns
 returns c = let s = c .before .before .before .before .before .before .before .args in answer-text-refused (textOf (recordOf (s .content))) (s .out .now) (s .at) (c .before .before .before .before .write-text .ensures) (c .if1 .taken)
-
-same-length-2 : tie.Need-same-length-2
-same-length-2 c = search needs
 
 returns-2 : tie.Need-returns-2
 returns-2 c = let s = c .before .before .before .before .before .before .before .args in text-printed (textOf (recordOf (s .content))) (s .out .now) (s .at) (c .before .before .before .before .write-text .ensures) (c .if1 .left)
 
 pub print-text-spec : {M : Type 1} → statement M
 print-text-spec =
-    tie.close (tie.spec write-text-requires add-result same-length returns same-length-2 returns-2)
+    tie.close (tie.spec (λ c κs. search needs) (λ c. search needs) (λ c. search needs) returns (λ c. search needs) returns-2)

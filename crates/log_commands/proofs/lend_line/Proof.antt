@@ -10,20 +10,8 @@ returns c = lends-refused (c .before .before .args .lent) (c .before .before .ar
 returns-2 : tie.Need-returns-2
 returns-2 c = lends-large (c .before .before .before .args .lent) (c .before .before .before .args .line) (c .before .if1 .left) (c .if2 .taken)
 
-cast-t6 : tie.Need-cast-t6
-cast-t6 c = search needs
-
-edit-cells-requires : tie.Need-edit-cells-requires
-edit-cells-requires c κs = search needs
-
 returns-3 : tie.Need-returns-3
 returns-3 c = lends-edit (c .before .before .before .before .before .before .args .lent) (c .before .before .before .before .before .before .args .line) (c .before .before .before .before .if1 .left) (c .before .before .before .if2 .left) (c .before .before .if3 .taken) (c .edit-cells .ensures)
-
-cast-t9 : tie.Need-cast-t9
-cast-t9 c = search needs
-
-constraint-cells-requires : tie.Need-constraint-cells-requires
-constraint-cells-requires c κs = search needs
 
 returns-4 : tie.Need-returns-4
 returns-4 c = lends-constraint (c .before .before .before .before .before .before .args .lent) (c .before .before .before .before .before .before .args .line) (c .before .before .before .before .if1 .left) (c .before .before .before .if2 .left) (c .before .before .if3 .left) (c .constraint-cells .ensures)
@@ -34,9 +22,9 @@ lend-line-spec =
     (tie.spec
     returns
     returns-2
-    cast-t6
-    edit-cells-requires
+    (λ c. search needs)
+    (λ c κs. search needs)
     returns-3
-    cast-t9
-    constraint-cells-requires
+    (λ c. search needs)
+    (λ c κs. search needs)
     returns-4)

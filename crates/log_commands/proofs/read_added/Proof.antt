@@ -5,14 +5,8 @@ use Rattle.log_commands.specs.Groups.{lineAdds}
 use Rattle.log_commands.proofs.read_added.Statement.{statement}
 use Rattle.log_commands.proofs.read_added.Tie as tie
 
-read-line-requires : tie.Need-read-line-requires
-read-line-requires c κs = search needs
-
-add-line-requires : tie.Need-add-line-requires
-add-line-requires c κs = search needs
-
 returns : tie.Need-returns
 returns c = c .add-line .ensures ∙ ap lineAdds (c .before .read-line .ensures)
 
 pub read-added-spec : {M : Type 1} → statement M
-read-added-spec = tie.close (tie.spec read-line-requires add-line-requires returns)
+read-added-spec = tie.close (tie.spec (λ c κs. search needs) (λ c κs. search needs) returns)

@@ -20,30 +20,6 @@ use Rattle.log_commands.proofs.read_command.Tie as tie
 returns : tie.Need-returns
 returns c = command-long (c .before .before .args .bytes .now) (c .if1 .taken)
 
-byte-at-requires : tie.Need-byte-at-requires
-byte-at-requires c κs = search needs
-
-read-added-requires : tie.Need-read-added-requires
-read-added-requires c κs = search needs
-
-read-added-requires-2 : tie.Need-read-added-requires-2
-read-added-requires-2 c κs = search needs
-
-read-lent-requires : tie.Need-read-lent-requires
-read-lent-requires c κs = search needs
-
-read-do-requires : tie.Need-read-do-requires
-read-do-requires c κs = search needs
-
-read-ask-requires : tie.Need-read-ask-requires
-read-ask-requires c κs = search needs
-
-read-roll-requires : tie.Need-read-roll-requires
-read-roll-requires c κs = search needs
-
-read-row-requires : tie.Need-read-row-requires
-read-row-requires c κs = search needs
-
 returns-2 : tie.Need-returns-2
 unfolding commandForms grammar shapes setShapes ruleShapes setForm editForm ruleForm readStarting starting parse filter mem bytes startsWith isMark spelling numberSpelling slots letterOther letterAmong ruledOut otherwise line-ends
 returns-2 c = group (c .before .before .before .before .before .args .bytes .now) (c .before .before .before .if1 .left) (c .before .before .byte-at .ensures) 105 (c .before .match .keys1) (added-kept (c .before .before .before .before .before .args .bytes .now) (c .before .before .before .if1 .left) (c .before .before .byte-at .ensures) 105 (c .before .match .keys1) (c .read-added .ensures))
@@ -81,14 +57,14 @@ read-command-spec =
     tie.close
     (tie.spec
     returns
-    byte-at-requires
-    read-added-requires
-    read-added-requires-2
-    read-lent-requires
-    read-do-requires
-    read-ask-requires
-    read-roll-requires
-    read-row-requires
+    (λ c κs. search needs)
+    (λ c κs. search needs)
+    (λ c κs. search needs)
+    (λ c κs. search needs)
+    (λ c κs. search needs)
+    (λ c κs. search needs)
+    (λ c κs. search needs)
+    (λ c κs. search needs)
     returns-2
     returns-3
     returns-4

@@ -16,69 +16,6 @@ use Rattle.log_commands.proofs.Arms.{arm, part, no-form}
 use Rattle.log_commands.proofs.read_do.Statement.{statement}
 use Rattle.log_commands.proofs.read_do.Tie as tie
 
-byte-at-requires : tie.Need-byte-at-requires
-byte-at-requires c κs = search needs
-
-slice-aggregate-read-words : tie.Need-slice-aggregate-read-words
-slice-aggregate-read-words c = search needs
-
-read-words-requires : tie.Need-read-words-requires
-read-words-requires c κs = search needs
-
-unless-refused-requires : tie.Need-unless-refused-requires
-unless-refused-requires c κs = search needs
-
-slice-aggregate-read-words-2 : tie.Need-slice-aggregate-read-words-2
-slice-aggregate-read-words-2 c = search needs
-
-read-words-requires-2 : tie.Need-read-words-requires-2
-read-words-requires-2 c κs = search needs
-
-unless-refused-requires-2 : tie.Need-unless-refused-requires-2
-unless-refused-requires-2 c κs = search needs
-
-read-show-or-suggest-requires : tie.Need-read-show-or-suggest-requires
-read-show-or-suggest-requires c κs = search needs
-
-read-turn-or-test-requires : tie.Need-read-turn-or-test-requires
-read-turn-or-test-requires c κs = search needs
-
-slice-aggregate-read-words-3 : tie.Need-slice-aggregate-read-words-3
-slice-aggregate-read-words-3 c = search needs
-
-read-words-requires-3 : tie.Need-read-words-requires-3
-read-words-requires-3 c κs = search needs
-
-unless-refused-requires-3 : tie.Need-unless-refused-requires-3
-unless-refused-requires-3 c κs = search needs
-
-slice-aggregate-read-words-4 : tie.Need-slice-aggregate-read-words-4
-slice-aggregate-read-words-4 c = search needs
-
-read-words-requires-4 : tie.Need-read-words-requires-4
-read-words-requires-4 c κs = search needs
-
-unless-refused-requires-4 : tie.Need-unless-refused-requires-4
-unless-refused-requires-4 c κs = search needs
-
-slice-aggregate-read-words-5 : tie.Need-slice-aggregate-read-words-5
-slice-aggregate-read-words-5 c = search needs
-
-read-words-requires-5 : tie.Need-read-words-requires-5
-read-words-requires-5 c κs = search needs
-
-unless-refused-requires-5 : tie.Need-unless-refused-requires-5
-unless-refused-requires-5 c κs = search needs
-
-slice-aggregate-read-words-6 : tie.Need-slice-aggregate-read-words-6
-slice-aggregate-read-words-6 c = search needs
-
-read-words-requires-6 : tie.Need-read-words-requires-6
-read-words-requires-6 c κs = search needs
-
-unless-refused-requires-6 : tie.Need-unless-refused-requires-6
-unless-refused-requires-6 c κs = search needs
-
 returns : tie.Need-returns
 unfolding commandForms grammar shapes setShapes ruleShapes setForm editForm ruleForm readStarting starting parse filter mem bytes startsWith isMark spelling numberSpelling slots letterOther letterAmong ruledOut otherwise line-ends
 returns c = arm "do=" (c .before .before .before .before .before .before .args .bytes .now) (c .before .before .before .before .byte-at .ensures) 109 (c .before .before .before .match .keys1) refl (c .before .read-words .ensures) (c .unless-refused .ensures)
@@ -119,27 +56,27 @@ pub read-do-spec : {M : Type 1} → statement M
 read-do-spec =
     tie.close
     (tie.spec
-    byte-at-requires
-    slice-aggregate-read-words
-    read-words-requires
-    unless-refused-requires
-    slice-aggregate-read-words-2
-    read-words-requires-2
-    unless-refused-requires-2
-    read-show-or-suggest-requires
-    read-turn-or-test-requires
-    slice-aggregate-read-words-3
-    read-words-requires-3
-    unless-refused-requires-3
-    slice-aggregate-read-words-4
-    read-words-requires-4
-    unless-refused-requires-4
-    slice-aggregate-read-words-5
-    read-words-requires-5
-    unless-refused-requires-5
-    slice-aggregate-read-words-6
-    read-words-requires-6
-    unless-refused-requires-6
+    (λ c κs. search needs)
+    (λ c. search needs)
+    (λ c κs. search needs)
+    (λ c κs. search needs)
+    (λ c. search needs)
+    (λ c κs. search needs)
+    (λ c κs. search needs)
+    (λ c κs. search needs)
+    (λ c κs. search needs)
+    (λ c. search needs)
+    (λ c κs. search needs)
+    (λ c κs. search needs)
+    (λ c. search needs)
+    (λ c κs. search needs)
+    (λ c κs. search needs)
+    (λ c. search needs)
+    (λ c κs. search needs)
+    (λ c κs. search needs)
+    (λ c. search needs)
+    (λ c κs. search needs)
+    (λ c κs. search needs)
     returns
     returns-2
     returns-3

@@ -7,17 +7,11 @@ use Rattle.log_commands.proofs.Exchanged.{no-lent-number, lent-inside, 
 use Rattle.log_commands.proofs.read_lent_line.Statement.{statement}
 use Rattle.log_commands.proofs.read_lent_line.Tie as tie
 
-lent-number-requires : tie.Need-lent-number-requires
-lent-number-requires c κs = search needs
-
 returns : tie.Need-returns
 returns c = no-lent-number (c .before .before .before .before .args .bytes .now) (c .before .before .lent-number .ensures) (c .if1 .taken)
 
 add-at : tie.Need-add-at
 add-at c = omega (arith, c .before .before .before .before .before .pre, lent-inside (c .before .before .before .before .before .args .bytes .now) (c .before .before .before .lent-number .ensures) (c .before .if1 .left))
-
-byte-at-requires : tie.Need-byte-at-requires
-byte-at-requires c κs = search needs
 
 returns-2 : tie.Need-returns-2
 returns-2 c = no-space (c .before .before .before .before .before .before .before .args .bytes .now) (c .before .before .before .before .before .lent-number .ensures) (c .before .before .before .if1 .left) (c .before .byte-at .ensures) (c .if2 .taken)
@@ -31,15 +25,6 @@ sub-read-line c = omega (arith, c .before .before .before .before .before .befor
 part-read-line-start : tie.Need-part-read-line-start
 part-read-line-start c = omega (arith, c .before .before .before .before .before .before .before .pre, space-inside (c .before .before .before .before .before .before .before .args .bytes .now) (c .before .before .before .before .before .lent-number .ensures) (c .before .before .before .if1 .left) (c .before .byte-at .ensures) (c .if2 .left))
 
-part-read-line-end : tie.Need-part-read-line-end
-part-read-line-end c = search needs
-
-read-line-requires : tie.Need-read-line-requires
-read-line-requires c κs = search needs
-
-lend-line-requires : tie.Need-lend-line-requires
-lend-line-requires c κs = search needs
-
 returns-3 : tie.Need-returns-3
 returns-3 c = line-lent (c .before .before .before .before .before .before .before .before .before .before .args .bytes .now) (c .before .before .before .before .before .before .before .before .lent-number .ensures) (c .before .before .before .before .before .before .if1 .left) (c .before .before .before .before .byte-at .ensures) (c .before .before .before .if2 .left) (c .before .before .before .before .before .before .before .before .before .before .pre) (c .lend-line .ensures ∙ ap (lineLends (c .before .before .before .before .before .before .before .before .lent-number .result .value)) (c .before .read-line .ensures))
 
@@ -47,15 +32,15 @@ pub read-lent-line-spec : {M : Type 1} → statement M
 read-lent-line-spec =
     tie.close
     (tie.spec
-    lent-number-requires
+    (λ c κs. search needs)
     returns
     add-at
-    byte-at-requires
+    (λ c κs. search needs)
     returns-2
     add-start
     sub-read-line
     part-read-line-start
-    part-read-line-end
-    read-line-requires
-    lend-line-requires
+    (λ c. search needs)
+    (λ c κs. search needs)
+    (λ c κs. search needs)
     returns-3)

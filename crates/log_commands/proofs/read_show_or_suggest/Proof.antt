@@ -16,27 +16,6 @@ use Rattle.log_commands.proofs.Arms.{arm, no-form}
 use Rattle.log_commands.proofs.read_show_or_suggest.Statement.{statement}
 use Rattle.log_commands.proofs.read_show_or_suggest.Tie as tie
 
-byte-at-requires : tie.Need-byte-at-requires
-byte-at-requires c κs = search needs
-
-slice-aggregate-read-words : tie.Need-slice-aggregate-read-words
-slice-aggregate-read-words c = search needs
-
-read-words-requires : tie.Need-read-words-requires
-read-words-requires c κs = search needs
-
-unless-refused-requires : tie.Need-unless-refused-requires
-unless-refused-requires c κs = search needs
-
-slice-aggregate-read-words-2 : tie.Need-slice-aggregate-read-words-2
-slice-aggregate-read-words-2 c = search needs
-
-read-words-requires-2 : tie.Need-read-words-requires-2
-read-words-requires-2 c κs = search needs
-
-unless-refused-requires-2 : tie.Need-unless-refused-requires-2
-unless-refused-requires-2 c κs = search needs
-
 returns : tie.Need-returns
 unfolding commandForms grammar shapes setShapes ruleShapes setForm editForm ruleForm readStarting starting parse filter mem bytes startsWith isMark spelling numberSpelling slots letterOther letterAmong ruledOut otherwise line-ends
 returns c = arm "do=s" (c .before .before .before .before .before .before .args .bytes .now) (c .before .before .before .before .byte-at .ensures) 104 (c .before .before .before .match .keys1) refl (c .before .read-words .ensures) (c .unless-refused .ensures)
@@ -53,13 +32,13 @@ pub read-show-or-suggest-spec : {M : Type 1} → statement M
 read-show-or-suggest-spec =
     tie.close
     (tie.spec
-    byte-at-requires
-    slice-aggregate-read-words
-    read-words-requires
-    unless-refused-requires
-    slice-aggregate-read-words-2
-    read-words-requires-2
-    unless-refused-requires-2
+    (λ c κs. search needs)
+    (λ c. search needs)
+    (λ c κs. search needs)
+    (λ c κs. search needs)
+    (λ c. search needs)
+    (λ c κs. search needs)
+    (λ c κs. search needs)
     returns
     returns-2
     returns-3)

@@ -16,33 +16,6 @@ use Rattle.log_commands.proofs.Arms.{arm, last, command-made}
 use Rattle.log_commands.proofs.read_turn.Statement.{statement}
 use Rattle.log_commands.proofs.read_turn.Tie as tie
 
-byte-at-requires : tie.Need-byte-at-requires
-byte-at-requires c κs = search needs
-
-slice-aggregate-read-words : tie.Need-slice-aggregate-read-words
-slice-aggregate-read-words c = search needs
-
-read-words-requires : tie.Need-read-words-requires
-read-words-requires c κs = search needs
-
-turn-back-requires : tie.Need-turn-back-requires
-turn-back-requires c κs = search needs
-
-unless-refused-requires : tie.Need-unless-refused-requires
-unless-refused-requires c κs = search needs
-
-slice-aggregate-read-words-2 : tie.Need-slice-aggregate-read-words-2
-slice-aggregate-read-words-2 c = search needs
-
-read-words-requires-2 : tie.Need-read-words-requires-2
-read-words-requires-2 c κs = search needs
-
-turn-forward-requires : tie.Need-turn-forward-requires
-turn-forward-requires c κs = search needs
-
-unless-refused-requires-2 : tie.Need-unless-refused-requires-2
-unless-refused-requires-2 c κs = search needs
-
 returns : tie.Need-returns
 unfolding commandForms grammar shapes setShapes ruleShapes setForm editForm ruleForm readStarting starting parse filter mem bytes startsWith isMark spelling numberSpelling slots letterOther letterAmong ruledOut otherwise line-ends
 returns c = arm "do=turn pages=" (c .before .before .before .before .before .before .before .args .bytes .now) (c .before .before .before .before .before .byte-at .ensures) 45 (c .before .before .before .before .match .keys1) refl (c .before .before .read-words .ensures) (command-made (c .before .before .read-words .result .number) (c .unless-refused .ensures) (c .before .turn-back .ensures))
@@ -55,14 +28,14 @@ pub read-turn-spec : {M : Type 1} → statement M
 read-turn-spec =
     tie.close
     (tie.spec
-    byte-at-requires
-    slice-aggregate-read-words
-    read-words-requires
-    turn-back-requires
-    unless-refused-requires
-    slice-aggregate-read-words-2
-    read-words-requires-2
-    turn-forward-requires
-    unless-refused-requires-2
+    (λ c κs. search needs)
+    (λ c. search needs)
+    (λ c κs. search needs)
+    (λ c κs. search needs)
+    (λ c κs. search needs)
+    (λ c. search needs)
+    (λ c κs. search needs)
+    (λ c κs. search needs)
+    (λ c κs. search needs)
     returns
     returns-2)

@@ -16,21 +16,6 @@ use Rattle.log_commands.proofs.Arms.{arm, part, no-form}
 use Rattle.log_commands.proofs.read_turn_or_test.Statement.{statement}
 use Rattle.log_commands.proofs.read_turn_or_test.Tie as tie
 
-byte-at-requires : tie.Need-byte-at-requires
-byte-at-requires c κs = search needs
-
-read-turn-requires : tie.Need-read-turn-requires
-read-turn-requires c κs = search needs
-
-slice-aggregate-read-words : tie.Need-slice-aggregate-read-words
-slice-aggregate-read-words c = search needs
-
-read-words-requires : tie.Need-read-words-requires
-read-words-requires c κs = search needs
-
-unless-refused-requires : tie.Need-unless-refused-requires
-unless-refused-requires c κs = search needs
-
 returns : tie.Need-returns
 unfolding commandForms grammar shapes setShapes ruleShapes setForm editForm ruleForm readStarting starting parse filter mem bytes startsWith isMark spelling numberSpelling slots letterOther letterAmong ruledOut otherwise line-ends
 returns c = part "do=t" (c .before .before .before .before .args .bytes .now) (c .before .before .byte-at .ensures) 117 (c .before .match .keys1) (c .read-turn .ensures)
@@ -47,11 +32,11 @@ pub read-turn-or-test-spec : {M : Type 1} → statement M
 read-turn-or-test-spec =
     tie.close
     (tie.spec
-    byte-at-requires
-    read-turn-requires
-    slice-aggregate-read-words
-    read-words-requires
-    unless-refused-requires
+    (λ c κs. search needs)
+    (λ c κs. search needs)
+    (λ c. search needs)
+    (λ c κs. search needs)
+    (λ c κs. search needs)
     returns
     returns-2
     returns-3)

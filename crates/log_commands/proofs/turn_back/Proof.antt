@@ -7,9 +7,6 @@ use Rattle.log_commands.proofs.turn_back.Tie as tie
 returns : tie.Need-returns
 returns c = back-far (c .before .args .pages) (c .if1 .taken)
 
-cast-t3 : tie.Need-cast-t3
-cast-t3 c = search needs
-
 sub-t4 : tie.Need-sub-t4
 sub-t4 c = back-wide (c .before .args .pages) (c .if1 .left)
 
@@ -20,4 +17,4 @@ returns-2 : tie.Need-returns-2
 returns-2 c = back-near (c .before .args .pages) (c .if1 .left)
 
 pub turn-back-spec : {M : Type 1} → statement M
-turn-back-spec = tie.close (tie.spec returns cast-t3 sub-t4 cast-t5 returns-2)
+turn-back-spec = tie.close (tie.spec returns (λ c. search needs) sub-t4 cast-t5 returns-2)

@@ -7,11 +7,8 @@ use Rattle.log_commands.proofs.turn_forward.Tie as tie
 returns : tie.Need-returns
 returns c = forward-far (c .before .args .pages) (c .if1 .taken)
 
-cast-t3 : tie.Need-cast-t3
-cast-t3 c = search needs
-
 returns-2 : tie.Need-returns-2
 returns-2 c = forward-near (c .before .args .pages) (c .if1 .left)
 
 pub turn-forward-spec : {M : Type 1} → statement M
-turn-forward-spec = tie.close (tie.spec returns cast-t3 returns-2)
+turn-forward-spec = tie.close (tie.spec returns (λ c. search needs) returns-2)

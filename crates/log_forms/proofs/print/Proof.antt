@@ -8,38 +8,17 @@ use Rattle.log_forms.proofs.Printing.{printed-past, printed-none, print
 use Rattle.log_forms.proofs.print.Statement.{statement}
 use Rattle.log_forms.proofs.print.Tie as tie
 
-add-result : tie.Need-add-result
-add-result c = search needs
-
 returns : tie.Need-returns
 returns c = let s = c .before .before .before .before .args in printed-past (fill (s .form .now) (s .numbers .now)) (s .out .now) (s .at) (c .if1 .taken)
 
-form-fits-requires : tie.Need-form-fits-requires
-form-fits-requires c κs = search needs
-
-add-result-2 : tie.Need-add-result-2
-add-result-2 c = search needs
-
 returns-2 : tie.Need-returns-2
 returns-2 c = let s = c .before .before .before .before .before .before .args in printed-none (fill (s .form .now) (s .numbers .now)) (s .out .now) (s .at) (c .before .before .if1 .left) (sym (c .before .form-fits .ensures) ∙ not-true _ (c .if2 .taken))
-
-sub-write-form : tie.Need-sub-write-form
-sub-write-form c = search needs
-
-part-write-form-start : tie.Need-part-write-form-start
-part-write-form-start c = search needs
-
-part-write-form-end : tie.Need-part-write-form-end
-part-write-form-end c = search needs
 
 write-form-requires : tie.Need-write-form-requires
 write-form-requires c κs = let s = c .before .before .before .before .before .before .before .args in printed-room (fill (s .form .now) (s .numbers .now)) (s .out .now) (s .at) (c .before .before .before .if1 .left) (sym (c .before .before .form-fits .ensures) ∙ not-false _ (c .before .if2 .left))
 
 add-result-3 : tie.Need-add-result-3
 add-result-3 c = let s = c .before .before .before .before .before .before .before .before .before .before .args in omega (arith, printed-at (fill (s .form .now) (s .numbers .now)) (s .out .now) (s .at) (c .before .before .before .before .before .before .if1 .left) (sym (c .before .before .before .before .before .form-fits .ensures) ∙ not-false _ (c .before .before .before .before .if2 .left)) (c .before .before .write-form .ensures))
-
-same-length : tie.Need-same-length
-same-length c = search needs
 
 returns-3 : tie.Need-returns-3
 returns-3 c = let s = c .before .before .before .before .before .before .before .before .before .before .args in printed-there (fill (s .form .now) (s .numbers .now)) (s .out .now) (s .at) (c .before .before .before .before .before .before .if1 .left) (sym (c .before .before .before .before .before .form-fits .ensures) ∙ not-false _ (c .before .before .before .before .if2 .left)) (c .before .before .write-form .ensures)
@@ -48,15 +27,15 @@ pub print-spec : {M : Type 1} → statement M
 print-spec =
     tie.close
     (tie.spec
-    add-result
+    (λ c. search needs)
     returns
-    form-fits-requires
-    add-result-2
+    (λ c κs. search needs)
+    (λ c. search needs)
     returns-2
-    sub-write-form
-    part-write-form-start
-    part-write-form-end
+    (λ c. search needs)
+    (λ c. search needs)
+    (λ c. search needs)
     write-form-requires
     add-result-3
-    same-length
+    (λ c. search needs)
     returns-3)

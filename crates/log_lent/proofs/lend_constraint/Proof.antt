@@ -4,14 +4,8 @@ use Rattle.log_lent.proofs.Settings.{constraint-lent}
 use Rattle.log_lent.proofs.lend_constraint.Statement.{statement}
 use Rattle.log_lent.proofs.lend_constraint.Tie as tie
 
-add-constraint-requires : tie.Need-add-constraint-requires
-add-constraint-requires c κs = search needs
-
-same-length : tie.Need-same-length
-same-length c = search needs
-
 returns : tie.Need-returns
 returns c = λ L edits K. constraint-lent K _ _ (c .before .before .add-constraint .ensures _ (K .constraints))
 
 pub lend-constraint-spec : {M : Type 1} → statement M
-lend-constraint-spec = tie.close (tie.spec add-constraint-requires same-length returns)
+lend-constraint-spec = tie.close (tie.spec (λ c κs. search needs) (λ c. search needs) returns)

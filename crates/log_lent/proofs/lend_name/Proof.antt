@@ -7,17 +7,8 @@ use Rattle.log_lent.proofs.lend_name.Tie as tie
 returns : tie.Need-returns
 returns c = λ L edits constraints K. row-full K _ (c .if1 .taken)
 
-mul-lent : tie.Need-mul-lent
-mul-lent c = search needs
-
-element-write-lent : tie.Need-element-write-lent
-element-write-lent c = search needs
-
-add-lent : tie.Need-add-lent
-add-lent c = search needs
-
 returns-2 : tie.Need-returns-2
 returns-2 c = λ L edits constraints K. name-lent K _ (c .if1 .left)
 
 pub lend-name-spec : {M : Type 1} → statement M
-lend-name-spec = tie.close (tie.spec returns mul-lent element-write-lent add-lent returns-2)
+lend-name-spec = tie.close (tie.spec returns (λ c. search needs) (λ c. search needs) (λ c. search needs) returns-2)

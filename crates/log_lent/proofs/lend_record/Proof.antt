@@ -17,24 +17,6 @@ returns-2 c = λ L R K q a b. edits-many K 0 R _ q a (c .if2 .taken)
 returns-3 : tie.Need-returns-3
 returns-3 c = λ L R K q a b. constraints-many K 0 R _ q b (c .if3 .taken)
 
-without-rows-requires : tie.Need-without-rows-requires
-without-rows-requires c κs = search needs
-
-without-rows-requires-2 : tie.Need-without-rows-requires-2
-without-rows-requires-2 c κs = search needs
-
-add-edits-requires : tie.Need-add-edits-requires
-add-edits-requires c κs = search needs
-
-add-constraints-requires : tie.Need-add-constraints-requires
-add-constraints-requires c κs = search needs
-
-same-length : tie.Need-same-length
-same-length c = search needs
-
-same-length-2 : tie.Need-same-length-2
-same-length-2 c = search needs
-
 returns-4 : tie.Need-returns-4
 returns-4 c =
     let w = c .before .before .before .before .before .before in
@@ -51,10 +33,10 @@ lend-record-spec =
     returns
     returns-2
     returns-3
-    without-rows-requires
-    without-rows-requires-2
-    add-edits-requires
-    add-constraints-requires
-    same-length
-    same-length-2
+    (λ c κs. search needs)
+    (λ c κs. search needs)
+    (λ c κs. search needs)
+    (λ c κs. search needs)
+    (λ c. search needs)
+    (λ c. search needs)
     returns-4)

@@ -13,21 +13,6 @@ returns-2 c = λ L edits constraints K. seat-weight K _ _ (c .if2 .taken)
 returns-3 : tie.Need-returns-3
 returns-3 c = λ L edits constraints K. seat-past K _ _ (c .before .before .if1 .left) (c .before .if2 .left) (c .if3 .taken)
 
-cast-t8 : tie.Need-cast-t8
-cast-t8 c = search needs
-
-cast-t9 : tie.Need-cast-t9
-cast-t9 c = search needs
-
-mul-seat : tie.Need-mul-seat
-mul-seat c = search needs
-
-element-set-from-seat : tie.Need-element-set-from-seat
-element-set-from-seat c = search needs
-
-add-lent : tie.Need-add-lent
-add-lent c = search needs
-
 returns-4 : tie.Need-returns-4
 returns-4 c = λ L edits constraints K. seat-lent K _ _ (c .before .before .if1 .left) (c .before .if2 .left) (c .if3 .left)
 
@@ -38,9 +23,9 @@ lend-seat-spec =
     returns
     returns-2
     returns-3
-    cast-t8
-    cast-t9
-    mul-seat
-    element-set-from-seat
-    add-lent
+    (λ c. search needs)
+    (λ c. search needs)
+    (λ c. search needs)
+    (λ c. search needs)
+    (λ c. search needs)
     returns-4)

@@ -8,23 +8,8 @@ use Rattle.log_lent.proofs.next_place.Tie as tie
 returns : tie.Need-returns
 returns c = λ tables kept row T s. no-record T s _ row (c .if1 .taken)
 
-mul-n : tie.Need-mul-n
-mul-n c = search needs
-
-array-read-n : tie.Need-array-read-n
-array-read-n c = search needs
-
 returns-2 : tie.Need-returns-2
 returns-2 c = λ tables kept row T s. no-lent-place T s _ row (c .before .if1 .left) (c .if2 .taken)
-
-add-more : tie.Need-add-more
-add-more c = search needs
-
-mul-more : tie.Need-mul-more
-mul-more c = search needs
-
-array-write-more : tie.Need-array-write-more
-array-write-more c = search needs
 
 mul-t13 : tie.Need-mul-t13
 mul-t13 c = let s = c .before .before .args in let p = table-start (s .places) (s .k) (c .before .if1 .left) in omega arith
@@ -40,12 +25,12 @@ next-place-spec =
     tie.close
     (tie.spec
     returns
-    mul-n
-    array-read-n
+    (λ c. search needs)
+    (λ c. search needs)
     returns-2
-    add-more
-    mul-more
-    array-write-more
+    (λ c. search needs)
+    (λ c. search needs)
+    (λ c. search needs)
     mul-t13
     add-t10
     returns-3)

@@ -8,12 +8,6 @@ use Rattle.log_lent.proofs.part_of.Tie as tie
 returns : tie.Need-returns
 returns c = no-part _ _ _ _ (c .if1 .taken)
 
-mul-n : tie.Need-mul-n
-mul-n c = search needs
-
-array-read-n : tie.Need-array-read-n
-array-read-n c = search needs
-
 returns-2 : tie.Need-returns-2
 returns-2 c = part-too-long _ _ _ _ (c .if2 .taken)
 
@@ -32,4 +26,4 @@ returns-4 c = part-whole _ _ _ _ (c .if3 .left)
 pub part-of-spec : {M : Type 1} → statement M
 part-of-spec =
     tie.close
-    (tie.spec returns mul-n array-read-n returns-2 mul-start add-stop returns-3 returns-4)
+    (tie.spec returns (λ c. search needs) (λ c. search needs) returns-2 mul-start add-stop returns-3 returns-4)

@@ -4,12 +4,6 @@ use Rattle.log_lent.proofs.Rows.{no-rows, no-table}
 use Rattle.log_lent.proofs.without_rows.Statement.{statement}
 use Rattle.log_lent.proofs.without_rows.Tie as tie
 
-mul-fewer : tie.Need-mul-fewer
-mul-fewer c = search needs
-
-array-write-fewer : tie.Need-array-write-fewer
-array-write-fewer c = search needs
-
 returns : tie.Need-returns
 returns c = λ places tables kept T. no-rows T _ (c .if1 .taken)
 
@@ -17,4 +11,4 @@ returns-2 : tie.Need-returns-2
 returns-2 c = λ places tables kept T. no-table T _ (c .if1 .left)
 
 pub without-rows-spec : {M : Type 1} → statement M
-without-rows-spec = tie.close (tie.spec mul-fewer array-write-fewer returns returns-2)
+without-rows-spec = tie.close (tie.spec (λ c. search needs) (λ c. search needs) returns returns-2)

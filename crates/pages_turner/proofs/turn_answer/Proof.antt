@@ -3,12 +3,6 @@ use borrow.Author.Needs.{needs}
 use Rattle.pages_turner.proofs.turn_answer.Statement.{statement}
 use Rattle.pages_turner.proofs.turn_answer.Tie as tie
 
-enum-known-turned : tie.Need-enum-known-turned
-enum-known-turned c = search needs
-
-enum-told : tie.Need-enum-told
-enum-told c = search needs
-
 returns : tie.Need-returns
 returns c = rw (c .before .turned .given .1)
 
@@ -16,4 +10,4 @@ returns-2 : tie.Need-returns-2
 returns-2 c = rw (c .enum-told .given .1)
 
 pub turn-answer-spec : {M : Type 1} → statement M
-turn-answer-spec = tie.close (tie.spec enum-known-turned enum-told returns returns-2)
+turn-answer-spec = tie.close (tie.spec (λ c. search needs) (λ c. search needs) returns returns-2)

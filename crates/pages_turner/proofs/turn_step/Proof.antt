@@ -7,9 +7,6 @@ use Rattle.pages_turner.proofs.turn_step.Tie as tie
 returns : tie.Need-returns
 returns c = let s = c .before in opened-past (s .args .opened) (s .args .last) (s .args .by) (c .if1 .taken)
 
-cast-sum : tie.Need-cast-sum
-cast-sum c = search needs
-
 cast-sum-2 : tie.Need-cast-sum-2
 cast-sum-2 c = let s = c .before in by-wide (s .args .by) (s .fits .by)
 
@@ -39,4 +36,4 @@ returns-4 c =
 pub turn-step-spec : {M : Type 1} → statement M
 turn-step-spec =
     tie.close
-    (tie.spec returns cast-sum cast-sum-2 add-sum returns-2 cast-page returns-3 returns-4)
+    (tie.spec returns (λ c. search needs) cast-sum-2 add-sum returns-2 cast-page returns-3 returns-4)

@@ -6,23 +6,8 @@ use borrow.Author.Needs.{needs}
 use Rattle.record_joining.proofs.add_constraint.Statement.{statement}
 use Rattle.record_joining.proofs.add_constraint.Tie as tie
 
-constraint-add-fault-requires : tie.Need-constraint-add-fault-requires
-constraint-add-fault-requires c κs = search needs
-
 returns : tie.Need-returns
 returns c = λ R e k. let s = c .before .before .args in join-refused-is (addConstraintFault R (s .row)) R (unite R (decoded [] (s .row ∷ []))) (c .before .constraint-add-fault .ensures R e k) (c .if1 .taken) e
-
-table-of-requires : tie.Need-table-of-requires
-table-of-requires c κs = search needs
-
-constraint-of-requires : tie.Need-constraint-of-requires
-constraint-of-requires c κs = search needs
-
-insert-requires : tie.Need-insert-requires
-insert-requires c κs = search needs
-
-with-table-requires : tie.Need-with-table-requires
-with-table-requires c κs = search needs
 
 returns-2 : tie.Need-returns-2
 returns-2 c = λ R e k.
@@ -35,10 +20,10 @@ pub add-constraint-spec : {M : Type 1} → statement M
 add-constraint-spec =
     tie.close
     (tie.spec
-    constraint-add-fault-requires
+    (λ c κs. search needs)
     returns
-    table-of-requires
-    constraint-of-requires
-    insert-requires
-    with-table-requires
+    (λ c κs. search needs)
+    (λ c κs. search needs)
+    (λ c κs. search needs)
+    (λ c κs. search needs)
     returns-2)

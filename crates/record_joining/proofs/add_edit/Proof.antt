@@ -8,17 +8,8 @@ use borrow.Author.Needs.{needs}
 use Rattle.record_joining.proofs.add_edit.Statement.{statement}
 use Rattle.record_joining.proofs.add_edit.Tie as tie
 
-edit-add-fault-requires : tie.Need-edit-add-fault-requires
-edit-add-fault-requires c κs = search needs
-
 returns : tie.Need-returns
 returns c = λ R e k. let s = c .before .before .args in join-refused-is (addEditFault R (s .row)) R (unite R (decoded (s .row ∷ []) [])) (c .before .edit-add-fault .ensures R e k) (c .if1 .taken) e
-
-edit-alone-requires : tie.Need-edit-alone-requires
-edit-alone-requires c κs = search needs
-
-union-requires : tie.Need-union-requires
-union-requires c κs = search needs
 
 returns-2 : tie.Need-returns-2
 returns-2 c = λ R e k.
@@ -28,4 +19,4 @@ returns-2 c = λ R e k.
 pub add-edit-spec : {M : Type 1} → statement M
 add-edit-spec =
     tie.close
-    (tie.spec edit-add-fault-requires returns edit-alone-requires union-requires returns-2)
+    (tie.spec (λ c κs. search needs) returns (λ c κs. search needs) (λ c κs. search needs) returns-2)

@@ -7,12 +7,6 @@ use borrow.Author.Needs.{needs}
 use Rattle.record_joining.proofs.lent.Statement.{statement}
 use Rattle.record_joining.proofs.lent.Tie as tie
 
-lent-fault-requires : tie.Need-lent-fault-requires
-lent-fault-requires c κs = search needs
-
-empty-requires : tie.Need-empty-requires
-empty-requires c κs = search needs
-
 returns : tie.Need-returns
 returns c =
     let s = c .before .before .before .args in
@@ -20,12 +14,9 @@ returns c =
     let cs = s .constraints .now in
     join-refused-is (lentFault emptyTables es cs) emptyTables (decoded es cs) (c .before .before .lent-fault .ensures) (c .before .if1 .taken) (c .empty .ensures ∙ empty-stored)
 
-decode-requires : tie.Need-decode-requires
-decode-requires c κs = search needs
-
 returns-2 : tie.Need-returns-2
 returns-2 c = let s = c .before .before .before .args in lent-is (s .edits .now) (s .constraints .now) (c .before .before .lent-fault .ensures) (c .before .if1 .left) (c .decode .ensures)
 
 pub lent-spec : {M : Type 1} → statement M
 lent-spec =
-    tie.close (tie.spec lent-fault-requires empty-requires returns decode-requires returns-2)
+    tie.close (tie.spec (λ c κs. search needs) (λ c κs. search needs) returns (λ c κs. search needs) returns-2)

@@ -6,21 +6,12 @@ use borrow.Author.Needs.{needs}
 use Rattle.record_joining.proofs.merge.Statement.{statement}
 use Rattle.record_joining.proofs.merge.Tie as tie
 
-fault-requires : tie.Need-fault-requires
-fault-requires c κs = search needs
-
 returns : tie.Need-returns
 returns c = λ R e k.
     let s = c .before .before .args in
     let es = s .edits .now in
     let cs = s .constraints .now in
     join-refused-is (lentFault R es cs) R (unite R (decoded es cs)) (c .before .fault .ensures R e k) (c .if1 .taken) e
-
-decode-requires : tie.Need-decode-requires
-decode-requires c κs = search needs
-
-union-requires : tie.Need-union-requires
-union-requires c κs = search needs
 
 returns-2 : tie.Need-returns-2
 returns-2 c = λ R e k.
@@ -30,4 +21,4 @@ returns-2 c = λ R e k.
     union-is R (namesOf es) false es cs k (c .before .before .before .fault .ensures R e k) (c .before .before .if1 .left) e (c .before .decode .ensures) (c .union .ensures)
 
 pub merge-spec : {M : Type 1} → statement M
-merge-spec = tie.close (tie.spec fault-requires returns decode-requires union-requires returns-2)
+merge-spec = tie.close (tie.spec (λ c κs. search needs) returns (λ c κs. search needs) (λ c κs. search needs) returns-2)

@@ -21,33 +21,6 @@ returns-2 c = λ R S e k f.
     let w : length (s .args .joining .constraints) ≡ 512 = search (needs, length-mapped) in
     absurd (omega (arith, constraints-within (s .args .joining) S f w))
 
-edit-rows-requires : tie.Need-edit-rows-requires
-edit-rows-requires c κs = search needs
-
-constraint-rows-requires : tie.Need-constraint-rows-requires
-constraint-rows-requires c κs = search needs
-
-sub-merge : tie.Need-sub-merge
-sub-merge c = search needs
-
-part-merge-start : tie.Need-part-merge-start
-part-merge-start c = search needs
-
-part-merge-end : tie.Need-part-merge-end
-part-merge-end c = search needs
-
-sub-merge-2 : tie.Need-sub-merge-2
-sub-merge-2 c = search needs
-
-part-merge-start-2 : tie.Need-part-merge-start-2
-part-merge-start-2 c = search needs
-
-part-merge-end-2 : tie.Need-part-merge-end-2
-part-merge-end-2 c = search needs
-
-merge-requires : tie.Need-merge-requires
-merge-requires c κs = search needs
-
 returns-3 : tie.Need-returns-3
 returns-3 c = λ R S e k f.
     let s = c .before .before .before .before .before .before .before .before .before .before .before .args in
@@ -61,13 +34,13 @@ merge-record-spec =
     (tie.spec
     returns
     returns-2
-    edit-rows-requires
-    constraint-rows-requires
-    sub-merge
-    part-merge-start
-    part-merge-end
-    sub-merge-2
-    part-merge-start-2
-    part-merge-end-2
-    merge-requires
+    (λ c κs. search needs)
+    (λ c κs. search needs)
+    (λ c. search needs)
+    (λ c. search needs)
+    (λ c. search needs)
+    (λ c. search needs)
+    (λ c. search needs)
+    (λ c. search needs)
+    (λ c κs. search needs)
     returns-3)

@@ -8,18 +8,6 @@ use Rattle.record_refusal.proofs.constraint_add_fault.Tie as tie
 returns : tie.Need-returns
 returns c = λ R e k. absurd (let o = stored-ordered (c .before .args .joined) R e k in omega (arith, o .editplaces))
 
-mark-edits-requires : tie.Need-mark-edits-requires
-mark-edits-requires c κs = search needs
-
-slice-aggregate-constraint-fault : tie.Need-slice-aggregate-constraint-fault
-slice-aggregate-constraint-fault c = search needs
-
-slice-aggregate-constraint-fault-2 : tie.Need-slice-aggregate-constraint-fault-2
-slice-aggregate-constraint-fault-2 c = search needs
-
-constraint-fault-requires : tie.Need-constraint-fault-requires
-constraint-fault-requires c κs = search needs
-
 returns-2 : tie.Need-returns-2
 returns-2 c = λ R e k.
     let s = c .before .before .before .before .before .before .args in
@@ -31,8 +19,8 @@ constraint-add-fault-spec =
     tie.close
     (tie.spec
     returns
-    mark-edits-requires
-    slice-aggregate-constraint-fault
-    slice-aggregate-constraint-fault-2
-    constraint-fault-requires
+    (λ c κs. search needs)
+    (λ c. search needs)
+    (λ c. search needs)
+    (λ c κs. search needs)
     returns-2)

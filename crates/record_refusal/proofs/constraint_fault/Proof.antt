@@ -28,15 +28,6 @@ loop-holds c =
     let z : length (s .r .constraints) ≡ 512 = search (needs, length-mapped) in
     (search needs, search needs, search needs, search needs, z, λ names k. state-start (constraintElements names (s .adding)) (s .r .constraints) (s .r .constraintcount) (s .t .now) (omega arith))
 
-mul-row : tie.Need-mul-row Inv-loop μ-loop
-mul-row c = search needs
-
-shared-slice-copy-out-row : tie.Need-shared-slice-copy-out-row Inv-loop μ-loop
-shared-slice-copy-out-row c = search needs
-
-constraint-in-range-requires : tie.Need-constraint-in-range-requires Inv-loop μ-loop
-constraint-in-range-requires c κs = search needs
-
 returns-2 : tie.Need-returns-2 Inv-loop μ-loop
 returns-2 c = λ names k o.
     let r = c .before in
@@ -44,18 +35,6 @@ returns-2 c = λ names k o.
     let l = t .before in
     let s = l .before .before .before .before .args in
     state-outside (constraintElements names (s .adding)) (s .r .constraints) (s .r .constraintcount) (s .t .now) (omega arith) (l .loop .at) (l .loop .count) (l .loop .i) (l .loop .inv .5 names k) (t .loop-test .taken) (r .constraint-in-range .ensures .0) (not-true _ (c .if2 .taken)) (constraint-rows-ascend (take (s .r .constraintcount) (s .r .constraints)) (o .constraintorder))
-
-constraint-further-requires : tie.Need-constraint-further-requires Inv-loop μ-loop
-constraint-further-requires c κs = search needs
-
-constraint-follows-requires : tie.Need-constraint-follows-requires Inv-loop μ-loop
-constraint-follows-requires c κs = search needs
-
-constraint-late-requires : tie.Need-constraint-late-requires Inv-loop μ-loop
-constraint-late-requires c κs = search needs
-
-late-further-requires : tie.Need-late-further-requires Inv-loop μ-loop
-late-further-requires c κs = search needs
 
 returns-3 : tie.Need-returns-3 Inv-loop μ-loop
 returns-3 c = λ names k o.
@@ -66,30 +45,6 @@ returns-3 c = λ names k o.
     let s = l .before .before .before .before .args in
     state-late (constraintElements names (s .adding)) (s .r .constraints) (s .r .constraintcount) (s .t .now) (omega arith) (l .loop .at) (l .loop .count) (l .loop .i) (l .loop .inv .5 names k) (t .loop-test .taken) (r .constraint-in-range .ensures .0) (not-false _ (f .before .before .if2 .left)) (f .constraint-follows .result) (f .constraint-follows .ensures) (not-true _ (c .before .before .if3 .taken))
     (c .before .constraint-late .ensures) (f .before .constraint-further .ensures names k) (c .late-further .ensures) (constraint-rows-ascend (take (s .r .constraintcount) (s .r .constraints)) (o .constraintorder))
-
-slot-requires : tie.Need-slot-requires Inv-loop μ-loop
-slot-requires c κs = search needs
-
-mul-constraint-row : tie.Need-mul-constraint-row Inv-loop μ-loop
-mul-constraint-row c = search needs
-
-array-copy-out-constraint-row : tie.Need-array-copy-out-constraint-row Inv-loop μ-loop
-array-copy-out-constraint-row c = search needs
-
-constraint-row-requires : tie.Need-constraint-row-requires Inv-loop μ-loop
-constraint-row-requires c κs = search needs
-
-slice-aggregate-step : tie.Need-slice-aggregate-step Inv-loop μ-loop
-slice-aggregate-step c = search needs
-
-slice-aggregate-step-2 : tie.Need-slice-aggregate-step-2 Inv-loop μ-loop
-slice-aggregate-step-2 c = search needs
-
-step-requires : tie.Need-step-requires Inv-loop μ-loop
-step-requires c κs = search needs
-
-later-number-requires : tie.Need-later-number-requires Inv-loop μ-loop
-later-number-requires c κs = search needs
 
 returns-4 : tie.Need-returns-4 Inv-loop μ-loop
 returns-4 c = λ names k o.
@@ -155,23 +110,23 @@ constraint-fault-spec =
     μ-loop
     returns
     loop-holds
-    mul-row
-    shared-slice-copy-out-row
-    constraint-in-range-requires
+    (λ c. search needs)
+    (λ c. search needs)
+    (λ c κs. search needs)
     returns-2
-    constraint-further-requires
-    constraint-follows-requires
-    constraint-late-requires
-    late-further-requires
+    (λ c κs. search needs)
+    (λ c κs. search needs)
+    (λ c κs. search needs)
+    (λ c κs. search needs)
     returns-3
-    slot-requires
-    mul-constraint-row
-    array-copy-out-constraint-row
-    constraint-row-requires
-    slice-aggregate-step
-    slice-aggregate-step-2
-    step-requires
-    later-number-requires
+    (λ c κs. search needs)
+    (λ c. search needs)
+    (λ c. search needs)
+    (λ c κs. search needs)
+    (λ c. search needs)
+    (λ c. search needs)
+    (λ c κs. search needs)
+    (λ c κs. search needs)
     returns-4
     add-at
     add-count

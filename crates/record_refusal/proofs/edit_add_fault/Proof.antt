@@ -4,14 +4,8 @@ use borrow.Author.Needs.{needs}
 use Rattle.record_refusal.proofs.edit_add_fault.Statement.{statement}
 use Rattle.record_refusal.proofs.edit_add_fault.Tie as tie
 
-slice-aggregate-edit-fault : tie.Need-slice-aggregate-edit-fault
-slice-aggregate-edit-fault c = search needs
-
-edit-fault-requires : tie.Need-edit-fault-requires
-edit-fault-requires c κs = search needs
-
 returns : tie.Need-returns
 returns c = λ R e k. add-edit (c .before .before .args .joined) R e k _ (c .edit-fault .ensures)
 
 pub edit-add-fault-spec : {M : Type 1} → statement M
-edit-add-fault-spec = tie.close (tie.spec slice-aggregate-edit-fault edit-fault-requires returns)
+edit-add-fault-spec = tie.close (tie.spec (λ c. search needs) (λ c κs. search needs) returns)

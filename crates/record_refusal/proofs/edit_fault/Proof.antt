@@ -26,15 +26,6 @@ loop-holds c =
     let z : length (s .r .edits) ≡ 127 = search (needs, length-mapped) in
     (search needs, search needs, search needs, search needs, z, state-start editElements (s .r .edits) (s .r .editcount) (s .t .now) (omega arith))
 
-mul-row : tie.Need-mul-row Inv-loop μ-loop
-mul-row c = search needs
-
-shared-slice-copy-out-row : tie.Need-shared-slice-copy-out-row Inv-loop μ-loop
-shared-slice-copy-out-row c = search needs
-
-edit-in-range-requires : tie.Need-edit-in-range-requires Inv-loop μ-loop
-edit-in-range-requires c κs = search needs
-
 returns-2 : tie.Need-returns-2 Inv-loop μ-loop
 returns-2 c = λ o.
     let r = c .before in
@@ -42,12 +33,6 @@ returns-2 c = λ o.
     let l = t .before in
     let s = l .before .before .before .args in
     state-outside editElements (s .r .edits) (s .r .editcount) (s .t .now) (omega arith) (l .loop .at) (l .loop .count) (l .loop .i) (l .loop .inv .5) (t .loop-test .taken) (r .edit-in-range .ensures .0) (not-true _ (c .if2 .taken)) (edit-rows-ascend (take (s .r .editcount) (s .r .edits)) (o .editorder))
-
-edit-follows-requires : tie.Need-edit-follows-requires Inv-loop μ-loop
-edit-follows-requires c κs = search needs
-
-edit-late-requires : tie.Need-edit-late-requires Inv-loop μ-loop
-edit-late-requires c κs = search needs
 
 returns-3 : tie.Need-returns-3 Inv-loop μ-loop
 returns-3 c = λ o.
@@ -58,27 +43,6 @@ returns-3 c = λ o.
     let s = l .before .before .before .args in
     state-late editElements (s .r .edits) (s .r .editcount) (s .t .now) (omega arith) (l .loop .at) (l .loop .count) (l .loop .i) (l .loop .inv .5) (t .loop-test .taken) (r .edit-in-range .ensures .0) (not-false _ (f .before .if2 .left)) (f .edit-follows .result) (f .edit-follows .ensures) (not-true _ (c .before .if3 .taken))
     (c .edit-late .ensures) refl (sym (late-zero (c .edit-late .result))) (edit-rows-ascend (take (s .r .editcount) (s .r .edits)) (o .editorder))
-
-slot-requires : tie.Need-slot-requires Inv-loop μ-loop
-slot-requires c κs = search needs
-
-mul-edit-row : tie.Need-mul-edit-row Inv-loop μ-loop
-mul-edit-row c = search needs
-
-array-copy-out-edit-row : tie.Need-array-copy-out-edit-row Inv-loop μ-loop
-array-copy-out-edit-row c = search needs
-
-edit-row-requires : tie.Need-edit-row-requires Inv-loop μ-loop
-edit-row-requires c κs = search needs
-
-slice-aggregate-step : tie.Need-slice-aggregate-step Inv-loop μ-loop
-slice-aggregate-step c = search needs
-
-slice-aggregate-step-2 : tie.Need-slice-aggregate-step-2 Inv-loop μ-loop
-slice-aggregate-step-2 c = search needs
-
-step-requires : tie.Need-step-requires Inv-loop μ-loop
-step-requires c κs = search needs
 
 returns-4 : tie.Need-returns-4 Inv-loop μ-loop
 returns-4 c = λ o.
@@ -144,20 +108,20 @@ edit-fault-spec =
     μ-loop
     returns
     loop-holds
-    mul-row
-    shared-slice-copy-out-row
-    edit-in-range-requires
+    (λ c. search needs)
+    (λ c. search needs)
+    (λ c κs. search needs)
     returns-2
-    edit-follows-requires
-    edit-late-requires
+    (λ c κs. search needs)
+    (λ c κs. search needs)
     returns-3
-    slot-requires
-    mul-edit-row
-    array-copy-out-edit-row
-    edit-row-requires
-    slice-aggregate-step
-    slice-aggregate-step-2
-    step-requires
+    (λ c κs. search needs)
+    (λ c. search needs)
+    (λ c. search needs)
+    (λ c κs. search needs)
+    (λ c. search needs)
+    (λ c. search needs)
+    (λ c κs. search needs)
     returns-4
     add-at
     add-count

@@ -5,42 +5,6 @@ use borrow.Author.Needs.{needs}
 use Rattle.record_refusal.proofs.edit_late.Statement.{statement}
 use Rattle.record_refusal.proofs.edit_late.Tie as tie
 
-mul-row : tie.Need-mul-row
-mul-row c = search needs
-
-shared-slice-copy-out-row : tie.Need-shared-slice-copy-out-row
-shared-slice-copy-out-row c = search needs
-
-edit-repeated-requires : tie.Need-edit-repeated-requires
-edit-repeated-requires c κs = search needs
-
-edit-place-requires : tie.Need-edit-place-requires
-edit-place-requires c κs = search needs
-
-slot-requires : tie.Need-slot-requires
-slot-requires c κs = search needs
-
-mul-edit-row : tie.Need-mul-edit-row
-mul-edit-row c = search needs
-
-array-copy-out-edit-row : tie.Need-array-copy-out-edit-row
-array-copy-out-edit-row c = search needs
-
-edit-row-requires : tie.Need-edit-row-requires
-edit-row-requires c κs = search needs
-
-slice-aggregate-step : tie.Need-slice-aggregate-step
-slice-aggregate-step c = search needs
-
-slice-aggregate-step-2 : tie.Need-slice-aggregate-step-2
-slice-aggregate-step-2 c = search needs
-
-step-requires : tie.Need-step-requires
-step-requires c κs = search needs
-
-late-number-requires : tie.Need-late-number-requires
-late-number-requires c κs = search needs
-
 returns : tie.Need-returns
 returns c = λ a.
     let m = c .before .step in
@@ -56,16 +20,16 @@ pub edit-late-spec : {M : Type 1} → statement M
 edit-late-spec =
     tie.close
     (tie.spec
-    mul-row
-    shared-slice-copy-out-row
-    edit-repeated-requires
-    edit-place-requires
-    slot-requires
-    mul-edit-row
-    array-copy-out-edit-row
-    edit-row-requires
-    slice-aggregate-step
-    slice-aggregate-step-2
-    step-requires
-    late-number-requires
+    (λ c. search needs)
+    (λ c. search needs)
+    (λ c κs. search needs)
+    (λ c κs. search needs)
+    (λ c κs. search needs)
+    (λ c. search needs)
+    (λ c. search needs)
+    (λ c κs. search needs)
+    (λ c. search needs)
+    (λ c. search needs)
+    (λ c κs. search needs)
+    (λ c κs. search needs)
     returns)

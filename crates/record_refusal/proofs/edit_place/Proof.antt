@@ -22,24 +22,6 @@ abbrev μ-loop : tie.MeasureT-loop
 loop-holds : tie.Need-loop-holds Inv-loop μ-loop
 loop-holds c = (search needs, search needs, place-first editRow (c .args .t1) (c .args .n) (search needs) 1 (c .args .t3))
 
-mul-e : tie.Need-mul-e Inv-loop μ-loop
-mul-e c = search needs
-
-array-copy-out-e : tie.Need-array-copy-out-e Inv-loop μ-loop
-array-copy-out-e c = search needs
-
-edit-row-requires : tie.Need-edit-row-requires Inv-loop μ-loop
-edit-row-requires c κs = search needs
-
-slice-aggregate-below : tie.Need-slice-aggregate-below Inv-loop μ-loop
-slice-aggregate-below c = search needs
-
-slice-aggregate-below-2 : tie.Need-slice-aggregate-below-2 Inv-loop μ-loop
-slice-aggregate-below-2 c = search needs
-
-below-requires : tie.Need-below-requires Inv-loop μ-loop
-below-requires c κs = search needs
-
 returns : tie.Need-returns Inv-loop μ-loop
 returns c =
     let l = c .before .before .before .before .before .before .before in
@@ -49,12 +31,6 @@ returns c =
       place-here editRow (s .args .t1) (s .args .n) (search needs) 1 (s .args .t3) (l .loop .p) _ (search needs)
           (compared 1 (s .args .t3) (c .before .before .before .before .edit-row .ensures) (c .before .below .ensures) (not-true _ (c .if1 .taken))) (l .loop .inv .2),
     )
-
-add-p : tie.Need-add-p Inv-loop μ-loop
-add-p c = search needs
-
-loop-less : tie.Need-loop-less Inv-loop μ-loop
-loop-less c = search needs
 
 loop-again : tie.Need-loop-again Inv-loop μ-loop
 loop-again c =
@@ -79,14 +55,14 @@ edit-place-spec =
     Inv-loop
     μ-loop
     loop-holds
-    mul-e
-    array-copy-out-e
-    edit-row-requires
-    slice-aggregate-below
-    slice-aggregate-below-2
-    below-requires
+    (λ c. search needs)
+    (λ c. search needs)
+    (λ c κs. search needs)
+    (λ c. search needs)
+    (λ c. search needs)
+    (λ c κs. search needs)
     returns
-    add-p
-    loop-less
+    (λ c. search needs)
+    (λ c. search needs)
     loop-again
     returns-2)

@@ -7,14 +7,8 @@ use borrow.Author.Needs.{needs}
 use Rattle.record_refusal.proofs.lent_fault.Statement.{statement}
 use Rattle.record_refusal.proofs.lent_fault.Tie as tie
 
-empty-requires : tie.Need-empty-requires
-empty-requires c κs = search needs
-
-fault-requires : tie.Need-fault-requires
-fault-requires c κs = search needs
-
 returns : tie.Need-returns
 returns c = c .fault .ensures emptyTables (c .before .empty .ensures ∙ empty-stored) empty-checked
 
 pub lent-fault-spec : {M : Type 1} → statement M
-lent-fault-spec = tie.close (tie.spec empty-requires fault-requires returns)
+lent-fault-spec = tie.close (tie.spec (λ c κs. search needs) (λ c κs. search needs) returns)

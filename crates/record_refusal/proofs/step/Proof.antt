@@ -4,18 +4,6 @@ use borrow.Author.Needs.{needs}
 use Rattle.record_refusal.proofs.step.Statement.{statement}
 use Rattle.record_refusal.proofs.step.Tie as tie
 
-below-requires : tie.Need-below-requires
-below-requires c κs = search needs
-
-below-requires-2 : tie.Need-below-requires-2
-below-requires-2 c κs = search needs
-
-alike-requires : tie.Need-alike-requires
-alike-requires c κs = search needs
-
-advance-requires : tie.Need-advance-requires
-advance-requires c κs = search needs
-
 returns : tie.Need-returns
 returns c =
     let compared = c .before in
@@ -24,4 +12,4 @@ returns c =
     (compared .before .before .below .ensures) (compared .before .below2 .ensures) (compared .alike .ensures) (c .advance .ensures)
 
 pub step-spec : {M : Type 1} → statement M
-step-spec = tie.close (tie.spec below-requires below-requires-2 alike-requires advance-requires returns)
+step-spec = tie.close (tie.spec (λ c κs. search needs) (λ c κs. search needs) (λ c κs. search needs) (λ c κs. search needs) returns)

@@ -5,33 +5,15 @@ use borrow.Author.Needs.{needs}
 use Rattle.record_tables.proofs.constraint_further.Statement.{statement}
 use Rattle.record_tables.proofs.constraint_further.Tie as tie
 
-array-read-left : tie.Need-array-read-left
-array-read-left c = search needs
-
-array-read-rule : tie.Need-array-read-rule
-array-read-rule c = search needs
-
-array-read-right : tie.Need-array-read-right
-array-read-right c = search needs
-
-marked-requires : tie.Need-marked-requires
-marked-requires c κs = search needs
-
 returns : tie.Need-returns
 returns c = λ names k.
     let s = c .before .before .before .args in
     further-left names (s .adding) (s .t1) (s .marks .now) k (c .before .marked .ensures) (not-true _ (c .if1 .taken))
 
-marked-requires-2 : tie.Need-marked-requires-2
-marked-requires-2 c κs = search needs
-
 returns-2 : tie.Need-returns-2
 returns-2 c = λ names k.
     let s = c .before .before .before .before .before .args in
     further-right names (s .adding) (s .t1) (s .marks .now) k (c .before .before .before .marked .ensures) (not-false _ (c .before .before .if1 .left)) (c .before .marked2 .ensures) (not-true _ (c .if2 .taken))
-
-pair-not-allowed-requires : tie.Need-pair-not-allowed-requires
-pair-not-allowed-requires c κs = search needs
 
 returns-3 : tie.Need-returns-3
 returns-3 c = λ names k.
@@ -43,9 +25,6 @@ returns-4 c = λ names k.
     let s = c .before .before .before .before .before .before .before .before .args in
     further-merged names (s .adding) (s .t1) (s .marks .now) k (c .before .before .before .before .before .before .marked .ensures) (not-false _ (c .before .before .before .before .before .if1 .left)) (c .before .before .before .before .marked2 .ensures) (not-false _ (c .before .before .before .if2 .left)) (c .before .before .pair-not-allowed .ensures) (c .before .if3 .left)
     (not-true _ (c .if4 .taken))
-
-is-decision-requires : tie.Need-is-decision-requires
-is-decision-requires c κs = search needs
 
 returns-5 : tie.Need-returns-5
 returns-5 c = λ names k.
@@ -63,16 +42,16 @@ pub constraint-further-spec : {M : Type 1} → statement M
 constraint-further-spec =
     tie.close
     (tie.spec
-    array-read-left
-    array-read-rule
-    array-read-right
-    marked-requires
+    (λ c. search needs)
+    (λ c. search needs)
+    (λ c. search needs)
+    (λ c κs. search needs)
     returns
-    marked-requires-2
+    (λ c κs. search needs)
     returns-2
-    pair-not-allowed-requires
+    (λ c κs. search needs)
     returns-3
     returns-4
-    is-decision-requires
+    (λ c κs. search needs)
     returns-5
     returns-6)

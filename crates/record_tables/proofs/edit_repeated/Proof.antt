@@ -19,33 +19,12 @@ abbrev μ-loop : tie.MeasureT-loop
 loop-holds : tie.Need-loop-holds Inv-loop μ-loop
 loop-holds c = (search needs, c .pre, refl)
 
-mul-alike : tie.Need-mul-alike Inv-loop μ-loop
-mul-alike c = search needs
-
-shared-slice-element-alike : tie.Need-shared-slice-element-alike Inv-loop μ-loop
-shared-slice-element-alike c = search needs
-
-mul-alike-2 : tie.Need-mul-alike-2 Inv-loop μ-loop
-mul-alike-2 c = search needs
-
-shared-slice-element-alike-2 : tie.Need-shared-slice-element-alike-2 Inv-loop μ-loop
-shared-slice-element-alike-2 c = search needs
-
-alike-requires : tie.Need-alike-requires Inv-loop μ-loop
-alike-requires c κs = search needs
-
 returns : tie.Need-returns Inv-loop μ-loop
 returns c =
     let l = c .before .before .before .before .before .before .before in
     let s = l .before in
     let t = s .args .t .now in
     sym (l .loop .inv .2 ∙ some-hit (alike 1 (getD t (s .args .i) [])) t (s .args .i) (l .loop .j) (search needs) (search needs) (sym (c .before .alike .ensures) ∙ c .if1 .taken))
-
-add-j : tie.Need-add-j Inv-loop μ-loop
-add-j c = search needs
-
-loop-less : tie.Need-loop-less Inv-loop μ-loop
-loop-less c = search needs
 
 loop-again : tie.Need-loop-again Inv-loop μ-loop
 loop-again c =
@@ -68,13 +47,13 @@ edit-repeated-spec =
     Inv-loop
     μ-loop
     loop-holds
-    mul-alike
-    shared-slice-element-alike
-    mul-alike-2
-    shared-slice-element-alike-2
-    alike-requires
+    (λ c. search needs)
+    (λ c. search needs)
+    (λ c. search needs)
+    (λ c. search needs)
+    (λ c κs. search needs)
     returns
-    add-j
-    loop-less
+    (λ c. search needs)
+    (λ c. search needs)
     loop-again
     returns-2)

@@ -21,32 +21,8 @@ Inv-loop n a marks₀ i₀ marks i = (i ≤ n) × (n ≤ 127) × (length marks �
 abbrev μ-loop : tie.MeasureT-loop
 μ-loop n a marks₀ i₀ marks i = n - i
 
-array-write-marks : tie.Need-array-write-marks Inv-loop μ-loop
-array-write-marks c = search needs
-
 loop-holds : tie.Need-loop-holds Inv-loop μ-loop
 loop-holds c = (search needs, search needs, search needs, λ f. marks-start 2304 (omega arith))
-
-mul-e : tie.Need-mul-e Inv-loop μ-loop
-mul-e c = search needs
-
-array-copy-out-e : tie.Need-array-copy-out-e Inv-loop μ-loop
-array-copy-out-e c = search needs
-
-cast-name : tie.Need-cast-name Inv-loop μ-loop
-cast-name c = search needs
-
-slot-requires : tie.Need-slot-requires Inv-loop μ-loop
-slot-requires c κs = search needs
-
-array-write-marks-2 : tie.Need-array-write-marks-2 Inv-loop μ-loop
-array-write-marks-2 c = search needs
-
-add-i : tie.Need-add-i Inv-loop μ-loop
-add-i c = search needs
-
-loop-less : tie.Need-loop-less Inv-loop μ-loop
-loop-less c = search needs
 
 loop-again : tie.Need-loop-again Inv-loop μ-loop
 loop-again c =
@@ -73,14 +49,14 @@ mark-edits-spec =
     (tie.spec
     Inv-loop
     μ-loop
-    array-write-marks
+    (λ c. search needs)
     loop-holds
-    mul-e
-    array-copy-out-e
-    cast-name
-    slot-requires
-    array-write-marks-2
-    add-i
-    loop-less
+    (λ c. search needs)
+    (λ c. search needs)
+    (λ c. search needs)
+    (λ c κs. search needs)
+    (λ c. search needs)
+    (λ c. search needs)
+    (λ c. search needs)
     loop-again
     returns)

@@ -20,35 +20,8 @@ Inv-loop t marks₀ i₀ marks i = (i ≤ length t) × (length marks ≡ 2304) �
 abbrev μ-loop : tie.MeasureT-loop
 μ-loop t marks₀ i₀ marks i = length t - i
 
-array-write-marks : tie.Need-array-write-marks Inv-loop μ-loop
-array-write-marks c = search needs
-
 loop-holds : tie.Need-loop-holds Inv-loop μ-loop
 loop-holds c = (search needs, search needs, λ f. marks-start 2304 (omega arith))
-
-mul-index32 : tie.Need-mul-index32 Inv-loop μ-loop
-mul-index32 c = search needs
-
-index-1-index32 : tie.Need-index-1-index32 Inv-loop μ-loop
-index-1-index32 c = search needs
-
-index-2-index32 : tie.Need-index-2-index32 Inv-loop μ-loop
-index-2-index32 c = search needs
-
-index32-requires : tie.Need-index32-requires Inv-loop μ-loop
-index32-requires c κs = search needs
-
-slot-requires : tie.Need-slot-requires Inv-loop μ-loop
-slot-requires c κs = search needs
-
-array-write-marks-2 : tie.Need-array-write-marks-2 Inv-loop μ-loop
-array-write-marks-2 c = search needs
-
-add-i : tie.Need-add-i Inv-loop μ-loop
-add-i c = search needs
-
-loop-less : tie.Need-loop-less Inv-loop μ-loop
-loop-less c = search needs
 
 loop-again : tie.Need-loop-again Inv-loop μ-loop
 loop-again c =
@@ -69,15 +42,15 @@ mark-rows-spec =
     (tie.spec
     Inv-loop
     μ-loop
-    array-write-marks
+    (λ c. search needs)
     loop-holds
-    mul-index32
-    index-1-index32
-    index-2-index32
-    index32-requires
-    slot-requires
-    array-write-marks-2
-    add-i
-    loop-less
+    (λ c. search needs)
+    (λ c. search needs)
+    (λ c. search needs)
+    (λ c κs. search needs)
+    (λ c κs. search needs)
+    (λ c. search needs)
+    (λ c. search needs)
+    (λ c. search needs)
     loop-again
     returns)

@@ -5,9 +5,6 @@ use borrow.Author.Needs.{needs}
 use Rattle.record_tables.proofs.marked.Statement.{statement}
 use Rattle.record_tables.proofs.marked.Tie as tie
 
-shared-slice-read-result : tie.Need-shared-slice-read-result
-shared-slice-read-result c = search needs
-
 returns : tie.Need-returns
 returns c = refl
 
@@ -15,4 +12,4 @@ returns-2 : tie.Need-returns-2
 returns-2 c = past-unmarked (c .before .args .marks .now) (c .before .args .n) (c .if1 .left)
 
 pub marked-spec : {M : Type 1} → statement M
-marked-spec = tie.close (tie.spec shared-slice-read-result returns returns-2)
+marked-spec = tie.close (tie.spec (λ c. search needs) returns returns-2)

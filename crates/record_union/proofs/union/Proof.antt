@@ -7,12 +7,6 @@ use borrow.Author.Needs.{needs}
 use Rattle.record_union.proofs.union.Statement.{statement}
 use Rattle.record_union.proofs.union.Tie as tie
 
-unite-edits-requires : tie.Need-unite-edits-requires
-unite-edits-requires c κs = search needs
-
-unite-constraints-requires : tie.Need-unite-constraints-requires
-unite-constraints-requires c κs = search needs
-
 returns : tie.Need-returns
 returns c = λ R S e f u v.
     let s = c .before .before in
@@ -21,4 +15,4 @@ returns c = λ R S e f u v.
     uniting R S u v (s .args .joined) (s .args .joining) e f (c .before .unite-edits .result) (c .unite-constraints .result) w x (c .before .unite-edits .ensures) (c .unite-constraints .ensures)
 
 pub union-spec : {M : Type 1} → statement M
-union-spec = tie.close (tie.spec unite-edits-requires unite-constraints-requires returns)
+union-spec = tie.close (tie.spec (λ c κs. search needs) (λ c κs. search needs) returns)

@@ -19,12 +19,6 @@ abbrev μ-loop : tie.MeasureT-loop
 μ-loop edits₀ constraints₀ chunk₀ out₀ held₀ lent₀ lines₀ rest₀ left₀ edits constraints chunk out held lent lines rest left =
     left
 
-empty-bench-requires : tie.Need-empty-bench-requires Inv-loop μ-loop
-empty-bench-requires c κs = search needs
-
-nothing-lent-requires : tie.Need-nothing-lent-requires Inv-loop μ-loop
-nothing-lent-requires c κs = search needs
-
 loop-holds : tie.Need-loop-holds Inv-loop μ-loop
 loop-holds c =
     let s = c .before .before .before .before in
@@ -117,8 +111,8 @@ read-all-spec =
     (tie.spec
     Inv-loop
     μ-loop
-    empty-bench-requires
-    nothing-lent-requires
+    (λ c κs. search needs)
+    (λ c κs. search needs)
     loop-holds
     read-piece-requires
     same-length

@@ -8,32 +8,11 @@ use Rattle.stdio_log.proofs.replayed.Tie as tie
 read-all-requires : tie.Need-read-all-requires
 read-all-requires c κs = c .before .before .before .before .before .before .pre
 
-same-length : tie.Need-same-length
-same-length c = search needs
-
-same-length-2 : tie.Need-same-length-2
-same-length-2 c = search needs
-
-same-length-3 : tie.Need-same-length-3
-same-length-3 c = search needs
-
-same-length-4 : tie.Need-same-length-4
-same-length-4 c = search needs
-
 returns : tie.Need-returns
 returns c = λ e. clash (c .if1 .taken) e
 
-sub-run-lines : tie.Need-sub-run-lines
-sub-run-lines c = search needs
-
-part-run-lines-start : tie.Need-part-run-lines-start
-part-run-lines-start c = search needs
-
 part-run-lines-end : tie.Need-part-run-lines-end
 part-run-lines-end c = search (needs, c .before .before .before .before .before .before .before .before .before .before .before .before .read-all .ensures .0, c .before .before .before .before .before .before .before .before .before .chunk .given)
-
-run-lines-requires : tie.Need-run-lines-requires
-run-lines-requires c κs = search needs
 
 same-length-5 : tie.Need-same-length-5
 same-length-5 c = search (needs, c .before .before .before .before .before .before .before .before .before .before .before .before .before .before .before .before .before .before .edits .given, c .before .before .before .edits2 .given)
@@ -57,15 +36,15 @@ replayed-spec =
     tie.close
     (tie.spec
     read-all-requires
-    same-length
-    same-length-2
-    same-length-3
-    same-length-4
+    (λ c. search needs)
+    (λ c. search needs)
+    (λ c. search needs)
+    (λ c. search needs)
     returns
-    sub-run-lines
-    part-run-lines-start
+    (λ c. search needs)
+    (λ c. search needs)
     part-run-lines-end
-    run-lines-requires
+    (λ c κs. search needs)
     same-length-5
     same-length-6
     same-length-7

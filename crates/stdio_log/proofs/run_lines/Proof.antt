@@ -23,25 +23,10 @@ abbrev μ-loop : tie.MeasureT-loop
 loop-holds : tie.Need-loop-holds Inv-loop μ-loop
 loop-holds c = (search needs, search needs, search needs, search needs, λ D H k. up-to-start _ D _ H)
 
-sub-run-some : tie.Need-sub-run-some Inv-loop μ-loop
-sub-run-some c = search needs
-
-part-run-some-start : tie.Need-part-run-some-start Inv-loop μ-loop
-part-run-some-start c = search needs
-
-part-run-some-end : tie.Need-part-run-some-end Inv-loop μ-loop
-part-run-some-end c = search needs
-
-run-some-requires : tie.Need-run-some-requires Inv-loop μ-loop
-run-some-requires c κs = search needs
-
 add-from : tie.Need-add-from Inv-loop μ-loop
 add-from c =
     let x = further (c .before .before .before .before .before .before .before .before .before .before .before .before .before .before .before .before .args .log .now) (c .before .before .before .before .before .before .before .before .before .before .before .before .before .loop .from) 32768 (c .before .before .before .before .before .before .before .before .before .before .before .before .loop-test .taken) (c .before .before .before .before .before .before .before .run-some .ensures .0) in
     omega (arith, x .1, c .before .before .before .before .before .before .before .before .before .before .before .before .before .before .before .before .good)
-
-print-requires : tie.Need-print-requires Inv-loop μ-loop
-print-requires c κs = search needs
 
 same-length : tie.Need-same-length Inv-loop μ-loop
 same-length c = search (needs, c .before .before .before .before .before .before .before .before .before .before .before .before .before .before .before .before .loop .inv .1)
@@ -66,15 +51,6 @@ loop-again c =
     let v = c .before .before .before .before .before .before .before .before .before .before .before .before .before .before .before .before .loop .inv in
     (omega (arith, x .1), search (needs, v .1), search (needs, v .2), search (needs, v .3), λ D H k. up-to-next _ D _ (v .4 D H k) 32768 (c .before .before .before .before .before .before .before .before .before .before .before .before .before .before .before .loop-test .taken) k (c .before .before .before .before .before .before .before .before .before .before .run-some .ensures))
 
-same-length-4 : tie.Need-same-length-4 Inv-loop μ-loop
-same-length-4 c = search needs
-
-same-length-5 : tie.Need-same-length-5 Inv-loop μ-loop
-same-length-5 c = search needs
-
-same-length-6 : tie.Need-same-length-6 Inv-loop μ-loop
-same-length-6 c = search needs
-
 returns-2 : tie.Need-returns-2 Inv-loop μ-loop
 returns-2 c = λ D H k e. up-to-end _ D _ (c .before .loop .inv .4 D H k) (c .loop-test .left)
 
@@ -85,19 +61,19 @@ run-lines-spec =
     Inv-loop
     μ-loop
     loop-holds
-    sub-run-some
-    part-run-some-start
-    part-run-some-end
-    run-some-requires
+    (λ c. search needs)
+    (λ c. search needs)
+    (λ c. search needs)
+    (λ c κs. search needs)
     add-from
-    print-requires
+    (λ c κs. search needs)
     same-length
     same-length-2
     same-length-3
     returns
     loop-less
     loop-again
-    same-length-4
-    same-length-5
-    same-length-6
+    (λ c. search needs)
+    (λ c. search needs)
+    (λ c. search needs)
     returns-2)

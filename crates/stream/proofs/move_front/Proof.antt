@@ -19,28 +19,10 @@ abbrev μ-loop : tie.MeasureT-loop
 loop-holds : tie.Need-loop-holds Inv-loop μ-loop
 loop-holds c = (search needs, search needs, refl, refl)
 
-add-bytes : tie.Need-add-bytes Inv-loop μ-loop
-add-bytes c = search needs
-
-slice-read-bytes : tie.Need-slice-read-bytes Inv-loop μ-loop
-slice-read-bytes c = search needs
-
-slice-write-bytes : tie.Need-slice-write-bytes Inv-loop μ-loop
-slice-write-bytes c = search needs
-
-add-i : tie.Need-add-i Inv-loop μ-loop
-add-i c = search needs
-
-loop-less : tie.Need-loop-less Inv-loop μ-loop
-loop-less c = search needs
-
 loop-again : tie.Need-loop-again Inv-loop μ-loop
 loop-again c =
     let v = c .before .before .loop .inv in
     (search needs, search needs, search needs, moved-more (c .before .before .before .args .bytes .now) (c .before .before .before .args .from) (c .before .before .loop .i) (omega arith) (v .3))
-
-same-length : tie.Need-same-length Inv-loop μ-loop
-same-length c = search needs
 
 returns : tie.Need-returns Inv-loop μ-loop
 returns c = moved-all (c .before .before .args .bytes .now) (c .before .before .args .from) (c .before .loop .inv .3) (c .before .loop .inv .0) (c .loop-test .left)
@@ -52,11 +34,11 @@ move-front-spec =
     Inv-loop
     μ-loop
     loop-holds
-    add-bytes
-    slice-read-bytes
-    slice-write-bytes
-    add-i
-    loop-less
+    (λ c. search needs)
+    (λ c. search needs)
+    (λ c. search needs)
+    (λ c. search needs)
+    (λ c. search needs)
     loop-again
-    same-length
+    (λ c. search needs)
     returns)

@@ -4,24 +4,6 @@ use Rattle.suggestions.proofs.Advised.{rows-nothing, rows-notafter, row
 use Rattle.suggestions.proofs.rows.Statement.{statement}
 use Rattle.suggestions.proofs.rows.Tie as tie
 
-enum-told : tie.Need-enum-told
-enum-told c = search needs
-
-enum-told-2 : tie.Need-enum-told-2
-enum-told-2 c = search needs
-
-enum-told-3 : tie.Need-enum-told-3
-enum-told-3 c = search needs
-
-enum-told-4 : tie.Need-enum-told-4
-enum-told-4 c = search needs
-
-lower-requires : tie.Need-lower-requires
-lower-requires c κs = search needs
-
-higher-requires : tie.Need-higher-requires
-higher-requires c κs = search needs
-
 returns : tie.Need-returns
 returns c = rows-nothing (c .before .before .args .a) (c .before .before .args .b) (c .enum-told .given .1)
 
@@ -38,12 +20,12 @@ pub rows-spec : {M : Type 1} → statement M
 rows-spec =
     tie.close
     (tie.spec
-    enum-told
-    enum-told-2
-    enum-told-3
-    enum-told-4
-    lower-requires
-    higher-requires
+    (λ c. search needs)
+    (λ c. search needs)
+    (λ c. search needs)
+    (λ c. search needs)
+    (λ c κs. search needs)
+    (λ c κs. search needs)
     returns
     returns-2
     returns-3

@@ -6,41 +6,14 @@ use borrow.Author.Tests.{not-true, not-false}
 use Rattle.suggestions.proofs.suggest.Statement.{statement}
 use Rattle.suggestions.proofs.suggest.Tie as tie
 
-edit-in-range-requires : tie.Need-edit-in-range-requires
-edit-in-range-requires c κs = search needs
-
-refuse-requires : tie.Need-refuse-requires
-refuse-requires c κs = search needs
-
 returns : tie.Need-returns
 returns c = first-refused (c .before .before .before .args .t1) (c .before .before .before .args .t2) (c .before .before .before .args .kind) (sym (c .before .before .edit-in-range .ensures .0) ∙ not-true _ (c .before .if1 .taken)) (c .refuse .ensures)
-
-edit-in-range-requires-2 : tie.Need-edit-in-range-requires-2
-edit-in-range-requires-2 c κs = search needs
-
-refuse-requires-2 : tie.Need-refuse-requires-2
-refuse-requires-2 c κs = search needs
 
 returns-2 : tie.Need-returns-2
 returns-2 c = second-refused (c .before .before .before .before .before .args .t1) (c .before .before .before .before .before .args .t2) (c .before .before .before .before .before .args .kind) (sym (c .before .before .before .before .edit-in-range .ensures .0) ∙ not-false _ (c .before .before .before .if1 .left)) (sym (c .before .before .edit-in-range2 .ensures .0) ∙ not-true _ (c .before .if2 .taken)) (c .refuse2 .ensures)
 
-refuse-requires-3 : tie.Need-refuse-requires-3
-refuse-requires-3 c κs = search needs
-
 returns-3 : tie.Need-returns-3
 returns-3 c = case-refused (c .before .before .before .before .before .before .args .t1) (c .before .before .before .before .before .before .args .t2) (c .before .before .before .before .before .before .args .kind) (sym (c .before .before .before .before .before .edit-in-range .ensures .0) ∙ not-false _ (c .before .before .before .before .if1 .left)) (sym (c .before .before .before .edit-in-range2 .ensures .0) ∙ not-false _ (c .before .before .if2 .left)) (c .before .if3 .taken) (c .refuse3 .ensures)
-
-advise-requires : tie.Need-advise-requires
-advise-requires c κs = search needs
-
-array-read-rows : tie.Need-array-read-rows
-array-read-rows c = search needs
-
-array-read-rows-2 : tie.Need-array-read-rows-2
-array-read-rows-2 c = search needs
-
-rows-requires : tie.Need-rows-requires
-rows-requires c κs = search needs
 
 returns-4 : tie.Need-returns-4
 returns-4 c = suggestion-accepted (c .before .before .before .before .before .before .before .args .t1) (c .before .before .before .before .before .before .before .args .t2) (c .before .before .before .before .before .before .before .args .kind) (sym (c .before .before .before .before .before .before .edit-in-range .ensures .0) ∙ not-false _ (c .before .before .before .before .before .if1 .left)) (sym (c .before .before .before .before .edit-in-range2 .ensures .0) ∙ not-false _ (c .before .before .before .if2 .left)) (c .before .before .if3 .left) (c .before .advise .ensures) (c .rows .ensures)
@@ -49,16 +22,16 @@ pub suggest-spec : {M : Type 1} → statement M
 suggest-spec =
     tie.close
     (tie.spec
-    edit-in-range-requires
-    refuse-requires
+    (λ c κs. search needs)
+    (λ c κs. search needs)
     returns
-    edit-in-range-requires-2
-    refuse-requires-2
+    (λ c κs. search needs)
+    (λ c κs. search needs)
     returns-2
-    refuse-requires-3
+    (λ c κs. search needs)
     returns-3
-    advise-requires
-    array-read-rows
-    array-read-rows-2
-    rows-requires
+    (λ c κs. search needs)
+    (λ c. search needs)
+    (λ c. search needs)
+    (λ c κs. search needs)
     returns-4)

@@ -17,24 +17,6 @@ abbrev μ-loop : tie.MeasureT-loop
 loop-holds : tie.Need-loop-holds Inv-loop μ-loop
 loop-holds c = let s = c .before .before .args in fitting-start (s .form .now) (s .numbers .now) (s .fit)
 
-shared-slice-read-c : tie.Need-shared-slice-read-c Inv-loop μ-loop
-shared-slice-read-c c = search needs
-
-add-i : tie.Need-add-i Inv-loop μ-loop
-add-i c = search needs
-
-is-mark-requires : tie.Need-is-mark-requires Inv-loop μ-loop
-is-mark-requires c κs = search needs
-
-number-at-requires : tie.Need-number-at-requires Inv-loop μ-loop
-number-at-requires c κs = search needs
-
-mark-length-requires : tie.Need-mark-length-requires Inv-loop μ-loop
-mark-length-requires c κs = search needs
-
-fit-more-requires : tie.Need-fit-more-requires Inv-loop μ-loop
-fit-more-requires c κs = search needs
-
 add-k : tie.Need-add-k Inv-loop μ-loop
 add-k c = omega (arith, c .before .before .before .before .before .before .before .loop .inv .used, c .before .before .before .before .before .before .loop-test .taken)
 
@@ -45,12 +27,6 @@ loop-again : tie.Need-loop-again Inv-loop μ-loop
 loop-again c =
     let s = c .before .before .before .before .before .before .before .before .before .before .args in
     fitting-mark (s .form .now) (s .numbers .now) (s .fit) (c .before .before .before .before .before .before .before .loop .inv) (c .before .before .before .before .before .before .loop-test .taken) (sym (c .before .before .before .before .is-mark .ensures) ∙ c .before .before .before .if1 .taken) (c .before .before .number-at .ensures) (c .before .mark-length .ensures .0) (c .fit-more .ensures)
-
-fit-more-requires-2 : tie.Need-fit-more-requires-2 Inv-loop μ-loop
-fit-more-requires-2 c κs = search needs
-
-loop-less-2 : tie.Need-loop-less-2 Inv-loop μ-loop
-loop-less-2 c = search needs
 
 loop-again-2 : tie.Need-loop-again-2 Inv-loop μ-loop
 loop-again-2 c =
@@ -67,16 +43,16 @@ form-fit-spec =
     Inv-loop
     μ-loop
     loop-holds
-    shared-slice-read-c
-    add-i
-    is-mark-requires
-    number-at-requires
-    mark-length-requires
-    fit-more-requires
+    (λ c. search needs)
+    (λ c. search needs)
+    (λ c κs. search needs)
+    (λ c κs. search needs)
+    (λ c κs. search needs)
+    (λ c κs. search needs)
     add-k
     loop-less
     loop-again
-    fit-more-requires-2
-    loop-less-2
+    (λ c κs. search needs)
+    (λ c. search needs)
     loop-again-2
     returns)

@@ -9,11 +9,8 @@ use Rattle.text_forms.proofs.form_fits.Tie as tie
 returns : tie.Need-returns
 returns c = let s = c .before .before .before .args in fitting-ample (s .form .now) (s .numbers .now) (s .room) (λ k. c .before .shared-slice-known2 .given k .fits) (c .if1 .taken)
 
-form-fit-requires : tie.Need-form-fit-requires
-form-fit-requires c κs = search needs
-
 returns-2 : tie.Need-returns-2
 returns-2 c = ap (λ (f : Fit). f .fits) (c .form-fit .ensures)
 
 pub form-fits-spec : {M : Type 1} → statement M
-form-fits-spec = tie.close (tie.spec returns form-fit-requires returns-2)
+form-fits-spec = tie.close (tie.spec returns (λ c κs. search needs) returns-2)

@@ -5,15 +5,6 @@ use Rattle.text_forms.specs.Spelling.{numberSpelling}
 use Rattle.text_forms.proofs.mark_length.Statement.{statement}
 use Rattle.text_forms.proofs.mark_length.Tie as tie
 
-answer-length-requires : tie.Need-answer-length-requires
-answer-length-requires c κs = search needs
-
-name-length-requires : tie.Need-name-length-requires
-name-length-requires c κs = search needs
-
-number-length-requires : tie.Need-number-length-requires
-number-length-requires c κs = search needs
-
 returns : tie.Need-returns
 returns c = length-as (c .before .before .args .mark) (c .before .before .args .n) (spells-answers (c .before .before .args .mark) (c .before .match .keys1)) (c .before .before .fits .n .fits) (c .answer-length .ensures)
 
@@ -28,9 +19,9 @@ pub mark-length-spec : {M : Type 1} → statement M
 mark-length-spec =
     tie.close
     (tie.spec
-    answer-length-requires
-    name-length-requires
-    number-length-requires
+    (λ c κs. search needs)
+    (λ c κs. search needs)
+    (λ c κs. search needs)
     returns
     returns-2
     returns-3)

@@ -4,12 +4,9 @@ use Rattle.text_forms.specs.Spelling.{numberSpelling, nameSpelling}
 use Rattle.text_forms.proofs.name_length.Statement.{statement}
 use Rattle.text_forms.proofs.name_length.Tie as tie
 
-number-length-requires : tie.Need-number-length-requires
-number-length-requires c κs = search needs
-
 returns : tie.Need-returns
 unfolding nameSpelling numberSpelling
 returns c = c .number-length .ensures
 
 pub name-length-spec : {M : Type 1} → statement M
-name-length-spec = tie.close (tie.spec number-length-requires returns)
+name-length-spec = tie.close (tie.spec (λ c κs. search needs) returns)

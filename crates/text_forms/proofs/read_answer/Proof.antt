@@ -6,21 +6,9 @@ use Rattle.text_forms.specs.Spelling.{bytes}
 use Rattle.text_forms.proofs.read_answer.Statement.{statement}
 use Rattle.text_forms.proofs.read_answer.Tie as tie
 
-slice-aggregate-starts-with : tie.Need-slice-aggregate-starts-with
-slice-aggregate-starts-with c = search needs
-
-starts-with-requires : tie.Need-starts-with-requires
-starts-with-requires c κs = search needs
-
 returns : tie.Need-returns
 unfolding bytes
 returns c = read-yes (c .before .before .before .before .args .bytes .now) (sym (c .before .starts-with .ensures) ∙ c .if1 .taken)
-
-slice-aggregate-starts-with-2 : tie.Need-slice-aggregate-starts-with-2
-slice-aggregate-starts-with-2 c = search needs
-
-starts-with-requires-2 : tie.Need-starts-with-requires-2
-starts-with-requires-2 c κs = search needs
 
 returns-2 : tie.Need-returns-2
 unfolding bytes
@@ -34,10 +22,10 @@ pub read-answer-spec : {M : Type 1} → statement M
 read-answer-spec =
     tie.close
     (tie.spec
-    slice-aggregate-starts-with
-    starts-with-requires
+    (λ c. search needs)
+    (λ c κs. search needs)
     returns
-    slice-aggregate-starts-with-2
-    starts-with-requires-2
+    (λ c. search needs)
+    (λ c κs. search needs)
     returns-2
     returns-3)

@@ -5,15 +5,6 @@ use Rattle.text_forms.specs.Spelling.{numberSpelling}
 use Rattle.text_forms.proofs.read_mark.Statement.{statement}
 use Rattle.text_forms.proofs.read_mark.Tie as tie
 
-read-answer-requires : tie.Need-read-answer-requires
-read-answer-requires c κs = search needs
-
-read-name-requires : tie.Need-read-name-requires
-read-name-requires c κs = search needs
-
-read-number-requires : tie.Need-read-number-requires
-read-number-requires c κs = search needs
-
 returns : tie.Need-returns
 returns c = numeral-as (c .before .before .before .args .mark) (c .before .before .before .args .bytes .now) (spells-answers (c .before .before .before .args .mark) (c .before .match .keys1)) (c .read-answer .ensures)
 
@@ -28,9 +19,9 @@ pub read-mark-spec : {M : Type 1} → statement M
 read-mark-spec =
     tie.close
     (tie.spec
-    read-answer-requires
-    read-name-requires
-    read-number-requires
+    (λ c κs. search needs)
+    (λ c κs. search needs)
+    (λ c κs. search needs)
     returns
     returns-2
     returns-3)

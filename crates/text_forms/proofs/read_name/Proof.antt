@@ -4,12 +4,9 @@ use Rattle.text_forms.specs.Spelling.{numberSpelling, nameSpelling}
 use Rattle.text_forms.proofs.read_name.Statement.{statement}
 use Rattle.text_forms.proofs.read_name.Tie as tie
 
-read-number-requires : tie.Need-read-number-requires
-read-number-requires c κs = search needs
-
 returns : tie.Need-returns
 unfolding nameSpelling numberSpelling
 returns c = c .read-number .ensures
 
 pub read-name-spec : {M : Type 1} → statement M
-read-name-spec = tie.close (tie.spec read-number-requires returns)
+read-name-spec = tie.close (tie.spec (λ c κs. search needs) returns)

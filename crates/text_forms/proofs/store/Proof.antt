@@ -6,17 +6,8 @@ use lib.Seq.{set-out}
 use Rattle.text_forms.proofs.store.Statement.{statement}
 use Rattle.text_forms.proofs.store.Tie as tie
 
-mul-numbers : tie.Need-mul-numbers
-mul-numbers c = search needs
-
-element-write-numbers : tie.Need-element-write-numbers
-element-write-numbers c = search needs
-
-returns : tie.Need-returns
-returns c = search needs
-
 returns-2 : tie.Need-returns-2
 returns-2 c = sym (set-out (c .before .args .numbers .now) (c .before .args .k) (c .before .args .n) (omega (arith, c .if1 .left, c .before .pre)))
 
 pub store-spec : {M : Type 1} → statement M
-store-spec = tie.close (tie.spec mul-numbers element-write-numbers returns returns-2)
+store-spec = tie.close (tie.spec (λ c. search needs) (λ c. search needs) (λ c. search needs) returns-2)

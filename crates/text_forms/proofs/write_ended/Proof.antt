@@ -18,20 +18,11 @@ sub-write-word c = let a = c .before .before .before .before .before .before .ar
 part-write-word-start : tie.Need-part-write-word-start
 part-write-word-start c = let a = c .before .before .before .before .before .before .args in let s = a .word .now ++ decimal (a .n) in let t : List ℕ = 10 ∷ [] in omega (arith, inside s (a .out .now) (c .before .before .write-worded .ensures) (omega (arith, length-append s t, c .before .before .before .before .before .before .pre)))
 
-part-write-word-end : tie.Need-part-write-word-end
-part-write-word-end c = search needs
-
-slice-aggregate-write-word : tie.Need-slice-aggregate-write-word
-slice-aggregate-write-word c = search needs
-
 write-word-requires : tie.Need-write-word-requires
 write-word-requires c κs = let a = c .before .before .before .before .before .before .before .before .args in let s = a .word .now ++ decimal (a .n) in let t : List ℕ = 10 ∷ [] in second-room s (a .out .now) (c .before .before .before .before .write-worded .ensures) t (c .before .before .before .before .before .before .before .before .pre)
 
 add-result : tie.Need-add-result
 add-result c = let a = c .before .before .before .before .before .before .before .before .before .before .before .args in let s = a .word .now ++ decimal (a .n) in let t : List ℕ = 10 ∷ [] in omega (arith, written-both s (a .out .now) (c .before .before .before .before .before .before .before .write-worded .ensures) t (c .before .before .before .before .before .before .before .before .before .before .before .pre) (c .before .before .write-word .ensures) .0, c .before .before .before .before .before .before .before .before .before .before .before .pre)
-
-same-length : tie.Need-same-length
-same-length c = search needs
 
 returns : tie.Need-returns
 returns c = let a = c .before .before .before .before .before .before .before .before .before .before .before .args in let s = a .word .now ++ decimal (a .n) in let t : List ℕ = 10 ∷ [] in written-both s (a .out .now) (c .before .before .before .before .before .before .before .write-worded .ensures) t (c .before .before .before .before .before .before .before .before .before .before .before .pre) (c .before .before .write-word .ensures)
@@ -43,9 +34,9 @@ write-ended-spec =
     write-worded-requires
     sub-write-word
     part-write-word-start
-    part-write-word-end
-    slice-aggregate-write-word
+    (λ c. search needs)
+    (λ c. search needs)
     write-word-requires
     add-result
-    same-length
+    (λ c. search needs)
     returns)

@@ -17,27 +17,6 @@ abbrev μ-loop : tie.MeasureT-loop
 loop-holds : tie.Need-loop-holds Inv-loop μ-loop
 loop-holds c = writing-start (c .before .before .before .args .form .now) (c .before .before .before .args .numbers .now) (c .before .before .before .args .out .now) (c .before .before .before .pre)
 
-shared-slice-read-c : tie.Need-shared-slice-read-c Inv-loop μ-loop
-shared-slice-read-c c = search needs
-
-add-i : tie.Need-add-i Inv-loop μ-loop
-add-i c = search needs
-
-is-mark-requires : tie.Need-is-mark-requires Inv-loop μ-loop
-is-mark-requires c κs = search needs
-
-number-at-requires : tie.Need-number-at-requires Inv-loop μ-loop
-number-at-requires c κs = search needs
-
-sub-write-mark : tie.Need-sub-write-mark Inv-loop μ-loop
-sub-write-mark c = search needs
-
-part-write-mark-start : tie.Need-part-write-mark-start Inv-loop μ-loop
-part-write-mark-start c = search needs
-
-part-write-mark-end : tie.Need-part-write-mark-end Inv-loop μ-loop
-part-write-mark-end c = search needs
-
 write-mark-requires : tie.Need-write-mark-requires Inv-loop μ-loop
 write-mark-requires c κs = mark-fits (c .before .before .before .before .before .before .before .before .before .before .args .form .now) (c .before .before .before .before .before .before .before .before .before .before .args .numbers .now) (c .before .before .before .before .before .before .before .before .before .before .args .out .now) (c .before .before .before .before .before .before .loop .out) (c .before .before .before .before .before .before .loop .at) (c .before .before .before .before .before .before .loop .i) (c .before .before .before .before .before .before .loop .k) (c .before .before .before .before .before .before .loop .inv) (c .before .before .before .before .before .loop-test .taken) (sym (c .before .before .before .is-mark .ensures) ∙ c .before .before .if1 .taken) (c .before .number-at .ensures)
 
@@ -47,9 +26,6 @@ add-at c = let w = writing-mark (c .before .before .before .before .before .befo
 add-k : tie.Need-add-k Inv-loop μ-loop
 add-k c = omega (arith, c .before .before .before .before .before .before .before .before .before .loop .inv .within, c .before .before .before .before .before .before .before .before .before .loop .inv .used, c .before .before .before .before .before .before .before .before .loop-test .taken)
 
-loop-less : tie.Need-loop-less Inv-loop μ-loop
-loop-less c = search needs
-
 loop-again : tie.Need-loop-again Inv-loop μ-loop
 loop-again c = writing-mark (c .before .before .before .before .before .before .before .before .before .before .before .before .before .args .form .now) (c .before .before .before .before .before .before .before .before .before .before .before .before .before .args .numbers .now) (c .before .before .before .before .before .before .before .before .before .before .before .before .before .args .out .now) (c .before .before .before .before .before .before .before .before .before .loop .out) (c .before .before .before .before .before .before .before .before .before .loop .at) (c .before .before .before .before .before .before .before .before .before .loop .i) (c .before .before .before .before .before .before .before .before .before .loop .k) (c .before .before .before .before .before .before .before .before .before .loop .inv) (c .before .before .before .before .before .before .before .before .loop-test .taken) (sym (c .before .before .before .before .before .before .is-mark .ensures) ∙ c .before .before .before .before .before .if1 .taken) (c .before .before .before .before .number-at .ensures) (c .before .before .write-mark .ensures)
 
@@ -58,9 +34,6 @@ slice-write-out c = byte-room (c .before .before .before .before .before .before
 
 add-at-2 : tie.Need-add-at-2 Inv-loop μ-loop
 add-at-2 c = omega (arith, byte-room (c .before .before .before .before .before .before .before .before .args .form .now) (c .before .before .before .before .before .before .before .before .args .numbers .now) (c .before .before .before .before .before .before .before .before .args .out .now) (c .before .before .before .before .loop .out) (c .before .before .before .before .loop .at) (c .before .before .before .before .loop .i) (c .before .before .before .before .loop .k) (c .before .before .before .before .loop .inv) (c .before .before .before .loop-test .taken) (sym (c .before .is-mark .ensures) ∙ c .if1 .left))
-
-loop-less-2 : tie.Need-loop-less-2 Inv-loop μ-loop
-loop-less-2 c = search needs
 
 loop-again-2 : tie.Need-loop-again-2 Inv-loop μ-loop
 loop-again-2 c = writing-byte (c .before .before .before .before .before .before .before .before .args .form .now) (c .before .before .before .before .before .before .before .before .args .numbers .now) (c .before .before .before .before .before .before .before .before .args .out .now) (c .before .before .before .before .loop .out) (c .before .before .before .before .loop .at) (c .before .before .before .before .loop .i) (c .before .before .before .before .loop .k) (c .before .before .before .before .loop .inv) (c .before .before .before .loop-test .taken) (sym (c .before .is-mark .ensures) ∙ c .if1 .left)
@@ -78,21 +51,21 @@ write-form-spec =
     Inv-loop
     μ-loop
     loop-holds
-    shared-slice-read-c
-    add-i
-    is-mark-requires
-    number-at-requires
-    sub-write-mark
-    part-write-mark-start
-    part-write-mark-end
+    (λ c. search needs)
+    (λ c. search needs)
+    (λ c κs. search needs)
+    (λ c κs. search needs)
+    (λ c. search needs)
+    (λ c. search needs)
+    (λ c. search needs)
     write-mark-requires
     add-at
     add-k
-    loop-less
+    (λ c. search needs)
     loop-again
     slice-write-out
     add-at-2
-    loop-less-2
+    (λ c. search needs)
     loop-again-2
     same-length
     returns)

@@ -15,20 +15,11 @@ write-number-requires : tie.Need-write-number-requires
 unfolding numberSpelling
 write-number-requires c κs = fits-as (c .before .before .before .args .mark) (c .before .before .before .args .n) (spells-numbers (c .before .before .before .args .mark) (c .before .match .rest .0 .1) (c .before .match .rest .1)) (c .before .before .before .args .out .now) (c .before .before .before .pre)
 
-same-length : tie.Need-same-length
-same-length c = search needs
-
 returns : tie.Need-returns
 returns c = written-as (c .before .before .before .before .before .before .args .mark) (c .before .before .before .before .before .before .args .n) (spells-answers (c .before .before .before .before .before .before .args .mark) (c .before .before .before .before .match .keys1)) (c .before .before .before .before .before .before .args .out .now) (c .before .before .write-answer .ensures)
 
-same-length-2 : tie.Need-same-length-2
-same-length-2 c = search needs
-
 returns-2 : tie.Need-returns-2
 returns-2 c = written-as (c .before .before .before .before .before .before .args .mark) (c .before .before .before .before .before .before .args .n) (spells-names (c .before .before .before .before .before .before .args .mark) (c .before .before .before .before .match .keys2)) (c .before .before .before .before .before .before .args .out .now) (c .before .before .write-name .ensures)
-
-same-length-3 : tie.Need-same-length-3
-same-length-3 c = search needs
 
 returns-3 : tie.Need-returns-3
 unfolding numberSpelling
@@ -41,9 +32,9 @@ write-mark-spec =
     write-answer-requires
     write-name-requires
     write-number-requires
-    same-length
+    (λ c. search needs)
     returns
-    same-length-2
+    (λ c. search needs)
     returns-2
-    same-length-3
+    (λ c. search needs)
     returns-3)

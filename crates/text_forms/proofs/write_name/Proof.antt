@@ -8,12 +8,9 @@ write-number-requires : tie.Need-write-number-requires
 unfolding nameSpelling numberSpelling
 write-number-requires c κs = c .before .before .pre
 
-same-length : tie.Need-same-length
-same-length c = search needs
-
 returns : tie.Need-returns
 unfolding nameSpelling numberSpelling
 returns c = c .before .before .write-number .ensures
 
 pub write-name-spec : {M : Type 1} → statement M
-write-name-spec = tie.close (tie.spec write-number-requires same-length returns)
+write-name-spec = tie.close (tie.spec write-number-requires (λ c. search needs) returns)

@@ -16,17 +16,11 @@ sub-write-number c = let a = c .before .before .before .before .before .before .
 part-write-number-start : tie.Need-part-write-number-start
 part-write-number-start c = let a = c .before .before .before .before .before .before .args in let s = a .word .now in let t = decimal (a .n) in omega (arith, inside s (a .out .now) (c .before .before .write-word .ensures) (omega (arith, length-append s t, c .before .before .before .before .before .before .pre)))
 
-part-write-number-end : tie.Need-part-write-number-end
-part-write-number-end c = search needs
-
 write-number-requires : tie.Need-write-number-requires
 write-number-requires c κs = let a = c .before .before .before .before .before .before .before .args in let s = a .word .now in let t = decimal (a .n) in second-room s (a .out .now) (c .before .before .before .write-word .ensures) t (c .before .before .before .before .before .before .before .pre)
 
 add-result : tie.Need-add-result
 add-result c = let a = c .before .before .before .before .before .before .before .before .before .before .args in let s = a .word .now in let t = decimal (a .n) in omega (arith, written-both s (a .out .now) (c .before .before .before .before .before .before .write-word .ensures) t (c .before .before .before .before .before .before .before .before .before .before .pre) (c .before .before .write-number .ensures) .0, c .before .before .before .before .before .before .before .before .before .before .pre)
-
-same-length : tie.Need-same-length
-same-length c = search needs
 
 returns : tie.Need-returns
 returns c = let a = c .before .before .before .before .before .before .before .before .before .before .args in let s = a .word .now in let t = decimal (a .n) in written-both s (a .out .now) (c .before .before .before .before .before .before .write-word .ensures) t (c .before .before .before .before .before .before .before .before .before .before .pre) (c .before .before .write-number .ensures)
@@ -38,8 +32,8 @@ write-worded-spec =
     write-word-requires
     sub-write-number
     part-write-number-start
-    part-write-number-end
+    (λ c. search needs)
     write-number-requires
     add-result
-    same-length
+    (λ c. search needs)
     returns)

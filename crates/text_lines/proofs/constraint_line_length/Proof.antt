@@ -9,30 +9,6 @@ use Rattle.text_lines.proofs.Puts.{constraint-line-is, words-length, ru
 use Rattle.text_lines.proofs.constraint_line_length.Statement.{statement}
 use Rattle.text_lines.proofs.constraint_line_length.Tie as tie
 
-array-read-wide32 : tie.Need-array-read-wide32
-array-read-wide32 c = search needs
-
-wide32-requires : tie.Need-wide32-requires
-wide32-requires c κs = search needs
-
-array-read-wide32-2 : tie.Need-array-read-wide32-2
-array-read-wide32-2 c = search needs
-
-wide32-requires-2 : tie.Need-wide32-requires-2
-wide32-requires-2 c κs = search needs
-
-array-read-rule : tie.Need-array-read-rule
-array-read-rule c = search needs
-
-pair-length-requires : tie.Need-pair-length-requires
-pair-length-requires c κs = search needs
-
-pair-length-requires-2 : tie.Need-pair-length-requires-2
-pair-length-requires-2 c κs = search needs
-
-pair-length-requires-3 : tie.Need-pair-length-requires-3
-pair-length-requires-3 c κs = search needs
-
 returns : tie.Need-returns
 unfolding bytes
 returns c = let a = c .before .before .before .before .args in words-length (bytes "left=") (bytes " rule=notafter right=") (c .before .before .before .wide32 .result) (c .before .before .wide322 .result) (constraint-line-is (a .t1) (ruleForm 0) (ap ruleForm (c .before .match .keys1)) (c .before .before .before .wide32 .ensures) (c .before .before .wide322 .ensures) ∙ rule-words _ _ 0) refl (c .pair-length .ensures .0)
@@ -49,14 +25,14 @@ pub constraint-line-length-spec : {M : Type 1} → statement M
 constraint-line-length-spec =
     tie.close
     (tie.spec
-    array-read-wide32
-    wide32-requires
-    array-read-wide32-2
-    wide32-requires-2
-    array-read-rule
-    pair-length-requires
-    pair-length-requires-2
-    pair-length-requires-3
+    (λ c. search needs)
+    (λ c κs. search needs)
+    (λ c. search needs)
+    (λ c κs. search needs)
+    (λ c. search needs)
+    (λ c κs. search needs)
+    (λ c κs. search needs)
+    (λ c κs. search needs)
     returns
     returns-2
     returns-3)

@@ -10,39 +10,6 @@ use Rattle.text_lines.proofs.Puts.{line-length-as, edit-line-is, words-
 use Rattle.text_lines.proofs.edit_line_length.Statement.{statement}
 use Rattle.text_lines.proofs.edit_line_length.Tie as tie
 
-array-read-wide32 : tie.Need-array-read-wide32
-array-read-wide32 c = search needs
-
-wide32-requires : tie.Need-wide32-requires
-wide32-requires c κs = search needs
-
-array-read-wide32-2 : tie.Need-array-read-wide32-2
-array-read-wide32-2 c = search needs
-
-wide32-requires-2 : tie.Need-wide32-requires-2
-wide32-requires-2 c κs = search needs
-
-array-read-kind : tie.Need-array-read-kind
-array-read-kind c = search needs
-
-pair-length-requires : tie.Need-pair-length-requires
-pair-length-requires c κs = search needs
-
-array-read-set-length : tie.Need-array-read-set-length
-array-read-set-length c = search needs
-
-array-read-wide32-3 : tie.Need-array-read-wide32-3
-array-read-wide32-3 c = search needs
-
-wide32-requires-3 : tie.Need-wide32-requires-3
-wide32-requires-3 c κs = search needs
-
-set-length-requires : tie.Need-set-length-requires
-set-length-requires c κs = search needs
-
-pair-length-requires-2 : tie.Need-pair-length-requires-2
-pair-length-requires-2 c κs = search needs
-
 returns : tie.Need-returns
 unfolding bytes
 returns c = let a = c .before .before .before .before .args in words-length (bytes "edit=") (bytes " do=insert chip=") (c .before .before .before .wide32 .result) (c .before .before .wide322 .result) (edit-line-is (a .t1) (editForm 0 (getD (a .t1) 3 0)) (ap (λ (k : ℕ). editForm k (getD (a .t1) 3 0)) (c .before .match .keys1)) (c .before .before .before .wide32 .ensures) (c .before .before .wide322 .ensures) refl ∙ insert-words _ _ _ _) refl (c .pair-length .ensures .0)
@@ -59,17 +26,17 @@ pub edit-line-length-spec : {M : Type 1} → statement M
 edit-line-length-spec =
     tie.close
     (tie.spec
-    array-read-wide32
-    wide32-requires
-    array-read-wide32-2
-    wide32-requires-2
-    array-read-kind
-    pair-length-requires
-    array-read-set-length
-    array-read-wide32-3
-    wide32-requires-3
-    set-length-requires
-    pair-length-requires-2
+    (λ c. search needs)
+    (λ c κs. search needs)
+    (λ c. search needs)
+    (λ c κs. search needs)
+    (λ c. search needs)
+    (λ c κs. search needs)
+    (λ c. search needs)
+    (λ c. search needs)
+    (λ c κs. search needs)
+    (λ c κs. search needs)
+    (λ c κs. search needs)
     returns
     returns-2
     returns-3)

@@ -10,18 +10,6 @@ use Rattle.text_lines.proofs.Puts.{fill-as, words-length, field-words}
 use Rattle.text_lines.proofs.field_length.Statement.{statement}
 use Rattle.text_lines.proofs.field_length.Tie as tie
 
-pair-length-requires : tie.Need-pair-length-requires
-pair-length-requires c κs = search needs
-
-pair-length-requires-2 : tie.Need-pair-length-requires-2
-pair-length-requires-2 c κs = search needs
-
-pair-length-requires-3 : tie.Need-pair-length-requires-3
-pair-length-requires-3 c κs = search needs
-
-pair-length-requires-4 : tie.Need-pair-length-requires-4
-pair-length-requires-4 c κs = search needs
-
 returns : tie.Need-returns
 unfolding bytes
 returns c = let a = c .before .before .args in (words-length (bytes " do=set chip=") (bytes " field=id value=") (a .place) (a .value) (fill-as _ _ _ (ap (λ (field : ℕ). drop 6 (setForm field)) (c .before .match .keys1)) ∙ field-words _ _ 0) refl (c .pair-length .ensures .0), c .pair-length .ensures .1)
@@ -42,10 +30,10 @@ pub field-length-spec : {M : Type 1} → statement M
 field-length-spec =
     tie.close
     (tie.spec
-    pair-length-requires
-    pair-length-requires-2
-    pair-length-requires-3
-    pair-length-requires-4
+    (λ c κs. search needs)
+    (λ c κs. search needs)
+    (λ c κs. search needs)
+    (λ c κs. search needs)
     returns
     returns-2
     returns-3

@@ -8,21 +8,6 @@ use Rattle.text_forms.specs.Spelling.{bytes}
 use Rattle.text_lines.proofs.fill_edit.Statement.{statement}
 use Rattle.text_lines.proofs.fill_edit.Tie as tie
 
-slice-aggregate-read-form : tie.Need-slice-aggregate-read-form
-slice-aggregate-read-form c = search needs
-
-read-form-requires : tie.Need-read-form-requires
-read-form-requires c κs = search needs
-
-fill-set-requires : tie.Need-fill-set-requires
-fill-set-requires c κs = search needs
-
-slice-aggregate-read-form-2 : tie.Need-slice-aggregate-read-form-2
-slice-aggregate-read-form-2 c = search needs
-
-read-form-requires-2 : tie.Need-read-form-requires-2
-read-form-requires-2 c κs = search needs
-
 returns : tie.Need-returns
 unfolding editForm bytes
 returns c = filled-as (editForm (c .before .before .before .before .args .kind) (c .before .before .before .before .args .field)) (editForm 0 (c .before .before .before .before .args .field)) (c .before .before .before .before .args .bytes .now) (ap (λ (k : ℕ). editForm k (c .before .before .before .before .args .field)) (c .before .before .match .keys1)) (c .read-form .ensures)
@@ -39,11 +24,11 @@ pub fill-edit-spec : {M : Type 1} → statement M
 fill-edit-spec =
     tie.close
     (tie.spec
-    slice-aggregate-read-form
-    read-form-requires
-    fill-set-requires
-    slice-aggregate-read-form-2
-    read-form-requires-2
+    (λ c. search needs)
+    (λ c κs. search needs)
+    (λ c κs. search needs)
+    (λ c. search needs)
+    (λ c κs. search needs)
     returns
     returns-2
     returns-3)

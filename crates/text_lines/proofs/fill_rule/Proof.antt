@@ -7,24 +7,6 @@ use Rattle.text_forms.specs.Spelling.{bytes}
 use Rattle.text_lines.proofs.fill_rule.Statement.{statement}
 use Rattle.text_lines.proofs.fill_rule.Tie as tie
 
-slice-aggregate-read-form : tie.Need-slice-aggregate-read-form
-slice-aggregate-read-form c = search needs
-
-read-form-requires : tie.Need-read-form-requires
-read-form-requires c κs = search needs
-
-slice-aggregate-read-form-2 : tie.Need-slice-aggregate-read-form-2
-slice-aggregate-read-form-2 c = search needs
-
-read-form-requires-2 : tie.Need-read-form-requires-2
-read-form-requires-2 c κs = search needs
-
-slice-aggregate-read-form-3 : tie.Need-slice-aggregate-read-form-3
-slice-aggregate-read-form-3 c = search needs
-
-read-form-requires-3 : tie.Need-read-form-requires-3
-read-form-requires-3 c κs = search needs
-
 returns : tie.Need-returns
 unfolding ruleForm bytes
 returns c = filled-as (ruleForm (c .before .before .before .before .args .rule)) (ruleForm 0) (c .before .before .before .before .args .bytes .now) (ap ruleForm (c .before .before .match .keys1)) (c .read-form .ensures)
@@ -41,12 +23,12 @@ pub fill-rule-spec : {M : Type 1} → statement M
 fill-rule-spec =
     tie.close
     (tie.spec
-    slice-aggregate-read-form
-    read-form-requires
-    slice-aggregate-read-form-2
-    read-form-requires-2
-    slice-aggregate-read-form-3
-    read-form-requires-3
+    (λ c. search needs)
+    (λ c κs. search needs)
+    (λ c. search needs)
+    (λ c κs. search needs)
+    (λ c. search needs)
+    (λ c κs. search needs)
     returns
     returns-2
     returns-3)

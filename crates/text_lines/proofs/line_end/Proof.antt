@@ -17,20 +17,8 @@ abbrev μ-loop : tie.MeasureT-loop
 loop-holds : tie.Need-loop-holds Inv-loop μ-loop
 loop-holds c = refl
 
-shared-slice-read-if1 : tie.Need-shared-slice-read-if1 Inv-loop μ-loop
-shared-slice-read-if1 c = search needs
-
-add-result : tie.Need-add-result Inv-loop μ-loop
-add-result c = search needs
-
 returns : tie.Need-returns Inv-loop μ-loop
 returns c = sym (c .before .before .before .loop .inv ∙ end-here (c .before .before .before .before .args .bytes .now) (c .before .before .before .loop .i) (c .before .before .loop-test .taken) (c .if1 .taken))
-
-add-i : tie.Need-add-i Inv-loop μ-loop
-add-i c = search needs
-
-loop-less : tie.Need-loop-less Inv-loop μ-loop
-loop-less c = search needs
 
 loop-again : tie.Need-loop-again Inv-loop μ-loop
 loop-again c = c .before .before .before .loop .inv ∙ end-later (c .before .before .before .before .args .bytes .now) (c .before .before .before .loop .i) (c .before .before .loop-test .taken) (c .if1 .left)
@@ -45,10 +33,10 @@ line-end-spec =
     Inv-loop
     μ-loop
     loop-holds
-    shared-slice-read-if1
-    add-result
+    (λ c. search needs)
+    (λ c. search needs)
     returns
-    add-i
-    loop-less
+    (λ c. search needs)
+    (λ c. search needs)
     loop-again
     returns-2)

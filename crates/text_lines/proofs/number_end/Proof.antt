@@ -8,18 +8,6 @@ use Rattle.text_lines.proofs.number_end.Tie as tie
 returns : tie.Need-returns
 returns c = no-number (c .before .before .args .bytes .now) (c .before .before .args .from) (c .if1 .taken)
 
-sub-read-number : tie.Need-sub-read-number
-sub-read-number c = search needs
-
-part-read-number-start : tie.Need-part-read-number-start
-part-read-number-start c = search needs
-
-part-read-number-end : tie.Need-part-read-number-end
-part-read-number-end c = search needs
-
-read-number-requires : tie.Need-read-number-requires
-read-number-requires c κs = search needs
-
 add-result : tie.Need-add-result
 add-result c = let h = c .before .before .before .if1 .left in let s = c .before .before .before .before .before in omega (arith, number-inside (s .args .bytes .now) (s .args .from) (c .before .read-number .ensures) (omega arith))
 
@@ -31,9 +19,9 @@ number-end-spec =
     tie.close
     (tie.spec
     returns
-    sub-read-number
-    part-read-number-start
-    part-read-number-end
-    read-number-requires
+    (λ c. search needs)
+    (λ c. search needs)
+    (λ c. search needs)
+    (λ c κs. search needs)
     add-result
     returns-2)

@@ -5,14 +5,8 @@ use Rattle.text_forms.proofs.decimal.Laws.{decimal-twenty}
 use Rattle.text_lines.proofs.pair_length.Statement.{statement}
 use Rattle.text_lines.proofs.pair_length.Tie as tie
 
-number-length-requires : tie.Need-number-length-requires
-number-length-requires c κs = search needs
-
 add-result : tie.Need-add-result
 add-result c = let s = c .before in omega (arith, decimal-twenty (s .args .m) (s .fits .m .fits), decimal-twenty (s .args .n) (s .fits .n .fits), c .number-length .ensures, s .pre)
-
-number-length-requires-2 : tie.Need-number-length-requires-2
-number-length-requires-2 c κs = search needs
 
 add-result-2 : tie.Need-add-result-2
 add-result-2 c = let s = c .before .before in omega (arith, decimal-twenty (s .args .m) (s .fits .m .fits), decimal-twenty (s .args .n) (s .fits .n .fits), c .before .number-length .ensures, c .number-length2 .ensures, s .pre)
@@ -24,8 +18,8 @@ pub pair-length-spec : {M : Type 1} → statement M
 pair-length-spec =
     tie.close
     (tie.spec
-    number-length-requires
+    (λ c κs. search needs)
     add-result
-    number-length-requires-2
+    (λ c κs. search needs)
     add-result-2
     returns)

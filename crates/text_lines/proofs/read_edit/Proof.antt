@@ -6,26 +6,11 @@ use Rattle.text_lines.proofs.Says.{is-insert, is-remove, no-kind}
 use Rattle.text_lines.proofs.read_edit.Statement.{statement}
 use Rattle.text_lines.proofs.read_edit.Tie as tie
 
-number-end-requires : tie.Need-number-end-requires
-number-end-requires c κs = search needs
-
 add-byte-at : tie.Need-add-byte-at
 add-byte-at c = omega (arith, c .before .before .pre .0, c .number-end .ensures .1)
 
-byte-at-requires : tie.Need-byte-at-requires
-byte-at-requires c κs = search needs
-
-read-edit-as-requires : tie.Need-read-edit-as-requires
-read-edit-as-requires c κs = search needs
-
-read-edit-as-requires-2 : tie.Need-read-edit-as-requires-2
-read-edit-as-requires-2 c κs = search needs
-
 read-set-requires : tie.Need-read-set-requires
 read-set-requires c κs = (c .before .before .before .before .pre .0, c .before .before .number-end .ensures .0, c .before .before .before .before .pre .1, sym (c .before .byte-at .ensures) ∙ c .match .keys3)
-
-fault-requires : tie.Need-fault-requires
-fault-requires c κs = search needs
 
 returns : tie.Need-returns
 returns c = is-insert (c .before .before .before .before .before .args .bytes .now) (c .before .before .before .number-end .result) (c .before .before .before .before .before .pre .1) (c .before .before .before .number-end .ensures .0) (c .before .before .byte-at .ensures) (c .before .match .keys1) (c .read-edit-as .ensures)
@@ -43,13 +28,13 @@ pub read-edit-spec : {M : Type 1} → statement M
 read-edit-spec =
     tie.close
     (tie.spec
-    number-end-requires
+    (λ c κs. search needs)
     add-byte-at
-    byte-at-requires
-    read-edit-as-requires
-    read-edit-as-requires-2
+    (λ c κs. search needs)
+    (λ c κs. search needs)
+    (λ c κs. search needs)
     read-set-requires
-    fault-requires
+    (λ c κs. search needs)
     returns
     returns-2
     returns-3

@@ -5,23 +5,14 @@ use Rattle.text_lines.proofs.Says.{too-long, whole, no-line}
 use Rattle.text_lines.proofs.read_line.Statement.{statement}
 use Rattle.text_lines.proofs.read_line.Tie as tie
 
-fault-requires : tie.Need-fault-requires
-fault-requires c κs = search needs
-
 returns : tie.Need-returns
 returns c = too-long (c .before .before .before .args .bytes .now) (c .before .if1 .taken) (c .fault .ensures)
-
-byte-at-requires : tie.Need-byte-at-requires
-byte-at-requires c κs = search needs
 
 read-edit-requires : tie.Need-read-edit-requires
 read-edit-requires c κs = (c .before .before .if1 .left, sym (c .before .byte-at .ensures) ∙ c .match .keys1)
 
 read-rule-requires : tie.Need-read-rule-requires
 read-rule-requires c κs = (c .before .before .if1 .left, sym (c .before .byte-at .ensures) ∙ c .match .keys2)
-
-fault-requires-2 : tie.Need-fault-requires-2
-fault-requires-2 c κs = search needs
 
 returns-2 : tie.Need-returns-2
 returns-2 c = whole (c .before .before .before .before .before .args .bytes .now) (c .before .before .before .if1 .left) (c .read-edit .ensures)
@@ -36,12 +27,12 @@ pub read-line-spec : {M : Type 1} → statement M
 read-line-spec =
     tie.close
     (tie.spec
-    fault-requires
+    (λ c κs. search needs)
     returns
-    byte-at-requires
+    (λ c κs. search needs)
     read-edit-requires
     read-rule-requires
-    fault-requires-2
+    (λ c κs. search needs)
     returns-2
     returns-3
     returns-4)

@@ -6,26 +6,8 @@ use Rattle.text_lines.proofs.Says.{is-rule, no-rule}
 use Rattle.text_lines.proofs.read_rule.Statement.{statement}
 use Rattle.text_lines.proofs.read_rule.Tie as tie
 
-number-end-requires : tie.Need-number-end-requires
-number-end-requires c κs = search needs
-
 add-byte-at : tie.Need-add-byte-at
 add-byte-at c = omega (arith, c .before .before .pre .0, c .number-end .ensures .1)
-
-byte-at-requires : tie.Need-byte-at-requires
-byte-at-requires c κs = search needs
-
-read-rule-as-requires : tie.Need-read-rule-as-requires
-read-rule-as-requires c κs = search needs
-
-read-rule-as-requires-2 : tie.Need-read-rule-as-requires-2
-read-rule-as-requires-2 c κs = search needs
-
-read-rule-as-requires-3 : tie.Need-read-rule-as-requires-3
-read-rule-as-requires-3 c κs = search needs
-
-fault-requires : tie.Need-fault-requires
-fault-requires c κs = search needs
 
 returns : tie.Need-returns
 returns c = is-rule (c .before .before .before .before .before .args .bytes .now) (c .before .before .before .number-end .result) (c .before .before .before .before .before .pre .1) (c .before .before .before .number-end .ensures .0) (c .before .before .byte-at .ensures) 0 refl (c .before .match .keys1) (c .read-rule-as .ensures)
@@ -43,13 +25,13 @@ pub read-rule-spec : {M : Type 1} → statement M
 read-rule-spec =
     tie.close
     (tie.spec
-    number-end-requires
+    (λ c κs. search needs)
     add-byte-at
-    byte-at-requires
-    read-rule-as-requires
-    read-rule-as-requires-2
-    read-rule-as-requires-3
-    fault-requires
+    (λ c κs. search needs)
+    (λ c κs. search needs)
+    (λ c κs. search needs)
+    (λ c κs. search needs)
+    (λ c κs. search needs)
     returns
     returns-2
     returns-3

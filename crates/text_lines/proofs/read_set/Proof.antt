@@ -10,29 +10,8 @@ use Rattle.text_lines.proofs.read_set.Tie as tie
 add-number-end : tie.Need-add-number-end
 add-number-end c = omega (arith, name-near (c .before .args .bytes .now) (c .before .args .name) (c .before .pre .0) (c .before .pre .1))
 
-number-end-requires : tie.Need-number-end-requires
-number-end-requires c κs = search needs
-
 add-byte-at : tie.Need-add-byte-at
 add-byte-at c = let s = c .before .before in omega (arith, s .pre .0, name-near (s .args .bytes .now) (s .args .name) (s .pre .0) (s .pre .1), c .number-end .ensures .1)
-
-byte-at-requires : tie.Need-byte-at-requires
-byte-at-requires c κs = search needs
-
-read-edit-as-requires : tie.Need-read-edit-as-requires
-read-edit-as-requires c κs = search needs
-
-read-edit-as-requires-2 : tie.Need-read-edit-as-requires-2
-read-edit-as-requires-2 c κs = search needs
-
-read-edit-as-requires-3 : tie.Need-read-edit-as-requires-3
-read-edit-as-requires-3 c κs = search needs
-
-read-edit-as-requires-4 : tie.Need-read-edit-as-requires-4
-read-edit-as-requires-4 c κs = search needs
-
-fault-requires : tie.Need-fault-requires
-fault-requires c κs = search needs
 
 returns : tie.Need-returns
 returns c = is-field (c .before .before .before .before .before .args .bytes .now) (c .before .before .before .before .before .args .name) (c .before .before .before .before .before .pre .2) (c .before .before .before .before .before .pre .1) (c .before .before .before .before .before .pre .3) (c .before .before .before .number-end .ensures .0) (c .before .before .byte-at .ensures) 0 refl (c .before .match .keys1) (c .read-edit-as .ensures)
@@ -54,14 +33,14 @@ read-set-spec =
     tie.close
     (tie.spec
     add-number-end
-    number-end-requires
+    (λ c κs. search needs)
     add-byte-at
-    byte-at-requires
-    read-edit-as-requires
-    read-edit-as-requires-2
-    read-edit-as-requires-3
-    read-edit-as-requires-4
-    fault-requires
+    (λ c κs. search needs)
+    (λ c κs. search needs)
+    (λ c κs. search needs)
+    (λ c κs. search needs)
+    (λ c κs. search needs)
+    (λ c κs. search needs)
     returns
     returns-2
     returns-3

@@ -6,14 +6,8 @@ use Rattle.text_lines.proofs.Puts.{set-length-is}
 use Rattle.text_lines.proofs.set_length.Statement.{statement}
 use Rattle.text_lines.proofs.set_length.Tie as tie
 
-number-length-requires : tie.Need-number-length-requires
-number-length-requires c κs = search needs
-
 add-result : tie.Need-add-result
 add-result c = let s = c .before in omega (arith, decimal-twenty (s .args .name) (s .fits .name .fits), c .number-length .ensures)
-
-field-length-requires : tie.Need-field-length-requires
-field-length-requires c κs = search needs
 
 add-result-2 : tie.Need-add-result-2
 add-result-2 c = let s = c .before .before in omega (arith, decimal-twenty (s .args .name) (s .fits .name .fits), c .before .number-length .ensures, c .field-length .ensures .1)
@@ -25,8 +19,8 @@ pub set-length-spec : {M : Type 1} → statement M
 set-length-spec =
     tie.close
     (tie.spec
-    number-length-requires
+    (λ c κs. search needs)
     add-result
-    field-length-requires
+    (λ c κs. search needs)
     add-result-2
     returns)

@@ -17,17 +17,11 @@ sub-write-ended c = let a = c .before .before .before .before .before .before .b
 part-write-ended-start : tie.Need-part-write-ended-start
 part-write-ended-start c = let a = c .before .before .before .before .before .before .before .args in let s = a .first .now ++ decimal (a .m) in let t = (a .second .now ++ decimal (a .n)) ++ (10 ∷ []) in omega (arith, inside s (a .out .now) (c .before .before .write-worded .ensures) (omega (arith, length-append s t, c .before .before .before .before .before .before .before .pre)))
 
-part-write-ended-end : tie.Need-part-write-ended-end
-part-write-ended-end c = search needs
-
 write-ended-requires : tie.Need-write-ended-requires
 write-ended-requires c κs = let a = c .before .before .before .before .before .before .before .before .args in let s = a .first .now ++ decimal (a .m) in let t = (a .second .now ++ decimal (a .n)) ++ (10 ∷ []) in second-room s (a .out .now) (c .before .before .before .write-worded .ensures) t (c .before .before .before .before .before .before .before .before .pre)
 
 add-result : tie.Need-add-result
 add-result c = let a = c .before .before .before .before .before .before .before .before .before .before .before .args in let s = a .first .now ++ decimal (a .m) in let t = (a .second .now ++ decimal (a .n)) ++ (10 ∷ []) in omega (arith, written-both s (a .out .now) (c .before .before .before .before .before .before .write-worded .ensures) t (c .before .before .before .before .before .before .before .before .before .before .before .pre) (c .before .before .write-ended .ensures) .0, c .before .before .before .before .before .before .before .before .before .before .before .pre)
-
-same-length : tie.Need-same-length
-same-length c = search needs
 
 returns : tie.Need-returns
 returns c = let a = c .before .before .before .before .before .before .before .before .before .before .before .args in let s = a .first .now ++ decimal (a .m) in let t = (a .second .now ++ decimal (a .n)) ++ (10 ∷ []) in written-both s (a .out .now) (c .before .before .before .before .before .before .write-worded .ensures) t (c .before .before .before .before .before .before .before .before .before .before .before .pre) (c .before .before .write-ended .ensures)
@@ -39,8 +33,8 @@ write-pair-spec =
     write-worded-requires
     sub-write-ended
     part-write-ended-start
-    part-write-ended-end
+    (λ c. search needs)
     write-ended-requires
     add-result
-    same-length
+    (λ c. search needs)
     returns)

@@ -13,9 +13,6 @@ use Rattle.text_lines.proofs.Puts.{line-fits-as, line-written-as, set-w
 use Rattle.text_lines.proofs.write_set.Statement.{statement}
 use Rattle.text_lines.proofs.write_set.Tie as tie
 
-slice-aggregate-write-worded : tie.Need-slice-aggregate-write-worded
-slice-aggregate-write-worded c = search needs
-
 write-worded-requires : tie.Need-write-worded-requires
 unfolding bytes
 write-worded-requires c κs = let a = c .before .before .before .args in let s = bytes "edit=" ++ decimal (a .name) in let t = fill (drop 6 (setForm (a .field))) (a .place ∷ a .value ∷ []) in let h : length (s ++ t) ≤ length (a .out .now) = line-fits-as _ (s ++ t) (set-words (a .place) (a .value) (a .field) (a .name)) (a .out .now) (c .before .before .before .pre) in omega (arith, length-append s t, h)
@@ -28,9 +25,6 @@ part-write-field-start : tie.Need-part-write-field-start
 unfolding bytes
 part-write-field-start c = let a = c .before .before .before .before .before .before .args in let s = bytes "edit=" ++ decimal (a .name) in let t = fill (drop 6 (setForm (a .field))) (a .place ∷ a .value ∷ []) in let h : length (s ++ t) ≤ length (a .out .now) = line-fits-as _ (s ++ t) (set-words (a .place) (a .value) (a .field) (a .name)) (a .out .now) (c .before .before .before .before .before .before .pre) in omega (arith, inside s (a .out .now) (c .before .before .write-worded .ensures) (omega (arith, length-append s t, h)))
 
-part-write-field-end : tie.Need-part-write-field-end
-part-write-field-end c = search needs
-
 write-field-requires : tie.Need-write-field-requires
 unfolding bytes
 write-field-requires c κs = let a = c .before .before .before .before .before .before .before .args in let s = bytes "edit=" ++ decimal (a .name) in let t = fill (drop 6 (setForm (a .field))) (a .place ∷ a .value ∷ []) in let h : length (s ++ t) ≤ length (a .out .now) = line-fits-as _ (s ++ t) (set-words (a .place) (a .value) (a .field) (a .name)) (a .out .now) (c .before .before .before .before .before .before .before .pre) in second-room s (a .out .now) (c .before .before .before .write-worded .ensures) t h
@@ -38,9 +32,6 @@ write-field-requires c κs = let a = c .before .before .before .before .before .
 add-result : tie.Need-add-result
 unfolding bytes
 add-result c = let a = c .before .before .before .before .before .before .before .before .before .before .args in let s = bytes "edit=" ++ decimal (a .name) in let t = fill (drop 6 (setForm (a .field))) (a .place ∷ a .value ∷ []) in let h : length (s ++ t) ≤ length (a .out .now) = line-fits-as _ (s ++ t) (set-words (a .place) (a .value) (a .field) (a .name)) (a .out .now) (c .before .before .before .before .before .before .before .before .before .before .pre) in omega (arith, written-both s (a .out .now) (c .before .before .before .before .before .before .write-worded .ensures) t h (c .before .before .write-field .ensures) .0, h)
-
-same-length : tie.Need-same-length
-same-length c = search needs
 
 returns : tie.Need-returns
 unfolding bytes
@@ -50,12 +41,12 @@ pub write-set-spec : {M : Type 1} → statement M
 write-set-spec =
     tie.close
     (tie.spec
-    slice-aggregate-write-worded
+    (λ c. search needs)
     write-worded-requires
     sub-write-field
     part-write-field-start
-    part-write-field-end
+    (λ c. search needs)
     write-field-requires
     add-result
-    same-length
+    (λ c. search needs)
     returns)

@@ -7,26 +7,11 @@ use borrow.Author.Needs.{needs}
 use Rattle.text_reader.proofs.edit_row_fault.Statement.{statement}
 use Rattle.text_reader.proofs.edit_row_fault.Tie as tie
 
-mul-row : tie.Need-mul-row
-mul-row c = search needs
-
-shared-slice-copy-out-row : tie.Need-shared-slice-copy-out-row
-shared-slice-copy-out-row c = search needs
-
-edit-in-range-requires : tie.Need-edit-in-range-requires
-edit-in-range-requires c κs = search needs
-
 returns : tie.Need-returns
 returns c = λ a. let s = c .before .before .before in alone-range editKind (s .args .t .now) (s .args .n) (s .pre) (c .before .edit-in-range .ensures .0) (not-true _ (c .if1 .taken))
 
-edit-no-place-requires : tie.Need-edit-no-place-requires
-edit-no-place-requires c κs = search needs
-
 returns-2 : tie.Need-returns-2
 returns-2 c = λ a. let s = c .before .before .before .before .before in alone-place editKind (s .args .t .now) (s .args .n) (s .pre) a (c .before .before .before .edit-in-range .ensures .0) (not-false _ (c .before .before .if1 .left)) (c .before .edit-no-place .ensures) (c .if2 .taken)
-
-edit-follows-requires : tie.Need-edit-follows-requires
-edit-follows-requires c κs = search needs
 
 returns-3 : tie.Need-returns-3
 returns-3 c = λ a. let s = c .before .before .before .before .before .before .before in alone-follows editKind (s .args .t .now) (s .args .n) (s .pre) a (c .before .before .before .before .before .edit-in-range .ensures .0) (not-false _ (c .before .before .before .before .if1 .left)) (c .before .before .before .edit-no-place .ensures) (c .before .before .if2 .left) refl (c .before .edit-follows .ensures a) (c .if3 .taken)
@@ -38,12 +23,12 @@ pub edit-row-fault-spec : {M : Type 1} → statement M
 edit-row-fault-spec =
     tie.close
     (tie.spec
-    mul-row
-    shared-slice-copy-out-row
-    edit-in-range-requires
+    (λ c. search needs)
+    (λ c. search needs)
+    (λ c κs. search needs)
     returns
-    edit-no-place-requires
+    (λ c κs. search needs)
     returns-2
-    edit-follows-requires
+    (λ c κs. search needs)
     returns-3
     returns-4)

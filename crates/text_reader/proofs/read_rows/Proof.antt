@@ -15,14 +15,8 @@ Inv-loop text edits₀ constraints₀ marks₀ n₀ m₀ at₀ edits constraints
 abbrev μ-loop : tie.MeasureT-loop
 μ-loop text edits₀ constraints₀ marks₀ n₀ m₀ at₀ edits constraints marks n m at = length text - at
 
-array-write-marks : tie.Need-array-write-marks Inv-loop μ-loop
-array-write-marks c = search needs
-
 loop-holds : tie.Need-loop-holds Inv-loop μ-loop
 loop-holds c = upto-start (c .before .args .text .now)
-
-line-end-requires : tie.Need-line-end-requires Inv-loop μ-loop
-line-end-requires c κs = search needs
 
 sub-read-line : tie.Need-sub-read-line Inv-loop μ-loop
 sub-read-line c = let l = c .before .before .loop in let x = next-line (c .before .before .before .before .args .text .now) (l .at) (c .before .loop-test .taken) (c .line-end .ensures) in omega (arith, x .forward)
@@ -33,18 +27,6 @@ part-read-line-start c = let l = c .before .before .loop in let x = next-line (c
 part-read-line-end : tie.Need-part-read-line-end Inv-loop μ-loop
 part-read-line-end c = let l = c .before .before .loop in let x = next-line (c .before .before .before .before .args .text .now) (l .at) (c .before .loop-test .taken) (c .line-end .ensures) in omega (arith, x .inside)
 
-read-line-requires : tie.Need-read-line-requires Inv-loop μ-loop
-read-line-requires c κs = search needs
-
-slice-aggregate-take-line : tie.Need-slice-aggregate-take-line Inv-loop μ-loop
-slice-aggregate-take-line c = search needs
-
-slice-aggregate-take-line-2 : tie.Need-slice-aggregate-take-line-2 Inv-loop μ-loop
-slice-aggregate-take-line-2 c = search needs
-
-slice-aggregate-take-line-3 : tie.Need-slice-aggregate-take-line-3 Inv-loop μ-loop
-slice-aggregate-take-line-3 c = search needs
-
 take-line-requires : tie.Need-take-line-requires Inv-loop μ-loop
 take-line-requires c κs = (c .before .before .before .before .before .before .before .loop .inv .edits-held, c .before .before .before .before .before .before .before .loop .inv .constraints-held)
 
@@ -54,20 +36,11 @@ add-refusal c = let u = c .before .before .before .before .before .before .befor
 add-refusal-2 : tie.Need-add-refusal-2 Inv-loop μ-loop
 add-refusal-2 c = let u = c .before .before .before .before .before .before .before .before .before .before .before .before .loop .inv in omega (arith, u .edits-held .few, u .constraints-held .few)
 
-refusal-requires : tie.Need-refusal-requires Inv-loop μ-loop
-refusal-requires c κs = search needs
-
 returns : tie.Need-returns Inv-loop μ-loop
 returns c = upto-refused (c .before .before .before .before .before .before .before .before .before .before .before .before .before .before .before .args .text .now) (c .before .before .before .before .before .before .before .before .before .before .before .before .before .loop .inv) (c .before .before .before .before .before .before .before .before .before .before .before .before .loop-test .taken) (c .before .before .before .before .before .before .before .before .before .before .before .line-end .ensures) (c .before .before .before .before .before .before .before .before .before .read-line .ensures) (c .before .before .before .before .before .take-line .ensures) (c .before .if1 .taken) (c .refusal .ensures)
 
-bit-requires : tie.Need-bit-requires Inv-loop μ-loop
-bit-requires c κs = search needs
-
 add-n : tie.Need-add-n Inv-loop μ-loop
 add-n c = let u = c .before .before .before .before .before .before .before .before .before .before .before .before .before .loop .inv in omega (arith, u .edits-held .few, row-least (c .before .before .before .before .before .before .before .before .before .read-line .result .isedit) (c .bit .ensures))
-
-bit-requires-2 : tie.Need-bit-requires-2 Inv-loop μ-loop
-bit-requires-2 c κs = search needs
 
 add-m : tie.Need-add-m Inv-loop μ-loop
 add-m c = let u = c .before .before .before .before .before .before .before .before .before .before .before .before .before .before .before .loop .inv in omega (arith, u .constraints-held .few, row-least (not (c .before .before .before .before .before .before .before .before .before .before .before .read-line .result .isedit)) (c .bit2 .ensures))
@@ -81,26 +54,11 @@ loop-again c = upto-next (c .before .before .before .before .before .before .bef
 add-t28 : tie.Need-add-t28 Inv-loop μ-loop
 add-t28 c = let u = c .before .loop .inv in omega (arith, u .edits-held .few, u .constraints-held .few)
 
-sub-decode : tie.Need-sub-decode Inv-loop μ-loop
-sub-decode c = search needs
-
-part-decode-start : tie.Need-part-decode-start Inv-loop μ-loop
-part-decode-start c = search needs
-
 part-decode-end : tie.Need-part-decode-end Inv-loop μ-loop
 part-decode-end c = let u = c .before .before .loop .inv in omega (arith, u .edits-held .few, u .edits-held .size)
 
-sub-decode-2 : tie.Need-sub-decode-2 Inv-loop μ-loop
-sub-decode-2 c = search needs
-
-part-decode-start-2 : tie.Need-part-decode-start-2 Inv-loop μ-loop
-part-decode-start-2 c = search needs
-
 part-decode-end-2 : tie.Need-part-decode-end-2 Inv-loop μ-loop
 part-decode-end-2 c = let u = c .before .before .before .before .loop .inv in omega (arith, u .constraints-held .few, u .constraints-held .size)
-
-decode-requires : tie.Need-decode-requires Inv-loop μ-loop
-decode-requires c κs = search needs
 
 returns-2 : tie.Need-returns-2 Inv-loop μ-loop
 returns-2 c = upto-end (c .before .before .before .before .before .before .before .before .args .text .now) (c .before .before .before .before .before .before .loop .inv) (c .before .before .before .before .before .loop-test .left) (c .decode .ensures)
@@ -111,33 +69,33 @@ read-rows-spec =
     (tie.spec
     Inv-loop
     μ-loop
-    array-write-marks
+    (λ c. search needs)
     loop-holds
-    line-end-requires
+    (λ c κs. search needs)
     sub-read-line
     part-read-line-start
     part-read-line-end
-    read-line-requires
-    slice-aggregate-take-line
-    slice-aggregate-take-line-2
-    slice-aggregate-take-line-3
+    (λ c κs. search needs)
+    (λ c. search needs)
+    (λ c. search needs)
+    (λ c. search needs)
     take-line-requires
     add-refusal
     add-refusal-2
-    refusal-requires
+    (λ c κs. search needs)
     returns
-    bit-requires
+    (λ c κs. search needs)
     add-n
-    bit-requires-2
+    (λ c κs. search needs)
     add-m
     loop-less
     loop-again
     add-t28
-    sub-decode
-    part-decode-start
+    (λ c. search needs)
+    (λ c. search needs)
     part-decode-end
-    sub-decode-2
-    part-decode-start-2
+    (λ c. search needs)
+    (λ c. search needs)
     part-decode-end-2
-    decode-requires
+    (λ c κs. search needs)
     returns-2)

@@ -4,20 +4,11 @@ use borrow.Author.Needs.{needs}
 use Rattle.text_reader.proofs.read_text.Statement.{statement}
 use Rattle.text_reader.proofs.read_text.Tie as tie
 
-read-rows-requires : tie.Need-read-rows-requires
-read-rows-requires c κs = search needs
-
 returns : tie.Need-returns
 returns c = text-refused (c .before .before .before .before .args .text .now) (c .before .before .read-rows .ensures) (c .if1 .taken)
 
-sound-requires : tie.Need-sound-requires
-sound-requires c κs = search needs
-
 returns-2 : tie.Need-returns-2
 returns-2 c = text-sound (c .before .before .before .before .before .before .before .args .text .now) (c .before .before .before .before .before .read-rows .ensures) (c .before .before .before .if1 .left) (c .before .sound .ensures) (c .if2 .taken)
-
-refusal-requires : tie.Need-refusal-requires
-refusal-requires c κs = search needs
 
 returns-3 : tie.Need-returns-3
 returns-3 c = text-unsound (c .before .before .before .before .before .before .before .before .args .text .now) (c .before .before .before .before .before .before .read-rows .ensures) (c .before .before .before .before .if1 .left) (c .before .before .sound .ensures) (c .before .if2 .left) (c .refusal .ensures)
@@ -25,4 +16,4 @@ returns-3 c = text-unsound (c .before .before .before .before .before .before .b
 pub read-text-spec : {M : Type 1} → statement M
 read-text-spec =
     tie.close
-    (tie.spec read-rows-requires returns sound-requires returns-2 refusal-requires returns-3)
+    (tie.spec (λ c κs. search needs) returns (λ c κs. search needs) returns-2 (λ c κs. search needs) returns-3)

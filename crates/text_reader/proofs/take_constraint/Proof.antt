@@ -6,17 +6,8 @@ use borrow.Author.Needs.{needs}
 use Rattle.text_reader.proofs.take_constraint.Statement.{statement}
 use Rattle.text_reader.proofs.take_constraint.Tie as tie
 
-mul-row : tie.Need-mul-row
-mul-row c = search needs
-
-slice-set-from-row : tie.Need-slice-set-from-row
-slice-set-from-row c = search needs
-
 constraint-row-fault-requires : tie.Need-constraint-row-fault-requires
 constraint-row-fault-requires c κs = let s = c .before .before in omega (arith, length-set (s .args .constraints .now) (s .args .m) (s .args .row), s .pre .size, s .pre .few)
-
-same-length : tie.Need-same-length
-same-length c = search needs
 
 returns : tie.Need-returns
 returns c = λ names k. let s = c .before .before .before in constraint-taken names (s .args .constraints .now) (s .args .m) (s .args .row) (s .pre) (c .constraint-row-fault .ensures names k)
@@ -24,4 +15,4 @@ returns c = λ names k. let s = c .before .before .before in constraint-taken na
 pub take-constraint-spec : {M : Type 1} → statement M
 take-constraint-spec =
     tie.close
-    (tie.spec mul-row slice-set-from-row constraint-row-fault-requires same-length returns)
+    (tie.spec (λ c. search needs) (λ c. search needs) constraint-row-fault-requires (λ c. search needs) returns)

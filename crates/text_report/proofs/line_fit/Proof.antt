@@ -5,15 +5,9 @@ use borrow.Author.Needs.{needs}
 use Rattle.text_report.proofs.line_fit.Statement.{statement}
 use Rattle.text_report.proofs.line_fit.Tie as tie
 
-slice-aggregate-form-fit : tie.Need-slice-aggregate-form-fit
-slice-aggregate-form-fit c = search needs
-
-form-fit-requires : tie.Need-form-fit-requires
-form-fit-requires c κs = search needs
-
 returns : tie.Need-returns
 unfolding reportForm bytes
 returns c = c .form-fit .ensures
 
 pub line-fit-spec : {M : Type 1} → statement M
-line-fit-spec = tie.close (tie.spec slice-aggregate-form-fit form-fit-requires returns)
+line-fit-spec = tie.close (tie.spec (λ c. search needs) (λ c κs. search needs) returns)

@@ -22,21 +22,6 @@ abbrev μ-loop : tie.MeasureT-loop
 loop-holds : tie.Need-loop-holds Inv-loop μ-loop
 loop-holds c = let s = c .args in leaves-all (fill reportForm) (s .rows .now) (length (s .rows .now)) (s .fit) (omega arith)
 
-mul-line-fit : tie.Need-mul-line-fit Inv-loop μ-loop
-mul-line-fit c = search needs
-
-shared-slice-element-line-fit : tie.Need-shared-slice-element-line-fit Inv-loop μ-loop
-shared-slice-element-line-fit c = search needs
-
-line-fit-requires : tie.Need-line-fit-requires Inv-loop μ-loop
-line-fit-requires c κs = search needs
-
-add-i : tie.Need-add-i Inv-loop μ-loop
-add-i c = search needs
-
-loop-less : tie.Need-loop-less Inv-loop μ-loop
-loop-less c = search needs
-
 loop-again : tie.Need-loop-again Inv-loop μ-loop
 loop-again c =
     let s = c .before .before .before .before .before .args in
@@ -54,10 +39,10 @@ lines-fit-spec =
     Inv-loop
     μ-loop
     loop-holds
-    mul-line-fit
-    shared-slice-element-line-fit
-    line-fit-requires
-    add-i
-    loop-less
+    (λ c. search needs)
+    (λ c. search needs)
+    (λ c κs. search needs)
+    (λ c. search needs)
+    (λ c. search needs)
     loop-again
     returns)

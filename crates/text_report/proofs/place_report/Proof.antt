@@ -9,9 +9,6 @@ use Rattle.text_report.specs.Report.{countsForm, reportForm}
 use Rattle.text_report.proofs.place_report.Statement.{statement}
 use Rattle.text_report.proofs.place_report.Tie as tie
 
-report-fits-requires : tie.Need-report-fits-requires
-report-fits-requires c κs = search needs
-
 returns : tie.Need-returns
 returns c =
     let s = c .before .before .before .before .args in
@@ -22,13 +19,10 @@ write-report-requires c κs =
     let s = c .before .before .before .before .before .args in
     start-room (fill countsForm (s .counts .now) ++ joinedLines (map (fill reportForm) (s .rows .now))) (s .out .now) (c .before .before .report-fits .ensures) (not-false _ (c .before .if1 .left))
 
-same-length : tie.Need-same-length
-same-length c = search needs
-
 returns-2 : tie.Need-returns-2
 returns-2 c =
     let s = c .before .before .before .before .before .before .before .before .args in
     start-written (fill countsForm (s .counts .now) ++ joinedLines (map (fill reportForm) (s .rows .now))) (s .out .now) (c .before .before .before .before .before .report-fits .ensures) (not-false _ (c .before .before .before .before .if1 .left)) (c .before .before .write-report .ensures)
 
 pub place-report-spec : {M : Type 1} → statement M
-place-report-spec = tie.close (tie.spec report-fits-requires returns write-report-requires same-length returns-2)
+place-report-spec = tie.close (tie.spec (λ c κs. search needs) returns write-report-requires (λ c. search needs) returns-2)

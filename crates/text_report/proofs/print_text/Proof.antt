@@ -4,23 +4,8 @@ use borrow.Author.Needs.{needs}
 use Rattle.text_report.proofs.print_text.Statement.{statement}
 use Rattle.text_report.proofs.print_text.Tie as tie
 
-read-text-requires : tie.Need-read-text-requires
-read-text-requires c κs = search needs
-
-refusal-line-requires : tie.Need-refusal-line-requires
-refusal-line-requires c κs = search needs
-
-same-length : tie.Need-same-length
-same-length c = search needs
-
 returns : tie.Need-returns
 returns c = printed-refused (c .before .before .before .before .before .before .before .before .before .args .text .now) (c .before .before .before .before .before .before .read-text .ensures) (c .before .before .before .before .before .before .before .before .before .args .out .now) (c .before .before .before .before .if1 .taken) (c .before .before .refusal-line .ensures)
-
-report-record-requires : tie.Need-report-record-requires
-report-record-requires c κs = search needs
-
-same-length-2 : tie.Need-same-length-2
-same-length-2 c = search needs
 
 returns-2 : tie.Need-returns-2
 returns-2 c = printed-accepted (c .before .before .before .before .before .before .before .before .before .before .args .text .now) (c .before .before .before .before .before .before .before .read-text .ensures) (c .before .before .before .before .before .before .before .before .before .before .args .out .now) (c .before .before .before .before .before .if1 .left) (c .before .before .report-record .ensures)
@@ -29,10 +14,10 @@ pub print-text-spec : {M : Type 1} → statement M
 print-text-spec =
     tie.close
     (tie.spec
-    read-text-requires
-    refusal-line-requires
-    same-length
+    (λ c κs. search needs)
+    (λ c κs. search needs)
+    (λ c. search needs)
     returns
-    report-record-requires
-    same-length-2
+    (λ c κs. search needs)
+    (λ c. search needs)
     returns-2)

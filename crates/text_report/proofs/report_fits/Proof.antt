@@ -9,15 +9,6 @@ use Rattle.text_report.specs.Report.{countsForm, reportForm}
 use Rattle.text_report.proofs.report_fits.Statement.{statement}
 use Rattle.text_report.proofs.report_fits.Tie as tie
 
-slice-aggregate-form-fit : tie.Need-slice-aggregate-form-fit
-slice-aggregate-form-fit c = search needs
-
-form-fit-requires : tie.Need-form-fit-requires
-form-fit-requires c κs = search needs
-
-lines-fit-requires : tie.Need-lines-fit-requires
-lines-fit-requires c κs = search needs
-
 returns : tie.Need-returns
 unfolding countsForm bytes
 returns c =
@@ -25,4 +16,4 @@ returns c =
     fits-both (fill countsForm (s .counts .now)) (joinedLines (map (fill reportForm) (s .rows .now))) (s .room) (c .before .form-fit .ensures) (c .lines-fit .ensures)
 
 pub report-fits-spec : {M : Type 1} → statement M
-report-fits-spec = tie.close (tie.spec slice-aggregate-form-fit form-fit-requires lines-fit-requires returns)
+report-fits-spec = tie.close (tie.spec (λ c. search needs) (λ c κs. search needs) (λ c κs. search needs) returns)

@@ -4,21 +4,12 @@ use borrow.Author.Needs.{needs}
 use Rattle.text_report.proofs.report_text.Statement.{statement}
 use Rattle.text_report.proofs.report_text.Tie as tie
 
-read-text-requires : tie.Need-read-text-requires
-read-text-requires c κs = search needs
-
 returns : tie.Need-returns
 returns c = reported-refused (c .before .before .before .before .before .args .text .now) (c .before .before .read-text .ensures) (c .before .before .before .before .before .args .out .now) (c .if1 .taken)
-
-report-record-requires : tie.Need-report-record-requires
-report-record-requires c κs = search needs
-
-same-length : tie.Need-same-length
-same-length c = search needs
 
 returns-2 : tie.Need-returns-2
 returns-2 c = reported-accepted (c .before .before .before .before .before .before .before .before .before .before .args .text .now) (c .before .before .before .before .before .before .before .read-text .ensures) (c .before .before .before .before .before .before .before .before .before .before .args .out .now) (c .before .before .before .before .before .if1 .left) (c .before .before .report-record .ensures)
 
 pub report-text-spec : {M : Type 1} → statement M
 report-text-spec =
-    tie.close (tie.spec read-text-requires returns report-record-requires same-length returns-2)
+    tie.close (tie.spec (λ c κs. search needs) returns (λ c κs. search needs) (λ c. search needs) returns-2)

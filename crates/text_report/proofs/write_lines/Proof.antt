@@ -26,26 +26,11 @@ sub-write-line c = omega (arith, writes-inside (fill reportForm) (c .before .bef
 part-write-line-start : tie.Need-part-write-line-start Inv-loop μ-loop
 part-write-line-start c = omega (arith, writes-inside (fill reportForm) (c .before .before .before .args .rows .now) (length (c .before .before .before .args .rows .now)) (c .before .before .before .args .out .now) (c .before .loop .inv))
 
-part-write-line-end : tie.Need-part-write-line-end Inv-loop μ-loop
-part-write-line-end c = search needs
-
-mul-write-line : tie.Need-mul-write-line Inv-loop μ-loop
-mul-write-line c = search needs
-
-shared-slice-element-write-line : tie.Need-shared-slice-element-write-line Inv-loop μ-loop
-shared-slice-element-write-line c = search needs
-
 write-line-requires : tie.Need-write-line-requires Inv-loop μ-loop
 write-line-requires c κs = writes-room (fill reportForm) (c .before .before .before .before .before .before .args .rows .now) (length (c .before .before .before .before .before .before .args .rows .now)) (c .before .before .before .before .before .before .args .out .now) (c .before .before .before .before .loop .inv) [] (c .before .before .before .loop-test .taken)
 
 add-at : tie.Need-add-at Inv-loop μ-loop
 add-at c = omega (arith, writes-at (fill reportForm) (c .before .before .before .before .before .before .before .before .before .args .rows .now) (length (c .before .before .before .before .before .before .before .before .before .args .rows .now)) (c .before .before .before .before .before .before .before .before .before .args .out .now) (c .before .before .before .before .before .before .before .loop .inv) [] (c .before .before .before .before .before .before .loop-test .taken) (c .before .before .write-line .ensures))
-
-add-i : tie.Need-add-i Inv-loop μ-loop
-add-i c = search needs
-
-loop-less : tie.Need-loop-less Inv-loop μ-loop
-loop-less c = search needs
 
 loop-again : tie.Need-loop-again Inv-loop μ-loop
 loop-again c = writes-next (fill reportForm) (c .before .before .before .before .before .before .before .before .before .args .rows .now) (length (c .before .before .before .before .before .before .before .before .before .args .rows .now)) (c .before .before .before .before .before .before .before .before .before .args .out .now) (c .before .before .before .before .before .before .before .loop .inv) [] (c .before .before .before .before .before .before .loop-test .taken) (c .before .before .write-line .ensures)
@@ -65,13 +50,13 @@ write-lines-spec =
     loop-holds
     sub-write-line
     part-write-line-start
-    part-write-line-end
-    mul-write-line
-    shared-slice-element-write-line
+    (λ c. search needs)
+    (λ c. search needs)
+    (λ c. search needs)
     write-line-requires
     add-at
-    add-i
-    loop-less
+    (λ c. search needs)
+    (λ c. search needs)
     loop-again
     same-length
     returns)

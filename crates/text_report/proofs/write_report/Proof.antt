@@ -11,9 +11,6 @@ use borrow.Author.Needs.{needs}
 use Rattle.text_report.proofs.write_report.Statement.{statement}
 use Rattle.text_report.proofs.write_report.Tie as tie
 
-slice-aggregate-write-form : tie.Need-slice-aggregate-write-form
-slice-aggregate-write-form c = search needs
-
 write-form-requires : tie.Need-write-form-requires
 unfolding countsForm bytes
 write-form-requires c κs = let s = fill countsForm (c .before .before .before .before .args .counts .now) in let t = joinedLines (map (fill reportForm) (c .before .before .before .before .args .rows .now)) in first-fits s t (c .before .before .before .before .args .out .now) (c .before .before .before .before .pre)
@@ -26,9 +23,6 @@ part-write-lines-start : tie.Need-part-write-lines-start
 unfolding countsForm bytes
 part-write-lines-start c = let s = fill countsForm (c .before .before .before .before .before .before .before .args .counts .now) in let t = joinedLines (map (fill reportForm) (c .before .before .before .before .before .before .before .args .rows .now)) in omega (arith, first-inside s t (c .before .before .before .before .before .before .before .args .out .now) (c .before .before .before .before .before .before .before .pre) (c .before .before .write-form .ensures))
 
-part-write-lines-end : tie.Need-part-write-lines-end
-part-write-lines-end c = search needs
-
 write-lines-requires : tie.Need-write-lines-requires
 unfolding countsForm bytes
 write-lines-requires c κs = let s = fill countsForm (c .before .before .before .before .before .before .before .before .args .counts .now) in let t = joinedLines (map (fill reportForm) (c .before .before .before .before .before .before .before .before .args .rows .now)) in second-room s (c .before .before .before .before .before .before .before .before .args .out .now) (c .before .before .before .write-form .ensures) t (c .before .before .before .before .before .before .before .before .pre)
@@ -36,9 +30,6 @@ write-lines-requires c κs = let s = fill countsForm (c .before .before .before 
 add-result : tie.Need-add-result
 unfolding countsForm bytes
 add-result c = let s = fill countsForm (c .before .before .before .before .before .before .before .before .before .before .before .args .counts .now) in let t = joinedLines (map (fill reportForm) (c .before .before .before .before .before .before .before .before .before .before .before .args .rows .now)) in omega (arith, both-inside s t (c .before .before .before .before .before .before .before .before .before .before .before .args .out .now) (c .before .before .before .before .before .before .before .before .before .before .before .pre) (c .before .before .before .before .before .before .write-form .ensures) (c .before .before .write-lines .ensures))
-
-same-length : tie.Need-same-length
-same-length c = search needs
 
 returns : tie.Need-returns
 unfolding countsForm bytes
@@ -48,12 +39,12 @@ pub write-report-spec : {M : Type 1} → statement M
 write-report-spec =
     tie.close
     (tie.spec
-    slice-aggregate-write-form
+    (λ c. search needs)
     write-form-requires
     sub-write-lines
     part-write-lines-start
-    part-write-lines-end
+    (λ c. search needs)
     write-lines-requires
     add-result
-    same-length
+    (λ c. search needs)
     returns)

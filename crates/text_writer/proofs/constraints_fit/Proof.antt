@@ -19,27 +19,6 @@ abbrev μ-loop : tie.MeasureT-loop
 loop-holds : tie.Need-loop-holds Inv-loop μ-loop
 loop-holds c = let s = c .args in leaves-all constraintText (s .t2) (s .n) (s .fit) (search needs)
 
-mul-c : tie.Need-mul-c Inv-loop μ-loop
-mul-c c = search needs
-
-array-copy-out-c : tie.Need-array-copy-out-c Inv-loop μ-loop
-array-copy-out-c c = search needs
-
-constraint-row-requires : tie.Need-constraint-row-requires Inv-loop μ-loop
-constraint-row-requires c κs = search needs
-
-constraint-line-length-requires : tie.Need-constraint-line-length-requires Inv-loop μ-loop
-constraint-line-length-requires c κs = search needs
-
-fit-more-requires : tie.Need-fit-more-requires Inv-loop μ-loop
-fit-more-requires c κs = search needs
-
-add-i : tie.Need-add-i Inv-loop μ-loop
-add-i c = search needs
-
-loop-less : tie.Need-loop-less Inv-loop μ-loop
-loop-less c = search needs
-
 loop-again : tie.Need-loop-again Inv-loop μ-loop
 loop-again c =
     let s = c .before .before .before .before .before .before .args in
@@ -55,12 +34,12 @@ constraints-fit-spec =
     Inv-loop
     μ-loop
     loop-holds
-    mul-c
-    array-copy-out-c
-    constraint-row-requires
-    constraint-line-length-requires
-    fit-more-requires
-    add-i
-    loop-less
+    (λ c. search needs)
+    (λ c. search needs)
+    (λ c κs. search needs)
+    (λ c κs. search needs)
+    (λ c κs. search needs)
+    (λ c. search needs)
+    (λ c. search needs)
     loop-again
     returns)

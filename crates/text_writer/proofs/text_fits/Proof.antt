@@ -7,18 +7,6 @@ use borrow.Author.Needs.{needs}
 use Rattle.text_writer.proofs.text_fits.Statement.{statement}
 use Rattle.text_writer.proofs.text_fits.Tie as tie
 
-lesser-requires : tie.Need-lesser-requires
-lesser-requires c κs = search needs
-
-lesser-requires-2 : tie.Need-lesser-requires-2
-lesser-requires-2 c κs = search needs
-
-edits-fit-requires : tie.Need-edits-fit-requires
-edits-fit-requires c κs = search needs
-
-constraints-fit-requires : tie.Need-constraints-fit-requires
-constraints-fit-requires c κs = search needs
-
 returns : tie.Need-returns
 returns c =
     let s = c .before .before .before .before .before .before .args in
@@ -31,8 +19,8 @@ pub text-fits-spec : {M : Type 1} → statement M
 text-fits-spec =
     tie.close
     (tie.spec
-    lesser-requires
-    lesser-requires-2
-    edits-fit-requires
-    constraints-fit-requires
+    (λ c κs. search needs)
+    (λ c κs. search needs)
+    (λ c κs. search needs)
+    (λ c κs. search needs)
     returns)

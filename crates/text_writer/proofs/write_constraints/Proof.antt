@@ -16,35 +16,17 @@ abbrev μ-loop : tie.MeasureT-loop
 loop-holds : tie.Need-loop-holds Inv-loop μ-loop
 loop-holds c = let s = c .before .args in writes-none constraintText (s .t2) (s .n) (s .out .now) (search needs) (c .before .pre .1)
 
-mul-c : tie.Need-mul-c Inv-loop μ-loop
-mul-c c = search needs
-
-array-copy-out-c : tie.Need-array-copy-out-c Inv-loop μ-loop
-array-copy-out-c c = search needs
-
 sub-write-constraint-line : tie.Need-sub-write-constraint-line Inv-loop μ-loop
 sub-write-constraint-line c = omega (arith, writes-inside constraintText (c .before .before .before .before .args .t2) (c .before .before .before .before .args .n) (c .before .before .before .before .args .out .now) (c .before .before .loop .inv))
 
 part-write-constraint-line-start : tie.Need-part-write-constraint-line-start Inv-loop μ-loop
 part-write-constraint-line-start c = omega (arith, writes-inside constraintText (c .before .before .before .before .args .t2) (c .before .before .before .before .args .n) (c .before .before .before .before .args .out .now) (c .before .before .loop .inv))
 
-part-write-constraint-line-end : tie.Need-part-write-constraint-line-end Inv-loop μ-loop
-part-write-constraint-line-end c = search needs
-
-constraint-row-requires : tie.Need-constraint-row-requires Inv-loop μ-loop
-constraint-row-requires c κs = search needs
-
 write-constraint-line-requires : tie.Need-write-constraint-line-requires Inv-loop μ-loop
 write-constraint-line-requires c κs = rw (c .constraint-row .ensures) (writes-room constraintText (c .before .before .before .before .before .before .args .t2) (c .before .before .before .before .before .before .args .n) (c .before .before .before .before .before .before .args .out .now) (c .before .before .before .before .loop .inv) _ (c .before .before .before .loop-test .taken))
 
 add-at : tie.Need-add-at Inv-loop μ-loop
 add-at c = omega (arith, writes-at constraintText (c .before .before .before .before .before .before .before .before .before .args .t2) (c .before .before .before .before .before .before .before .before .before .args .n) (c .before .before .before .before .before .before .before .before .before .args .out .now) (c .before .before .before .before .before .before .before .loop .inv) _ (c .before .before .before .before .before .before .loop-test .taken) (rw (c .before .before .before .constraint-row .ensures) at (c .before .before .write-constraint-line .ensures)))
-
-add-i : tie.Need-add-i Inv-loop μ-loop
-add-i c = search needs
-
-loop-less : tie.Need-loop-less Inv-loop μ-loop
-loop-less c = search needs
 
 loop-again : tie.Need-loop-again Inv-loop μ-loop
 loop-again c = writes-next constraintText (c .before .before .before .before .before .before .before .before .before .args .t2) (c .before .before .before .before .before .before .before .before .before .args .n) (c .before .before .before .before .before .before .before .before .before .args .out .now) (c .before .before .before .before .before .before .before .loop .inv) _ (c .before .before .before .before .before .before .loop-test .taken) (rw (c .before .before .before .constraint-row .ensures) at (c .before .before .write-constraint-line .ensures))
@@ -62,16 +44,16 @@ write-constraints-spec =
     Inv-loop
     μ-loop
     loop-holds
-    mul-c
-    array-copy-out-c
+    (λ c. search needs)
+    (λ c. search needs)
     sub-write-constraint-line
     part-write-constraint-line-start
-    part-write-constraint-line-end
-    constraint-row-requires
+    (λ c. search needs)
+    (λ c κs. search needs)
     write-constraint-line-requires
     add-at
-    add-i
-    loop-less
+    (λ c. search needs)
+    (λ c. search needs)
     loop-again
     same-length
     returns)

@@ -16,35 +16,17 @@ abbrev μ-loop : tie.MeasureT-loop
 loop-holds : tie.Need-loop-holds Inv-loop μ-loop
 loop-holds c = let s = c .before .args in writes-none editText (s .t2) (s .n) (s .out .now) (search needs) (c .before .pre .1)
 
-mul-e : tie.Need-mul-e Inv-loop μ-loop
-mul-e c = search needs
-
-array-copy-out-e : tie.Need-array-copy-out-e Inv-loop μ-loop
-array-copy-out-e c = search needs
-
 sub-write-edit-line : tie.Need-sub-write-edit-line Inv-loop μ-loop
 sub-write-edit-line c = omega (arith, writes-inside editText (c .before .before .before .before .args .t2) (c .before .before .before .before .args .n) (c .before .before .before .before .args .out .now) (c .before .before .loop .inv))
 
 part-write-edit-line-start : tie.Need-part-write-edit-line-start Inv-loop μ-loop
 part-write-edit-line-start c = omega (arith, writes-inside editText (c .before .before .before .before .args .t2) (c .before .before .before .before .args .n) (c .before .before .before .before .args .out .now) (c .before .before .loop .inv))
 
-part-write-edit-line-end : tie.Need-part-write-edit-line-end Inv-loop μ-loop
-part-write-edit-line-end c = search needs
-
-edit-row-requires : tie.Need-edit-row-requires Inv-loop μ-loop
-edit-row-requires c κs = search needs
-
 write-edit-line-requires : tie.Need-write-edit-line-requires Inv-loop μ-loop
 write-edit-line-requires c κs = rw (c .edit-row .ensures) (writes-room editText (c .before .before .before .before .before .before .args .t2) (c .before .before .before .before .before .before .args .n) (c .before .before .before .before .before .before .args .out .now) (c .before .before .before .before .loop .inv) _ (c .before .before .before .loop-test .taken))
 
 add-at : tie.Need-add-at Inv-loop μ-loop
 add-at c = omega (arith, writes-at editText (c .before .before .before .before .before .before .before .before .before .args .t2) (c .before .before .before .before .before .before .before .before .before .args .n) (c .before .before .before .before .before .before .before .before .before .args .out .now) (c .before .before .before .before .before .before .before .loop .inv) _ (c .before .before .before .before .before .before .loop-test .taken) (rw (c .before .before .before .edit-row .ensures) at (c .before .before .write-edit-line .ensures)))
-
-add-i : tie.Need-add-i Inv-loop μ-loop
-add-i c = search needs
-
-loop-less : tie.Need-loop-less Inv-loop μ-loop
-loop-less c = search needs
 
 loop-again : tie.Need-loop-again Inv-loop μ-loop
 loop-again c = writes-next editText (c .before .before .before .before .before .before .before .before .before .args .t2) (c .before .before .before .before .before .before .before .before .before .args .n) (c .before .before .before .before .before .before .before .before .before .args .out .now) (c .before .before .before .before .before .before .before .loop .inv) _ (c .before .before .before .before .before .before .loop-test .taken) (rw (c .before .before .before .edit-row .ensures) at (c .before .before .write-edit-line .ensures))
@@ -62,16 +44,16 @@ write-edits-spec =
     Inv-loop
     μ-loop
     loop-holds
-    mul-e
-    array-copy-out-e
+    (λ c. search needs)
+    (λ c. search needs)
     sub-write-edit-line
     part-write-edit-line-start
-    part-write-edit-line-end
-    edit-row-requires
+    (λ c. search needs)
+    (λ c κs. search needs)
     write-edit-line-requires
     add-at
-    add-i
-    loop-less
+    (λ c. search needs)
+    (λ c. search needs)
     loop-again
     same-length
     returns)

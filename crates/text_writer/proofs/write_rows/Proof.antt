@@ -8,12 +8,6 @@ use borrow.Author.Needs.{needs}
 use Rattle.text_writer.proofs.write_rows.Statement.{statement}
 use Rattle.text_writer.proofs.write_rows.Tie as tie
 
-lesser-requires : tie.Need-lesser-requires
-lesser-requires c κs = search needs
-
-lesser-requires-2 : tie.Need-lesser-requires-2
-lesser-requires-2 c κs = search needs
-
 write-edits-requires : tie.Need-write-edits-requires
 write-edits-requires c κs = let r = c .before .before .before .before .before .before .args .content in let z : length (r .edits) ≡ 127 = search (needs, length-mapped) in let y : length (r .constraints) ≡ 512 = search (needs, length-mapped) in (omega (arith, c .before .before .lesser .ensures), edits-fit r z y (c .before .before .lesser .ensures) (c .before .lesser2 .ensures) (c .before .before .before .before .before .before .args .out .now) (c .before .before .before .before .before .before .pre))
 
@@ -23,17 +17,11 @@ sub-write-constraints c = let r = c .before .before .before .before .before .bef
 part-write-constraints-start : tie.Need-part-write-constraints-start
 part-write-constraints-start c = let r = c .before .before .before .before .before .before .before .before .before .args .content in let z : length (r .edits) ≡ 127 = search (needs, length-mapped) in let y : length (r .constraints) ≡ 512 = search (needs, length-mapped) in omega (arith, edits-inside r z y (c .before .before .before .before .before .lesser .ensures) (c .before .before .before .before .lesser2 .ensures) (c .before .before .before .before .before .before .before .before .before .args .out .now) (c .before .before .before .before .before .before .before .before .before .pre) (c .before .before .write-edits .ensures))
 
-part-write-constraints-end : tie.Need-part-write-constraints-end
-part-write-constraints-end c = search needs
-
 write-constraints-requires : tie.Need-write-constraints-requires
 write-constraints-requires c κs = let r = c .before .before .before .before .before .before .before .before .before .before .args .content in let z : length (r .edits) ≡ 127 = search (needs, length-mapped) in let y : length (r .constraints) ≡ 512 = search (needs, length-mapped) in (omega (arith, c .before .before .before .before .before .lesser2 .ensures), constraints-fit r z y (c .before .before .before .before .before .before .lesser .ensures) (c .before .before .before .before .before .lesser2 .ensures) (c .before .before .before .before .before .before .before .before .before .before .args .out .now) (c .before .before .before .before .before .before .before .before .before .before .pre) (c .before .before .before .write-edits .ensures))
 
 add-result : tie.Need-add-result
 add-result c = let r = c .before .before .before .before .before .before .before .before .before .before .before .before .before .args .content in let z : length (r .edits) ≡ 127 = search (needs, length-mapped) in let y : length (r .constraints) ≡ 512 = search (needs, length-mapped) in omega (arith, both-at r z y (c .before .before .before .before .before .before .before .before .before .lesser .ensures) (c .before .before .before .before .before .before .before .before .lesser2 .ensures) (c .before .before .before .before .before .before .before .before .before .before .before .before .before .args .out .now) (c .before .before .before .before .before .before .before .before .before .before .before .before .before .pre) (c .before .before .before .before .before .before .write-edits .ensures) (c .before .before .write-constraints .ensures))
-
-same-length : tie.Need-same-length
-same-length c = search needs
 
 returns : tie.Need-returns
 returns c = let r = c .before .before .before .before .before .before .before .before .before .before .before .before .before .args .content in let z : length (r .edits) ≡ 127 = search (needs, length-mapped) in let y : length (r .constraints) ≡ 512 = search (needs, length-mapped) in both-written r z y (c .before .before .before .before .before .before .before .before .before .lesser .ensures) (c .before .before .before .before .before .before .before .before .lesser2 .ensures) (c .before .before .before .before .before .before .before .before .before .before .before .before .before .args .out .now) (c .before .before .before .before .before .before .before .before .before .before .before .before .before .pre) (c .before .before .before .before .before .before .write-edits .ensures) (c .before .before .write-constraints .ensures)
@@ -42,13 +30,13 @@ pub write-rows-spec : {M : Type 1} → statement M
 write-rows-spec =
     tie.close
     (tie.spec
-    lesser-requires
-    lesser-requires-2
+    (λ c κs. search needs)
+    (λ c κs. search needs)
     write-edits-requires
     sub-write-constraints
     part-write-constraints-start
-    part-write-constraints-end
+    (λ c. search needs)
     write-constraints-requires
     add-result
-    same-length
+    (λ c. search needs)
     returns)

@@ -11,25 +11,10 @@ use Rattle.text_writer.proofs.write_text.Tie as tie
 returns : tie.Need-returns
 returns c = let s = c .before .before .args in let text = textOf (recordOf (s .content)) in not-placed text (s .out .now) (s .at) (omega (arith, c .if1 .taken))
 
-sub-room : tie.Need-sub-room
-sub-room c = search needs
-
-text-fits-requires : tie.Need-text-fits-requires
-text-fits-requires c κs = search needs
-
 returns-2 : tie.Need-returns-2
 returns-2 c =
     let s = c .before .before .before .before .args in
     no-room (textOf (recordOf (s .content))) (s .out .now) (s .at) (c .before .before .if1 .left) (c .before .text-fits .ensures) (not-true _ (c .if2 .taken))
-
-sub-write-rows : tie.Need-sub-write-rows
-sub-write-rows c = search needs
-
-part-write-rows-start : tie.Need-part-write-rows-start
-part-write-rows-start c = search needs
-
-part-write-rows-end : tie.Need-part-write-rows-end
-part-write-rows-end c = search needs
 
 write-rows-requires : tie.Need-write-rows-requires
 write-rows-requires c κs =
@@ -41,9 +26,6 @@ add-t6 c =
     let s = c .before .before .before .before .before .before .before .before .args in
     omega (arith, end-fits (textOf (recordOf (s .content))) (s .out .now) (s .at) (c .before .before .before .before .before .before .if1 .left) (c .before .before .before .before .before .text-fits .ensures) (not-false _ (c .before .before .before .before .if2 .left)) (c .before .before .write-rows .ensures))
 
-same-length : tie.Need-same-length
-same-length c = search needs
-
 returns-3 : tie.Need-returns-3
 returns-3 c =
     let s = c .before .before .before .before .before .before .before .before .args in
@@ -54,13 +36,13 @@ write-text-spec =
     tie.close
     (tie.spec
     returns
-    sub-room
-    text-fits-requires
+    (λ c. search needs)
+    (λ c κs. search needs)
     returns-2
-    sub-write-rows
-    part-write-rows-start
-    part-write-rows-end
+    (λ c. search needs)
+    (λ c. search needs)
+    (λ c. search needs)
     write-rows-requires
     add-t6
-    same-length
+    (λ c. search needs)
     returns-3)

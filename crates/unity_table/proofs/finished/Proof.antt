@@ -6,14 +6,8 @@ use Rattle.unity_table.proofs.Ends.{end-refused, end-none, end-divisor,
 use Rattle.unity_table.proofs.finished.Statement.{statement}
 use Rattle.unity_table.proofs.finished.Tie as tie
 
-refused-requires : tie.Need-refused-requires
-refused-requires c κs = search needs
-
 returns : tie.Need-returns
 returns c = λ l e. let s = c .before .before .before in c .refused .ensures ∙ end-refused (s .args .s) l e (c .before .if1 .taken)
-
-accepted-requires : tie.Need-accepted-requires
-accepted-requires c κs = search needs
 
 returns-2 : tie.Need-returns-2
 returns-2 c = λ l e. let s = c .before .before .before .before .before .before in c .accepted .ensures ∙ end-none (s .args .s) l e (c .before .before .before .before .if1 .left) (c .before .if2 .taken)
@@ -21,14 +15,8 @@ returns-2 c = λ l e. let s = c .before .before .before .before .before .before 
 divided-requires : tie.Need-divided-requires
 divided-requires c κs = let s = c .before .before .before .before .before .before in (end-divisor (s .args .s) (s .pre .answers) (s .pre .is) (c .before .before .before .before .if1 .left) (c .before .if2 .left), end-count (s .args .s) (s .pre .answers) (s .pre .is) (c .before .before .before .before .if1 .left) (c .before .if2 .left))
 
-refused-requires-2 : tie.Need-refused-requires-2
-refused-requires-2 c κs = search needs
-
 returns-3 : tie.Need-returns-3
 returns-3 c = λ l e. let s = c .before .before .before .before .before .before .before .before .before .before in c .refused2 .ensures ∙ end-wide (s .args .s) l e (c .before .before .before .before .before .before .before .before .if1 .left) (c .before .before .before .before .before .if2 .left) (c .before .before .before .divided .result) (c .before .before .before .divided .ensures) (not-true _ (c .before .if3 .taken))
-
-accepted-requires-2 : tie.Need-accepted-requires-2
-accepted-requires-2 c κs = search needs
 
 returns-4 : tie.Need-returns-4
 returns-4 c = λ l e. let s = c .before .before .before .before .before .before .before .before .before .before .before in c .accepted2 .ensures ∙ end-mean (s .args .s) l e (c .before .before .before .before .before .before .before .before .before .if1 .left) (c .before .before .before .before .before .before .if2 .left) (c .before .before .before .before .divided .result) (c .before .before .before .before .divided .ensures) (not-false _ (c .before .before .if3 .left))
@@ -37,12 +25,12 @@ pub finished-spec : {M : Type 1} → statement M
 finished-spec =
     tie.close
     (tie.spec
-    refused-requires
+    (λ c κs. search needs)
     returns
-    accepted-requires
+    (λ c κs. search needs)
     returns-2
     divided-requires
-    refused-requires-2
+    (λ c κs. search needs)
     returns-3
-    accepted-requires-2
+    (λ c κs. search needs)
     returns-4)

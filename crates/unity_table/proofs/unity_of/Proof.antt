@@ -13,26 +13,11 @@ Inv-loop answers s₀ i₀ s i = (i ≤ length answers) × Read answers i s
 abbrev μ-loop : tie.MeasureT-loop
 μ-loop answers s₀ i₀ s i = length answers - i
 
-nothing-summed-requires : tie.Need-nothing-summed-requires Inv-loop μ-loop
-nothing-summed-requires c κs = search needs
-
 loop-holds : tie.Need-loop-holds Inv-loop μ-loop
 loop-holds c = (search needs, c .nothing-summed .ensures)
 
-mul-weights-of : tie.Need-mul-weights-of Inv-loop μ-loop
-mul-weights-of c = search needs
-
-shared-slice-copy-out-weights-of : tie.Need-shared-slice-copy-out-weights-of Inv-loop μ-loop
-shared-slice-copy-out-weights-of c = search needs
-
-weights-of-requires : tie.Need-weights-of-requires Inv-loop μ-loop
-weights-of-requires c κs = search needs
-
 with-answer-requires : tie.Need-with-answer-requires Inv-loop μ-loop
 with-answer-requires c κs = read-left (c .before .before .before .before .before .args .answers .now) (c .before .before .before .loop .i) (c .before .before .before .loop .s) (c .before .before .before .loop .inv .1)
-
-add-i : tie.Need-add-i Inv-loop μ-loop
-add-i c = search needs
 
 loop-less : tie.Need-loop-less Inv-loop μ-loop
 loop-less c = omega arith
@@ -52,13 +37,13 @@ unity-of-spec =
     (tie.spec
     Inv-loop
     μ-loop
-    nothing-summed-requires
+    (λ c κs. search needs)
     loop-holds
-    mul-weights-of
-    shared-slice-copy-out-weights-of
-    weights-of-requires
+    (λ c. search needs)
+    (λ c. search needs)
+    (λ c κs. search needs)
     with-answer-requires
-    add-i
+    (λ c. search needs)
     loop-less
     loop-again
     finished-requires

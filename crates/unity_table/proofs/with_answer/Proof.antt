@@ -9,23 +9,14 @@ use Rattle.unity_table.proofs.with_answer.Tie as tie
 returns : tie.Need-returns
 returns c = λ l e. let s = c .before .before in answer-after (s .args .s) l (s .args .a) e (c .if1 .taken)
 
-is-out-of-range-requires : tie.Need-is-out-of-range-requires
-is-out-of-range-requires c κs = search needs
-
 add-stopped : tie.Need-add-stopped
 add-stopped c = let s = c .before .before .before .before .before in let p = row-few (s .args .s) (s .pre .answers) (s .args .a) (s .pre .is) (c .before .before .before .if1 .left) in search needs
-
-stopped-requires : tie.Need-stopped-requires
-stopped-requires c κs = search needs
 
 returns-2 : tie.Need-returns-2
 returns-2 c = λ l e. let s = c .before .before .before .before .before .before in c .stopped .ensures ∙ answer-range (s .args .s) l (s .args .a) e (c .before .before .before .before .if1 .left) (sym (c .before .before .before .is-out-of-range .ensures) ∙ c .before .before .if2 .taken)
 
 add-stopped-2 : tie.Need-add-stopped-2
 add-stopped-2 c = let s = c .before .before .before .before .before .before .before in let p = row-few (s .args .s) (s .pre .answers) (s .args .a) (s .pre .is) (c .before .before .before .before .before .if1 .left) in search needs
-
-stopped-requires-2 : tie.Need-stopped-requires-2
-stopped-requires-2 c κs = search needs
 
 returns-3 : tie.Need-returns-3
 returns-3 c = λ l e. let s = c .before .before .before .before .before .before .before .before in c .stopped2 .ensures ∙ answer-place (s .args .s) l (s .args .a) e (c .before .before .before .before .before .before .if1 .left) (sym (c .before .before .before .before .before .is-out-of-range .ensures) ∙ c .before .before .before .before .if2 .left) (c .before .before .if3 .taken)
@@ -47,12 +38,12 @@ with-answer-spec =
     tie.close
     (tie.spec
     returns
-    is-out-of-range-requires
+    (λ c κs. search needs)
     add-stopped
-    stopped-requires
+    (λ c κs. search needs)
     returns-2
     add-stopped-2
-    stopped-requires-2
+    (λ c κs. search needs)
     returns-3
     with-empty-requires
     returns-4

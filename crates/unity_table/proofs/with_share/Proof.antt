@@ -9,17 +9,11 @@ use Rattle.unity_table.proofs.Steps.{share-addable, share-kept, group-k
 use Rattle.unity_table.proofs.with_share.Statement.{statement}
 use Rattle.unity_table.proofs.with_share.Tie as tie
 
-share-of-requires : tie.Need-share-of-requires
-share-of-requires c κs = search needs
-
 plus-requires : tie.Need-plus-requires
 plus-requires c κs = let s = c .before .before in rw (c .before .share-of .ensures) (share-addable (s .args .s) (s .args .a) (s .pre .0) (s .pre .1 .0) (s .pre .1 .1))
 
 add-stopped : tie.Need-add-stopped
 add-stopped c = let s = c .before .before .before .before .before .before in let p = s .pre .0 .row in search needs
-
-stopped-requires : tie.Need-stopped-requires
-stopped-requires c κs = search needs
 
 returns : tie.Need-returns
 returns c = let s = c .before .before .before .before .before .before .before in c .stopped .ensures ∙ share-wide (s .args .s) (s .args .a) (s .pre .0) (s .pre .1 .0) (s .pre .1 .1) (c .before .before .before .before .plus .result) (c .before .before .before .before .plus .ensures ∙ ap (λ (f : Fraction). boundedFraction (plus (s .args .s .sum) f)) (c .before .before .before .before .before .before .share-of .ensures)) (not-true _ (c .before .before .if1 .taken))
@@ -31,4 +25,4 @@ returns-2 : tie.Need-returns-2
 returns-2 c = let s = c .before .before .before .before .before .before .before in c .with-sum .ensures ∙ ap (λ (f : Fraction). withSum (s .args .s) (s .args .a) f (c .before .before .before .before .plus .result .fraction)) (c .before .before .before .before .before .before .share-of .ensures) ∙ share-fits (s .args .s) (s .args .a) (s .pre .0) (s .pre .1 .0) (s .pre .1 .1) (c .before .before .before .before .plus .result) (c .before .before .before .before .plus .ensures ∙ ap (λ (f : Fraction). boundedFraction (plus (s .args .s .sum) f)) (c .before .before .before .before .before .before .share-of .ensures)) (not-false _ (c .before .before .if1 .left))
 
 pub with-share-spec : {M : Type 1} → statement M
-with-share-spec = tie.close (tie.spec share-of-requires plus-requires add-stopped stopped-requires returns with-sum-requires returns-2)
+with-share-spec = tie.close (tie.spec (λ c κs. search needs) plus-requires add-stopped (λ c κs. search needs) returns with-sum-requires returns-2)

@@ -8,14 +8,8 @@ use Rattle.unity_table.proofs.with_sum.Tie as tie
 is-below-requires : tie.Need-is-below-requires
 is-below-requires c κs = let s = c .before .before in (small-product (s .args .share) (s .args .s .least) (s .pre .1 .0) (s .pre .0 .least), small-product (s .args .s .least) (s .args .share) (s .pre .0 .least) (s .pre .1 .0))
 
-extreme-requires : tie.Need-extreme-requires
-extreme-requires c κs = search needs
-
 is-below-requires-2 : tie.Need-is-below-requires-2
 is-below-requires-2 c κs = let s = c .before .before .before .before .before in (small-product (s .args .s .greatest) (s .args .share) (s .pre .0 .greatest) (s .pre .1 .0), small-product (s .args .share) (s .args .s .greatest) (s .pre .1 .0) (s .pre .0 .greatest))
-
-extreme-requires-2 : tie.Need-extreme-requires-2
-extreme-requires-2 c κs = search needs
 
 add-t11 : tie.Need-add-t11
 add-t11 c = let s = c .before .before .before .before .before .before .before .before in let p = s .pre .0 .row in search needs
@@ -25,9 +19,6 @@ add-t12 c = let s = c .before .before .before .before .before .before .before .b
 
 mul-bit : tie.Need-mul-bit
 mul-bit c = let s = c .before .before .before .before .before .before .before .before .before .before in let p = s .pre .1 .1 in search needs
-
-bit-requires : tie.Need-bit-requires
-bit-requires c κs = search needs
 
 add-t15 : tie.Need-add-t15
 add-t15 c = let s = c .before .before .before .before .before .before .before .before .before .before .before .before .before in record { fits = won-fits (s .args .s) (s .pre .0) (isWon (s .args .a)) (c .before .bit .ensures) }
@@ -40,12 +31,12 @@ with-sum-spec =
     tie.close
     (tie.spec
     is-below-requires
-    extreme-requires
+    (λ c κs. search needs)
     is-below-requires-2
-    extreme-requires-2
+    (λ c κs. search needs)
     add-t11
     add-t12
     mul-bit
-    bit-requires
+    (λ c κs. search needs)
     add-t15
     returns)

@@ -6,32 +6,11 @@ use Rattle.unity_text.proofs.Printing.{print-refused, print-accepted}
 use Rattle.unity_text.proofs.print_unity.Statement.{statement}
 use Rattle.unity_text.proofs.print_unity.Tie as tie
 
-text-unity-requires : tie.Need-text-unity-requires
-text-unity-requires c κs = search needs
-
-refusal-line-requires : tie.Need-refusal-line-requires
-refusal-line-requires c κs = search needs
-
-same-length : tie.Need-same-length
-same-length c = search needs
-
 returns : tie.Need-returns
 returns c =
     let t = c .before .before .before .before .before .before in
     let s = t .before .before .before .args in
     print-refused (s .text .now) (t .text-unity .ensures) (s .out .now) (c .before .before .before .before .if1 .taken) (c .before .before .refusal-line .ensures)
-
-slice-aggregate-place-form : tie.Need-slice-aggregate-place-form
-slice-aggregate-place-form c = search needs
-
-slice-aggregate-place-form-2 : tie.Need-slice-aggregate-place-form-2
-slice-aggregate-place-form-2 c = search needs
-
-place-form-requires : tie.Need-place-form-requires
-place-form-requires c κs = search needs
-
-same-length-2 : tie.Need-same-length-2
-same-length-2 c = search needs
 
 returns-2 : tie.Need-returns-2
 unfolding unityForm bytes
@@ -45,12 +24,12 @@ pub print-unity-spec : {M : Type 1} → statement M
 print-unity-spec =
     tie.close
     (tie.spec
-    text-unity-requires
-    refusal-line-requires
-    same-length
+    (λ c κs. search needs)
+    (λ c κs. search needs)
+    (λ c. search needs)
     returns
-    slice-aggregate-place-form
-    slice-aggregate-place-form-2
-    place-form-requires
-    same-length-2
+    (λ c. search needs)
+    (λ c. search needs)
+    (λ c κs. search needs)
+    (λ c. search needs)
     returns-2)

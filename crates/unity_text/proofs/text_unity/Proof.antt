@@ -15,14 +15,8 @@ Inv-loop text s₀ at₀ s at = SummedUpto text s at
 abbrev μ-loop : tie.MeasureT-loop
 μ-loop text s₀ at₀ s at = length text - at
 
-nothing-summed-requires : tie.Need-nothing-summed-requires Inv-loop μ-loop
-nothing-summed-requires c κs = search needs
-
 loop-holds : tie.Need-loop-holds Inv-loop μ-loop
 loop-holds c = summed-start (c .before .before .args .text .now) (c .nothing-summed .ensures)
-
-line-end-requires : tie.Need-line-end-requires Inv-loop μ-loop
-line-end-requires c κs = search needs
 
 sub-read-answer : tie.Need-sub-read-answer Inv-loop μ-loop
 sub-read-answer c = let l = c .before .before in let x = next-line (l .before .before .before .args .text .now) (l .loop .at) (c .before .loop-test .taken) (c .line-end .ensures) in omega (arith, x .forward)
@@ -33,14 +27,8 @@ part-read-answer-start c = let l = c .before .before in let x = next-line (l .be
 part-read-answer-end : tie.Need-part-read-answer-end Inv-loop μ-loop
 part-read-answer-end c = let l = c .before .before in let x = next-line (l .before .before .before .args .text .now) (l .loop .at) (c .before .loop-test .taken) (c .line-end .ensures) in omega (arith, x .inside)
 
-read-answer-requires : tie.Need-read-answer-requires Inv-loop μ-loop
-read-answer-requires c κs = search needs
-
 add-refused : tie.Need-add-refused Inv-loop μ-loop
 add-refused c = let l = c .before .before .before .before .before .before .before in omega (arith, upto-few (l .before .before .before .args .text .now) (l .loop .inv))
-
-refused-requires : tie.Need-refused-requires Inv-loop μ-loop
-refused-requires c κs = search needs
 
 returns : tie.Need-returns Inv-loop μ-loop
 returns c =
@@ -50,9 +38,6 @@ returns c =
 
 with-answer-requires : tie.Need-with-answer-requires Inv-loop μ-loop
 with-answer-requires c κs = let l = c .before .before .before .before .before .before .before in upto-left (l .before .before .before .args .text .now) (l .loop .inv)
-
-refused-requires-2 : tie.Need-refused-requires-2 Inv-loop μ-loop
-refused-requires-2 c κs = search needs
 
 returns-2 : tie.Need-returns-2 Inv-loop μ-loop
 returns-2 c =
@@ -87,18 +72,18 @@ text-unity-spec =
     (tie.spec
     Inv-loop
     μ-loop
-    nothing-summed-requires
+    (λ c κs. search needs)
     loop-holds
-    line-end-requires
+    (λ c κs. search needs)
     sub-read-answer
     part-read-answer-start
     part-read-answer-end
-    read-answer-requires
+    (λ c κs. search needs)
     add-refused
-    refused-requires
+    (λ c κs. search needs)
     returns
     with-answer-requires
-    refused-requires-2
+    (λ c κs. search needs)
     returns-2
     loop-less
     loop-again

@@ -4,18 +4,9 @@ use Rattle.record.specs.Judgement.{settled}
 use Rattle.voting_bundles.proofs.all_settled.Statement.{statement}
 use Rattle.voting_bundles.proofs.all_settled.Tie as tie
 
-name-count-requires : tie.Need-name-count-requires
-name-count-requires c κs = search needs
-
-settleds-requires : tie.Need-settleds-requires
-settleds-requires c κs = search needs
-
-every-marked-requires : tie.Need-every-marked-requires
-every-marked-requires c κs = search needs
-
 returns : tie.Need-returns
 returns c = λ R e f. c .every-marked .ensures R (settled R) (c .before .before .name-count .ensures .1 R e f) (c .before .settleds .ensures R e f)
 
 pub all-settled-spec : {M : Type 1} → statement M
 all-settled-spec =
-    tie.close (tie.spec name-count-requires settleds-requires every-marked-requires returns)
+    tie.close (tie.spec (λ c κs. search needs) (λ c κs. search needs) (λ c κs. search needs) returns)

@@ -7,23 +7,11 @@ use Rattle.voting_bundles.proofs.Bundling.{edits-marked, ends-known, bu
 use Rattle.voting_bundles.proofs.bundle_by.Statement.{statement}
 use Rattle.voting_bundles.proofs.bundle_by.Tie as tie
 
-empty-requires : tie.Need-empty-requires
-empty-requires c κs = search needs
-
 returns : tie.Need-returns
 returns c = λ R e f t g i. let s = c .before .before in absurd (omega (arith, bundle-edits-within (s .args .multilog) R e f))
 
-empty-requires-2 : tie.Need-empty-requires-2
-empty-requires-2 c κs = search needs
-
 returns-2 : tie.Need-returns-2
 returns-2 c = λ R e f t g i. let s = c .before .before .before in absurd (omega (arith, bundle-constraints-within (s .args .multilog) R e f))
-
-member-marks-requires : tie.Need-member-marks-requires
-member-marks-requires c κs = search needs
-
-filter-edits-requires : tie.Need-filter-edits-requires
-filter-edits-requires c κs = search needs
 
 filter-constraints-requires : tie.Need-filter-constraints-requires
 filter-constraints-requires c κs = let s = c .before .before .before .before .before .before .before .before in (omega arith, s .pre .0, s .pre .1)
@@ -42,11 +30,11 @@ pub bundle-by-spec : {M : Type 1} → statement M
 bundle-by-spec =
     tie.close
     (tie.spec
-    empty-requires
+    (λ c κs. search needs)
     returns
-    empty-requires-2
+    (λ c κs. search needs)
     returns-2
-    member-marks-requires
-    filter-edits-requires
+    (λ c κs. search needs)
+    (λ c κs. search needs)
     filter-constraints-requires
     returns-3)

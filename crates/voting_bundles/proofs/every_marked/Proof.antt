@@ -22,26 +22,11 @@ loop-holds : tie.Need-loop-holds Inv-loop μ-loop
 unfolding all
 loop-holds c = (search needs, search needs, λ R test e m. refl)
 
-add-loop : tie.Need-add-loop Inv-loop μ-loop
-add-loop c = search needs
-
-add-if1 : tie.Need-add-if1 Inv-loop μ-loop
-add-if1 c = search needs
-
-array-read-if1 : tie.Need-array-read-if1 Inv-loop μ-loop
-array-read-if1 c = search needs
-
 returns : tie.Need-returns Inv-loop μ-loop
 returns c = λ R test e m.
     let l = c .before .before in
     let lt = c .before .loop-test .taken in
     bundle-unmarked R test (l .before .args .t1) m (l .loop .i) (omega arith) (c .if1 .taken)
-
-add-i : tie.Need-add-i Inv-loop μ-loop
-add-i c = search needs
-
-loop-less : tie.Need-loop-less Inv-loop μ-loop
-loop-less c = search needs
 
 loop-again : tie.Need-loop-again Inv-loop μ-loop
 loop-again c = let l = c .before .before in
@@ -61,11 +46,11 @@ every-marked-spec =
     Inv-loop
     μ-loop
     loop-holds
-    add-loop
-    add-if1
-    array-read-if1
+    (λ c. search needs)
+    (λ c. search needs)
+    (λ c. search needs)
     returns
-    add-i
-    loop-less
+    (λ c. search needs)
+    (λ c. search needs)
     loop-again
     returns-2)

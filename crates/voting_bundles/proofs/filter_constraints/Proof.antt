@@ -24,36 +24,12 @@ Inv-loop n table marks constraints rows₀ count₀ i₀ rows count i = (i ≤ n
 abbrev μ-loop : tie.MeasureT-loop
 μ-loop n table marks constraints rows₀ count₀ i₀ rows count i = n - i
 
-empty-requires : tie.Need-empty-requires Inv-loop μ-loop
-empty-requires c κs = search needs
-
 loop-holds : tie.Need-loop-holds Inv-loop μ-loop
 loop-holds c = let e = ap (λ r. r .constraints) (c .before .empty .ensures) in
     (search needs, search needs, search needs, ap length e, λ R m t g k. filtering-start 512 fillerConstraint (λ c. between m (c .left) (c .right)) (c .before .before .args .t1) _ e)
 
-mul-constraint : tie.Need-mul-constraint Inv-loop μ-loop
-mul-constraint c = search needs
-
-array-copy-out-constraint : tie.Need-array-copy-out-constraint Inv-loop μ-loop
-array-copy-out-constraint c = search needs
-
-add-i : tie.Need-add-i Inv-loop μ-loop
-add-i c = search needs
-
 is-between-requires : tie.Need-is-between-requires Inv-loop μ-loop
 is-between-requires c κs = (c .before .before .before .before .before .pre .1, c .before .before .before .before .before .pre .2)
-
-mul-rows : tie.Need-mul-rows Inv-loop μ-loop
-mul-rows c = search needs
-
-array-set-from-rows : tie.Need-array-set-from-rows Inv-loop μ-loop
-array-set-from-rows c = search needs
-
-add-count : tie.Need-add-count Inv-loop μ-loop
-add-count c = search needs
-
-loop-less : tie.Need-loop-less Inv-loop μ-loop
-loop-less c = search needs
 
 loop-again : tie.Need-loop-again Inv-loop μ-loop
 loop-again c = let l = c .before .before .before .before .loop in
@@ -71,9 +47,6 @@ loop-again c = let l = c .before .before .before .before .loop in
           (c .before .is-between .ensures R m t e (getD-swap (λ (x : Constraint). x .left among names R) (s .args .t1) (l .i) fillerConstraint _ li (ke .0)) (getD-swap (λ (x : Constraint). x .right among names R) (s .args .t1) (l .i) fillerConstraint _ li (ke .1))) in
           filtering-kept 512 fillerConstraint (λ c. between m (c .left) (c .right)) (s .args .t1) (l .i) (l .rows) (l .count) _ li (l .inv .4 R m t e k) (omega arith) (sym r ∙ c .if1 .taken),
     )
-
-loop-less-2 : tie.Need-loop-less-2 Inv-loop μ-loop
-loop-less-2 c = search needs
 
 loop-again-2 : tie.Need-loop-again-2 Inv-loop μ-loop
 loop-again-2 c = let l = c .before .before .before .before .loop in
@@ -105,17 +78,17 @@ filter-constraints-spec =
     (tie.spec
     Inv-loop
     μ-loop
-    empty-requires
+    (λ c κs. search needs)
     loop-holds
-    mul-constraint
-    array-copy-out-constraint
-    add-i
+    (λ c. search needs)
+    (λ c. search needs)
+    (λ c. search needs)
     is-between-requires
-    mul-rows
-    array-set-from-rows
-    add-count
-    loop-less
+    (λ c. search needs)
+    (λ c. search needs)
+    (λ c. search needs)
+    (λ c. search needs)
     loop-again
-    loop-less-2
+    (λ c. search needs)
     loop-again-2
     returns)

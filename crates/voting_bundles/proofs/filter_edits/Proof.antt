@@ -20,36 +20,9 @@ Inv-loop n marks edits rows₀ count₀ i₀ rows count i = (i ≤ n) × (n ≤ 
 abbrev μ-loop : tie.MeasureT-loop
 μ-loop n marks edits rows₀ count₀ i₀ rows count i = n - i
 
-empty-requires : tie.Need-empty-requires Inv-loop μ-loop
-empty-requires c κs = search needs
-
 loop-holds : tie.Need-loop-holds Inv-loop μ-loop
 loop-holds c = let e = ap (λ r. r .edits) (c .before .empty .ensures) in
     (search needs, search needs, search needs, ap length e, λ p f. filtering-start 127 fillerEdit p (c .before .before .args .t1) _ e)
-
-mul-edit : tie.Need-mul-edit Inv-loop μ-loop
-mul-edit c = search needs
-
-array-copy-out-edit : tie.Need-array-copy-out-edit Inv-loop μ-loop
-array-copy-out-edit c = search needs
-
-add-i : tie.Need-add-i Inv-loop μ-loop
-add-i c = search needs
-
-element-copy-out-if1 : tie.Need-element-copy-out-if1 Inv-loop μ-loop
-element-copy-out-if1 c = search needs
-
-mul-rows : tie.Need-mul-rows Inv-loop μ-loop
-mul-rows c = search needs
-
-array-set-from-rows : tie.Need-array-set-from-rows Inv-loop μ-loop
-array-set-from-rows c = search needs
-
-add-count : tie.Need-add-count Inv-loop μ-loop
-add-count c = search needs
-
-loop-less : tie.Need-loop-less Inv-loop μ-loop
-loop-less c = search needs
 
 loop-again : tie.Need-loop-again Inv-loop μ-loop
 loop-again c = let l = c .before .before .before .before .loop in
@@ -62,9 +35,6 @@ loop-again c = let l = c .before .before .before .before .loop in
       simp length-set (l .inv .3),
       λ p f. filtering-kept 127 fillerEdit p (s .args .t1) (l .i) (l .rows) (l .count) _ (omega arith) (l .inv .4 p f) (omega arith) (sym (f (l .i) lt) ∙ eq-eqb _ _ (c .if1 .taken)),
     )
-
-loop-less-2 : tie.Need-loop-less-2 Inv-loop μ-loop
-loop-less-2 c = search needs
 
 loop-again-2 : tie.Need-loop-again-2 Inv-loop μ-loop
 loop-again-2 c = let l = c .before .before .before .before .loop in
@@ -91,17 +61,17 @@ filter-edits-spec =
     (tie.spec
     Inv-loop
     μ-loop
-    empty-requires
+    (λ c κs. search needs)
     loop-holds
-    mul-edit
-    array-copy-out-edit
-    add-i
-    element-copy-out-if1
-    mul-rows
-    array-set-from-rows
-    add-count
-    loop-less
+    (λ c. search needs)
+    (λ c. search needs)
+    (λ c. search needs)
+    (λ c. search needs)
+    (λ c. search needs)
+    (λ c. search needs)
+    (λ c. search needs)
+    (λ c. search needs)
     loop-again
-    loop-less-2
+    (λ c. search needs)
     loop-again-2
     returns)

@@ -5,12 +5,6 @@ use Rattle.voting_bundles.proofs.Bundling.{not-from, to-init, to-member
 use Rattle.voting_bundles.proofs.is_between.Statement.{statement}
 use Rattle.voting_bundles.proofs.is_between.Tie as tie
 
-index16-requires : tie.Need-index16-requires
-index16-requires c κs = search needs
-
-index-of-requires : tie.Need-index-of-requires
-index-of-requires c κs = search needs
-
 element-copy-out-if1 : tie.Need-element-copy-out-if1
 element-copy-out-if1 c = omega (arith, c .index-of .ensures, c .before .before .pre .1 (c .before .index16 .result))
 
@@ -23,12 +17,6 @@ returns-2 : tie.Need-returns-2
 returns-2 c = λ R m t e k n.
     let s = c .before .before .before .before .before in
     to-init R m (s .args .table .now) (s .args .marks .now) t e (s .args .left) (c .before .before .before .index-of .result) k (rw (← c .before .before .before .before .index16 .ensures) (c .before .before .before .index-of .ensures)) (s .args .right) (c .before .if1 .left) (c .if2 .taken)
-
-index16-requires-2 : tie.Need-index16-requires-2
-index16-requires-2 c κs = search needs
-
-index-of-requires-2 : tie.Need-index-of-requires-2
-index-of-requires-2 c κs = search needs
 
 element-copy-out-result : tie.Need-element-copy-out-result
 element-copy-out-result c = omega (arith, c .index-of2 .ensures, c .before .before .before .before .before .before .before .pre .1 (c .before .index162 .result))
@@ -43,12 +31,12 @@ pub is-between-spec : {M : Type 1} → statement M
 is-between-spec =
     tie.close
     (tie.spec
-    index16-requires
-    index-of-requires
+    (λ c κs. search needs)
+    (λ c κs. search needs)
     element-copy-out-if1
     returns
     returns-2
-    index16-requires-2
-    index-of-requires-2
+    (λ c κs. search needs)
+    (λ c κs. search needs)
     element-copy-out-result
     returns-3)

@@ -12,20 +12,8 @@ use Rattle.graph.proofs.indexes.Fit.{checked-fit}
 use Rattle.voting_bundles.proofs.lent_bundle.Statement.{statement}
 use Rattle.voting_bundles.proofs.lent_bundle.Tie as tie
 
-lent-requires : tie.Need-lent-requires
-lent-requires c κs = search needs
-
-refused-requires : tie.Need-refused-requires
-refused-requires c κs = search needs
-
 returns : tie.Need-returns
 returns c = let s = c .before .before .before .before in c .refused .ensures ∙ bundle-rows-refused (s .args .edits .now) (s .args .constraints .now) (s .args .edit) (c .before .before .before .lent .result) (c .before .before .before .lent .ensures) (c .before .if1 .taken)
-
-is-name-requires : tie.Need-is-name-requires
-is-name-requires c κs = search needs
-
-refused-requires-2 : tie.Need-refused-requires-2
-refused-requires-2 c κs = search needs
 
 returns-2 : tie.Need-returns-2
 returns-2 c = let s = c .before .before .before .before .before .before in
@@ -40,12 +28,6 @@ returns-2 c = let s = c .before .before .before .before .before .before in
 cast-name : tie.Need-cast-name
 cast-name c = let s = c .before .before .before .before .before in omega (arith, name-small (s .args .edit) (sym (c .before .is-name .ensures) ∙ not-false _ (c .if2 .left)))
 
-knows-requires : tie.Need-knows-requires
-knows-requires c κs = search needs
-
-refused-requires-3 : tie.Need-refused-requires-3
-refused-requires-3 c κs = search needs
-
 returns-3 : tie.Need-returns-3
 returns-3 c = let s = c .before .before .before .before .before .before .before .before .before in
     let es = s .args .edits .now in
@@ -57,12 +39,6 @@ returns-3 c = let s = c .before .before .before .before .before .before .before 
     let nm = sym (c .before .before .before .before .before .is-name .ensures) ∙ not-false _ (c .before .before .before .before .if2 .left) in
     let k = lent-checked es cs (p .0) in
     c .refused3 .ensures ∙ bundle-unknown-refused es cs x (p .0) nm (sym (c .before .before .knows .ensures R (p .1) k) ∙ not-true _ (c .before .if3 .taken))
-
-sound-requires : tie.Need-sound-requires
-sound-requires c κs = search needs
-
-refused-requires-4 : tie.Need-refused-requires-4
-refused-requires-4 c κs = search needs
 
 returns-4 : tie.Need-returns-4
 returns-4 c = let s = c .before .before .before .before .before .before .before .before .before .before .before in
@@ -77,12 +53,6 @@ returns-4 c = let s = c .before .before .before .before .before .before .before 
     let kn = sym (c .before .before .before .before .knows .ensures R (p .1) k) ∙ not-false _ (c .before .before .before .if3 .left) in
     let f = checked-fit R k in
     c .refused4 .ensures ∙ bundle-unsound-refused es cs x (p .0) nm kn (sym (c .before .before .sound .ensures R (p .1) f) ∙ not-true _ (c .before .if4 .taken))
-
-bundle-requires : tie.Need-bundle-requires
-bundle-requires c κs = search needs
-
-all-settled-requires : tie.Need-all-settled-requires
-all-settled-requires c κs = search needs
 
 returns-5 : tie.Need-returns-5
 returns-5 c = let s = c .before .before .before .before .before .before .before .before .before .before .before .before in
@@ -104,19 +74,19 @@ pub lent-bundle-spec : {M : Type 1} → statement M
 lent-bundle-spec =
     tie.close
     (tie.spec
-    lent-requires
-    refused-requires
+    (λ c κs. search needs)
+    (λ c κs. search needs)
     returns
-    is-name-requires
-    refused-requires-2
+    (λ c κs. search needs)
+    (λ c κs. search needs)
     returns-2
     cast-name
-    knows-requires
-    refused-requires-3
+    (λ c κs. search needs)
+    (λ c κs. search needs)
     returns-3
-    sound-requires
-    refused-requires-4
+    (λ c κs. search needs)
+    (λ c κs. search needs)
     returns-4
-    bundle-requires
-    all-settled-requires
+    (λ c κs. search needs)
+    (λ c κs. search needs)
     returns-5)

@@ -26,12 +26,6 @@ loop-holds : tie.Need-loop-holds Inv-loop μ-loop
 unfolding all
 loop-holds c = (search needs, λ h. refl)
 
-proposal-at-requires : tie.Need-proposal-at-requires Inv-loop μ-loop
-proposal-at-requires c κs = search needs
-
-sound-requires : tie.Need-sound-requires Inv-loop μ-loop
-sound-requires c κs = search needs
-
 returns : tie.Need-returns Inv-loop μ-loop
 returns c = λ h.
     let l = c .before .before .before .before in
@@ -40,12 +34,6 @@ returns c = λ h.
     let lt = c .before .before .before .loop-test .taken in
     let g = bench-faultless P h (l .loop .k) lt in
     not-every (λ j. sound (held P j)) (l .loop .k) lt (c .before .sound .result) (c .before .sound .ensures (held P (l .loop .k + 1)) (c .before .before .proposal-at .ensures g) (checked-fit _ (held-checked P (l .loop .k + 1) g))) (not-true _ (c .if1 .taken))
-
-add-k : tie.Need-add-k Inv-loop μ-loop
-add-k c = search needs
-
-loop-less : tie.Need-loop-less Inv-loop μ-loop
-loop-less c = search needs
 
 loop-again : tie.Need-loop-again Inv-loop μ-loop
 loop-again c = let l = c .before .before .before .before in
@@ -70,10 +58,10 @@ all-sound-spec =
     Inv-loop
     μ-loop
     loop-holds
-    proposal-at-requires
-    sound-requires
+    (λ c κs. search needs)
+    (λ c κs. search needs)
     returns
-    add-k
-    loop-less
+    (λ c. search needs)
+    (λ c. search needs)
     loop-again
     returns-2)

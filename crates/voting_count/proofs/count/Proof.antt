@@ -13,17 +13,8 @@ use denote.Ref.{now}
 use Rattle.voting_count.proofs.count.Statement.{statement}
 use Rattle.voting_count.proofs.count.Tie as tie
 
-proposals-fault-requires : tie.Need-proposals-fault-requires
-proposals-fault-requires c κs = search needs
-
-refused-requires : tie.Need-refused-requires
-refused-requires c κs = search needs
-
 returns : tie.Need-returns
 returns c = λ rows e. let s = c .before .before .before in c .refused .ensures ∙ count-rows-refused (s .args .edit) (lentProposals (map now (s .args .edits)) (map now (s .args .constraints))) rows (c .before .before .proposals-fault .result) (c .before .before .proposals-fault .ensures) (c .before .if1 .taken)
-
-refused-requires-2 : tie.Need-refused-requires-2
-refused-requires-2 c κs = search needs
 
 returns-2 : tie.Need-returns-2
 returns-2 c = λ rows e.
@@ -32,12 +23,6 @@ returns-2 c = λ rows e.
     let x = s .args .edit in
     let z : Faultless P = sym (c .before .before .before .proposals-fault .ensures) ∙ c .before .before .if1 .left in
     c .refused2 .ensures ∙ roll-refused x P rows z (sym (roll-faulty-is (s .args .roll) rows e) ∙ c .before .if2 .taken)
-
-is-name-requires : tie.Need-is-name-requires
-is-name-requires c κs = search needs
-
-refused-requires-3 : tie.Need-refused-requires-3
-refused-requires-3 c κs = search needs
 
 returns-3 : tie.Need-returns-3
 returns-3 c = λ rows e.
@@ -51,12 +36,6 @@ returns-3 c = λ rows e.
 cast-name : tie.Need-cast-name
 cast-name c = let s = c .before .before .before .before .before in omega (arith, name-small (s .args .edit) (sym (c .before .is-name .ensures) ∙ not-false _ (c .if3 .left)))
 
-is-known-requires : tie.Need-is-known-requires
-is-known-requires c κs = search needs
-
-refused-requires-4 : tie.Need-refused-requires-4
-refused-requires-4 c κs = search needs
-
 returns-4 : tie.Need-returns-4
 returns-4 c = λ rows e.
     let s = c .before .before .before .before .before .before .before .before in
@@ -66,12 +45,6 @@ returns-4 c = λ rows e.
     let f = sym (roll-faulty-is (s .args .roll) rows e) ∙ c .before .before .before .before .before .if2 .left in
     let nm = sym (c .before .before .before .before .is-name .ensures) ∙ not-false _ (c .before .before .before .if3 .left) in
     c .refused4 .ensures ∙ count-unknown-refused x P rows z f nm (sym (c .before .before .is-known .ensures _ z) ∙ not-true _ (c .before .if4 .taken))
-
-all-sound-requires : tie.Need-all-sound-requires
-all-sound-requires c κs = search needs
-
-refused-requires-5 : tie.Need-refused-requires-5
-refused-requires-5 c κs = search needs
 
 returns-5 : tie.Need-returns-5
 returns-5 c = λ rows e.
@@ -83,12 +56,6 @@ returns-5 c = λ rows e.
     let nm = sym (c .before .before .before .before .before .before .is-name .ensures) ∙ not-false _ (c .before .before .before .before .before .if3 .left) in
     let kn = sym (c .before .before .before .before .is-known .ensures _ z) ∙ not-false _ (c .before .before .before .if4 .left) in
     c .refused5 .ensures ∙ count-unsound-refused x P rows z f nm kn (sym (c .before .before .all-sound .ensures z) ∙ not-true _ (c .before .if5 .taken))
-
-tally-of-requires : tie.Need-tally-of-requires
-tally-of-requires c κs = search needs
-
-won-bundle-requires : tie.Need-won-bundle-requires
-won-bundle-requires c κs = search needs
 
 returns-6 : tie.Need-returns-6
 returns-6 c = λ rows e.
@@ -108,21 +75,21 @@ pub count-spec : {M : Type 1} → statement M
 count-spec =
     tie.close
     (tie.spec
-    proposals-fault-requires
-    refused-requires
+    (λ c κs. search needs)
+    (λ c κs. search needs)
     returns
-    refused-requires-2
+    (λ c κs. search needs)
     returns-2
-    is-name-requires
-    refused-requires-3
+    (λ c κs. search needs)
+    (λ c κs. search needs)
     returns-3
     cast-name
-    is-known-requires
-    refused-requires-4
+    (λ c κs. search needs)
+    (λ c κs. search needs)
     returns-4
-    all-sound-requires
-    refused-requires-5
+    (λ c κs. search needs)
+    (λ c κs. search needs)
     returns-5
-    tally-of-requires
-    won-bundle-requires
+    (λ c κs. search needs)
+    (λ c κs. search needs)
     returns-6)

@@ -8,13 +8,10 @@ use denote.Ref.{now}
 use Rattle.voting_count.proofs.election.Statement.{statement}
 use Rattle.voting_count.proofs.election.Tie as tie
 
-count-requires : tie.Need-count-requires
-count-requires c κs = search needs
-
 returns : tie.Need-returns
 returns c = λ rows e.
     let s = c .before .before in
     ap (λ r. r .election) (c .before .count .ensures rows e) ∙ election-counted (s .args .edit) (lentProposals (map now (s .args .edits)) (map now (s .args .constraints))) rows
 
 pub election-spec : {M : Type 1} → statement M
-election-spec = tie.close (tie.spec count-requires returns)
+election-spec = tie.close (tie.spec (λ c κs. search needs) returns)

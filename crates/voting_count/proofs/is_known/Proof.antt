@@ -26,15 +26,6 @@ loop-holds : tie.Need-loop-holds Inv-loop μ-loop
 unfolding any
 loop-holds c = (search needs, λ cs h. refl)
 
-mul-has-name : tie.Need-mul-has-name Inv-loop μ-loop
-mul-has-name c = search needs
-
-array-copy-out-has-name : tie.Need-array-copy-out-has-name Inv-loop μ-loop
-array-copy-out-has-name c = search needs
-
-has-name-requires : tie.Need-has-name-requires Inv-loop μ-loop
-has-name-requires c κs = search needs
-
 returns : tie.Need-returns Inv-loop μ-loop
 returns c = λ cs h.
     let s = c .before .before .before .before .before .args in
@@ -42,12 +33,6 @@ returns c = λ cs h.
     let P = lentProposals (map now (s .t1)) cs in
     let lt = c .before .before .before .loop-test .taken in
     some-bench (λ j. mem (s .name) (written (held P j))) k lt (c .before .has-name .result) (c .before .has-name .ensures ∙ held-named now (s .t1) cs k _ refl (s .name) (bench-faultless P h k lt)) (c .if1 .taken)
-
-add-k : tie.Need-add-k Inv-loop μ-loop
-add-k c = search needs
-
-loop-less : tie.Need-loop-less Inv-loop μ-loop
-loop-less c = search needs
 
 loop-again : tie.Need-loop-again Inv-loop μ-loop
 loop-again c = let s = c .before .before .before .before .before .args in
@@ -69,11 +54,11 @@ is-known-spec =
     Inv-loop
     μ-loop
     loop-holds
-    mul-has-name
-    array-copy-out-has-name
-    has-name-requires
+    (λ c. search needs)
+    (λ c. search needs)
+    (λ c κs. search needs)
     returns
-    add-k
-    loop-less
+    (λ c. search needs)
+    (λ c. search needs)
     loop-again
     returns-2)

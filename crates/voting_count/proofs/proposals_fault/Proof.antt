@@ -17,31 +17,10 @@ abbrev μ-loop : tie.MeasureT-loop
 loop-holds : tie.Need-loop-holds Inv-loop μ-loop
 loop-holds c = (search needs, λ j h. absurd (omega arith))
 
-mul-lent-fault : tie.Need-mul-lent-fault Inv-loop μ-loop
-mul-lent-fault c = search needs
-
-array-copy-out-lent-fault : tie.Need-array-copy-out-lent-fault Inv-loop μ-loop
-array-copy-out-lent-fault c = search needs
-
-mul-lent-fault-2 : tie.Need-mul-lent-fault-2 Inv-loop μ-loop
-mul-lent-fault-2 c = search needs
-
-array-copy-out-lent-fault-2 : tie.Need-array-copy-out-lent-fault-2 Inv-loop μ-loop
-array-copy-out-lent-fault-2 c = search needs
-
-lent-fault-requires : tie.Need-lent-fault-requires Inv-loop μ-loop
-lent-fault-requires c κs = search needs
-
 returns : tie.Need-returns Inv-loop μ-loop
 returns c = let l = c .before .before .before .before .before in
     let s = l .before in
     first-fault now now (s .args .t1) (s .args .t2) (l .loop .k) (c .before .before .before .before .loop-test .taken) _ _ refl refl (c .before .lent-fault .result) (c .before .lent-fault .ensures) (l .loop .inv .1) (c .if1 .taken)
-
-add-k : tie.Need-add-k Inv-loop μ-loop
-add-k c = search needs
-
-loop-less : tie.Need-loop-less Inv-loop μ-loop
-loop-less c = search needs
 
 loop-again : tie.Need-loop-again Inv-loop μ-loop
 loop-again c = let l = c .before .before .before .before .before in
@@ -58,13 +37,13 @@ proposals-fault-spec =
     Inv-loop
     μ-loop
     loop-holds
-    mul-lent-fault
-    array-copy-out-lent-fault
-    mul-lent-fault-2
-    array-copy-out-lent-fault-2
-    lent-fault-requires
+    (λ c. search needs)
+    (λ c. search needs)
+    (λ c. search needs)
+    (λ c. search needs)
+    (λ c κs. search needs)
     returns
-    add-k
-    loop-less
+    (λ c. search needs)
+    (λ c. search needs)
     loop-again
     returns-2)

@@ -4,11 +4,8 @@ use Rattle.voting_roll.specs.Election.{refusedElection}
 use Rattle.voting_count.proofs.refused.Statement.{statement}
 use Rattle.voting_count.proofs.refused.Tie as tie
 
-empty-requires : tie.Need-empty-requires
-empty-requires c κs = search needs
-
 returns : tie.Need-returns
 returns c = λ i. record { election = refusedElection (c .before .args .number); bundle = c .empty .ensures i }
 
 pub refused-spec : {M : Type 1} → statement M
-refused-spec = tie.close (tie.spec empty-requires returns)
+refused-spec = tie.close (tie.spec (λ c κs. search needs) returns)

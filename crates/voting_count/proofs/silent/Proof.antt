@@ -4,11 +4,8 @@ use Rattle.voting_tally.specs.declared.Vote.the-variants.{Silent}
 use Rattle.voting_count.proofs.silent.Statement.{statement}
 use Rattle.voting_count.proofs.silent.Tie as tie
 
-empty-requires : tie.Need-empty-requires
-empty-requires c κs = search needs
-
 returns : tie.Need-returns
 returns c = λ i. record { vote = Silent; bundle = c .empty .ensures i }
 
 pub silent-spec : {M : Type 1} → statement M
-silent-spec = tie.close (tie.spec empty-requires returns)
+silent-spec = tie.close (tie.spec (λ c κs. search needs) returns)

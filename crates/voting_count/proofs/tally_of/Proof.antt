@@ -22,33 +22,12 @@ Inv-loop name edits constraints tally₀ rows n i₀ tally i = (i ≤ n) × (n �
 abbrev μ-loop : tie.MeasureT-loop
 μ-loop name edits constraints tally₀ rows n i₀ tally i = n - i
 
-no-votes-requires : tie.Need-no-votes-requires Inv-loop μ-loop
-no-votes-requires c κs = search needs
-
 returns : tie.Need-returns Inv-loop μ-loop
 returns c = λ l g e f. let s = c .before .before .before in absurd (omega (arith, rows-counted (s .args .roll) l e f, rows-few (s .args .roll) l e f))
 
 loop-holds : tie.Need-loop-holds Inv-loop μ-loop
 loop-holds c = let s = c .before .before .before in
     (search needs, search needs, λ l g e f. roll-counting-start _ l e f (s .args .name) (lentProposals (map now (s .args .edits)) (map now (s .args .constraints))) _ (c .before .before .no-votes .ensures))
-
-mul-row : tie.Need-mul-row Inv-loop μ-loop
-mul-row c = search needs
-
-array-copy-out-row : tie.Need-array-copy-out-row Inv-loop μ-loop
-array-copy-out-row c = search needs
-
-vote-in-requires : tie.Need-vote-in-requires Inv-loop μ-loop
-vote-in-requires c κs = search needs
-
-with-vote-requires : tie.Need-with-vote-requires Inv-loop μ-loop
-with-vote-requires c κs = search needs
-
-add-i : tie.Need-add-i Inv-loop μ-loop
-add-i c = search needs
-
-loop-less : tie.Need-loop-less Inv-loop μ-loop
-loop-less c = search needs
 
 loop-again : tie.Need-loop-again Inv-loop μ-loop
 loop-again c = let l = c .before .before .before .before in
@@ -75,14 +54,14 @@ tally-of-spec =
     (tie.spec
     Inv-loop
     μ-loop
-    no-votes-requires
+    (λ c κs. search needs)
     returns
     loop-holds
-    mul-row
-    array-copy-out-row
-    vote-in-requires
-    with-vote-requires
-    add-i
-    loop-less
+    (λ c. search needs)
+    (λ c. search needs)
+    (λ c κs. search needs)
+    (λ c κs. search needs)
+    (λ c. search needs)
+    (λ c. search needs)
     loop-again
     returns-2)

@@ -12,15 +12,6 @@ use denote.Ref.{now}
 use Rattle.voting_count.proofs.vote_in.Statement.{statement}
 use Rattle.voting_count.proofs.vote_in.Tie as tie
 
-place-of-requires : tie.Need-place-of-requires
-place-of-requires c κs = search needs
-
-proposal-at-requires : tie.Need-proposal-at-requires
-proposal-at-requires c κs = search needs
-
-vote-of-requires : tie.Need-vote-of-requires
-vote-of-requires c κs = search needs
-
 returns : tie.Need-returns
 returns c = let s = c .before .before .before in
     let P = (lentProposals (map now (s .args .edits)) (map now (s .args .constraints))) in
@@ -33,4 +24,4 @@ returns c = let s = c .before .before .before in
 
 pub vote-in-spec : {M : Type 1} → statement M
 vote-in-spec =
-    tie.close (tie.spec place-of-requires proposal-at-requires vote-of-requires returns)
+    tie.close (tie.spec (λ c κs. search needs) (λ c κs. search needs) (λ c κs. search needs) returns)

@@ -9,23 +9,8 @@ use Rattle.graph.proofs.indexes.Fit.{checked-fit}
 use Rattle.voting_count.proofs.vote_of.Statement.{statement}
 use Rattle.voting_count.proofs.vote_of.Tie as tie
 
-knows-requires : tie.Need-knows-requires
-knows-requires c κs = search needs
-
-silent-requires : tie.Need-silent-requires
-silent-requires c κs = search needs
-
 returns : tie.Need-returns
 returns c = λ R e k. let s = c .before .before .before in c .silent .ensures ∙ vote-unknown R (s .args .name) (sym (c .before .before .knows .ensures R e k) ∙ not-true _ (c .before .if1 .taken))
-
-bundle-requires : tie.Need-bundle-requires
-bundle-requires c κs = search needs
-
-all-settled-requires : tie.Need-all-settled-requires
-all-settled-requires c κs = search needs
-
-silent-requires-2 : tie.Need-silent-requires-2
-silent-requires-2 c κs = search needs
 
 returns-2 : tie.Need-returns-2
 returns-2 c = λ R e k.
@@ -48,11 +33,11 @@ pub vote-of-spec : {M : Type 1} → statement M
 vote-of-spec =
     tie.close
     (tie.spec
-    knows-requires
-    silent-requires
+    (λ c κs. search needs)
+    (λ c κs. search needs)
     returns
-    bundle-requires
-    all-settled-requires
-    silent-requires-2
+    (λ c κs. search needs)
+    (λ c κs. search needs)
+    (λ c κs. search needs)
     returns-2
     returns-3)

@@ -14,23 +14,8 @@ use Rattle.voting_decisions.proofs.Joined.{edits-unite, constraints-uni
 use Rattle.voting_decisions.proofs.decided_table.Statement.{statement}
 use Rattle.voting_decisions.proofs.decided_table.Tie as tie
 
-table-of-requires : tie.Need-table-of-requires
-table-of-requires c κs = search needs
-
-with-decisions-requires : tie.Need-with-decisions-requires
-with-decisions-requires c κs = search needs
-
 returns : tie.Need-returns
 returns c = λ R rest index e k g. c .with-decisions .ensures R rest index (R .constraints) e (checked-fit R k) g (c .before .table-of .ensures R e (k .constraintplaces)) (k .constraintorder)
-
-decisions-of-requires : tie.Need-decisions-of-requires
-decisions-of-requires c κs = search needs
-
-union-requires : tie.Need-union-requires
-union-requires c κs = search needs
-
-table-of-requires-2 : tie.Need-table-of-requires-2
-table-of-requires-2 c κs = search needs
 
 returns-2 : tie.Need-returns-2
 returns-2 c = λ R rest index e k g.
@@ -43,10 +28,10 @@ pub decided-table-spec : {M : Type 1} → statement M
 decided-table-spec =
     tie.close
     (tie.spec
-    table-of-requires
-    with-decisions-requires
+    (λ c κs. search needs)
+    (λ c κs. search needs)
     returns
-    decisions-of-requires
-    union-requires
-    table-of-requires-2
+    (λ c κs. search needs)
+    (λ c κs. search needs)
+    (λ c κs. search needs)
     returns-2)

@@ -4,9 +4,6 @@ use borrow.Author.Needs.{needs}
 use Rattle.voting_decisions.proofs.decision.Statement.{statement}
 use Rattle.voting_decisions.proofs.decision.Tie as tie
 
-notafter-requires : tie.Need-notafter-requires
-notafter-requires c κs = search needs
-
 returns : tie.Need-returns
 returns c =
     aborted-is (c .before .before .args .name) (c .before .before .args .page) (c .before .if1 .taken) (c .notafter .ensures)
@@ -16,4 +13,4 @@ returns-2 c =
     required-is (c .before .args .name) (c .before .args .page) (c .if1 .left)
 
 pub decision-spec : {M : Type 1} → statement M
-decision-spec = tie.close (tie.spec notafter-requires returns returns-2)
+decision-spec = tie.close (tie.spec (λ c κs. search needs) returns returns-2)

@@ -24,41 +24,11 @@ Inv-loop pages n r edits rows₀ i₀ rows i = (i ≤ n) × (n ≤ 127) × (leng
 abbrev μ-loop : tie.MeasureT-loop
 μ-loop pages n r edits rows₀ i₀ rows i = n - i
 
-empty-requires : tie.Need-empty-requires Inv-loop μ-loop
-empty-requires c κs = search needs
-
 returns : tie.Need-returns Inv-loop μ-loop
 returns c = λ R rest index e f g. absurd (omega (arith, few-left (c .before .before .args .multilog) R e f, c .if1 .taken))
 
 loop-holds : tie.Need-loop-holds Inv-loop μ-loop
 loop-holds c = (search needs, search needs, search (needs, length-mapped), search (needs, length-mapped), λ R rest index q g. only-start _ (c .before .before .before .empty .result) refl (c .before .before .before .empty .ensures))
-
-mul-e : tie.Need-mul-e Inv-loop μ-loop
-mul-e c = search needs
-
-array-copy-out-e : tie.Need-array-copy-out-e Inv-loop μ-loop
-array-copy-out-e c = search needs
-
-add-decision : tie.Need-add-decision Inv-loop μ-loop
-add-decision c = search needs
-
-element-copy-out-decision : tie.Need-element-copy-out-decision Inv-loop μ-loop
-element-copy-out-decision c = search needs
-
-decision-requires : tie.Need-decision-requires Inv-loop μ-loop
-decision-requires c κs = search needs
-
-mul-rows : tie.Need-mul-rows Inv-loop μ-loop
-mul-rows c = search needs
-
-array-set-from-rows : tie.Need-array-set-from-rows Inv-loop μ-loop
-array-set-from-rows c = search needs
-
-add-i : tie.Need-add-i Inv-loop μ-loop
-add-i c = search needs
-
-loop-less : tie.Need-loop-less Inv-loop μ-loop
-loop-less c = search needs
 
 loop-again : tie.Need-loop-again Inv-loop μ-loop
 loop-again c =
@@ -91,17 +61,17 @@ decisions-of-spec =
     (tie.spec
     Inv-loop
     μ-loop
-    empty-requires
+    (λ c κs. search needs)
     returns
     loop-holds
-    mul-e
-    array-copy-out-e
-    add-decision
-    element-copy-out-decision
-    decision-requires
-    mul-rows
-    array-set-from-rows
-    add-i
-    loop-less
+    (λ c. search needs)
+    (λ c. search needs)
+    (λ c. search needs)
+    (λ c. search needs)
+    (λ c κs. search needs)
+    (λ c. search needs)
+    (λ c. search needs)
+    (λ c. search needs)
+    (λ c. search needs)
     loop-again
     returns-2)

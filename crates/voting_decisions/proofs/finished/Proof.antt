@@ -18,21 +18,6 @@ use borrow.Author.Needs.{needs}
 use Rattle.voting_decisions.proofs.finished.Statement.{statement}
 use Rattle.voting_decisions.proofs.finished.Tie as tie
 
-unordered-pairs-requires : tie.Need-unordered-pairs-requires
-unordered-pairs-requires c κs = search needs
-
-index-table-requires : tie.Need-index-table-requires
-index-table-requires c κs = search needs
-
-pages-requires : tie.Need-pages-requires
-pages-requires c κs = search needs
-
-decided-table-requires : tie.Need-decided-table-requires
-decided-table-requires c κs = search needs
-
-with-orders-requires : tie.Need-with-orders-requires
-with-orders-requires c κs = search needs
-
 returns : tie.Need-returns
 returns c =
     λ R e k h.
@@ -49,9 +34,9 @@ pub finished-spec : {M : Type 1} → statement M
 finished-spec =
     tie.close
     (tie.spec
-    unordered-pairs-requires
-    index-table-requires
-    pages-requires
-    decided-table-requires
-    with-orders-requires
+    (λ c κs. search needs)
+    (λ c κs. search needs)
+    (λ c κs. search needs)
+    (λ c κs. search needs)
+    (λ c κs. search needs)
     returns)

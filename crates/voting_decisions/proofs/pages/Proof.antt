@@ -5,21 +5,6 @@ use borrow.Author.Needs.{needs}
 use Rattle.voting_decisions.proofs.pages.Statement.{statement}
 use Rattle.voting_decisions.proofs.pages.Tie as tie
 
-name-count-requires : tie.Need-name-count-requires
-name-count-requires c κs = search needs
-
-resolved-requires : tie.Need-resolved-requires
-resolved-requires c κs = search needs
-
-must-marks-requires : tie.Need-must-marks-requires
-must-marks-requires c κs = search needs
-
-schedule-row-requires : tie.Need-schedule-row-requires
-schedule-row-requires c κs = search needs
-
-page-values-requires : tie.Need-page-values-requires
-page-values-requires c κs = search needs
-
 returns : tie.Need-returns
 returns c = (
   c .page-values .ensures .0,
@@ -34,9 +19,9 @@ pub pages-spec : {M : Type 1} → statement M
 pages-spec =
     tie.close
     (tie.spec
-    name-count-requires
-    resolved-requires
-    must-marks-requires
-    schedule-row-requires
-    page-values-requires
+    (λ c κs. search needs)
+    (λ c κs. search needs)
+    (λ c κs. search needs)
+    (λ c κs. search needs)
+    (λ c κs. search needs)
     returns)

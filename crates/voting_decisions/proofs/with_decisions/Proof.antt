@@ -41,27 +41,6 @@ loop-holds c = (
   λ R rest index t q g e a. joins-start (decisionRow (0 ∷ rest)) t (written R) e,
 )
 
-mul-e : tie.Need-mul-e Inv-loop μ-loop
-mul-e c = search needs
-
-array-copy-out-e : tie.Need-array-copy-out-e Inv-loop μ-loop
-array-copy-out-e c = search needs
-
-add-i : tie.Need-add-i Inv-loop μ-loop
-add-i c = search needs
-
-element-copy-out-decision : tie.Need-element-copy-out-decision Inv-loop μ-loop
-element-copy-out-decision c = search needs
-
-decision-requires : tie.Need-decision-requires Inv-loop μ-loop
-decision-requires c κs = search needs
-
-insert-requires : tie.Need-insert-requires Inv-loop μ-loop
-insert-requires c κs = search needs
-
-loop-less : tie.Need-loop-less Inv-loop μ-loop
-loop-less c = search needs
-
 loop-again : tie.Need-loop-again Inv-loop μ-loop
 loop-again c =
     let o = c .before .before .before .before .before in
@@ -95,12 +74,12 @@ with-decisions-spec =
     μ-loop
     returns
     loop-holds
-    mul-e
-    array-copy-out-e
-    add-i
-    element-copy-out-decision
-    decision-requires
-    insert-requires
-    loop-less
+    (λ c. search needs)
+    (λ c. search needs)
+    (λ c. search needs)
+    (λ c. search needs)
+    (λ c κs. search needs)
+    (λ c κs. search needs)
+    (λ c. search needs)
     loop-again
     returns-2)

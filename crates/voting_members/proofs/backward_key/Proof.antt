@@ -9,11 +9,8 @@ use Rattle.voting_members.proofs.backward_key.Tie as tie
 returns : tie.Need-returns
 returns c = (omega arith, λ R g l m. let s = c .before in backward-none R (s .args .a) (s .args .rule) (s .args .b) (c .if1 .taken))
 
-rival-key-requires : tie.Need-rival-key-requires
-rival-key-requires c κs = search needs
-
 returns-2 : tie.Need-returns-2
 returns-2 c = (c .rival-key .ensures .0, λ R g l m. let s = c .before .before in c .rival-key .ensures .1 R g m l ∙ backward-rival R (s .args .a) (s .args .rule) (s .args .b) (c .before .if1 .left))
 
 pub backward-key-spec : {M : Type 1} → statement M
-backward-key-spec = tie.close (tie.spec returns rival-key-requires returns-2)
+backward-key-spec = tie.close (tie.spec returns (λ c κs. search needs) returns-2)

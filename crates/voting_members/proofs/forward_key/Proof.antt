@@ -6,12 +6,6 @@ use Rattle.voting_members.proofs.Keys.{forward-notafter, forward-enable
 use Rattle.voting_members.proofs.forward_key.Statement.{statement}
 use Rattle.voting_members.proofs.forward_key.Tie as tie
 
-enabled-key-requires : tie.Need-enabled-key-requires
-enabled-key-requires c κs = search needs
-
-rival-key-requires : tie.Need-rival-key-requires
-rival-key-requires c κs = search needs
-
 returns : tie.Need-returns
 returns c = (omega arith, λ R g l m. let s = c .before in forward-notafter R (s .args .a) (s .args .rule) (s .args .b) (c .match .keys1))
 
@@ -23,4 +17,4 @@ returns-3 c = (c .rival-key .ensures .0, λ R g l m. let s = c .before .before i
 
 pub forward-key-spec : {M : Type 1} → statement M
 forward-key-spec =
-    tie.close (tie.spec enabled-key-requires rival-key-requires returns returns-2 returns-3)
+    tie.close (tie.spec (λ c κs. search needs) (λ c κs. search needs) returns returns-2 returns-3)

@@ -23,27 +23,12 @@ Inv-loop table own multilog rows₀ count j₀ rows j =
 abbrev μ-loop : tie.MeasureT-loop
 μ-loop table own multilog rows₀ count j₀ rows j = count - j
 
-lesser-requires : tie.Need-lesser-requires Inv-loop μ-loop
-lesser-requires c κs = search needs
-
 loop-holds : tie.Need-loop-holds Inv-loop μ-loop
 loop-holds c =
     (growing-start, omega arith, within-low _ _ _ (c .lesser .ensures), λ R e f t g. (constraint-within _ R _ e f (c .lesser .ensures), linking-start (memberKeysOf R) (memberLeftsOf R)))
 
-mul-constraint : tie.Need-mul-constraint Inv-loop μ-loop
-mul-constraint c = search needs
-
-element-copy-out-constraint : tie.Need-element-copy-out-constraint Inv-loop μ-loop
-element-copy-out-constraint c = search needs
-
-index16-requires : tie.Need-index16-requires Inv-loop μ-loop
-index16-requires c κs = search needs
-
 index-of-requires : tie.Need-index-of-requires Inv-loop μ-loop
 index-of-requires c κs = c .before .before .before .before .before .pre .0
-
-index16-requires-2 : tie.Need-index16-requires-2 Inv-loop μ-loop
-index16-requires-2 c κs = search needs
 
 index-of-requires-2 : tie.Need-index-of-requires-2 Inv-loop μ-loop
 index-of-requires-2 c κs = c .before .before .before .before .before .before .before .pre .0
@@ -69,12 +54,6 @@ link-both-requires c κs =
       c .before .before .forward-key .ensures .0,
       c .before .backward-key .ensures .0,
     )
-
-add-j : tie.Need-add-j Inv-loop μ-loop
-add-j c = search needs
-
-loop-less : tie.Need-loop-less Inv-loop μ-loop
-loop-less c = search needs
 
 loop-again : tie.Need-loop-again Inv-loop μ-loop
 loop-again c =
@@ -108,18 +87,18 @@ leading-rows-spec =
     (tie.spec
     Inv-loop
     μ-loop
-    lesser-requires
+    (λ c κs. search needs)
     loop-holds
-    mul-constraint
-    element-copy-out-constraint
-    index16-requires
+    (λ c. search needs)
+    (λ c. search needs)
+    (λ c κs. search needs)
     index-of-requires
-    index16-requires-2
+    (λ c κs. search needs)
     index-of-requires-2
     forward-key-requires
     backward-key-requires
     link-both-requires
-    add-j
-    loop-less
+    (λ c. search needs)
+    (λ c. search needs)
     loop-again
     returns)

@@ -8,18 +8,6 @@ use borrow.Author.Needs.{needs}
 use Rattle.voting_members.proofs.link_both.Statement.{statement}
 use Rattle.voting_members.proofs.link_both.Tie as tie
 
-mul-link-row : tie.Need-mul-link-row
-mul-link-row c = search needs
-
-link-row-requires : tie.Need-link-row-requires
-link-row-requires c κs = search needs
-
-mul-link-row-2 : tie.Need-mul-link-row-2
-mul-link-row-2 c = search needs
-
-add-link-row : tie.Need-add-link-row
-add-link-row c = search needs
-
 link-row-requires-2 : tie.Need-link-row-requires-2
 link-row-requires-2 c κs =
     let s = c .before .before .before in
@@ -34,9 +22,9 @@ pub link-both-spec : {M : Type 1} → statement M
 link-both-spec =
     tie.close
     (tie.spec
-    mul-link-row
-    link-row-requires
-    mul-link-row-2
-    add-link-row
+    (λ c. search needs)
+    (λ c κs. search needs)
+    (λ c. search needs)
+    (λ c. search needs)
     link-row-requires-2
     returns)

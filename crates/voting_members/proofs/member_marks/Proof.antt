@@ -13,12 +13,6 @@ use Rattle.graph.proofs.indexes.Tables.{names-few}
 use Rattle.voting_members.proofs.member_marks.Statement.{statement}
 use Rattle.voting_members.proofs.member_marks.Tie as tie
 
-index16-requires : tie.Need-index16-requires
-index16-requires c κs = search needs
-
-index-of-requires : tie.Need-index-of-requires
-index-of-requires c κs = search needs
-
 closed-requires : tie.Need-closed-requires
 closed-requires c κs = let s = c .before .before in (s .pre .2, omega arith, omega (arith, c .index-of .ensures, s .pre .1 (c .before .index16 .result)), search needs)
 
@@ -32,4 +26,4 @@ returns c = let x = c .before .before .before .args .edit in (
 )
 
 pub member-marks-spec : {M : Type 1} → statement M
-member-marks-spec = tie.close (tie.spec index16-requires index-of-requires closed-requires returns)
+member-marks-spec = tie.close (tie.spec (λ c κs. search needs) (λ c κs. search needs) closed-requires returns)

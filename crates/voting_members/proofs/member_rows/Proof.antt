@@ -3,14 +3,8 @@ use borrow.Author.Needs.{needs}
 use Rattle.voting_members.proofs.member_rows.Statement.{statement}
 use Rattle.voting_members.proofs.member_rows.Tie as tie
 
-resolved-requires : tie.Need-resolved-requires
-resolved-requires c κs = search needs
-
-leading-rows-requires : tie.Need-leading-rows-requires
-leading-rows-requires c κs = search needs
-
 returns : tie.Need-returns
 returns c = (c .leading-rows .ensures .0, λ R e f t. c .leading-rows .ensures .1 R e f t (c .before .before .resolved .ensures .1 R e f))
 
 pub member-rows-spec : {M : Type 1} → statement M
-member-rows-spec = tie.close (tie.spec resolved-requires leading-rows-requires returns)
+member-rows-spec = tie.close (tie.spec (λ c κs. search needs) (λ c κs. search needs) returns)

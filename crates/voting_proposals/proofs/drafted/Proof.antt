@@ -11,22 +11,10 @@ use borrow.Author.Needs.{needs}
 use Rattle.voting_proposals.proofs.drafted.Statement.{statement}
 use Rattle.voting_proposals.proofs.drafted.Tie as tie
 
-sound-requires : tie.Need-sound-requires
-sound-requires c κs = search needs
-
-stopped-requires : tie.Need-stopped-requires
-stopped-requires c κs = search needs
-
 returns : tie.Need-returns
 returns c =
     λ M Q e k f j.
     stopped-is 8 (draftFault M Q) (proposed M Q) (unsound-old M Q (sym (c .before .before .sound .ensures Q f (checked-fit Q j)) ∙ not-true _ (c .before .if1 .taken))) (λ z. omega arith) (c .stopped .ensures)
-
-started-requires : tie.Need-started-requires
-started-requires c κs = search needs
-
-stopped-requires-2 : tie.Need-stopped-requires-2
-stopped-requires-2 c κs = search needs
 
 returns-2 : tie.Need-returns-2
 returns-2 c =
@@ -35,15 +23,6 @@ returns-2 c =
     let first = c .before .before .started .result in
     let t = c .before .before .started .ensures (unite M Q) Q e k f j in
     stopped-is 3 (draftFault M Q) (proposed M Q) (no-place-before M Q p first t (c .before .if2 .taken)) (λ z. omega arith) (c .stopped2 .ensures)
-
-with-table-requires : tie.Need-with-table-requires
-with-table-requires c κs = search needs
-
-sound-requires-2 : tie.Need-sound-requires-2
-sound-requires-2 c κs = search needs
-
-stopped-requires-3 : tie.Need-stopped-requires-3
-stopped-requires-3 c κs = search needs
 
 returns-3 : tie.Need-returns-3
 returns-3 c =
@@ -55,12 +34,6 @@ returns-3 c =
     let s = start-is M Q p first t q _ _ (c .before .before .before .with-table .ensures) e in
     let w = start-checked M Q p first t q k in
     stopped-is 8 (draftFault M Q) (proposed M Q) (unsound-start M Q p first t q (sym (c .before .before .sound2 .ensures (started M Q) s (checked-fit (started M Q) w)) ∙ not-true _ (c .before .if3 .taken))) (λ z. omega arith) (c .stopped3 .ensures)
-
-finished-requires : tie.Need-finished-requires
-finished-requires c κs = search needs
-
-stopped-requires-4 : tie.Need-stopped-requires-4
-stopped-requires-4 c κs = search needs
 
 returns-4 : tie.Need-returns-4
 returns-4 c =
@@ -75,9 +48,6 @@ returns-4 c =
     let last = c .before .before .finished .result in
     let u = c .before .before .finished .ensures (started M Q) s w y in
     stopped-is 3 (draftFault M Q) (proposed M Q) (no-place-after M Q p first t q y last u (c .before .if4 .taken)) (λ z. omega arith) (c .stopped4 .ensures)
-
-with-table-requires-2 : tie.Need-with-table-requires-2
-with-table-requires-2 c κs = search needs
 
 returns-5 : tie.Need-returns-5
 returns-5 c =
@@ -98,18 +68,18 @@ pub drafted-spec : {M : Type 1} → statement M
 drafted-spec =
     tie.close
     (tie.spec
-    sound-requires
-    stopped-requires
+    (λ c κs. search needs)
+    (λ c κs. search needs)
     returns
-    started-requires
-    stopped-requires-2
+    (λ c κs. search needs)
+    (λ c κs. search needs)
     returns-2
-    with-table-requires
-    sound-requires-2
-    stopped-requires-3
+    (λ c κs. search needs)
+    (λ c κs. search needs)
+    (λ c κs. search needs)
     returns-3
-    finished-requires
-    stopped-requires-4
+    (λ c κs. search needs)
+    (λ c κs. search needs)
     returns-4
-    with-table-requires-2
+    (λ c κs. search needs)
     returns-5)

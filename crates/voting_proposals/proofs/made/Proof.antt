@@ -7,21 +7,9 @@ use borrow.Author.Needs.{needs}
 use Rattle.voting_proposals.proofs.made.Statement.{statement}
 use Rattle.voting_proposals.proofs.made.Tie as tie
 
-drafted-requires : tie.Need-drafted-requires
-drafted-requires c κs = search needs
-
-stopped-requires : tie.Need-stopped-requires
-stopped-requires c κs = search needs
-
 returns : tie.Need-returns
 returns c =
     λ M Q e k f j. draft-refused M Q _ (c .before .before .drafted .ensures M Q e k f j) (c .before .if1 .taken) (c .stopped .ensures)
-
-keeps-requires : tie.Need-keeps-requires
-keeps-requires c κs = search needs
-
-stopped-requires-2 : tie.Need-stopped-requires-2
-stopped-requires-2 c κs = search needs
 
 returns-2 : tie.Need-returns-2
 returns-2 c =
@@ -43,10 +31,10 @@ pub made-spec : {M : Type 1} → statement M
 made-spec =
     tie.close
     (tie.spec
-    drafted-requires
-    stopped-requires
+    (λ c κs. search needs)
+    (λ c κs. search needs)
     returns
-    keeps-requires
-    stopped-requires-2
+    (λ c κs. search needs)
+    (λ c κs. search needs)
     returns-2
     returns-3)

@@ -5,22 +5,10 @@ use borrow.Author.Needs.{needs}
 use Rattle.voting_proposals.proofs.new_proposal.Statement.{statement}
 use Rattle.voting_proposals.proofs.new_proposal.Tie as tie
 
-lent-requires : tie.Need-lent-requires
-lent-requires c κs = search needs
-
-stopped-requires : tie.Need-stopped-requires
-stopped-requires c κs = search needs
-
 returns : tie.Need-returns
 returns c =
     let s = c .before .before .before .args in
     propose-rows-refused (s .edits .now) (s .constraints .now) (s .oldedits .now) (s .oldconstraints .now) _ (c .before .before .lent .ensures) (c .before .if1 .taken) (c .stopped .ensures)
-
-merge-requires : tie.Need-merge-requires
-merge-requires c κs = search needs
-
-stopped-requires-2 : tie.Need-stopped-requires-2
-stopped-requires-2 c κs = search needs
 
 returns-2 : tie.Need-returns-2
 returns-2 c =
@@ -33,12 +21,6 @@ returns-2 c =
     let z = c .before .before .before .before .if1 .left in
     let f = c .before .before .merge .ensures (decoded es cs) (own-stored es cs oes ocs _ e z) (own-checked es cs oes ocs _ e z) in
     old-refused es cs oes ocs _ e z _ f (c .before .if2 .taken) (c .stopped2 .ensures)
-
-decode-requires : tie.Need-decode-requires
-decode-requires c κs = search needs
-
-made-requires : tie.Need-made-requires
-made-requires c κs = search needs
 
 returns-3 : tie.Need-returns-3
 returns-3 c =
@@ -59,12 +41,12 @@ pub new-proposal-spec : {M : Type 1} → statement M
 new-proposal-spec =
     tie.close
     (tie.spec
-    lent-requires
-    stopped-requires
+    (λ c κs. search needs)
+    (λ c κs. search needs)
     returns
-    merge-requires
-    stopped-requires-2
+    (λ c κs. search needs)
+    (λ c κs. search needs)
     returns-2
-    decode-requires
-    made-requires
+    (λ c κs. search needs)
+    (λ c κs. search needs)
     returns-3)

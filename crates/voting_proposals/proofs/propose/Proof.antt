@@ -5,12 +5,6 @@ use borrow.Author.Needs.{needs}
 use Rattle.voting_proposals.proofs.propose.Statement.{statement}
 use Rattle.voting_proposals.proofs.propose.Tie as tie
 
-new-proposal-requires : tie.Need-new-proposal-requires
-new-proposal-requires c κs = search needs
-
-refused-requires : tie.Need-refused-requires
-refused-requires c κs = search needs
-
 returns : tie.Need-returns
 returns c =
     let s = c .before .before .before .before .args in
@@ -18,18 +12,12 @@ returns c =
     let e = c .before .before .before .new-proposal .ensures in
     tables-refused t _ e (c .before .if1 .taken) (c .refused .ensures)
 
-refused-requires-2 : tie.Need-refused-requires-2
-refused-requires-2 c κs = search needs
-
 returns-2 : tie.Need-returns-2
 returns-2 c =
     let s = c .before .before .before .before .before .before .args in
     let t : LentToPropose = record { edits = s .edits .now; constraints = s .constraints .now; oldedits = s .oldedits .now; oldconstraints = s .oldconstraints .now; newedits = s .newedits .now; newconstraints = s .newconstraints .now } in
     let e = c .before .before .before .before .before .new-proposal .ensures in
     few-edits t _ e (c .before .before .before .if1 .left) (c .before .if2 .taken) (c .refused2 .ensures)
-
-refused-requires-3 : tie.Need-refused-requires-3
-refused-requires-3 c κs = search needs
 
 returns-3 : tie.Need-returns-3
 returns-3 c =
@@ -52,12 +40,6 @@ write-constraints-requires c κs =
     let e = c .before .before .before .before .before .before .before .before .before .new-proposal .ensures in
     (new-few t _ e (c .before .before .before .before .before .before .before .if1 .left) .1, c .before .before .before .before .if3 .left)
 
-same-length : tie.Need-same-length
-same-length c = search needs
-
-same-length-2 : tie.Need-same-length-2
-same-length-2 c = search needs
-
 returns-4 : tie.Need-returns-4
 returns-4 c =
     let s = c .before .before .before .before .before .before .before .before .before .before .before .before .args in
@@ -70,15 +52,15 @@ pub propose-spec : {M : Type 1} → statement M
 propose-spec =
     tie.close
     (tie.spec
-    new-proposal-requires
-    refused-requires
+    (λ c κs. search needs)
+    (λ c κs. search needs)
     returns
-    refused-requires-2
+    (λ c κs. search needs)
     returns-2
-    refused-requires-3
+    (λ c κs. search needs)
     returns-3
     write-edits-requires
     write-constraints-requires
-    same-length
-    same-length-2
+    (λ c. search needs)
+    (λ c. search needs)
     returns-4)

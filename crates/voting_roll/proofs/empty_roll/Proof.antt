@@ -6,12 +6,9 @@ use Rattle.voting_roll.specs.Roll.{rollFaulty, rollOf}
 use Rattle.voting_roll.proofs.empty_roll.Statement.{statement}
 use Rattle.voting_roll.proofs.empty_roll.Tie as tie
 
-no-rows-requires : tie.Need-no-rows-requires
-no-rows-requires c κs = search needs
-
 returns : tie.Need-returns
 unfolding rollOf rollFaulty all distinct padded
 returns c = search needs
 
 pub empty-roll-spec : {M : Type 1} → statement M
-empty-roll-spec = tie.close (tie.spec no-rows-requires returns)
+empty-roll-spec = tie.close (tie.spec (λ c κs. search needs) returns)

@@ -23,24 +23,12 @@ loop-holds : tie.Need-loop-holds Inv-loop μ-loop
 unfolding any
 loop-holds c = (search needs, search needs, refl)
 
-mul-row : tie.Need-mul-row Inv-loop μ-loop
-mul-row c = search needs
-
-array-copy-out-row : tie.Need-array-copy-out-row Inv-loop μ-loop
-array-copy-out-row c = search needs
-
 returns : tie.Need-returns Inv-loop μ-loop
 returns c = let l = c .before .before .before .before in
     let s = l .before in
     let z : length (s .args .t1) ≡ 8 = search needs in
     sym (some-found (λ row. eqb (row .bench) (s .args .bench)) (s .args .t1) (s .args .n) (l .loop .i) _ (c .before .before .before .loop-test .taken) (omega arith) (eq-eqb _ _ (c .if1 .taken)))
     ∙ bench-some (s .args .bench) (take (s .args .n) (s .args .t1))
-
-add-i : tie.Need-add-i Inv-loop μ-loop
-add-i c = search needs
-
-loop-less : tie.Need-loop-less Inv-loop μ-loop
-loop-less c = search needs
 
 loop-again : tie.Need-loop-again Inv-loop μ-loop
 loop-again c = let l = c .before .before .before .before in
@@ -61,10 +49,10 @@ has-bench-spec =
     Inv-loop
     μ-loop
     loop-holds
-    mul-row
-    array-copy-out-row
+    (λ c. search needs)
+    (λ c. search needs)
     returns
-    add-i
-    loop-less
+    (λ c. search needs)
+    (λ c. search needs)
     loop-again
     returns-2)

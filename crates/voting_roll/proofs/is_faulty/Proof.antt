@@ -16,11 +16,8 @@ returns-2 c = let s = c .before .before .before .before in bench-high (take (s .
 returns-3 : tie.Need-returns-3
 returns-3 c = let s = c .before .before .before .before .before in no-roll-place (take (s .args .n) (s .args .rows)) (s .args .row) (s .args .n) (c .if3 .taken)
 
-has-bench-requires : tie.Need-has-bench-requires
-has-bench-requires c κs = search needs
-
 returns-4 : tie.Need-returns-4
 returns-4 c = let s = c .before .before .before .before .before .before in c .has-bench .ensures ∙ bench-twice (take (s .args .n) (s .args .rows)) (s .args .row) (s .args .n) (omega arith) (omega arith) (omega arith)
 
 pub is-faulty-spec : {M : Type 1} → statement M
-is-faulty-spec = tie.close (tie.spec returns returns-2 returns-3 has-bench-requires returns-4)
+is-faulty-spec = tie.close (tie.spec returns returns-2 returns-3 (λ c κs. search needs) returns-4)

@@ -9,12 +9,6 @@ use Rattle.voting_roll.proofs.with_row.Tie as tie
 returns : tie.Need-returns
 returns c = λ rows e. stays-faulty (c .before .args .roll) rows (c .before .args .row) e (c .if1 .taken)
 
-is-faulty-requires : tie.Need-is-faulty-requires
-is-faulty-requires c κs = search needs
-
-no-rows-requires : tie.Need-no-rows-requires
-no-rows-requires c κs = search needs
-
 returns-2 : tie.Need-returns-2
 returns-2 c = λ rows e.
     let s = c .before .before .before .before .before in
@@ -42,8 +36,8 @@ with-row-spec =
     tie.close
     (tie.spec
     returns
-    is-faulty-requires
-    no-rows-requires
+    (λ c κs. search needs)
+    (λ c κs. search needs)
     returns-2
     mul-row
     element-set-from-row

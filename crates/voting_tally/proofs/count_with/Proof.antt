@@ -7,11 +7,8 @@ use Rattle.voting_tally.proofs.count_with.Tie as tie
 returns : tie.Need-returns
 returns c = simp (lt-ltb _ _ (c .if1 .taken))
 
-add-result : tie.Need-add-result
-add-result c = search needs
-
 returns-2 : tie.Need-returns-2
 returns-2 c = simp (le-ltb _ _ (c .if1 .left))
 
 pub count-with-spec : {M : Type 1} → statement M
-count-with-spec = tie.close (tie.spec returns add-result returns-2)
+count-with-spec = tie.close (tie.spec returns (λ c. search needs) returns-2)

@@ -4,14 +4,8 @@ use Rattle.voting_tally.proofs.Steps.{no-votes-is}
 use Rattle.voting_tally.proofs.no_votes.Statement.{statement}
 use Rattle.voting_tally.proofs.no_votes.Tie as tie
 
-empty-requires : tie.Need-empty-requires
-empty-requires c κs = search needs
-
-answer-requires : tie.Need-answer-requires
-answer-requires c κs = search needs
-
 returns : tie.Need-returns
 returns c = no-votes-is (c .before .empty .ensures) (c .answer .ensures)
 
 pub no-votes-spec : {M : Type 1} → statement M
-no-votes-spec = tie.close (tie.spec empty-requires answer-requires returns)
+no-votes-spec = tie.close (tie.spec (λ c κs. search needs) (λ c κs. search needs) returns)

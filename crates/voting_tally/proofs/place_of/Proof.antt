@@ -23,15 +23,6 @@ abbrev μ-loop : tie.MeasureT-loop
 loop-holds : tie.Need-loop-holds Inv-loop μ-loop
 loop-holds c = (search needs, search needs, λ l s C g p. omega arith)
 
-mul-group : tie.Need-mul-group Inv-loop μ-loop
-mul-group c = search needs
-
-array-copy-out-group : tie.Need-array-copy-out-group Inv-loop μ-loop
-array-copy-out-group c = search needs
-
-same-bundle-requires : tie.Need-same-bundle-requires Inv-loop μ-loop
-same-bundle-requires c κs = search needs
-
 returns : tie.Need-returns Inv-loop μ-loop
 returns c = let l = c .before .before .before .before .before in
     let s = l .before in
@@ -40,12 +31,6 @@ returns c = let l = c .before .before .before .before .before in
       λ k t C g p. place-hit (s .args .t1) (s .args .n) (omega arith) k t C g (l .loop .i) (c .before .before .before .before .loop-test .taken) (l .loop .inv .2 k t C g p) (c .before .same-bundle .result)
           (c .before .same-bundle .ensures C (getD t (l .loop .i) none-yet) p (bundle-at (s .args .t1) (s .args .n) (omega arith) k t C g (l .loop .i) _ (c .before .before .before .before .loop-test .taken))) (c .if1 .taken),
     )
-
-add-i : tie.Need-add-i Inv-loop μ-loop
-add-i c = search needs
-
-loop-less : tie.Need-loop-less Inv-loop μ-loop
-loop-less c = search needs
 
 loop-again : tie.Need-loop-again Inv-loop μ-loop
 loop-again c = let l = c .before .before .before .before .before in
@@ -70,11 +55,11 @@ place-of-spec =
     Inv-loop
     μ-loop
     loop-holds
-    mul-group
-    array-copy-out-group
-    same-bundle-requires
+    (λ c. search needs)
+    (λ c. search needs)
+    (λ c κs. search needs)
     returns
-    add-i
-    loop-less
+    (λ c. search needs)
+    (λ c. search needs)
     loop-again
     returns-2)

@@ -21,26 +21,11 @@ abbrev μ-loop : tie.MeasureT-loop
 loop-holds : tie.Need-loop-holds Inv-loop μ-loop
 loop-holds c = (search needs, search needs, λ j h. absurd (omega arith))
 
-mul-group : tie.Need-mul-group Inv-loop μ-loop
-mul-group c = search needs
-
-array-copy-out-group : tie.Need-array-copy-out-group Inv-loop μ-loop
-array-copy-out-group c = search needs
-
-is-won-requires : tie.Need-is-won-requires Inv-loop μ-loop
-is-won-requires c κs = search needs
-
 returns : tie.Need-returns Inv-loop μ-loop
 returns c = let l = c .before .before .before .before in
     let s = l .before in
     let z : length (s .args .t1) ≡ 8 = search (needs, length-mapped) in
     (search needs, winning-hit (s .args .t1) (s .args .n) (s .args .whole) (omega arith) _ (l .loop .i) (c .before .is-won .result) (omega arith) (c .before .is-won .ensures) (c .if1 .taken))
-
-add-i : tie.Need-add-i Inv-loop μ-loop
-add-i c = search needs
-
-loop-less : tie.Need-loop-less Inv-loop μ-loop
-loop-less c = search needs
 
 loop-again : tie.Need-loop-again Inv-loop μ-loop
 loop-again c = let l = c .before .before .before .before in
@@ -61,11 +46,11 @@ winning-place-spec =
     Inv-loop
     μ-loop
     loop-holds
-    mul-group
-    array-copy-out-group
-    is-won-requires
+    (λ c. search needs)
+    (λ c. search needs)
+    (λ c κs. search needs)
     returns
-    add-i
-    loop-less
+    (λ c. search needs)
+    (λ c. search needs)
     loop-again
     returns-2)

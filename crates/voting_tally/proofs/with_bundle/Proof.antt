@@ -7,38 +7,8 @@ use Rattle.voting_tally.proofs.Steps.{total-is, tally-room, placed, wei
 use Rattle.voting_tally.proofs.with_bundle.Statement.{statement}
 use Rattle.voting_tally.proofs.with_bundle.Tie as tie
 
-plus-requires : tie.Need-plus-requires
-plus-requires c κs = search needs
-
 returns : tie.Need-returns
 returns c = (c .before .plus .ensures .0, λ l C e h t p. let s = c .before .before .before in absurd (omega (arith, tally-room (s .args .tally) l (s .args .weight) e C h)))
-
-place-of-requires : tie.Need-place-of-requires
-place-of-requires c κs = search needs
-
-mul-group : tie.Need-mul-group
-mul-group c = search needs
-
-array-copy-out-group : tie.Need-array-copy-out-group
-array-copy-out-group c = search needs
-
-plus-requires-2 : tie.Need-plus-requires-2
-plus-requires-2 c κs = search needs
-
-mul-t14 : tie.Need-mul-t14
-mul-t14 c = search needs
-
-element-set-from-r : tie.Need-element-set-from-r
-element-set-from-r c = search needs
-
-count-with-requires : tie.Need-count-with-requires
-count-with-requires c κs = search needs
-
-higher-requires : tie.Need-higher-requires
-higher-requires c κs = search needs
-
-answer-requires : tie.Need-answer-requires
-answer-requires c κs = search needs
 
 returns-2 : tie.Need-returns-2
 returns-2 c = let s = c .before .before .before .before .before .before .before .before .before .before in (
@@ -58,15 +28,15 @@ pub with-bundle-spec : {M : Type 1} → statement M
 with-bundle-spec =
     tie.close
     (tie.spec
-    plus-requires
+    (λ c κs. search needs)
     returns
-    place-of-requires
-    mul-group
-    array-copy-out-group
-    plus-requires-2
-    mul-t14
-    element-set-from-r
-    count-with-requires
-    higher-requires
-    answer-requires
+    (λ c κs. search needs)
+    (λ c. search needs)
+    (λ c. search needs)
+    (λ c κs. search needs)
+    (λ c. search needs)
+    (λ c. search needs)
+    (λ c κs. search needs)
+    (λ c κs. search needs)
+    (λ c κs. search needs)
     returns-2)

@@ -6,15 +6,6 @@ use Rattle.voting_tally.proofs.Steps.{total-is, silent-within, silent-s
 use Rattle.voting_tally.proofs.with_silent.Statement.{statement}
 use Rattle.voting_tally.proofs.with_silent.Tie as tie
 
-plus-requires : tie.Need-plus-requires
-plus-requires c κs = search needs
-
-plus-requires-2 : tie.Need-plus-requires-2
-plus-requires-2 c κs = search needs
-
-answer-requires : tie.Need-answer-requires
-answer-requires c κs = search needs
-
 returns : tie.Need-returns
 returns c = let s = c .before .before .before .before in (
   c .before .before .plus .ensures .0,
@@ -25,4 +16,4 @@ returns c = let s = c .before .before .before .before in (
 )
 
 pub with-silent-spec : {M : Type 1} → statement M
-with-silent-spec = tie.close (tie.spec plus-requires plus-requires-2 answer-requires returns)
+with-silent-spec = tie.close (tie.spec (λ c κs. search needs) (λ c κs. search needs) (λ c κs. search needs) returns)

@@ -7,23 +7,11 @@ use Rattle.voting_tally.proofs.Steps.{silent-by, bundle-by}
 use Rattle.voting_tally.proofs.with_vote.Statement.{statement}
 use Rattle.voting_tally.proofs.with_vote.Tie as tie
 
-enum-told : tie.Need-enum-told
-enum-told c = search needs
-
-enum-told-2 : tie.Need-enum-told-2
-enum-told-2 c = search needs
-
-with-silent-requires : tie.Need-with-silent-requires
-with-silent-requires c κs = search needs
-
 returns : tie.Need-returns
 returns c = let s = c .before .before .before in (
   c .with-silent .ensures .0,
   λ l v e h t p. silent-by (λ u. c .with-silent .result ≡ tallyOf (l ++ (record { weight = s .args .weight; vote = u } ∷ []))) (s .args .cast) v p (c .before .enum-told2 .given .1) (c .with-silent .ensures .1 l e t),
 )
-
-with-bundle-requires : tie.Need-with-bundle-requires
-with-bundle-requires c κs = search needs
 
 returns-2 : tie.Need-returns-2
 returns-2 c = let s = c .before .before .before .before in (
@@ -35,4 +23,4 @@ returns-2 c = let s = c .before .before .before .before in (
 pub with-vote-spec : {M : Type 1} → statement M
 with-vote-spec =
     tie.close
-    (tie.spec enum-told enum-told-2 with-silent-requires returns with-bundle-requires returns-2)
+    (tie.spec (λ c. search needs) (λ c. search needs) (λ c κs. search needs) returns (λ c κs. search needs) returns-2)

@@ -8,26 +8,11 @@ use Rattle.voting_tally.proofs.Counts.{bundles-length}
 use Rattle.voting_tally.proofs.won_bundle.Statement.{statement}
 use Rattle.voting_tally.proofs.won_bundle.Tie as tie
 
-empty-requires : tie.Need-empty-requires
-empty-requires c κs = search needs
-
 returns : tie.Need-returns
 returns c = λ l e h. absurd (omega (arith, tally-count-is (c .before .before .args .tally) l 0 e, bundles-length l))
 
-winning-place-requires : tie.Need-winning-place-requires
-winning-place-requires c κs = search needs
-
-empty-requires-2 : tie.Need-empty-requires-2
-empty-requires-2 c κs = search needs
-
 returns-2 : tie.Need-returns-2
 returns-2 c = λ l e h. c .empty2 .ensures ∙ no-winner (c .before .before .before .before .before .before .args .tally) l e (c .before .before .winning-place .result) (c .before .before .winning-place .ensures .1) (c .before .if2 .taken)
-
-mul-group : tie.Need-mul-group
-mul-group c = search needs
-
-array-copy-out-group : tie.Need-array-copy-out-group
-array-copy-out-group c = search needs
 
 returns-3 : tie.Need-returns-3
 returns-3 c = λ l e h. the-winner (c .before .before .before .before .before .before .before .args .tally) l e (c .before .before .before .winning-place .result) (c .before .before .before .winning-place .ensures .1) _ (c .before .before .if2 .left)
@@ -36,11 +21,11 @@ pub won-bundle-spec : {M : Type 1} → statement M
 won-bundle-spec =
     tie.close
     (tie.spec
-    empty-requires
+    (λ c κs. search needs)
     returns
-    winning-place-requires
-    empty-requires-2
+    (λ c κs. search needs)
+    (λ c κs. search needs)
     returns-2
-    mul-group
-    array-copy-out-group
+    (λ c. search needs)
+    (λ c. search needs)
     returns-3)

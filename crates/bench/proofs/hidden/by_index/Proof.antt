@@ -26,32 +26,11 @@ returns c = let s = c .before .before in λ R test e k. absurd (omega (arith, c 
 loop-holds : tie.Need-loop-holds Inv-loop μ-loop
 loop-holds c = (search needs, search needs, search needs, λ R test h z f. indexed-none R _ _ test h z)
 
-mul-edit : tie.Need-mul-edit Inv-loop μ-loop
-mul-edit c = search needs
-
-array-copy-out-edit : tie.Need-array-copy-out-edit Inv-loop μ-loop
-array-copy-out-edit c = search needs
-
-index16-requires : tie.Need-index16-requires Inv-loop μ-loop
-index16-requires c κs = search needs
-
-index-of-requires : tie.Need-index-of-requires Inv-loop μ-loop
-index-of-requires c κs = search needs
-
-add-i : tie.Need-add-i Inv-loop μ-loop
-add-i c = search needs
-
 array-read-marks : tie.Need-array-read-marks Inv-loop μ-loop
 array-read-marks c =
     let s = c .before .before .before .before .before .before .before in
     let i = s .pre .1 (c .before .index16 .result) in
     omega (arith, c .index-of .ensures)
-
-array-write-marks : tie.Need-array-write-marks Inv-loop μ-loop
-array-write-marks c = search needs
-
-loop-less : tie.Need-loop-less Inv-loop μ-loop
-loop-less c = search needs
 
 loop-again : tie.Need-loop-again Inv-loop μ-loop
 loop-again c =
@@ -80,13 +59,13 @@ by-index-spec =
     μ-loop
     returns
     loop-holds
-    mul-edit
-    array-copy-out-edit
-    index16-requires
-    index-of-requires
-    add-i
+    (λ c. search needs)
+    (λ c. search needs)
+    (λ c κs. search needs)
+    (λ c κs. search needs)
+    (λ c. search needs)
     array-read-marks
-    array-write-marks
-    loop-less
+    (λ c. search needs)
+    (λ c. search needs)
     loop-again
     returns-2)

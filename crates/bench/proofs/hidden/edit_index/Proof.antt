@@ -7,12 +7,6 @@ use Rattle.bench.proofs.hidden.edit_index.Tie as tie
 returns : tie.Need-returns
 returns c = let s = c .before in (omega arith, λ R e k. index-past R _ _ (s .args .name) (stored-rows R (s .args .multilog) e k) (c .if1 .taken))
 
-cast-place-of : tie.Need-cast-place-of
-cast-place-of c = search needs
-
-place-of-requires : tie.Need-place-of-requires
-place-of-requires c κs = search needs
-
 returns-2 : tie.Need-returns-2
 returns-2 c =
     let p = c .before .before in
@@ -24,9 +18,6 @@ returns-3 c =
     let s = c .before .before .before .before .before in
     (omega arith, λ R e k. absurd (omega (arith, c .if3 .taken, c .before .if2 .left, count-room R _ _ (stored-rows R (s .args .multilog) e k))))
 
-add-result : tie.Need-add-result
-add-result c = search needs
-
 returns-4 : tie.Need-returns-4
 returns-4 c =
     let p = c .before .before .before in
@@ -36,4 +27,4 @@ returns-4 c =
 pub edit-index-spec : {M : Type 1} → statement M
 edit-index-spec =
     tie.close
-    (tie.spec returns cast-place-of place-of-requires returns-2 returns-3 add-result returns-4)
+    (tie.spec returns (λ c. search needs) (λ c κs. search needs) returns-2 returns-3 (λ c. search needs) returns-4)

@@ -6,17 +6,11 @@ use Rattle.bench_adoption.proofs.adoption.Votes.{adopt-refused, adopt-o
 use Rattle.bench_adoption.proofs.adoption.adopted_bench.Statement.{statement}
 use Rattle.bench_adoption.proofs.adoption.adopted_bench.Tie as tie
 
-refused-requires : tie.Need-refused-requires
-refused-requires c κs = search needs
-
 returns : tie.Need-returns
 unfolding Adopts
 returns c =
     let s = c .before .before in
     λ calls e P roll b h w. c .refused .ensures ∙ adopt-refused e P roll (s .args .election) h calls (s .args .bench) b (c .before .if1 .taken)
-
-open-election-requires : tie.Need-open-election-requires
-open-election-requires c κs = search needs
 
 returns-2 : tie.Need-returns-2
 unfolding Adopts
@@ -24,12 +18,6 @@ returns-2 c =
     let s = c .before .before .before .before in
     λ calls e P roll b h w. c .open-election .ensures
     ∙ adopt-open e P roll (s .args .election) h calls (s .args .bench) b (c .before .before .before .if1 .left) (not-true _ (c .before .if2 .taken))
-
-merge-record-requires : tie.Need-merge-record-requires
-merge-record-requires c κs = search needs
-
-joined-bench-requires : tie.Need-joined-bench-requires
-joined-bench-requires c κs = search needs
 
 returns-3 : tie.Need-returns-3
 unfolding Adopts
@@ -44,10 +32,10 @@ pub adopted-bench-spec : {M : Type 1} → statement M
 adopted-bench-spec =
     tie.close
     (tie.spec
-    refused-requires
+    (λ c κs. search needs)
     returns
-    open-election-requires
+    (λ c κs. search needs)
     returns-2
-    merge-record-requires
-    joined-bench-requires
+    (λ c κs. search needs)
+    (λ c κs. search needs)
     returns-3)

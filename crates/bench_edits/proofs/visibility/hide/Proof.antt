@@ -5,11 +5,8 @@ use borrow.Author.Needs.{needs}
 use Rattle.bench_edits.proofs.visibility.hide.Statement.{statement}
 use Rattle.bench_edits.proofs.visibility.hide.Tie as tie
 
-remark-requires : tie.Need-remark-requires
-remark-requires c κs = search needs
-
 returns : tie.Need-returns
 returns c = c .remark .ensures true refl
 
 pub hide-spec : {M : Type 1} → statement M
-hide-spec = tie.close (tie.spec remark-requires returns)
+hide-spec = tie.close (tie.spec (λ c κs. search needs) returns)

@@ -5,9 +5,6 @@ use Rattle.bench_edits.proofs.visibility.Visible.{unnamed, unknown, mar
 use Rattle.bench_edits.proofs.visibility.mark_fault.Statement.{statement}
 use Rattle.bench_edits.proofs.visibility.mark_fault.Tie as tie
 
-is-name-requires : tie.Need-is-name-requires
-is-name-requires c κs = search needs
-
 returns : tie.Need-returns
 returns c =
     let n = c .before in
@@ -19,9 +16,6 @@ returns-2 c =
     let n = c .before .before in
     let s = n .before .args in
     unknown (s .t1) (s .edit) (s .index) (s .mark) (n .is-name .ensures) (not-false _ (c .before .if1 .left)) (c .if2 .taken)
-
-array-read-if3 : tie.Need-array-read-if3
-array-read-if3 c = search needs
 
 returns-3 : tie.Need-returns-3
 returns-3 c =
@@ -36,4 +30,4 @@ returns-4 c =
     mark-changes (s .t1) (s .edit) (s .index) (s .mark) (n .is-name .ensures) (not-false _ (c .before .before .if1 .left)) (c .before .if2 .left) (c .if3 .left)
 
 pub mark-fault-spec : {M : Type 1} → statement M
-mark-fault-spec = tie.close (tie.spec is-name-requires returns returns-2 array-read-if3 returns-3 returns-4)
+mark-fault-spec = tie.close (tie.spec (λ c κs. search needs) returns returns-2 (λ c. search needs) returns-3 returns-4)

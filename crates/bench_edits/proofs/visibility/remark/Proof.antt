@@ -12,15 +12,6 @@ use Rattle.bench_edits.proofs.visibility.Visible.{mark-refused, mark-mu
 use Rattle.bench_edits.proofs.visibility.remark.Statement.{statement}
 use Rattle.bench_edits.proofs.visibility.remark.Tie as tie
 
-edit-index-requires : tie.Need-edit-index-requires
-edit-index-requires c κs = search needs
-
-mark-fault-requires : tie.Need-mark-fault-requires
-mark-fault-requires c κs = search needs
-
-refused-requires : tie.Need-refused-requires
-refused-requires c κs = search needs
-
 returns : tie.Need-returns
 returns c =
     let m = c .before .before in
@@ -28,21 +19,6 @@ returns c =
     let s = p .before .before .before .args in
     λ hides k. from-valid _ _ _ (λ L v e.
     c .refused .ensures ∙ mark-refused L v (s .bench) e (s .edit) (p .edit-index .result) (p .edit-index .ensures .1 (L .multilog) (bench-record L (s .bench) e) (v .checked)) hides _ _ k (m .mark-fault .ensures) (c .before .if1 .taken))
-
-array-write-marks : tie.Need-array-write-marks
-array-write-marks c = search needs
-
-plan-requires : tie.Need-plan-requires
-plan-requires c κs = search needs
-
-array-read-hides-must : tie.Need-array-read-hides-must
-array-read-hides-must c = search needs
-
-hides-must-requires : tie.Need-hides-must-requires
-hides-must-requires c κs = search needs
-
-refused-requires-2 : tie.Need-refused-requires-2
-refused-requires-2 c κs = search needs
 
 returns-2 : tie.Need-returns-2
 returns-2 c =
@@ -55,12 +31,6 @@ returns-2 c =
     let q = bench-record L (s .bench) e in
     c .refused2 .ensures ∙ mark-must L v (s .bench) e (s .edit) (p .edit-index .result) (p .edit-index .ensures .1 (L .multilog) q (v .checked)) hides _ _ k (m .mark-fault .ensures) (plan .before .if1 .left)
     (plan .plan .result .must) (plan .plan .ensures (L .multilog) q (checked-fit (L .multilog) (v .checked)) .1) (sym (test .hides-must .ensures) ∙ c .before .if2 .taken))
-
-no-election-requires : tie.Need-no-election-requires
-no-election-requires c κs = search needs
-
-reschedule-requires : tie.Need-reschedule-requires
-reschedule-requires c κs = search needs
 
 returns-3 : tie.Need-returns-3
 unfolding Answers
@@ -81,4 +51,4 @@ returns-3 c =
 pub remark-spec : {M : Type 1} → statement M
 remark-spec =
     tie.close
-    (tie.spec edit-index-requires mark-fault-requires refused-requires returns array-write-marks plan-requires array-read-hides-must hides-must-requires refused-requires-2 returns-2 no-election-requires reschedule-requires returns-3)
+    (tie.spec (λ c κs. search needs) (λ c κs. search needs) (λ c κs. search needs) returns (λ c. search needs) (λ c κs. search needs) (λ c. search needs) (λ c κs. search needs) (λ c κs. search needs) returns-2 (λ c κs. search needs) (λ c κs. search needs) returns-3)

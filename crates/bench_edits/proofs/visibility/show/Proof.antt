@@ -5,11 +5,8 @@ use borrow.Author.Needs.{needs}
 use Rattle.bench_edits.proofs.visibility.show.Statement.{statement}
 use Rattle.bench_edits.proofs.visibility.show.Tie as tie
 
-remark-requires : tie.Need-remark-requires
-remark-requires c κs = search needs
-
 returns : tie.Need-returns
 returns c = c .remark .ensures false refl
 
 pub show-spec : {M : Type 1} → statement M
-show-spec = tie.close (tie.spec remark-requires returns)
+show-spec = tie.close (tie.spec (λ c κs. search needs) returns)

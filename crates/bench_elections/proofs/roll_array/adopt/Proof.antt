@@ -5,19 +5,10 @@ use Rattle.bench_elections.proofs.roll_array.Taken.{first-rows-taken}
 use Rattle.bench_elections.proofs.roll_array.adopt.Statement.{statement}
 use Rattle.bench_elections.proofs.roll_array.adopt.Tie as tie
 
-lesser-requires : tie.Need-lesser-requires
-lesser-requires c κs = search needs
-
-first-rows-requires : tie.Need-first-rows-requires
-first-rows-requires c κs = search needs
-
-adopt-requires : tie.Need-adopt-requires
-adopt-requires c κs = search needs
-
 returns : tie.Need-returns
 returns c =
     let s = c .before .before .before in
     c .adopt .ensures (take (s .args .count) (s .args .rows)) (first-rows-taken (s .args .rows) (s .args .count) (s .good .1 .1 .1 .1 .0 .1 .0 .1) (c .before .before .lesser .ensures) (c .before .first-rows .ensures))
 
 pub adopt-spec : {M : Type 1} → statement M
-adopt-spec = tie.close (tie.spec lesser-requires first-rows-requires adopt-requires returns)
+adopt-spec = tie.close (tie.spec (λ c κs. search needs) (λ c κs. search needs) (λ c κs. search needs) returns)

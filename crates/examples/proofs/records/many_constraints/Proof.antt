@@ -13,41 +13,17 @@ Inv-loop constraints₀ row₀ i₀ constraints row i = (length constraints ≡ 
 abbrev μ-loop : tie.MeasureT-loop
 μ-loop constraints₀ row₀ i₀ constraints row i = (constraintLimit + 1) - i
 
-loop-holds : tie.Need-loop-holds Inv-loop μ-loop
-loop-holds c = search needs
-
-next-pair-requires : tie.Need-next-pair-requires Inv-loop μ-loop
-next-pair-requires c κs = search needs
-
-mul-constraints : tie.Need-mul-constraints Inv-loop μ-loop
-mul-constraints c = search needs
-
-array-set-from-constraints : tie.Need-array-set-from-constraints Inv-loop μ-loop
-array-set-from-constraints c = search needs
-
-add-i : tie.Need-add-i Inv-loop μ-loop
-add-i c = search needs
-
-loop-less : tie.Need-loop-less Inv-loop μ-loop
-loop-less c = search needs
-
-loop-again : tie.Need-loop-again Inv-loop μ-loop
-loop-again c = search needs
-
-returns : tie.Need-returns Inv-loop μ-loop
-returns c = search needs
-
 pub many-constraints-spec : {M : Type 1} → statement M
 many-constraints-spec =
     tie.close
     (tie.spec
     Inv-loop
     μ-loop
-    loop-holds
-    next-pair-requires
-    mul-constraints
-    array-set-from-constraints
-    add-i
-    loop-less
-    loop-again
-    returns)
+    (λ c. search needs)
+    (λ c κs. search needs)
+    (λ c. search needs)
+    (λ c. search needs)
+    (λ c. search needs)
+    (λ c. search needs)
+    (λ c. search needs)
+    (λ c. search needs))

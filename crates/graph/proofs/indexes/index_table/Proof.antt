@@ -19,30 +19,9 @@ Inv-loop multilog table₀ count i₀ table i =
 abbrev μ-loop : tie.MeasureT-loop
 μ-loop multilog table₀ count i₀ table i = count - i
 
-lesser-requires : tie.Need-lesser-requires Inv-loop μ-loop
-lesser-requires c κs = search needs
-
 loop-holds : tie.Need-loop-holds Inv-loop μ-loop
 loop-holds c =
     (refl, omega arith, within-low _ _ _ (c .lesser .ensures), λ x. omega (arith, zeros-get 2304 x), λ R e f. (count-within _ R _ e f (c .lesser .ensures), indexing-start R))
-
-mul-edit : tie.Need-mul-edit Inv-loop μ-loop
-mul-edit c = search needs
-
-element-copy-out-edit : tie.Need-element-copy-out-edit Inv-loop μ-loop
-element-copy-out-edit c = search needs
-
-add-i : tie.Need-add-i Inv-loop μ-loop
-add-i c = search needs
-
-cast-put-index : tie.Need-cast-put-index Inv-loop μ-loop
-cast-put-index c = search needs
-
-put-index-requires : tie.Need-put-index-requires Inv-loop μ-loop
-put-index-requires c κs = search needs
-
-loop-less : tie.Need-loop-less Inv-loop μ-loop
-loop-less c = search needs
 
 loop-again : tie.Need-loop-again Inv-loop μ-loop
 loop-again c =
@@ -67,13 +46,13 @@ index-table-spec =
     (tie.spec
     Inv-loop
     μ-loop
-    lesser-requires
+    (λ c κs. search needs)
     loop-holds
-    mul-edit
-    element-copy-out-edit
-    add-i
-    cast-put-index
-    put-index-requires
-    loop-less
+    (λ c. search needs)
+    (λ c. search needs)
+    (λ c. search needs)
+    (λ c. search needs)
+    (λ c κs. search needs)
+    (λ c. search needs)
     loop-again
     returns)

@@ -5,15 +5,9 @@ use Rattle.graph.proofs.indexes.Tables.{length-names, count-within, wit
 use Rattle.graph.proofs.indexes.name_count.Statement.{statement}
 use Rattle.graph.proofs.indexes.name_count.Tie as tie
 
-lesser-requires : tie.Need-lesser-requires
-lesser-requires c κs = search needs
-
-add-result : tie.Need-add-result
-add-result c = search needs
-
 returns : tie.Need-returns
 returns c =
     (omega (arith, within-low _ _ _ (c .lesser .ensures)), λ R e f. omega (arith, count-within _ R _ e f (c .lesser .ensures), length-names R))
 
 pub name-count-spec : {M : Type 1} → statement M
-name-count-spec = tie.close (tie.spec lesser-requires add-result returns)
+name-count-spec = tie.close (tie.spec (λ c κs. search needs) (λ c. search needs) returns)

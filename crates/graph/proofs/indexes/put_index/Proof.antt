@@ -6,12 +6,6 @@ use borrow.Author.Needs.{needs}
 use Rattle.graph.proofs.indexes.put_index.Statement.{statement}
 use Rattle.graph.proofs.indexes.put_index.Tie as tie
 
-index16-requires : tie.Need-index16-requires
-index16-requires c κs = search needs
-
-element-write-table : tie.Need-element-write-table
-element-write-table c = search needs
-
 returns : tie.Need-returns
 returns c = rw (c .before .index16 .ensures) refl
 
@@ -21,4 +15,4 @@ returns-2 c =
     sym (set-out (s .args .table .now) (s .args .name) (s .args .index) (omega (arith, c .before .index16 .ensures)))
 
 pub put-index-spec : {M : Type 1} → statement M
-put-index-spec = tie.close (tie.spec index16-requires element-write-table returns returns-2)
+put-index-spec = tie.close (tie.spec (λ c κs. search needs) (λ c. search needs) returns returns-2)

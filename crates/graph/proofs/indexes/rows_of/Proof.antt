@@ -22,27 +22,12 @@ Inv-loop table multilog rows₀ count j₀ rows j =
 abbrev μ-loop : tie.MeasureT-loop
 μ-loop table multilog rows₀ count j₀ rows j = count - j
 
-lesser-requires : tie.Need-lesser-requires Inv-loop μ-loop
-lesser-requires c κs = search needs
-
 loop-holds : tie.Need-loop-holds Inv-loop μ-loop
 loop-holds c =
     (growing-start, omega arith, within-low _ _ _ (c .lesser .ensures), λ R e f t. (constraint-within _ R _ e f (c .lesser .ensures), linking-start (keysOf R) (leftsOf R)))
 
-mul-constraint : tie.Need-mul-constraint Inv-loop μ-loop
-mul-constraint c = search needs
-
-element-copy-out-constraint : tie.Need-element-copy-out-constraint Inv-loop μ-loop
-element-copy-out-constraint c = search needs
-
-index16-requires : tie.Need-index16-requires Inv-loop μ-loop
-index16-requires c κs = search needs
-
 index-of-requires : tie.Need-index-of-requires Inv-loop μ-loop
 index-of-requires c κs = c .before .before .before .before .before .pre .0
-
-index16-requires-2 : tie.Need-index16-requires-2 Inv-loop μ-loop
-index16-requires-2 c κs = search needs
 
 index-of-requires-2 : tie.Need-index-of-requires-2 Inv-loop μ-loop
 index-of-requires-2 c κs = c .before .before .before .before .before .before .before .pre .0
@@ -54,12 +39,6 @@ link-row-requires : tie.Need-link-row-requires Inv-loop μ-loop
 link-row-requires c κs =
     let l = c .before .before .before .before .before .before .before .before .loop in
     (l .inv .0 .size, omega arith, c .key-of .ensures .0, omega (arith, c .before .before .before .before .index-of .ensures, c .before .before .before .before .before .before .before .before .before .before .pre .1 (c .before .before .before .before .before .index16 .result)))
-
-add-j : tie.Need-add-j Inv-loop μ-loop
-add-j c = search needs
-
-loop-less : tie.Need-loop-less Inv-loop μ-loop
-loop-less c = search needs
 
 loop-again : tie.Need-loop-again Inv-loop μ-loop
 loop-again c =
@@ -90,17 +69,17 @@ rows-of-spec =
     (tie.spec
     Inv-loop
     μ-loop
-    lesser-requires
+    (λ c κs. search needs)
     loop-holds
-    mul-constraint
-    element-copy-out-constraint
-    index16-requires
+    (λ c. search needs)
+    (λ c. search needs)
+    (λ c κs. search needs)
     index-of-requires
-    index16-requires-2
+    (λ c κs. search needs)
     index-of-requires-2
     key-of-requires
     link-row-requires
-    add-j
-    loop-less
+    (λ c. search needs)
+    (λ c. search needs)
     loop-again
     returns)

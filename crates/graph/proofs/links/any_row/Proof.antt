@@ -16,31 +16,16 @@ Inv-loop rows key marks mark j₀ j = (j ≤ 1024) × Looking rows key (λ i. ge
 abbrev μ-loop : tie.MeasureT-loop
 μ-loop rows key marks mark j₀ j = j
 
-first-row-requires : tie.Need-first-row-requires Inv-loop μ-loop
-first-row-requires c κs = search needs
-
 loop-holds : tie.Need-loop-holds Inv-loop μ-loop
 loop-holds c =
     let s = c .before in
     (c .first-row .ensures .1, looking-start (s .args .rows .now) (s .args .key) (λ i. getD (s .args .marks .now) (leftAt (s .args .rows .now) i) 0 ≡ s .args .mark → ⊥) _ (s .pre .1) (c .first-row .ensures))
-
-row-left-requires : tie.Need-row-left-requires Inv-loop μ-loop
-row-left-requires c κs = search needs
-
-element-copy-out-if1 : tie.Need-element-copy-out-if1 Inv-loop μ-loop
-element-copy-out-if1 c = search needs
 
 returns : tie.Need-returns Inv-loop μ-loop
 returns c =
     let s = c .before .before .before .before .before .before in
     let l = c .before .before .before .before .loop in
     (λ e. some-row (s .args .rows .now) (s .args .key) (λ y. getD (s .args .marks .now) y 0 ≡ s .args .mark) (l .j) (omega arith) (rw (← c .before .before .row-left .ensures .0) (c .if1 .taken)) (l .inv .1), λ e. clash refl e)
-
-next-row-requires : tie.Need-next-row-requires Inv-loop μ-loop
-next-row-requires c κs = search needs
-
-loop-less : tie.Need-loop-less Inv-loop μ-loop
-loop-less c = search needs
 
 loop-again : tie.Need-loop-again Inv-loop μ-loop
 loop-again c =
@@ -60,12 +45,12 @@ any-row-spec =
     (tie.spec
     Inv-loop
     μ-loop
-    first-row-requires
+    (λ c κs. search needs)
     loop-holds
-    row-left-requires
-    element-copy-out-if1
+    (λ c κs. search needs)
+    (λ c. search needs)
     returns
-    next-row-requires
-    loop-less
+    (λ c κs. search needs)
+    (λ c. search needs)
     loop-again
     returns-2)

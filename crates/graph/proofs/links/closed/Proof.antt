@@ -5,9 +5,6 @@ use Rattle.graph.proofs.links.Closing.{closing}
 use Rattle.graph.proofs.links.closed.Statement.{statement}
 use Rattle.graph.proofs.links.closed.Tie as tie
 
-mark-requires : tie.Need-mark-requires
-mark-requires c κs = search needs
-
 returns : tie.Need-returns
 returns c =
     let s = c .before .before in (
@@ -16,4 +13,4 @@ returns c =
     )
 
 pub closed-spec : {M : Type 1} → statement M
-closed-spec = tie.close (tie.spec mark-requires returns)
+closed-spec = tie.close (tie.spec (λ c κs. search needs) returns)

@@ -30,12 +30,6 @@ returns c =
     λ R u t g q sub o calm e. ring-found R t _ (s .args .rows .now) g sub e
     (search-ring (s .args .rows .now) (s .args .old .now) _ (l .x) (l .states) _ (c .before .visit-new .result) (c .if1 .taken) (l .inv .1) (c .before .visit-new .ensures) (g .keys) (g .linked) (ring-low R t _ (s .args .rows .now) g sub e))
 
-add-x : tie.Need-add-x Inv-loop μ-loop
-add-x c = search needs
-
-loop-less : tie.Need-loop-less Inv-loop μ-loop
-loop-less c = search needs
-
 loop-again : tie.Need-loop-again Inv-loop μ-loop
 loop-again c =
     let s = c .before .before .before .before .before in
@@ -57,7 +51,7 @@ has-new-ring-spec =
     loop-holds
     visit-new-requires
     returns
-    add-x
-    loop-less
+    (λ c. search needs)
+    (λ c. search needs)
     loop-again
     returns-2)

@@ -14,31 +14,16 @@ Inv-loop base rows a b j₀ j = (j ≤ 1024) × Looking rows (base + b) (λ i. l
 abbrev μ-loop : tie.MeasureT-loop
 μ-loop base rows a b j₀ j = j
 
-add-first-row : tie.Need-add-first-row Inv-loop μ-loop
-add-first-row c = search needs
-
-first-row-requires : tie.Need-first-row-requires Inv-loop μ-loop
-first-row-requires c κs = search needs
-
 loop-holds : tie.Need-loop-holds Inv-loop μ-loop
 loop-holds c =
     let s = c .before in
     (c .first-row .ensures .1, looking-start (s .args .rows .now) (s .args .base + s .args .b) (λ i. leftAt (s .args .rows .now) i ≡ s .args .a → ⊥) _ (omega arith) (c .first-row .ensures))
-
-row-left-requires : tie.Need-row-left-requires Inv-loop μ-loop
-row-left-requires c κs = search needs
 
 returns : tie.Need-returns Inv-loop μ-loop
 returns c =
     let s = c .before .before .before .before .before in
     let l = c .before .before .before .loop in
     λ leads R g h k. leads-found leads R (s .args .base) (s .args .rows .now) g (s .args .a) (s .args .b) h k (some-row (s .args .rows .now) (s .args .base + s .args .b) (λ y. y ≡ s .args .a) (l .j) (omega arith) (sym (c .before .row-left .ensures .0) ∙ c .if1 .taken) (l .inv .1))
-
-next-row-requires : tie.Need-next-row-requires Inv-loop μ-loop
-next-row-requires c κs = search needs
-
-loop-less : tie.Need-loop-less Inv-loop μ-loop
-loop-less c = search needs
 
 loop-again : tie.Need-loop-again Inv-loop μ-loop
 loop-again c =
@@ -58,12 +43,12 @@ leads-to-spec =
     (tie.spec
     Inv-loop
     μ-loop
-    add-first-row
-    first-row-requires
+    (λ c. search needs)
+    (λ c κs. search needs)
     loop-holds
-    row-left-requires
+    (λ c κs. search needs)
     returns
-    next-row-requires
-    loop-less
+    (λ c κs. search needs)
+    (λ c. search needs)
     loop-again
     returns-2)

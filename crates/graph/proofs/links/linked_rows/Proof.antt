@@ -17,29 +17,11 @@ abbrev μ-loop : tie.MeasureT-loop
 loop-holds : tie.Need-loop-holds Inv-loop μ-loop
 loop-holds c = (omega arith, growing-start, linking-start (take (c .args .count) (c .args .t2)) (c .args .t3))
 
-array-read-index8 : tie.Need-array-read-index8 Inv-loop μ-loop
-array-read-index8 c = search needs
-
-index8-requires : tie.Need-index8-requires Inv-loop μ-loop
-index8-requires c κs = search needs
-
-array-read-index8-2 : tie.Need-array-read-index8-2 Inv-loop μ-loop
-array-read-index8-2 c = search needs
-
-index8-requires-2 : tie.Need-index8-requires-2 Inv-loop μ-loop
-index8-requires-2 c κs = search needs
-
 link-row-requires : tie.Need-link-row-requires Inv-loop μ-loop
 link-row-requires c κs =
     let s = c .before .before .before .before .before in
     let l = c .before .before .before .before .loop in
     (l .inv .1 .size, omega arith, omega (arith, c .before .index8 .ensures, s .pre .3 (l .j)), omega (arith, c .index82 .ensures, s .pre .4 (l .j)))
-
-add-j : tie.Need-add-j Inv-loop μ-loop
-add-j c = search needs
-
-loop-less : tie.Need-loop-less Inv-loop μ-loop
-loop-less c = search needs
 
 loop-again : tie.Need-loop-again Inv-loop μ-loop
 loop-again c =
@@ -64,12 +46,12 @@ linked-rows-spec =
     Inv-loop
     μ-loop
     loop-holds
-    array-read-index8
-    index8-requires
-    array-read-index8-2
-    index8-requires-2
+    (λ c. search needs)
+    (λ c κs. search needs)
+    (λ c. search needs)
+    (λ c κs. search needs)
     link-row-requires
-    add-j
-    loop-less
+    (λ c. search needs)
+    (λ c. search needs)
     loop-again
     returns)

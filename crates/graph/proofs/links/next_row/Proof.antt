@@ -6,21 +6,6 @@ use borrow.Author.Needs.{needs}
 use Rattle.graph.proofs.links.next_row.Statement.{statement}
 use Rattle.graph.proofs.links.next_row.Tie as tie
 
-sub-index16 : tie.Need-sub-index16
-sub-index16 c = search needs
-
-add-index16 : tie.Need-add-index16
-add-index16 c = search needs
-
-mul-index16 : tie.Need-mul-index16
-mul-index16 c = search needs
-
-element-copy-out-index16 : tie.Need-element-copy-out-index16
-element-copy-out-index16 c = search needs
-
-index16-requires : tie.Need-index16-requires
-index16-requires c κs = search needs
-
 returns : tie.Need-returns
 unfolding linkAt
 returns c =
@@ -31,4 +16,4 @@ returns c =
 pub next-row-spec : {M : Type 1} → statement M
 next-row-spec =
     tie.close
-    (tie.spec sub-index16 add-index16 mul-index16 element-copy-out-index16 index16-requires returns)
+    (tie.spec (λ c. search needs) (λ c. search needs) (λ c. search needs) (λ c. search needs) (λ c κs. search needs) returns)

@@ -12,40 +12,10 @@ Inv-loop rows lefts₀ rights₀ b j₀ lefts rights j = (j ≤ 1024) × Noter r
 abbrev μ-loop : tie.MeasureT-loop
 μ-loop rows lefts₀ rights₀ b j₀ lefts rights j = j
 
-first-row-requires : tie.Need-first-row-requires Inv-loop μ-loop
-first-row-requires c κs = search needs
-
 loop-holds : tie.Need-loop-holds Inv-loop μ-loop
 loop-holds c =
     let s = c .before in
     (c .first-row .ensures .1, noter-start (s .args .rows .now) (s .args .b) (s .pre .1) (s .args .lefts .now) (s .args .rights .now) _ (c .first-row .ensures))
-
-row-left-requires : tie.Need-row-left-requires Inv-loop μ-loop
-row-left-requires c κs = search needs
-
-cast-lefts : tie.Need-cast-lefts Inv-loop μ-loop
-cast-lefts c = search needs
-
-sub-lefts : tie.Need-sub-lefts Inv-loop μ-loop
-sub-lefts c = search needs
-
-element-write-lefts : tie.Need-element-write-lefts Inv-loop μ-loop
-element-write-lefts c = search needs
-
-cast-rights : tie.Need-cast-rights Inv-loop μ-loop
-cast-rights c = search needs
-
-sub-rights : tie.Need-sub-rights Inv-loop μ-loop
-sub-rights c = search needs
-
-element-write-rights : tie.Need-element-write-rights Inv-loop μ-loop
-element-write-rights c = search needs
-
-next-row-requires : tie.Need-next-row-requires Inv-loop μ-loop
-next-row-requires c κs = search needs
-
-loop-less : tie.Need-loop-less Inv-loop μ-loop
-loop-less c = search needs
 
 loop-again : tie.Need-loop-again Inv-loop μ-loop
 loop-again c =
@@ -65,16 +35,16 @@ reverse-rows-spec =
     (tie.spec
     Inv-loop
     μ-loop
-    first-row-requires
+    (λ c κs. search needs)
     loop-holds
-    row-left-requires
-    cast-lefts
-    sub-lefts
-    element-write-lefts
-    cast-rights
-    sub-rights
-    element-write-rights
-    next-row-requires
-    loop-less
+    (λ c κs. search needs)
+    (λ c. search needs)
+    (λ c. search needs)
+    (λ c. search needs)
+    (λ c. search needs)
+    (λ c. search needs)
+    (λ c. search needs)
+    (λ c κs. search needs)
+    (λ c. search needs)
     loop-again
     returns)

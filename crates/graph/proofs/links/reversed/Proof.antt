@@ -21,18 +21,6 @@ reverse-rows-requires c κs =
     let l = c .before .before .before .loop in
     (s .pre .0, omega arith, l .inv .1 .left-size, l .inv .1 .right-size)
 
-first-row-requires : tie.Need-first-row-requires Inv-loop μ-loop
-first-row-requires c κs = search needs
-
-greater-requires : tie.Need-greater-requires Inv-loop μ-loop
-greater-requires c κs = search needs
-
-add-b : tie.Need-add-b Inv-loop μ-loop
-add-b c = search needs
-
-loop-less : tie.Need-loop-less Inv-loop μ-loop
-loop-less c = search needs
-
 loop-again : tie.Need-loop-again Inv-loop μ-loop
 loop-again c =
     let s = c .before .before .before .before .before .before .before in
@@ -59,10 +47,10 @@ reversed-spec =
     μ-loop
     loop-holds
     reverse-rows-requires
-    first-row-requires
-    greater-requires
-    add-b
-    loop-less
+    (λ c κs. search needs)
+    (λ c κs. search needs)
+    (λ c. search needs)
+    (λ c. search needs)
     loop-again
     linked-rows-requires
     returns)

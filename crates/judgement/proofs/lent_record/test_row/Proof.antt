@@ -3,17 +3,11 @@ use Rattle.judgement.proofs.lent_record.Answers.{row-refused, row-told}
 use Rattle.judgement.proofs.lent_record.test_row.Statement.{statement}
 use Rattle.judgement.proofs.lent_record.test_row.Tie as tie
 
-take-record-requires : tie.Need-take-record-requires
-take-record-requires c κs = search needs
-
 returns : tie.Need-returns
 returns c =
     let s = c .before in
     row-refused (s .before .before .args .edits .now) (s .before .before .args .constraints .now) (s .take-record .result .number) (s .take-record .ensures .0)
     (s .before .before .args .row .now) (c .if1 .taken)
-
-is-schedule-requires : tie.Need-is-schedule-requires
-is-schedule-requires c κs = search needs
 
 returns-2 : tie.Need-returns-2
 returns-2 c =
@@ -23,4 +17,4 @@ returns-2 c =
     (s .take-record .result .multilog) (s .take-record .ensures .1 z) (s .before .before .args .row .now) (c .is-schedule .result) (c .is-schedule .ensures)
 
 pub test-row-spec : {M : Type 1} → statement M
-test-row-spec = tie.close (tie.spec take-record-requires returns is-schedule-requires returns-2)
+test-row-spec = tie.close (tie.spec (λ c κs. search needs) returns (λ c κs. search needs) returns-2)

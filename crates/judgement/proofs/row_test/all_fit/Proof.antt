@@ -23,20 +23,8 @@ Inv-loop table multilog places count j₀ j =
 abbrev μ-loop : tie.MeasureT-loop
 μ-loop table multilog places count j₀ j = count - j
 
-row-count-requires : tie.Need-row-count-requires Inv-loop μ-loop
-row-count-requires c κs = search needs
-
 loop-holds : tie.Need-loop-holds Inv-loop μ-loop
 loop-holds c = (omega arith, c .row-count .ensures .0, λ R row e f t u. (c .row-count .ensures .1 R e f, refl))
-
-mul-constraint : tie.Need-mul-constraint Inv-loop μ-loop
-mul-constraint c = search needs
-
-element-copy-out-constraint : tie.Need-element-copy-out-constraint Inv-loop μ-loop
-element-copy-out-constraint c = search needs
-
-index16-requires : tie.Need-index16-requires Inv-loop μ-loop
-index16-requires c κs = search needs
 
 index-of-requires : tie.Need-index-of-requires Inv-loop μ-loop
 index-of-requires c κs =
@@ -53,9 +41,6 @@ array-read-left c =
     let s = c .before .before .before .before .before .before in
     omega (arith, c .index-of .ensures, s .pre .1 (c .before .index16 .result))
 
-index16-requires-2 : tie.Need-index16-requires-2 Inv-loop μ-loop
-index16-requires-2 c κs = search needs
-
 index-of-requires-2 : tie.Need-index-of-requires-2 Inv-loop μ-loop
 index-of-requires-2 c κs =
     let s = c .before .before .before .before .before .before .before in
@@ -71,9 +56,6 @@ array-read-right c =
     let s = c .before .before .before .before .before .before .before .before in
     omega (arith, c .index-of2 .ensures, s .pre .1 (c .before .index162 .result))
 
-rule-fits-requires : tie.Need-rule-fits-requires Inv-loop μ-loop
-rule-fits-requires c κs = search needs
-
 returns : tie.Need-returns Inv-loop μ-loop
 returns c =
     let s = c .before .before .before .before .before .before .before .before .before .before in
@@ -83,12 +65,6 @@ returns c =
     let b = c .before .rule-fits .ensures row _ _ (left-seat (s .args .t1) R e f (s .args .table .now) t row (s .args .t3) u (l .j) _ h (c .before .before .before .before .before .index16 .result) (c .before .before .before .before .index-of .result) (c .before .before .before .before .before .index16 .ensures) (c .before .before .before .before .index-of .ensures))
     (right-seat (s .args .t1) R e f (s .args .table .now) t row (s .args .t3) u (l .j) _ h (c .before .before .before .index162 .result) (c .before .before .index-of2 .result) (c .before .before .before .index162 .ensures) (c .before .before .index-of2 .ensures)) in
     fitting-stop (s .args .t1) R e f (s .args .table .now) t row (s .args .t3) u (l .j) _ h _ b (not-true _ (c .if1 .taken)) ∙ sym (k .1)
-
-add-j : tie.Need-add-j Inv-loop μ-loop
-add-j c = search needs
-
-loop-less : tie.Need-loop-less Inv-loop μ-loop
-loop-less c = search needs
 
 loop-again : tie.Need-loop-again Inv-loop μ-loop
 loop-again c =
@@ -114,21 +90,21 @@ all-fit-spec =
     (tie.spec
     Inv-loop
     μ-loop
-    row-count-requires
+    (λ c κs. search needs)
     loop-holds
-    mul-constraint
-    element-copy-out-constraint
-    index16-requires
+    (λ c. search needs)
+    (λ c. search needs)
+    (λ c κs. search needs)
     index-of-requires
     mul-left
     array-read-left
-    index16-requires-2
+    (λ c κs. search needs)
     index-of-requires-2
     mul-right
     array-read-right
-    rule-fits-requires
+    (λ c κs. search needs)
     returns
-    add-j
-    loop-less
+    (λ c. search needs)
+    (λ c. search needs)
     loop-again
     returns-2)

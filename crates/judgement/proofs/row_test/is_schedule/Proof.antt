@@ -11,16 +11,10 @@ returns c =
     let s = c .before .before in
     λ R e f. empty-not R (s .args .row .now) (c .if1 .taken)
 
-shared-slice-read-if2 : tie.Need-shared-slice-read-if2
-shared-slice-read-if2 c = search needs
-
 returns-2 : tie.Need-returns-2
 returns-2 c =
     let s = c .before .before .before .before in
     λ R e f. start-not R (s .args .row .now) (c .before .before .if1 .left) (c .if2 .taken)
-
-index-table-requires : tie.Need-index-table-requires
-index-table-requires c κs = search needs
 
 seat-row-requires : tie.Need-seat-row-requires
 seat-row-requires c κs = (c .before .index-table .ensures .0, c .before .index-table .ensures .1)
@@ -47,9 +41,9 @@ is-schedule-spec =
     tie.close
     (tie.spec
     returns
-    shared-slice-read-if2
+    (λ c. search needs)
     returns-2
-    index-table-requires
+    (λ c κs. search needs)
     seat-row-requires
     returns-3
     all-fit-requires

@@ -5,9 +5,6 @@ use Rattle.judgement.proofs.row_test.known_index.Statement.{statement}
 use Rattle.judgement.proofs.row_test.Seating.{index-some, index-init, index-none}
 use Rattle.judgement.proofs.row_test.known_index.Tie as tie
 
-index-of-requires : tie.Need-index-of-requires
-index-of-requires c κs = search needs
-
 returns : tie.Need-returns
 returns c =
     let s = c .before .before in
@@ -24,4 +21,4 @@ returns-3 c =
     λ R f t. index-none R (s .args .table .now) t (s .args .name) (sym (c .before .before .index-of .ensures) ∙ c .before .if1 .left) (c .if2 .left)
 
 pub known-index-spec : {M : Type 1} → statement M
-known-index-spec = tie.close (tie.spec index-of-requires returns returns-2 returns-3)
+known-index-spec = tie.close (tie.spec (λ c κs. search needs) returns returns-2 returns-3)

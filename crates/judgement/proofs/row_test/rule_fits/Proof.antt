@@ -4,12 +4,6 @@ use Rattle.judgement.proofs.row_test.rule_fits.Statement.{statement}
 use Rattle.judgement.proofs.row_test.Fitting.{fits-other}
 use Rattle.judgement.proofs.row_test.rule_fits.Tie as tie
 
-stands-earlier-requires : tie.Need-stands-earlier-requires
-stands-earlier-requires c κs = search needs
-
-stands-with-requires : tie.Need-stands-with-requires
-stands-with-requires c κs = search needs
-
 returns : tie.Need-returns
 returns c = λ row x y p q. rw (c .before .match .keys1) (c .stands-earlier .ensures row x y p q)
 
@@ -23,4 +17,4 @@ returns-3 c =
 
 pub rule-fits-spec : {M : Type 1} → statement M
 rule-fits-spec =
-    tie.close (tie.spec stands-earlier-requires stands-with-requires returns returns-2 returns-3)
+    tie.close (tie.spec (λ c κs. search needs) (λ c κs. search needs) returns returns-2 returns-3)

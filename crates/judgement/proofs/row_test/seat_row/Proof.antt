@@ -22,15 +22,6 @@ abbrev μ-loop : tie.MeasureT-loop
 loop-holds : tie.Need-loop-holds Inv-loop μ-loop
 loop-holds c = (omega arith, refl, λ R f t. seating-start R _)
 
-mul-index32 : tie.Need-mul-index32 Inv-loop μ-loop
-mul-index32 c = search needs
-
-shared-slice-read-index32 : tie.Need-shared-slice-read-index32 Inv-loop μ-loop
-shared-slice-read-index32 c = search needs
-
-index32-requires : tie.Need-index32-requires Inv-loop μ-loop
-index32-requires c κs = search needs
-
 known-index-requires : tie.Need-known-index-requires Inv-loop μ-loop
 known-index-requires c κs =
     let s = c .before .before .before .before .before in
@@ -42,12 +33,6 @@ returns c =
     let l = c .before .before .before .before .before .loop in
     (l .inv .1, λ R f t. (unknown-not R f (s .args .row .now) (l .places) (l .q) (omega arith) (row-index-unknown R f _ _ (rw (c .before .before .index32 .ensures) at (c .before .known-index .ensures R f t)) (c .if1 .taken)), λ e. clash e refl))
 
-mul-if2 : tie.Need-mul-if2 Inv-loop μ-loop
-mul-if2 c = search needs
-
-array-read-if2 : tie.Need-array-read-if2 Inv-loop μ-loop
-array-read-if2 c = search needs
-
 returns-2 : tie.Need-returns-2 Inv-loop μ-loop
 returns-2 c =
     let s = c .before .before .before .before .before .before .before .before in
@@ -56,21 +41,6 @@ returns-2 c =
       λ R f t. let i = row-index-known R f _ _ (rw (c .before .before .before .index32 .ensures) at (c .before .before .known-index .ensures R f t)) (omega arith) in
           (repeated-not R f (s .args .row .now) (l .places) (l .q) (omega arith) (l .inv .1) (l .inv .2 R f t) (i .0) (rw (← i .1) (c .if2 .taken)), λ e. clash e refl),
     )
-
-add-places : tie.Need-add-places Inv-loop μ-loop
-add-places c = search needs
-
-mul-places : tie.Need-mul-places Inv-loop μ-loop
-mul-places c = search needs
-
-array-write-places : tie.Need-array-write-places Inv-loop μ-loop
-array-write-places c = search needs
-
-add-q : tie.Need-add-q Inv-loop μ-loop
-add-q c = search needs
-
-loop-less : tie.Need-loop-less Inv-loop μ-loop
-loop-less c = search needs
 
 loop-again : tie.Need-loop-again Inv-loop μ-loop
 loop-again c =
@@ -95,18 +65,18 @@ seat-row-spec =
     Inv-loop
     μ-loop
     loop-holds
-    mul-index32
-    shared-slice-read-index32
-    index32-requires
+    (λ c. search needs)
+    (λ c. search needs)
+    (λ c κs. search needs)
     known-index-requires
     returns
-    mul-if2
-    array-read-if2
+    (λ c. search needs)
+    (λ c. search needs)
     returns-2
-    add-places
-    mul-places
-    array-write-places
-    add-q
-    loop-less
+    (λ c. search needs)
+    (λ c. search needs)
+    (λ c. search needs)
+    (λ c. search needs)
+    (λ c. search needs)
     loop-again
     returns-3)

@@ -12,9 +12,6 @@ use Rattle.record.proofs.Records.{enabler-known}
 use Rattle.judgement_marks.proofs.schedules.admitted.Statement.{statement}
 use Rattle.judgement_marks.proofs.schedules.admitted.Tie as tie
 
-array-read-if1 : tie.Need-array-read-if1
-array-read-if1 c = search needs
-
 returns : tie.Need-returns
 returns c =
     let s = c .before in
@@ -94,7 +91,7 @@ pub admitted-spec : {M : Type 1} → statement M
 admitted-spec =
     tie.close
     (tie.spec
-    array-read-if1
+    (λ c. search needs)
     returns
     need-below-requires
     array-read-if2

@@ -36,12 +36,6 @@ admitted-requires c κs =
     let l = c .before .before .loop in
     (s .pre .0, s .pre .1, s .pre .2, omega arith, s .pre .3, l .inv .1)
 
-add-x : tie.Need-add-x Inv-loop μ-loop
-add-x c = search needs
-
-loop-less : tie.Need-loop-less Inv-loop μ-loop
-loop-less c = search needs
-
 loop-again : tie.Need-loop-again Inv-loop μ-loop
 loop-again c =
     let l = c .before .before .before .loop in
@@ -60,7 +54,7 @@ admitted-marks-spec =
     μ-loop
     loop-holds
     admitted-requires
-    add-x
-    loop-less
+    (λ c. search needs)
+    (λ c. search needs)
     loop-again
     returns)

@@ -27,20 +27,11 @@ abbrev μ-loop : tie.MeasureT-loop
 loop-holds : tie.Need-loop-holds Inv-loop μ-loop
 loop-holds c = (omega arith, λ R h t q e m u y k. absurd (omega arith))
 
-is-barred-requires : tie.Need-is-barred-requires Inv-loop μ-loop
-is-barred-requires c κs = search needs
-
 returns : tie.Need-returns Inv-loop μ-loop
 returns c =
     let s = c .before .before .before .before in
     let l = c .before .before .before .loop in
     λ R h t q sub e m u. any-bars R h t (s .args .n) q (l .x) (omega arith) (sym (c .if1 .taken) ∙ c .before .is-barred .ensures R h t (omega arith) e m u)
-
-add-x : tie.Need-add-x Inv-loop μ-loop
-add-x c = search needs
-
-loop-less : tie.Need-loop-less Inv-loop μ-loop
-loop-less c = search needs
 
 loop-again : tie.Need-loop-again Inv-loop μ-loop
 loop-again c =
@@ -60,9 +51,9 @@ any-barred-spec =
     Inv-loop
     μ-loop
     loop-holds
-    is-barred-requires
+    (λ c κs. search needs)
     returns
-    add-x
-    loop-less
+    (λ c. search needs)
+    (λ c. search needs)
     loop-again
     returns-2)

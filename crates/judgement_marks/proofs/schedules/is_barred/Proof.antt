@@ -4,24 +4,15 @@ use Rattle.judgement_marks.proofs.schedules.Admitting.{bar-unmarked, ba
 use Rattle.judgement_marks.proofs.schedules.is_barred.Statement.{statement}
 use Rattle.judgement_marks.proofs.schedules.is_barred.Tie as tie
 
-element-copy-out-if1 : tie.Need-element-copy-out-if1
-element-copy-out-if1 c = search needs
-
 returns : tie.Need-returns
 returns c =
     let s = c .before .before in
     λ R h t k e m u. bar-unmarked R h t (s .args .marks .now) (s .args .hidden .now) (s .args .mustmarks .now) (s .args .x) k e m u (c .if1 .taken)
 
-element-copy-out-if2 : tie.Need-element-copy-out-if2
-element-copy-out-if2 c = search needs
-
 returns-2 : tie.Need-returns-2
 returns-2 c =
     let s = c .before .before .before .before in
     λ R h t k e m u. bar-shown R h t (s .args .marks .now) (s .args .hidden .now) (s .args .mustmarks .now) (s .args .x) k e m u (c .if2 .taken)
-
-element-copy-out-result : tie.Need-element-copy-out-result
-element-copy-out-result c = search needs
 
 returns-3 : tie.Need-returns-3
 returns-3 c =
@@ -32,9 +23,9 @@ pub is-barred-spec : {M : Type 1} → statement M
 is-barred-spec =
     tie.close
     (tie.spec
-    element-copy-out-if1
+    (λ c. search needs)
     returns
-    element-copy-out-if2
+    (λ c. search needs)
     returns-2
-    element-copy-out-result
+    (λ c. search needs)
     returns-3)

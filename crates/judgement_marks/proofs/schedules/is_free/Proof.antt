@@ -5,14 +5,8 @@ use borrow.Author.Needs.{needs}
 use Rattle.judgement_marks.proofs.schedules.is_free.Statement.{statement}
 use Rattle.judgement_marks.proofs.schedules.is_free.Tie as tie
 
-element-copy-out-if1 : tie.Need-element-copy-out-if1
-element-copy-out-if1 c = search needs
-
 returns : tie.Need-returns
 returns c = let s = c .before .before in λ R p g k e. free-not R p (s .args .rows .now) (s .args .waits .now) g (s .args .x) k e (c .if1 .taken)
-
-any-row-requires : tie.Need-any-row-requires
-any-row-requires c κs = search needs
 
 returns-2 : tie.Need-returns-2
 returns-2 c =
@@ -22,4 +16,4 @@ returns-2 c =
     (λ q. rw q (free-yes R p (s .args .rows .now) (s .args .waits .now) g (s .args .x) k e (c .before .if1 .left) (c .any-row .ensures .1 q)))
 
 pub is-free-spec : {M : Type 1} → statement M
-is-free-spec = tie.close (tie.spec element-copy-out-if1 returns any-row-requires returns-2)
+is-free-spec = tie.close (tie.spec (λ c. search needs) returns (λ c κs. search needs) returns-2)

@@ -13,22 +13,10 @@ returns c =
     let s = c .before in
     λ R h t g q l k o e m u b. sym (part-bars R h _ (sym b ∙ not-true _ (c .if1 .taken)) (entering-known R t (s .args .rows .now) (s .args .old .now) g (s .args .x) (omega arith) (k .closed) (k .known) o))
 
-add-any-row : tie.Need-add-any-row
-add-any-row c = search needs
-
-any-row-requires : tie.Need-any-row-requires
-any-row-requires c κs = search needs
-
-any-barred-requires : tie.Need-any-barred-requires
-any-barred-requires c κs = search needs
-
 returns-2 : tie.Need-returns-2
 returns-2 c =
     let s = c .before .before .before .before in
     λ R h t g q l k o e m u b. c .any-barred .ensures R h _ q (entering-known R t (s .args .rows .now) (s .args .old .now) g (s .args .x) (omega arith) (k .closed) (k .known) o) e m u
-
-is-barred-requires : tie.Need-is-barred-requires
-is-barred-requires c κs = search needs
 
 returns-3 : tie.Need-returns-3
 returns-3 c =
@@ -41,9 +29,9 @@ is-shut-spec =
     tie.close
     (tie.spec
     returns
-    add-any-row
-    any-row-requires
-    any-barred-requires
+    (λ c. search needs)
+    (λ c κs. search needs)
+    (λ c κs. search needs)
     returns-2
-    is-barred-requires
+    (λ c κs. search needs)
     returns-3)

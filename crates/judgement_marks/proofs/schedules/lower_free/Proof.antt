@@ -8,9 +8,6 @@ use Rattle.judgement_marks.proofs.schedules.lower_free.Tie as tie
 returns : tie.Need-returns
 returns c = (omega arith, λ h. absurd (omega arith))
 
-is-free-requires : tie.Need-is-free-requires
-is-free-requires c κs = search needs
-
 returns-2 : tie.Need-returns-2
 returns-2 c = (omega arith, λ h. absurd (omega arith))
 
@@ -18,4 +15,4 @@ returns-3 : tie.Need-returns-3
 returns-3 c = (omega arith, λ h R test g l e. sym (c .before .is-free .ensures R test g l e) ∙ c .if2 .left)
 
 pub lower-free-spec : {M : Type 1} → statement M
-lower-free-spec = tie.close (tie.spec returns is-free-requires returns-2 returns-3)
+lower-free-spec = tie.close (tie.spec returns (λ c κs. search needs) returns-2 returns-3)

@@ -24,20 +24,11 @@ abbrev μ-loop : tie.MeasureT-loop
 loop-holds : tie.Need-loop-holds Inv-loop μ-loop
 loop-holds c = (omega arith, λ R p g q e f. f)
 
-is-free-requires : tie.Need-is-free-requires Inv-loop μ-loop
-is-free-requires c κs = search needs
-
 returns : tie.Need-returns Inv-loop μ-loop
 returns c =
     let s = c .before .before .before .before in
     let l = c .before .before .before .loop in
     λ R p g q e f. (lowest-found R p (s .args .n) q (l .x) (omega arith) (sym (c .if1 .taken) ∙ c .before .is-free .ensures R p g (omega arith) e) (l .inv .1 R p g q e f), l .inv .1 R p g q e f)
-
-add-x : tie.Need-add-x Inv-loop μ-loop
-add-x c = search needs
-
-loop-less : tie.Need-loop-less Inv-loop μ-loop
-loop-less c = search needs
 
 loop-again : tie.Need-loop-again Inv-loop μ-loop
 loop-again c =
@@ -58,9 +49,9 @@ lowest-spec =
     Inv-loop
     μ-loop
     loop-holds
-    is-free-requires
+    (λ c κs. search needs)
     returns
-    add-x
-    loop-less
+    (λ c. search needs)
+    (λ c. search needs)
     loop-again
     returns-2)

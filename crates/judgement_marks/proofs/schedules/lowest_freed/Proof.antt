@@ -13,25 +13,13 @@ Inv-loop rows reversed waits x best₀ j₀ best j = (j ≤ 1024) × Freeing rev
 abbrev μ-loop : tie.MeasureT-loop
 μ-loop rows reversed waits x best₀ j₀ best j = j
 
-first-row-requires : tie.Need-first-row-requires Inv-loop μ-loop
-first-row-requires c κs = search needs
-
 loop-holds : tie.Need-loop-holds Inv-loop μ-loop
 loop-holds c =
     let s = c .before in
     (c .first-row .ensures .1, freeing-start (s .args .reversed .now) (HeldBack (s .args .rows .now) (s .args .waits .now)) (s .args .x) _ (s .pre .2) (c .first-row .ensures))
 
-row-left-requires : tie.Need-row-left-requires Inv-loop μ-loop
-row-left-requires c κs = search needs
-
 lower-free-requires : tie.Need-lower-free-requires Inv-loop μ-loop
 lower-free-requires c κs = (c .before .before .before .before .pre .0, c .row-left .ensures .1)
-
-next-row-requires : tie.Need-next-row-requires Inv-loop μ-loop
-next-row-requires c κs = search needs
-
-loop-less : tie.Need-loop-less Inv-loop μ-loop
-loop-less c = search needs
 
 loop-again : tie.Need-loop-again Inv-loop μ-loop
 loop-again c =
@@ -52,11 +40,11 @@ lowest-freed-spec =
     (tie.spec
     Inv-loop
     μ-loop
-    first-row-requires
+    (λ c κs. search needs)
     loop-holds
-    row-left-requires
+    (λ c κs. search needs)
     lower-free-requires
-    next-row-requires
-    loop-less
+    (λ c κs. search needs)
+    (λ c. search needs)
     loop-again
     returns)

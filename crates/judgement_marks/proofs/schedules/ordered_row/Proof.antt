@@ -42,25 +42,10 @@ lowest-requires c κs =
     let s = c .before .before .before in
     (s .pre .0, s .pre .2, c .before .before .loop .inv .4)
 
-array-write-waits : tie.Need-array-write-waits Inv-loop μ-loop
-array-write-waits c = search needs
-
-cast-indexes : tie.Need-cast-indexes Inv-loop μ-loop
-cast-indexes c = search needs
-
-array-write-indexes : tie.Need-array-write-indexes Inv-loop μ-loop
-array-write-indexes c = search needs
-
-add-count : tie.Need-add-count Inv-loop μ-loop
-add-count c = search needs
-
 lowest-freed-requires : tie.Need-lowest-freed-requires Inv-loop μ-loop
 lowest-freed-requires c κs =
     let s = c .before .before .before .before .before .before in
     (s .pre .0, s .pre .1, omega arith)
-
-loop-less : tie.Need-loop-less Inv-loop μ-loop
-loop-less c = search needs
 
 loop-again : tie.Need-loop-again Inv-loop μ-loop
 loop-again c =
@@ -113,12 +98,12 @@ ordered-row-spec =
     μ-loop
     loop-holds
     lowest-requires
-    array-write-waits
-    cast-indexes
-    array-write-indexes
-    add-count
+    (λ c. search needs)
+    (λ c. search needs)
+    (λ c. search needs)
+    (λ c. search needs)
     lowest-freed-requires
-    loop-less
+    (λ c. search needs)
     loop-again
     returns
     returns-2)

@@ -25,26 +25,11 @@ loop-holds c =
     let s = c in
     (omega arith, refl, λ R list d few k. paging-start R d few (s .args .t1) list (omega arith) k)
 
-sub-k : tie.Need-sub-k Inv-loop μ-loop
-sub-k c = search needs
-
-cast-pages : tie.Need-cast-pages Inv-loop μ-loop
-cast-pages c = search needs
-
-element-copy-out-index8 : tie.Need-element-copy-out-index8 Inv-loop μ-loop
-element-copy-out-index8 c = search needs
-
-index8-requires : tie.Need-index8-requires Inv-loop μ-loop
-index8-requires c κs = search needs
-
 array-write-pages : tie.Need-array-write-pages Inv-loop μ-loop
 array-write-pages c =
     let s = c .before .before .before .before in
     let l = c .before .before .before .loop in
     omega (arith, c .index8 .ensures, s .pre .2 (l .k - 1))
-
-loop-less : tie.Need-loop-less Inv-loop μ-loop
-loop-less c = search needs
 
 loop-again : tie.Need-loop-again Inv-loop μ-loop
 loop-again c =
@@ -68,11 +53,11 @@ page-values-spec =
     Inv-loop
     μ-loop
     loop-holds
-    sub-k
-    cast-pages
-    element-copy-out-index8
-    index8-requires
+    (λ c. search needs)
+    (λ c. search needs)
+    (λ c. search needs)
+    (λ c κs. search needs)
     array-write-pages
-    loop-less
+    (λ c. search needs)
     loop-again
     returns)

@@ -4,12 +4,6 @@ use Rattle.judgement_marks.proofs.schedules.Admitting.{schedule-order, 
 use Rattle.judgement_marks.proofs.schedules.schedule_row.Statement.{statement}
 use Rattle.judgement_marks.proofs.schedules.schedule_row.Tie as tie
 
-reversed-requires : tie.Need-reversed-requires
-reversed-requires c κs = search needs
-
-scheduled-marks-requires : tie.Need-scheduled-marks-requires
-scheduled-marks-requires c κs = search needs
-
 ordered-row-requires : tie.Need-ordered-row-requires
 ordered-row-requires c κs =
     let s = c .before .before .before .before in
@@ -25,4 +19,4 @@ returns c = (
 )
 
 pub schedule-row-spec : {M : Type 1} → statement M
-schedule-row-spec = tie.close (tie.spec reversed-requires scheduled-marks-requires ordered-row-requires returns)
+schedule-row-spec = tie.close (tie.spec (λ c κs. search needs) (λ c κs. search needs) ordered-row-requires returns)

@@ -9,25 +9,10 @@ use Rattle.record.proofs.Scheduled.{musts-known}
 use Rattle.judgement_marks.proofs.schedules.scheduled_marks.Statement.{statement}
 use Rattle.judgement_marks.proofs.schedules.scheduled_marks.Tie as tie
 
-all-marks-requires : tie.Need-all-marks-requires
-all-marks-requires c κs = search needs
-
-any-barred-requires : tie.Need-any-barred-requires
-any-barred-requires c κs = search needs
-
-has-ring-requires : tie.Need-has-ring-requires
-has-ring-requires c κs = search needs
-
-has-ring-requires-2 : tie.Need-has-ring-requires-2
-has-ring-requires-2 c κs = search needs
-
 returns : tie.Need-returns
 returns c =
     let s = c .before .before .before .before .before .before .before .before in
     (s .pre .3, λ R h g f q m i. m ∙ none-scheduled R (g .formed) h (sym (c .before .has-ring2 .ensures R (musts R) (g .notafters) q (musts-known R (g .formed)) (m ∙ must-musts R)) ∙ c .if2 .taken))
-
-admitted-marks-requires : tie.Need-admitted-marks-requires
-admitted-marks-requires c κs = search needs
 
 returns-2 : tie.Need-returns-2
 returns-2 c = (
@@ -36,9 +21,6 @@ returns-2 c = (
       c .admitted-marks .ensures .1 R h g f q m i (c .before .before .before .before .before .any-barred .ensures R h (names R) q (λ x k. k) e m i) (c .before .before .before .before .has-ring .ensures R (names R) (g .notafters) q (λ x k. k) e)
       (sym (c .before .before .has-ring2 .ensures R (musts R) (g .notafters) q (musts-known R (g .formed)) (m ∙ must-musts R)) ∙ c .before .if2 .left),
 )
-
-admitted-marks-requires-2 : tie.Need-admitted-marks-requires-2
-admitted-marks-requires-2 c κs = search needs
 
 returns-3 : tie.Need-returns-3
 returns-3 c = (
@@ -62,13 +44,13 @@ pub scheduled-marks-spec : {M : Type 1} → statement M
 scheduled-marks-spec =
     tie.close
     (tie.spec
-    all-marks-requires
-    any-barred-requires
-    has-ring-requires
-    has-ring-requires-2
+    (λ c κs. search needs)
+    (λ c κs. search needs)
+    (λ c κs. search needs)
+    (λ c κs. search needs)
     returns
-    admitted-marks-requires
+    (λ c κs. search needs)
     returns-2
-    admitted-marks-requires-2
+    (λ c κs. search needs)
     returns-3
     returns-4)

@@ -23,12 +23,6 @@ add-mark c = omega (arith, c .before .loop .inv .near, c .before .before .pre)
 array-read-mark : tie.Need-array-read-mark Inv-loop μ-loop
 array-read-mark c = omega (arith, c .before .loop .inv .near, c .before .before .pre)
 
-is-hidden-requires : tie.Need-is-hidden-requires Inv-loop μ-loop
-is-hidden-requires c κs = search needs
-
-bit-requires : tie.Need-bit-requires Inv-loop μ-loop
-bit-requires c κs = search needs
-
 add-count : tie.Need-add-count Inv-loop μ-loop
 add-count c = omega (arith, (hidden-next (c .before .before .before .before .args .t1) (c .before .before .before .before .args .n) (c .before .before .before .loop .inv) (c .before .before .loop-test .taken) (c .before .is-hidden .ensures) (c .bit .ensures)) .small)
 
@@ -53,8 +47,8 @@ count-hidden-spec =
     loop-holds
     add-mark
     array-read-mark
-    is-hidden-requires
-    bit-requires
+    (λ c κs. search needs)
+    (λ c κs. search needs)
     add-count
     add-i
     loop-less

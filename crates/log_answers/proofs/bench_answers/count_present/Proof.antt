@@ -21,23 +21,8 @@ abbrev μ-loop : tie.MeasureT-loop
 loop-holds : tie.Need-loop-holds Inv-loop μ-loop
 loop-holds c = let s : length (c .args .t1) ≡ 64 = search (needs, length-mapped) in chip-counting-start isPresent (c .args .t1) 64 (omega arith)
 
-mul-entry : tie.Need-mul-entry Inv-loop μ-loop
-mul-entry c = search needs
-
-array-copy-out-entry : tie.Need-array-copy-out-entry Inv-loop μ-loop
-array-copy-out-entry c = search needs
-
-bit-requires : tie.Need-bit-requires Inv-loop μ-loop
-bit-requires c κs = search needs
-
 add-count : tie.Need-add-count Inv-loop μ-loop
 add-count c = omega (arith, (counting-next isPresent (c .before .before .before .before .args .t1) 64 (c .before .before .before .loop .inv) _ (c .before .before .loop-test .taken) (c .bit .ensures)) .small, c .before .before .loop-test .taken)
-
-add-i : tie.Need-add-i Inv-loop μ-loop
-add-i c = search needs
-
-loop-less : tie.Need-loop-less Inv-loop μ-loop
-loop-less c = search needs
 
 loop-again : tie.Need-loop-again Inv-loop μ-loop
 loop-again c = counting-next isPresent (c .before .before .before .before .args .t1) 64 (c .before .before .before .loop .inv) _ (c .before .before .loop-test .taken) (c .bit .ensures)
@@ -52,11 +37,11 @@ count-present-spec =
     Inv-loop
     μ-loop
     loop-holds
-    mul-entry
-    array-copy-out-entry
-    bit-requires
+    (λ c. search needs)
+    (λ c. search needs)
+    (λ c κs. search needs)
     add-count
-    add-i
-    loop-less
+    (λ c. search needs)
+    (λ c. search needs)
     loop-again
     returns)

@@ -7,21 +7,6 @@ use Rattle.log_answers.proofs.bench_answers.Questions.{catalogue-printe
 use Rattle.log_answers.proofs.bench_answers.print_catalogue.Statement.{statement}
 use Rattle.log_answers.proofs.bench_answers.print_catalogue.Tie as tie
 
-count-present-requires : tie.Need-count-present-requires
-count-present-requires c κs = search needs
-
-slice-aggregate-print : tie.Need-slice-aggregate-print
-slice-aggregate-print c = search needs
-
-slice-aggregate-print-2 : tie.Need-slice-aggregate-print-2
-slice-aggregate-print-2 c = search needs
-
-print-requires : tie.Need-print-requires
-print-requires c κs = search needs
-
-print-entries-requires : tie.Need-print-entries-requires
-print-entries-requires c κs = search needs
-
 same-length : tie.Need-same-length
 same-length c = printed-length (c .before .before .print-entries .ensures) ∙ printed-length (c .before .before .before .before .before .before .print .ensures)
 
@@ -33,10 +18,10 @@ pub print-catalogue-spec : {M : Type 1} → statement M
 print-catalogue-spec =
     tie.close
     (tie.spec
-    count-present-requires
-    slice-aggregate-print
-    slice-aggregate-print-2
-    print-requires
-    print-entries-requires
+    (λ c κs. search needs)
+    (λ c. search needs)
+    (λ c. search needs)
+    (λ c κs. search needs)
+    (λ c κs. search needs)
     same-length
     returns)

@@ -12,35 +12,8 @@ use Rattle.log_answers.proofs.bench_answers.print_cell.Tie as tie
 returns : tie.Need-returns
 returns c = let s = c .before .before .before .args in printed-not (s .cell .filled) (fill (cellForm (s .owner) (s .field)) (s .label ∷ s .cell .value ∷ []) ∷ []) (s .out .now) (s .at) (not-true _ (c .if1 .taken))
 
-cast-t9 : tie.Need-cast-t9
-cast-t9 c = search needs
-
-enum-told : tie.Need-enum-told
-enum-told c = search needs
-
-slice-aggregate-print-chip-cell : tie.Need-slice-aggregate-print-chip-cell
-slice-aggregate-print-chip-cell c = search needs
-
-print-chip-cell-requires : tie.Need-print-chip-cell-requires
-print-chip-cell-requires c κs = search needs
-
-enum-told-2 : tie.Need-enum-told-2
-enum-told-2 c = search needs
-
-slice-aggregate-print-page-cell : tie.Need-slice-aggregate-print-page-cell
-slice-aggregate-print-page-cell c = search needs
-
-print-page-cell-requires : tie.Need-print-page-cell-requires
-print-page-cell-requires c κs = search needs
-
-same-length : tie.Need-same-length
-same-length c = search needs
-
 returns-2 : tie.Need-returns-2
 returns-2 c = let s = c .before .before .before .before .before .before .before .before .before .before .before .args in cell-printed (s .owner) Chip (s .label) (s .field) (s .cell) (c .before .before .before .before .before .enum-told .given .1) (not-false _ (c .before .before .before .before .before .before .before .before .if1 .left)) (c .before .before .print-chip-cell .ensures)
-
-same-length-2 : tie.Need-same-length-2
-same-length-2 c = search needs
 
 returns-3 : tie.Need-returns-3
 returns-3 c = let s = c .before .before .before .before .before .before .before .before .before .before .before .args in cell-printed (s .owner) Page (s .label) (s .field) (s .cell) (c .before .before .before .before .before .enum-told2 .given .1) (not-false _ (c .before .before .before .before .before .before .before .before .if1 .left)) (c .before .before .print-page-cell .ensures)
@@ -50,14 +23,14 @@ print-cell-spec =
     tie.close
     (tie.spec
     returns
-    cast-t9
-    enum-told
-    slice-aggregate-print-chip-cell
-    print-chip-cell-requires
-    enum-told-2
-    slice-aggregate-print-page-cell
-    print-page-cell-requires
-    same-length
+    (λ c. search needs)
+    (λ c. search needs)
+    (λ c. search needs)
+    (λ c κs. search needs)
+    (λ c. search needs)
+    (λ c. search needs)
+    (λ c κs. search needs)
+    (λ c. search needs)
     returns-2
-    same-length-2
+    (λ c. search needs)
     returns-3)

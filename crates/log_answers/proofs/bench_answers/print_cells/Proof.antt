@@ -21,18 +21,6 @@ abbrev μ-loop : tie.MeasureT-loop
 loop-holds : tie.Need-loop-holds Inv-loop μ-loop
 loop-holds c = let s = c .before .args in let l : length (s .t5) ≡ 4 = search (needs, length-mapped) in printing-start (cellLine (s .owner) (s .label)) 0 (s .t5) 4 (s .out .now) (s .at) (omega arith)
 
-mul-cell : tie.Need-mul-cell Inv-loop μ-loop
-mul-cell c = search needs
-
-array-copy-out-cell : tie.Need-array-copy-out-cell Inv-loop μ-loop
-array-copy-out-cell c = search needs
-
-print-cell-requires : tie.Need-print-cell-requires Inv-loop μ-loop
-print-cell-requires c κs = search needs
-
-add-i : tie.Need-add-i Inv-loop μ-loop
-add-i c = search needs
-
 loop-less : tie.Need-loop-less Inv-loop μ-loop
 loop-less c = omega (arith, c .before .before .before .before .before .loop-test .taken)
 
@@ -52,10 +40,10 @@ print-cells-spec =
     Inv-loop
     μ-loop
     loop-holds
-    mul-cell
-    array-copy-out-cell
-    print-cell-requires
-    add-i
+    (λ c. search needs)
+    (λ c. search needs)
+    (λ c κs. search needs)
+    (λ c. search needs)
     loop-less
     loop-again
     same-length

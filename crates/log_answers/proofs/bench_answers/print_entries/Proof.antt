@@ -21,18 +21,6 @@ abbrev μ-loop : tie.MeasureT-loop
 loop-holds : tie.Need-loop-holds Inv-loop μ-loop
 loop-holds c = let s = c .before .args in let l : length (s .t3) ≡ 64 = search (needs, length-mapped) in printing-start entryText 0 (s .t3) 64 (s .out .now) (s .at) (omega arith)
 
-mul-entry : tie.Need-mul-entry Inv-loop μ-loop
-mul-entry c = search needs
-
-array-copy-out-entry : tie.Need-array-copy-out-entry Inv-loop μ-loop
-array-copy-out-entry c = search needs
-
-print-entry-requires : tie.Need-print-entry-requires Inv-loop μ-loop
-print-entry-requires c κs = search needs
-
-add-i : tie.Need-add-i Inv-loop μ-loop
-add-i c = search needs
-
 loop-less : tie.Need-loop-less Inv-loop μ-loop
 loop-less c = omega (arith, c .before .before .before .before .before .loop-test .taken)
 
@@ -52,10 +40,10 @@ print-entries-spec =
     Inv-loop
     μ-loop
     loop-holds
-    mul-entry
-    array-copy-out-entry
-    print-entry-requires
-    add-i
+    (λ c. search needs)
+    (λ c. search needs)
+    (λ c κs. search needs)
+    (λ c. search needs)
     loop-less
     loop-again
     same-length

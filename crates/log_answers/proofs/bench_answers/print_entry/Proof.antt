@@ -11,18 +11,6 @@ use Rattle.log_answers.proofs.bench_answers.print_entry.Tie as tie
 returns : tie.Need-returns
 returns c = let s = c .before .before .before .args in entry-absent (s .out .now) (s .at) (s .chip) (s .entry) (not-true _ (c .if1 .taken))
 
-slice-aggregate-print : tie.Need-slice-aggregate-print
-slice-aggregate-print c = search needs
-
-slice-aggregate-print-2 : tie.Need-slice-aggregate-print-2
-slice-aggregate-print-2 c = search needs
-
-print-requires : tie.Need-print-requires
-print-requires c κs = search needs
-
-print-cells-requires : tie.Need-print-cells-requires
-print-cells-requires c κs = search needs
-
 same-length : tie.Need-same-length
 same-length c = printed-length (c .before .before .print-cells .ensures) ∙ printed-length (c .before .before .before .before .before .before .print .ensures)
 
@@ -35,9 +23,9 @@ print-entry-spec =
     tie.close
     (tie.spec
     returns
-    slice-aggregate-print
-    slice-aggregate-print-2
-    print-requires
-    print-cells-requires
+    (λ c. search needs)
+    (λ c. search needs)
+    (λ c κs. search needs)
+    (λ c κs. search needs)
     same-length
     returns-2)

@@ -8,20 +8,8 @@ use Rattle.log_answers.proofs.bench_answers.Questions.{hidden-printed}
 use Rattle.log_answers.proofs.bench_answers.print_hidden.Statement.{statement}
 use Rattle.log_answers.proofs.bench_answers.print_hidden.Tie as tie
 
-lesser-requires : tie.Need-lesser-requires
-lesser-requires c κs = search needs
-
 count-hidden-requires : tie.Need-count-hidden-requires
 count-hidden-requires c κs = omega (arith, c .lesser .ensures)
-
-slice-aggregate-print : tie.Need-slice-aggregate-print
-slice-aggregate-print c = search needs
-
-slice-aggregate-print-2 : tie.Need-slice-aggregate-print-2
-slice-aggregate-print-2 c = search needs
-
-print-requires : tie.Need-print-requires
-print-requires c κs = search needs
 
 print-hidden-edits-requires : tie.Need-print-hidden-edits-requires
 print-hidden-edits-requires c κs = omega (arith, c .before .before .before .before .before .before .before .before .lesser .ensures)
@@ -37,11 +25,11 @@ pub print-hidden-spec : {M : Type 1} → statement M
 print-hidden-spec =
     tie.close
     (tie.spec
-    lesser-requires
+    (λ c κs. search needs)
     count-hidden-requires
-    slice-aggregate-print
-    slice-aggregate-print-2
-    print-requires
+    (λ c. search needs)
+    (λ c. search needs)
+    (λ c κs. search needs)
     print-hidden-edits-requires
     same-length
     returns)

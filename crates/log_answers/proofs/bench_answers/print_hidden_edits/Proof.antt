@@ -19,20 +19,11 @@ abbrev μ-loop : tie.MeasureT-loop
 loop-holds : tie.Need-loop-holds Inv-loop μ-loop
 loop-holds c = let s = c .before .args in let l : length (s .t3) ≡ 127 = search (needs, length-mapped) in printing-start (hiddenLine (s .t5)) 1 (s .t3) (s .n) (s .out .now) (s .at) (omega (arith, c .before .pre))
 
-mul-e : tie.Need-mul-e Inv-loop μ-loop
-mul-e c = search needs
-
-array-copy-out-e : tie.Need-array-copy-out-e Inv-loop μ-loop
-array-copy-out-e c = search needs
-
 add-mark : tie.Need-add-mark Inv-loop μ-loop
 add-mark c = omega (arith, c .before .loop-test .taken, c .before .before .before .before .pre)
 
 array-read-mark : tie.Need-array-read-mark Inv-loop μ-loop
 array-read-mark c = omega (arith, c .before .loop-test .taken, c .before .before .before .before .pre)
-
-print-if-hidden-requires : tie.Need-print-if-hidden-requires Inv-loop μ-loop
-print-if-hidden-requires c κs = search needs
 
 add-i : tie.Need-add-i Inv-loop μ-loop
 add-i c = omega (arith, c .before .before .before .before .before .loop-test .taken, c .before .before .before .before .before .before .before .before .pre)
@@ -56,11 +47,11 @@ print-hidden-edits-spec =
     Inv-loop
     μ-loop
     loop-holds
-    mul-e
-    array-copy-out-e
+    (λ c. search needs)
+    (λ c. search needs)
     add-mark
     array-read-mark
-    print-if-hidden-requires
+    (λ c κs. search needs)
     add-i
     loop-less
     loop-again

@@ -11,18 +11,6 @@ use Rattle.log_answers.proofs.bench_answers.print_if_hidden.Tie as tie
 returns : tie.Need-returns
 returns c = let s = c .before .before .args in printed-not (hides (s .mark)) (answerLine "edit=@\n" (s .name ∷ [])) (s .out .now) (s .at) (not-hidden (s .mark) (c .if1 .taken))
 
-slice-aggregate-print : tie.Need-slice-aggregate-print
-slice-aggregate-print c = search needs
-
-slice-aggregate-print-2 : tie.Need-slice-aggregate-print-2
-slice-aggregate-print-2 c = search needs
-
-print-requires : tie.Need-print-requires
-print-requires c κs = search needs
-
-same-length : tie.Need-same-length
-same-length c = search needs
-
 returns-2 : tie.Need-returns-2
 unfolding bytes
 returns-2 c = let s = c .before .before .before .before .before .before .before .before .args in printed-so (hides (s .mark)) (answerLine "edit=@\n" (s .name ∷ [])) (s .out .now) (s .at) (is-hidden (s .mark) (c .before .before .before .before .before .before .if1 .left)) (c .before .before .print .ensures)
@@ -32,8 +20,8 @@ print-if-hidden-spec =
     tie.close
     (tie.spec
     returns
-    slice-aggregate-print
-    slice-aggregate-print-2
-    print-requires
-    same-length
+    (λ c. search needs)
+    (λ c. search needs)
+    (λ c κs. search needs)
+    (λ c. search needs)
     returns-2)

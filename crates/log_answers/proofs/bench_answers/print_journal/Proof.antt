@@ -8,18 +8,6 @@ use Rattle.log_answers.proofs.bench_answers.Questions.{journal-printed}
 use Rattle.log_answers.proofs.bench_answers.print_journal.Statement.{statement}
 use Rattle.log_answers.proofs.bench_answers.print_journal.Tie as tie
 
-lesser-requires : tie.Need-lesser-requires
-lesser-requires c κs = search needs
-
-slice-aggregate-print : tie.Need-slice-aggregate-print
-slice-aggregate-print c = search needs
-
-slice-aggregate-print-2 : tie.Need-slice-aggregate-print-2
-slice-aggregate-print-2 c = search needs
-
-print-requires : tie.Need-print-requires
-print-requires c κs = search needs
-
 print-rows-requires : tie.Need-print-rows-requires
 print-rows-requires c κs = omega (arith, c .before .before .before .before .before .before .before .lesser .ensures)
 
@@ -34,10 +22,10 @@ pub print-journal-spec : {M : Type 1} → statement M
 print-journal-spec =
     tie.close
     (tie.spec
-    lesser-requires
-    slice-aggregate-print
-    slice-aggregate-print-2
-    print-requires
+    (λ c κs. search needs)
+    (λ c. search needs)
+    (λ c. search needs)
+    (λ c κs. search needs)
     print-rows-requires
     same-length
     returns)

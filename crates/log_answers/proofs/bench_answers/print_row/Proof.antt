@@ -7,27 +7,6 @@ use Rattle.log_answers.proofs.bench_answers.Questions.{row-printed}
 use Rattle.log_answers.proofs.bench_answers.print_row.Statement.{statement}
 use Rattle.log_answers.proofs.bench_answers.print_row.Tie as tie
 
-place-of-requires : tie.Need-place-of-requires
-place-of-requires c κs = search needs
-
-bit-requires : tie.Need-bit-requires
-bit-requires c κs = search needs
-
-cast-t14 : tie.Need-cast-t14
-cast-t14 c = search needs
-
-slice-aggregate-print : tie.Need-slice-aggregate-print
-slice-aggregate-print c = search needs
-
-slice-aggregate-print-2 : tie.Need-slice-aggregate-print-2
-slice-aggregate-print-2 c = search needs
-
-print-requires : tie.Need-print-requires
-print-requires c κs = search needs
-
-print-cells-requires : tie.Need-print-cells-requires
-print-cells-requires c κs = search needs
-
 same-length : tie.Need-same-length
 same-length c = printed-length (c .before .before .print-cells .ensures) ∙ printed-length (c .before .before .before .before .before .before .print .ensures)
 
@@ -39,12 +18,12 @@ pub print-row-spec : {M : Type 1} → statement M
 print-row-spec =
     tie.close
     (tie.spec
-    place-of-requires
-    bit-requires
-    cast-t14
-    slice-aggregate-print
-    slice-aggregate-print-2
-    print-requires
-    print-cells-requires
+    (λ c κs. search needs)
+    (λ c κs. search needs)
+    (λ c. search needs)
+    (λ c. search needs)
+    (λ c. search needs)
+    (λ c κs. search needs)
+    (λ c κs. search needs)
     same-length
     returns)

@@ -6,20 +6,11 @@ use Rattle.log_forms.proofs.productions.Reading.{words-fit, words-refus
 use Rattle.log_forms.proofs.productions.read_words.Statement.{statement}
 use Rattle.log_forms.proofs.productions.read_words.Tie as tie
 
-read-form-requires : tie.Need-read-form-requires
-read-form-requires c κs = search needs
-
-no-words-requires : tie.Need-no-words-requires
-no-words-requires c κs = search needs
-
 returns : tie.Need-returns
 returns c = words-refused (taken (c .before .before .before .before .before .before .args .form .now) (c .before .before .before .before .before .before .args .bytes .now)) (c .before .before .before .read-form .ensures) (not-true _ (c .before .if1 .taken)) (c .no-words .ensures)
-
-words-kept-requires : tie.Need-words-kept-requires
-words-kept-requires c κs = search needs
 
 returns-2 : tie.Need-returns-2
 returns-2 c = words-fit (taken (c .before .before .before .before .before .before .before .args .form .now) (c .before .before .before .before .before .before .before .args .bytes .now)) (c .before .before .before .before .read-form .ensures) (not-false _ (c .before .before .if1 .left)) (c .words-kept .ensures)
 
 pub read-words-spec : {M : Type 1} → statement M
-read-words-spec = tie.close (tie.spec read-form-requires no-words-requires returns words-kept-requires returns-2)
+read-words-spec = tie.close (tie.spec (λ c κs. search needs) (λ c κs. search needs) returns (λ c κs. search needs) returns-2)

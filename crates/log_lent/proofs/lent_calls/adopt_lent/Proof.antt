@@ -4,19 +4,10 @@ use Rattle.log_lent.proofs.lent_calls.Given.{adoption-given}
 use Rattle.log_lent.proofs.lent_calls.adopt_lent.Statement.{statement}
 use Rattle.log_lent.proofs.lent_calls.adopt_lent.Tie as tie
 
-proposed-edits-requires : tie.Need-proposed-edits-requires
-proposed-edits-requires c κs = search needs
-
-proposed-constraints-requires : tie.Need-proposed-constraints-requires
-proposed-constraints-requires c κs = search needs
-
-adopt-requires : tie.Need-adopt-requires
-adopt-requires c κs = search needs
-
 returns : tie.Need-returns
 returns c = λ L K. adoption-given L _ (c .before .before .proposed-edits .ensures (L .edits) (K .edits)) (c .before .proposed-constraints .ensures (L .constraints) (K .constraints)) (K .roll .rows) _ _ (c .adopt .ensures)
 
 pub adopt-lent-spec : {M : Type 1} → statement M
 adopt-lent-spec =
     tie.close
-    (tie.spec proposed-edits-requires proposed-constraints-requires adopt-requires returns)
+    (tie.spec (λ c κs. search needs) (λ c κs. search needs) (λ c κs. search needs) returns)

@@ -4,19 +4,10 @@ use Rattle.log_lent.proofs.lent_calls.Given.{election-given}
 use Rattle.log_lent.proofs.lent_calls.elect_lent.Statement.{statement}
 use Rattle.log_lent.proofs.lent_calls.elect_lent.Tie as tie
 
-proposed-edits-requires : tie.Need-proposed-edits-requires
-proposed-edits-requires c κs = search needs
-
-proposed-constraints-requires : tie.Need-proposed-constraints-requires
-proposed-constraints-requires c κs = search needs
-
-election-requires : tie.Need-election-requires
-election-requires c κs = search needs
-
 returns : tie.Need-returns
 returns c = λ L K. election-given L _ (c .before .before .proposed-edits .ensures (L .edits) (K .edits)) (c .before .proposed-constraints .ensures (L .constraints) (K .constraints)) (K .roll .rows) (c .election .ensures)
 
 pub elect-lent-spec : {M : Type 1} → statement M
 elect-lent-spec =
     tie.close
-    (tie.spec proposed-edits-requires proposed-constraints-requires election-requires returns)
+    (tie.spec (λ c κs. search needs) (λ c κs. search needs) (λ c κs. search needs) returns)

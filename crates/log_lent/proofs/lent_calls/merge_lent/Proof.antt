@@ -5,20 +5,8 @@ use Rattle.log_lent.proofs.lent_calls.Given.{merge-given}
 use Rattle.log_lent.proofs.lent_calls.merge_lent.Statement.{statement}
 use Rattle.log_lent.proofs.lent_calls.merge_lent.Tie as tie
 
-refused-requires : tie.Need-refused-requires
-refused-requires c κs = search needs
-
 returns : tie.Need-returns
 returns c = (λ h. c .refused .ensures, λ L K h. absurd (let g = c .before .if1 .taken in omega arith))
-
-edits-of-requires : tie.Need-edits-of-requires
-edits-of-requires c κs = search needs
-
-constraints-of-requires : tie.Need-constraints-of-requires
-constraints-of-requires c κs = search needs
-
-merge-requires : tie.Need-merge-requires
-merge-requires c κs = search needs
 
 returns-2 : tie.Need-returns-2
 returns-2 c = (λ h. absurd (let g = c .before .before .before .before .before .if1 .left in omega arith), λ L K h. merge-given _ _ (c .merge .ensures) (c .before .before .edits-of .ensures (L .edits) (K .edits) h) (c .before .constraints-of .ensures (L .constraints) (K .constraints) h))
@@ -27,9 +15,9 @@ pub merge-lent-spec : {M : Type 1} → statement M
 merge-lent-spec =
     tie.close
     (tie.spec
-    refused-requires
+    (λ c κs. search needs)
     returns
-    edits-of-requires
-    constraints-of-requires
-    merge-requires
+    (λ c κs. search needs)
+    (λ c κs. search needs)
+    (λ c κs. search needs)
     returns-2)

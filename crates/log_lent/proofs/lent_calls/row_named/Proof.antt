@@ -4,18 +4,6 @@ use Rattle.log_lent.proofs.lent_calls.Named.{named-row, not-named}
 use Rattle.log_lent.proofs.lent_calls.row_named.Statement.{statement}
 use Rattle.log_lent.proofs.lent_calls.row_named.Tie as tie
 
-place-of-requires : tie.Need-place-of-requires
-place-of-requires c κs = search needs
-
-mul-e : tie.Need-mul-e
-mul-e c = search needs
-
-array-copy-out-e : tie.Need-array-copy-out-e
-array-copy-out-e c = search needs
-
-edit-row-requires : tie.Need-edit-row-requires
-edit-row-requires c κs = search needs
-
 returns : tie.Need-returns
 returns c = λ R q v m. named-row R _ q v _ m (c .before .before .before .before .place-of .ensures R q v) (c .edit-row .ensures)
 
@@ -25,4 +13,4 @@ returns-2 c = λ R q v m. not-named R _ q v _ m (c .before .before .place-of .en
 pub row-named-spec : {M : Type 1} → statement M
 row-named-spec =
     tie.close
-    (tie.spec place-of-requires mul-e array-copy-out-e edit-row-requires returns returns-2)
+    (tie.spec (λ c κs. search needs) (λ c. search needs) (λ c. search needs) (λ c κs. search needs) returns returns-2)

@@ -8,26 +8,11 @@ use Rattle.record_rows.proofs.row.Cells.{name-small}
 use Rattle.log_lent.proofs.lent_calls.suggest_named.Statement.{statement}
 use Rattle.log_lent.proofs.lent_calls.suggest_named.Tie as tie
 
-is-name-requires : tie.Need-is-name-requires
-is-name-requires c κs = search needs
-
-no-suggestion-requires : tie.Need-no-suggestion-requires
-no-suggestion-requires c κs = search needs
-
 returns : tie.Need-returns
 returns c = λ R q v. first-unnamed R _ _ _ (c .no-suggestion .ensures) (sym (c .before .before .is-name .ensures) ∙ not-true _ (c .before .if1 .taken))
 
-is-name-requires-2 : tie.Need-is-name-requires-2
-is-name-requires-2 c κs = search needs
-
-no-suggestion-requires-2 : tie.Need-no-suggestion-requires-2
-no-suggestion-requires-2 c κs = search needs
-
 returns-2 : tie.Need-returns-2
 returns-2 c = λ R q v. second-unnamed R _ _ _ (sym (c .before .before .before .before .is-name .ensures) ∙ not-false _ (c .before .before .before .if1 .left)) (c .no-suggestion2 .ensures) (sym (c .before .before .is-name2 .ensures) ∙ not-true _ (c .before .if2 .taken))
-
-no-suggestion-requires-3 : tie.Need-no-suggestion-requires-3
-no-suggestion-requires-3 c κs = search needs
 
 returns-3 : tie.Need-returns-3
 returns-3 c = λ R q v. no-case R _ _ _ (sym (c .before .before .before .before .before .is-name .ensures) ∙ not-false _ (c .before .before .before .before .if1 .left)) (sym (c .before .before .before .is-name2 .ensures) ∙ not-false _ (c .before .before .if2 .left)) (c .no-suggestion3 .ensures) (c .before .if3 .taken)
@@ -38,32 +23,11 @@ cast-a c = omega (arith, name-small _ (sym (c .before .before .before .before .i
 cast-b : tie.Need-cast-b
 cast-b c = omega (arith, name-small _ (sym (c .before .before .is-name2 .ensures) ∙ not-false _ (c .before .if2 .left)))
 
-knows-requires : tie.Need-knows-requires
-knows-requires c κs = search needs
-
-no-suggestion-requires-4 : tie.Need-no-suggestion-requires-4
-no-suggestion-requires-4 c κs = search needs
-
 returns-4 : tie.Need-returns-4
 returns-4 c = λ R q v. first-unknown R _ _ _ (sym (c .before .before .before .before .before .before .before .is-name .ensures) ∙ not-false _ (c .before .before .before .before .before .before .if1 .left)) (sym (c .before .before .before .before .before .is-name2 .ensures) ∙ not-false _ (c .before .before .before .before .if2 .left)) (c .before .before .before .if3 .left) (c .no-suggestion4 .ensures) (sym (c .before .before .knows .ensures R q v) ∙ not-true _ (c .before .if4 .taken))
 
-knows-requires-2 : tie.Need-knows-requires-2
-knows-requires-2 c κs = search needs
-
-no-suggestion-requires-5 : tie.Need-no-suggestion-requires-5
-no-suggestion-requires-5 c κs = search needs
-
 returns-5 : tie.Need-returns-5
 returns-5 c = λ R q v. second-unknown R _ _ _ (sym (c .before .before .before .before .before .before .before .before .before .is-name .ensures) ∙ not-false _ (c .before .before .before .before .before .before .before .before .if1 .left)) (sym (c .before .before .before .before .before .before .before .is-name2 .ensures) ∙ not-false _ (c .before .before .before .before .before .before .if2 .left)) (c .before .before .before .before .before .if3 .left) (sym (c .before .before .before .before .knows .ensures R q v) ∙ not-false _ (c .before .before .before .if4 .left)) (c .no-suggestion5 .ensures) (sym (c .before .before .knows2 .ensures R q v) ∙ not-true _ (c .before .if5 .taken))
-
-row-named-requires : tie.Need-row-named-requires
-row-named-requires c κs = search needs
-
-row-named-requires-2 : tie.Need-row-named-requires-2
-row-named-requires-2 c κs = search needs
-
-suggest-requires : tie.Need-suggest-requires
-suggest-requires c κs = search needs
 
 returns-6 : tie.Need-returns-6
 returns-6 c =
@@ -76,23 +40,23 @@ pub suggest-named-spec : {M : Type 1} → statement M
 suggest-named-spec =
     tie.close
     (tie.spec
-    is-name-requires
-    no-suggestion-requires
+    (λ c κs. search needs)
+    (λ c κs. search needs)
     returns
-    is-name-requires-2
-    no-suggestion-requires-2
+    (λ c κs. search needs)
+    (λ c κs. search needs)
     returns-2
-    no-suggestion-requires-3
+    (λ c κs. search needs)
     returns-3
     cast-a
     cast-b
-    knows-requires
-    no-suggestion-requires-4
+    (λ c κs. search needs)
+    (λ c κs. search needs)
     returns-4
-    knows-requires-2
-    no-suggestion-requires-5
+    (λ c κs. search needs)
+    (λ c κs. search needs)
     returns-5
-    row-named-requires
-    row-named-requires-2
-    suggest-requires
+    (λ c κs. search needs)
+    (λ c κs. search needs)
+    (λ c κs. search needs)
     returns-6)

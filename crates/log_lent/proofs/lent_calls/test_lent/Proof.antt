@@ -11,15 +11,6 @@ returns c = λ L K. row-elsewhere L _ (c .if1 .taken)
 returns-2 : tie.Need-returns-2
 returns-2 c = λ L K. absurd (let h = c .if2 .taken in let g = K .row .few in omega arith)
 
-edits-of-requires : tie.Need-edits-of-requires
-edits-of-requires c κs = search needs
-
-constraints-of-requires : tie.Need-constraints-of-requires
-constraints-of-requires c κs = search needs
-
-test-names-requires : tie.Need-test-names-requires
-test-names-requires c κs = search needs
-
 returns-3 : tie.Need-returns-3
 returns-3 c = λ L K. let h = c .before .before .before .before .before .before .before .if1 .left in row-given L _ h (c .test-names .ensures) (c .before .before .edits-of .ensures (L .edits) (K .edits) (omega arith)) (c .before .constraints-of .ensures (L .constraints) (K .constraints) (omega arith)) (K .row .rows)
 
@@ -29,7 +20,7 @@ test-lent-spec =
     (tie.spec
     returns
     returns-2
-    edits-of-requires
-    constraints-of-requires
-    test-names-requires
+    (λ c κs. search needs)
+    (λ c κs. search needs)
+    (λ c κs. search needs)
     returns-3)

@@ -5,35 +5,11 @@ use Rattle.log_lent.proofs.lent_proposals.Making.{record-elsewhere, old
 use Rattle.log_lent.proofs.lent_proposals.propose_lent.Statement.{statement}
 use Rattle.log_lent.proofs.lent_proposals.propose_lent.Tie as tie
 
-stopped-requires : tie.Need-stopped-requires
-stopped-requires c κs = search needs
-
 returns : tie.Need-returns
 returns c = λ L K. record-elsewhere L _ _ _ _ (c .before .if1 .taken) (c .stopped .ensures)
 
-stopped-requires-2 : tie.Need-stopped-requires-2
-stopped-requires-2 c κs = search needs
-
 returns-2 : tie.Need-returns-2
 returns-2 c = λ L K. old-elsewhere L _ _ _ _ (c .before .if2 .taken) (c .stopped2 .ensures)
-
-edits-of-requires : tie.Need-edits-of-requires
-edits-of-requires c κs = search needs
-
-constraints-of-requires : tie.Need-constraints-of-requires
-constraints-of-requires c κs = search needs
-
-edits-of-requires-2 : tie.Need-edits-of-requires-2
-edits-of-requires-2 c κs = search needs
-
-constraints-of-requires-2 : tie.Need-constraints-of-requires-2
-constraints-of-requires-2 c κs = search needs
-
-new-proposal-requires : tie.Need-new-proposal-requires
-new-proposal-requires c κs = search needs
-
-fitted-requires : tie.Need-fitted-requires
-fitted-requires c κs = search needs
 
 returns-3 : tie.Need-returns-3
 returns-3 c =
@@ -51,14 +27,14 @@ pub propose-lent-spec : {M : Type 1} → statement M
 propose-lent-spec =
     tie.close
     (tie.spec
-    stopped-requires
+    (λ c κs. search needs)
     returns
-    stopped-requires-2
+    (λ c κs. search needs)
     returns-2
-    edits-of-requires
-    constraints-of-requires
-    edits-of-requires-2
-    constraints-of-requires-2
-    new-proposal-requires
-    fitted-requires
+    (λ c κs. search needs)
+    (λ c κs. search needs)
+    (λ c κs. search needs)
+    (λ c κs. search needs)
+    (λ c κs. search needs)
+    (λ c κs. search needs)
     returns-3)

@@ -5,37 +5,13 @@ use Rattle.log_session.proofs.votes.Answered.{no-rule-answer, one-rule,
 use Rattle.log_session.proofs.votes.print_rules.Statement.{statement}
 use Rattle.log_session.proofs.votes.print_rules.Tie as tie
 
-slice-aggregate-print : tie.Need-slice-aggregate-print
-slice-aggregate-print c = search needs
-
-slice-aggregate-print-2 : tie.Need-slice-aggregate-print-2
-slice-aggregate-print-2 c = search needs
-
-print-requires : tie.Need-print-requires
-print-requires c κs = search needs
-
-same-length : tie.Need-same-length
-same-length c = search needs
-
 returns : tie.Need-returns
 unfolding bytes
 returns c = let s = c .before .before .before .before .before .before .before .before .before .before .args in no-rule-answer (s .suggested) (s .out .now) (s .at) (c .before .before .before .print .ensures) (c .if1 .taken)
 
-print-rule-requires : tie.Need-print-rule-requires
-print-rule-requires c κs = search needs
-
-same-length-2 : tie.Need-same-length-2
-same-length-2 c = search needs
-
 returns-2 : tie.Need-returns-2
 unfolding bytes
 returns-2 c = let s = c .before .before .before .before .before .before .before .before .before .before .before .before .before .before .before .args in one-rule (s .suggested) (s .out .now) (s .at) (c .before .before .before .before .before .before .before .before .print .ensures) (c .before .before .before .before .before .if1 .left) (c .before .before .before .print-rule .ensures) (c .if2 .taken)
-
-print-rule-requires-2 : tie.Need-print-rule-requires-2
-print-rule-requires-2 c κs = search needs
-
-same-length-3 : tie.Need-same-length-3
-same-length-3 c = search needs
 
 returns-3 : tie.Need-returns-3
 unfolding bytes
@@ -45,14 +21,14 @@ pub print-rules-spec : {M : Type 1} → statement M
 print-rules-spec =
     tie.close
     (tie.spec
-    slice-aggregate-print
-    slice-aggregate-print-2
-    print-requires
-    same-length
+    (λ c. search needs)
+    (λ c. search needs)
+    (λ c κs. search needs)
+    (λ c. search needs)
     returns
-    print-rule-requires
-    same-length-2
+    (λ c κs. search needs)
+    (λ c. search needs)
     returns-2
-    print-rule-requires-2
-    same-length-3
+    (λ c κs. search needs)
+    (λ c. search needs)
     returns-3)

@@ -16,12 +16,6 @@ returns-2 c =
     let f = c .before .if1 .left in
     absurd (omega (arith, few (s .args .table) l e (s .args .c) f, held-count-is (s .args .table) l e (s .args .c) f))
 
-place-requires : tie.Need-place-requires
-place-requires c κs = search needs
-
-stands-requires : tie.Need-stands-requires
-stands-requires c κs = search needs
-
 returns-3 : tie.Need-returns-3
 returns-3 c =
     λ l e a.
@@ -29,9 +23,6 @@ returns-3 c =
     let f = c .before .before .before .before .before .if1 .left in
     let p = c .before .before .place in
     known-is (s .args .table) l e (s .args .c) f (p .result) (p .ensures .0 (held-in-order (s .args .table) l e (s .args .c) f a)) (c .before .stands .ensures) (c .if3 .taken)
-
-full-table-requires : tie.Need-full-table-requires
-full-table-requires c κs = search needs
 
 returns-4 : tie.Need-returns-4
 returns-4 c =
@@ -45,9 +36,6 @@ put-at-requires : tie.Need-put-at-requires
 put-at-requires c κs =
     let p = c .before .before .before .place in
     (p .ensures .1, search needs)
-
-add-t9 : tie.Need-add-t9
-add-t9 c = search needs
 
 returns-5 : tie.Need-returns-5
 returns-5 c =
@@ -63,11 +51,11 @@ insert-spec =
     (tie.spec
     returns
     returns-2
-    place-requires
-    stands-requires
+    (λ c κs. search needs)
+    (λ c κs. search needs)
     returns-3
-    full-table-requires
+    (λ c κs. search needs)
     returns-4
     put-at-requires
-    add-t9
+    (λ c. search needs)
     returns-5)

@@ -21,9 +21,6 @@ loop-holds : tie.Need-loop-holds Inv-loop μ-loop
 loop-holds c =
     (search needs, search needs, search needs, λ a. array-start constraintKey (c .args .c) (c .args .t1) (c .args .n) (search needs))
 
-sub-middle : tie.Need-sub-middle Inv-loop μ-loop
-sub-middle c = search needs
-
 add-middle : tie.Need-add-middle Inv-loop μ-loop
 add-middle c =
     let l = c .before in
@@ -41,9 +38,6 @@ array-copy-out-y c =
     let l = c .before in
     let m = middle-below (l .loop .low) (l .loop .high) (c .loop-test .taken) in
     omega arith
-
-constraint-below-requires : tie.Need-constraint-below-requires Inv-loop μ-loop
-constraint-below-requires c κs = search needs
 
 add-low : tie.Need-add-low Inv-loop μ-loop
 add-low c =
@@ -90,11 +84,11 @@ place-spec =
     Inv-loop
     μ-loop
     loop-holds
-    sub-middle
+    (λ c. search needs)
     add-middle
     mul-y
     array-copy-out-y
-    constraint-below-requires
+    (λ c κs. search needs)
     add-low
     loop-less
     loop-again

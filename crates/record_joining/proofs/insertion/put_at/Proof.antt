@@ -18,38 +18,11 @@ loop-holds : tie.Need-loop-holds Inv-loop μ-loop
 loop-holds c =
     (search needs, search needs, search needs, opened-start (c .args .n) (c .args .rows))
 
-sub-y : tie.Need-sub-y Inv-loop μ-loop
-sub-y c = search needs
-
-mul-y : tie.Need-mul-y Inv-loop μ-loop
-mul-y c = search needs
-
-array-copy-out-y : tie.Need-array-copy-out-y Inv-loop μ-loop
-array-copy-out-y c = search needs
-
-mul-out : tie.Need-mul-out Inv-loop μ-loop
-mul-out c = search needs
-
-array-set-from-out : tie.Need-array-set-from-out Inv-loop μ-loop
-array-set-from-out c = search needs
-
-sub-j : tie.Need-sub-j Inv-loop μ-loop
-sub-j c = search needs
-
-loop-less : tie.Need-loop-less Inv-loop μ-loop
-loop-less c = search needs
-
 loop-again : tie.Need-loop-again Inv-loop μ-loop
 loop-again c =
     let l = c .before .before in
     let s = l .before in
     (search needs, search needs, l .loop .inv .2, opened-turn (s .args .n) (s .args .rows) (l .loop .j) fillerConstraint (search needs) (l .loop .inv .1) (l .loop .inv .2) (l .loop .inv .3))
-
-mul-out-2 : tie.Need-mul-out-2 Inv-loop μ-loop
-mul-out-2 c = search needs
-
-array-set-from-out-2 : tie.Need-array-set-from-out-2 Inv-loop μ-loop
-array-set-from-out-2 c = search needs
 
 returns : tie.Need-returns Inv-loop μ-loop
 returns c =
@@ -64,14 +37,14 @@ put-at-spec =
     Inv-loop
     μ-loop
     loop-holds
-    sub-y
-    mul-y
-    array-copy-out-y
-    mul-out
-    array-set-from-out
-    sub-j
-    loop-less
+    (λ c. search needs)
+    (λ c. search needs)
+    (λ c. search needs)
+    (λ c. search needs)
+    (λ c. search needs)
+    (λ c. search needs)
+    (λ c. search needs)
     loop-again
-    mul-out-2
-    array-set-from-out-2
+    (λ c. search needs)
+    (λ c. search needs)
     returns)

@@ -8,15 +8,6 @@ returns : tie.Need-returns
 returns c =
     none-stands (c .before .args .p) (c .before .args .n) (c .if1 .taken) _
 
-mul-y : tie.Need-mul-y
-mul-y c = search needs
-
-array-copy-out-y : tie.Need-array-copy-out-y
-array-copy-out-y c = search needs
-
-constraint-below-requires : tie.Need-constraint-below-requires
-constraint-below-requires c κs = search needs
-
 returns-2 : tie.Need-returns-2
 returns-2 c =
     let s = c .before .before .before in
@@ -24,4 +15,4 @@ returns-2 c =
 
 pub stands-spec : {M : Type 1} → statement M
 stands-spec =
-    tie.close (tie.spec returns mul-y array-copy-out-y constraint-below-requires returns-2)
+    tie.close (tie.spec returns (λ c. search needs) (λ c. search needs) (λ c κs. search needs) returns-2)

@@ -5,17 +5,11 @@ use borrow.Author.Needs.{needs}
 use Rattle.record_rows.proofs.ground.as_new.Statement.{statement}
 use Rattle.record_rows.proofs.ground.as_new.Tie as tie
 
-refused-requires : tie.Need-refused-requires
-refused-requires c κs = search needs
-
 returns : tie.Need-returns
 returns c = c .refused .ensures ∙ new-full (c .before .if1 .taken)
-
-goes-on-requires : tie.Need-goes-on-requires
-goes-on-requires c κs = search needs
 
 returns-2 : tie.Need-returns-2
 returns-2 c = c .goes-on .ensures ∙ new-fits (c .before .if1 .left)
 
 pub as-new-spec : {M : Type 1} → statement M
-as-new-spec = tie.close (tie.spec refused-requires returns goes-on-requires returns-2)
+as-new-spec = tie.close (tie.spec (λ c κs. search needs) returns (λ c κs. search needs) returns-2)

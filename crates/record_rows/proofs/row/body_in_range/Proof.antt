@@ -4,12 +4,6 @@ use borrow.Author.Needs.{needs}
 use Rattle.record_rows.proofs.row.body_in_range.Statement.{statement}
 use Rattle.record_rows.proofs.row.body_in_range.Tie as tie
 
-unused-requires : tie.Need-unused-requires
-unused-requires c κs = search needs
-
-unused-requires-2 : tie.Need-unused-requires-2
-unused-requires-2 c κs = search needs
-
 returns : tie.Need-returns
 returns c = let s = c .before .before in body-insert (s .args .kind) (s .args .field) (s .args .value) (c .before .match .keys1) (c .unused .ensures)
 
@@ -24,4 +18,4 @@ returns-4 c = let s = c .before in body-other (s .args .kind) (s .args .field) (
 
 pub body-in-range-spec : {M : Type 1} → statement M
 body-in-range-spec =
-    tie.close (tie.spec unused-requires unused-requires-2 returns returns-2 returns-3 returns-4)
+    tie.close (tie.spec (λ c κs. search needs) (λ c κs. search needs) returns returns-2 returns-3 returns-4)

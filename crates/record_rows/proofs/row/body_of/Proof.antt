@@ -4,9 +4,6 @@ use borrow.Author.Needs.{needs}
 use Rattle.record_rows.proofs.row.body_of.Statement.{statement}
 use Rattle.record_rows.proofs.row.body_of.Tie as tie
 
-field-of-requires : tie.Need-field-of-requires
-field-of-requires c κs = search needs
-
 returns : tie.Need-returns
 returns c = rw (c .match .keys1)
 
@@ -17,4 +14,4 @@ returns-3 : tie.Need-returns-3
 returns-3 c = let s = c .before in body-kept (s .args .kind) (s .args .place) (s .args .field) (s .args .value) (c .match .rest .0 .1) (c .match .rest .1)
 
 pub body-of-spec : {M : Type 1} → statement M
-body-of-spec = tie.close (tie.spec field-of-requires returns returns-2 returns-3)
+body-of-spec = tie.close (tie.spec (λ c κs. search needs) returns returns-2 returns-3)

@@ -4,17 +4,8 @@ use borrow.Author.Needs.{needs}
 use Rattle.record_rows.proofs.row.constraint_row.Statement.{statement}
 use Rattle.record_rows.proofs.row.constraint_row.Tie as tie
 
-cast-left : tie.Need-cast-left
-cast-left c = search needs
-
-cast-rule : tie.Need-cast-rule
-cast-rule c = search needs
-
-cast-right : tie.Need-cast-right
-cast-right c = search needs
-
 returns : tie.Need-returns
 returns c = constraint-row-is _
 
 pub constraint-row-spec : {M : Type 1} → statement M
-constraint-row-spec = tie.close (tie.spec cast-left cast-rule cast-right returns)
+constraint-row-spec = tie.close (tie.spec (λ c. search needs) (λ c. search needs) (λ c. search needs) returns)

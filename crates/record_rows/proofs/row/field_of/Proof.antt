@@ -7,17 +7,8 @@ use borrow.Author.Needs.{needs}
 use Rattle.record_rows.proofs.row.field_of.Statement.{statement}
 use Rattle.record_rows.proofs.row.field_of.Tie as tie
 
-returns : tie.Need-returns
-returns c = search needs
-
-returns-2 : tie.Need-returns-2
-returns-2 c = search needs
-
-returns-3 : tie.Need-returns-3
-returns-3 c = search needs
-
 returns-4 : tie.Need-returns-4
 returns-4 c = past3 (λ n. Page ≡ fieldOf n) (λ m. refl) (c .before .args .n) (c .match .rest .0 .0 .1) (c .match .rest .0 .1) (c .match .rest .1)
 
 pub field-of-spec : {M : Type 1} → statement M
-field-of-spec = tie.close (tie.spec returns returns-2 returns-3 returns-4)
+field-of-spec = tie.close (tie.spec (λ c. search needs) (λ c. search needs) (λ c. search needs) returns-4)

@@ -7,11 +7,8 @@ use Rattle.record_rows.proofs.row.is_side.Tie as tie
 returns : tie.Need-returns
 returns c = side-zero _ (c .if1 .taken)
 
-is-name-requires : tie.Need-is-name-requires
-is-name-requires c κs = search needs
-
 returns-2 : tie.Need-returns-2
 returns-2 c = side-name _ (c .before .if1 .left) (c .is-name .ensures)
 
 pub is-side-spec : {M : Type 1} → statement M
-is-side-spec = tie.close (tie.spec returns is-name-requires returns-2)
+is-side-spec = tie.close (tie.spec returns (λ c κs. search needs) returns-2)

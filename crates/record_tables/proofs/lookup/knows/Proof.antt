@@ -4,11 +4,8 @@ use borrow.Author.Needs.{needs}
 use Rattle.record_tables.proofs.lookup.knows.Statement.{statement}
 use Rattle.record_tables.proofs.lookup.knows.Tie as tie
 
-place-of-requires : tie.Need-place-of-requires
-place-of-requires c κs = search needs
-
 returns : tie.Need-returns
 returns c = λ R e k. let s = c .before .before .args in knows-is (s .joined) R e k (s .name) (c .before .place-of .ensures R e k)
 
 pub knows-spec : {M : Type 1} → statement M
-knows-spec = tie.close (tie.spec place-of-requires returns)
+knows-spec = tie.close (tie.spec (λ c κs. search needs) returns)

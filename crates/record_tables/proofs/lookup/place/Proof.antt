@@ -19,9 +19,6 @@ abbrev μ-loop : tie.MeasureT-loop
 loop-holds : tie.Need-loop-holds Inv-loop μ-loop
 loop-holds c = (search needs, search needs, search needs, λ a. between-start (c .args .name) (c .args .names .now))
 
-sub-middle : tie.Need-sub-middle Inv-loop μ-loop
-sub-middle c = search needs
-
 add-middle : tie.Need-add-middle Inv-loop μ-loop
 add-middle c =
     let l = c .before in
@@ -86,12 +83,6 @@ returns c = λ a.
     let e : l .loop .high ≡ l .loop .low = omega arith in
     found-none (s .args .name) (s .args .names .now) a (l .loop .low) (rw e at (l .loop .inv .3 a)) (c .if2 .taken)
 
-mul-if3 : tie.Need-mul-if3 Inv-loop μ-loop
-mul-if3 c = search needs
-
-shared-slice-read-if3 : tie.Need-shared-slice-read-if3 Inv-loop μ-loop
-shared-slice-read-if3 c = search needs
-
 returns-2 : tie.Need-returns-2 Inv-loop μ-loop
 returns-2 c = λ a.
     let l = c .before .before .before .before in
@@ -113,7 +104,7 @@ place-spec =
     Inv-loop
     μ-loop
     loop-holds
-    sub-middle
+    (λ c. search needs)
     add-middle
     mul-if1
     shared-slice-read-if1
@@ -123,7 +114,7 @@ place-spec =
     loop-less-2
     loop-again-2
     returns
-    mul-if3
-    shared-slice-read-if3
+    (λ c. search needs)
+    (λ c. search needs)
     returns-2
     returns-3)

@@ -7,12 +7,6 @@ use Rattle.stdio.proofs.text_input.Buffers.{text-shown}
 use Rattle.stdio.proofs.text_input.print_text.Statement.{statement}
 use Rattle.stdio.proofs.text_input.print_text.Tie as tie
 
-print-text-requires : tie.Need-print-text-requires
-print-text-requires c κs = search needs
-
-same-length : tie.Need-same-length
-same-length c = search needs
-
 returns : tie.Need-returns
 returns c =
     let s = c .before .before .before .before .before .before in
@@ -20,4 +14,4 @@ returns c =
     (placed-inside (printed (readText (s .args .text .now))) (s .args .out .now) 0 p, text-shown (s .args .text .now) (s .args .out .now) (s .pre) p)
 
 pub print-text-spec : {M : Type 1} → statement M
-print-text-spec = tie.close (tie.spec print-text-requires same-length returns)
+print-text-spec = tie.close (tie.spec (λ c κs. search needs) (λ c. search needs) returns)

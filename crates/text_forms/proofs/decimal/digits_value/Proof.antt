@@ -25,26 +25,14 @@ below c = omega (arith, c .before .loop .inv .1)
 loop-holds : tie.Need-loop-holds Inv-loop μ-loop
 loop-holds c = (search needs, c .before .pre, value-none (digitRun (c .before .args .bytes .now)) _)
 
-mul-value : tie.Need-mul-value Inv-loop μ-loop
-mul-value c = search needs
-
 shared-slice-read-wide8 : tie.Need-shared-slice-read-wide8 Inv-loop μ-loop
 shared-slice-read-wide8 c = omega (arith, below (c .before), run-short (c .before .before .before .before .args .bytes .now))
-
-wide8-requires : tie.Need-wide8-requires Inv-loop μ-loop
-wide8-requires c κs = search needs
 
 sub-value : tie.Need-sub-value Inv-loop μ-loop
 sub-value c = omega (arith, c .wide8 .ensures, run-digits (c .before .before .before .before .before .args .bytes .now) (c .before .before .before .loop .i) (below (c .before .before)), run-getD (c .before .before .before .before .before .args .bytes .now) (c .before .before .before .loop .i) (below (c .before .before)))
 
 add-value : tie.Need-add-value Inv-loop μ-loop
 add-value c = omega (arith, c .wide8 .ensures, run-digits (c .before .before .before .before .before .args .bytes .now) (c .before .before .before .loop .i) (below (c .before .before)), run-getD (c .before .before .before .before .before .args .bytes .now) (c .before .before .before .loop .i) (below (c .before .before)))
-
-add-i : tie.Need-add-i Inv-loop μ-loop
-add-i c = search needs
-
-loop-less : tie.Need-loop-less Inv-loop μ-loop
-loop-less c = search needs
 
 loop-again : tie.Need-loop-again Inv-loop μ-loop
 loop-again c = (
@@ -66,12 +54,12 @@ digits-value-spec =
     Inv-loop
     μ-loop
     loop-holds
-    mul-value
+    (λ c. search needs)
     shared-slice-read-wide8
-    wide8-requires
+    (λ c κs. search needs)
     sub-value
     add-value
-    add-i
-    loop-less
+    (λ c. search needs)
+    (λ c. search needs)
     loop-again
     returns)

@@ -21,9 +21,6 @@ loop-holds c = (omega arith, c .fits .n .fits)
 add-count : tie.Need-add-count Inv-loop μ-loop
 add-count c = omega (arith, decimal-twenty (c .before .before .args .n) (c .before .loop .inv .1), c .before .loop .inv .0)
 
-loop-less : tie.Need-loop-less Inv-loop μ-loop
-loop-less c = search needs
-
 loop-again : tie.Need-loop-again Inv-loop μ-loop
 loop-again c = (omega (arith, c .before .loop .inv .0, length-large (c .before .loop .rest) (c .loop-test .taken)), c .before .loop .inv .1)
 
@@ -32,4 +29,4 @@ returns c = omega (arith, c .before .loop .inv .0, ap length (decimal-small (c .
 
 pub number-length-spec : {M : Type 1} → statement M
 number-length-spec =
-    tie.close (tie.spec Inv-loop μ-loop loop-holds add-count loop-less loop-again returns)
+    tie.close (tie.spec Inv-loop μ-loop loop-holds add-count (λ c. search needs) loop-again returns)

@@ -28,16 +28,10 @@ returns-4 c = λ P Q p q.
     let z : length (s .args .a .constraints) ≡ 512 = search (needs, length-mapped) in
     absurd (omega (arith, constraints-within (s .args .a) P p z))
 
-same-edits-requires : tie.Need-same-edits-requires
-same-edits-requires c κs = search needs
-
 returns-5 : tie.Need-returns-5
 returns-5 c = λ P Q p q.
     let s = c .before .before .before .before .before .before .before .before .before .before in
     edits-differ (s .args .a) (s .args .b) P Q p q (c .before .before .before .before .before .before .before .before .if1 .left) (c .before .before .before .before .before .before .if2 .left) (c .before .same-edits .result) (c .before .same-edits .ensures) (not-true _ (c .if5 .taken))
-
-same-constraints-requires : tie.Need-same-constraints-requires
-same-constraints-requires c κs = search needs
 
 returns-6 : tie.Need-returns-6
 returns-6 c = λ P Q p q.
@@ -52,7 +46,7 @@ same-bundle-spec =
     returns-2
     returns-3
     returns-4
-    same-edits-requires
+    (λ c κs. search needs)
     returns-5
-    same-constraints-requires
+    (λ c κs. search needs)
     returns-6)

@@ -21,33 +21,12 @@ loop-holds : tie.Need-loop-holds Inv-loop μ-loop
 unfolding sameList
 loop-holds c = (search needs, search needs, refl)
 
-mul-same-edit : tie.Need-mul-same-edit Inv-loop μ-loop
-mul-same-edit c = search needs
-
-array-copy-out-same-edit : tie.Need-array-copy-out-same-edit Inv-loop μ-loop
-array-copy-out-same-edit c = search needs
-
-mul-same-edit-2 : tie.Need-mul-same-edit-2 Inv-loop μ-loop
-mul-same-edit-2 c = search needs
-
-array-copy-out-same-edit-2 : tie.Need-array-copy-out-same-edit-2 Inv-loop μ-loop
-array-copy-out-same-edit-2 c = search needs
-
-same-edit-requires : tie.Need-same-edit-requires Inv-loop μ-loop
-same-edit-requires c κs = search needs
-
 returns : tie.Need-returns Inv-loop μ-loop
 returns c = let l = c .before .before .before .before .before in
     let s = l .before in
     let y : length (s .args .t1) ≡ 127 = search needs in
     let z : length (s .args .t2) ≡ 127 = search needs in
     sym (same-broken sameEdit (s .args .t1) (s .args .t2) (s .args .n) (l .loop .i) _ _ (omega arith) (omega arith) (omega arith) (sym (c .before .same-edit .ensures) ∙ not-true _ (c .if1 .taken)))
-
-add-i : tie.Need-add-i Inv-loop μ-loop
-add-i c = search needs
-
-loop-less : tie.Need-loop-less Inv-loop μ-loop
-loop-less c = search needs
 
 loop-again : tie.Need-loop-again Inv-loop μ-loop
 loop-again c = let l = c .before .before .before .before .before in
@@ -69,13 +48,13 @@ same-edits-spec =
     Inv-loop
     μ-loop
     loop-holds
-    mul-same-edit
-    array-copy-out-same-edit
-    mul-same-edit-2
-    array-copy-out-same-edit-2
-    same-edit-requires
+    (λ c. search needs)
+    (λ c. search needs)
+    (λ c. search needs)
+    (λ c. search needs)
+    (λ c κs. search needs)
     returns
-    add-i
-    loop-less
+    (λ c. search needs)
+    (λ c. search needs)
     loop-again
     returns-2)

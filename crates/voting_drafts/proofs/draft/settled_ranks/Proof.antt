@@ -18,21 +18,6 @@ abbrev μ-loop : tie.MeasureT-loop
 loop-holds : tie.Need-loop-holds Inv-loop μ-loop
 loop-holds c = (search needs, search needs, search needs, ranks-start (c .args .settled .now))
 
-element-copy-out-rank-of-mark : tie.Need-element-copy-out-rank-of-mark Inv-loop μ-loop
-element-copy-out-rank-of-mark c = search needs
-
-rank-of-mark-requires : tie.Need-rank-of-mark-requires Inv-loop μ-loop
-rank-of-mark-requires c κs = search needs
-
-array-write-ranks : tie.Need-array-write-ranks Inv-loop μ-loop
-array-write-ranks c = search needs
-
-add-i : tie.Need-add-i Inv-loop μ-loop
-add-i c = search needs
-
-loop-less : tie.Need-loop-less Inv-loop μ-loop
-loop-less c = search needs
-
 loop-again : tie.Need-loop-again Inv-loop μ-loop
 loop-again c =
     let o = c .before .before .before in
@@ -53,10 +38,10 @@ settled-ranks-spec =
     Inv-loop
     μ-loop
     loop-holds
-    element-copy-out-rank-of-mark
-    rank-of-mark-requires
-    array-write-ranks
-    add-i
-    loop-less
+    (λ c. search needs)
+    (λ c κs. search needs)
+    (λ c. search needs)
+    (λ c. search needs)
+    (λ c. search needs)
     loop-again
     returns)

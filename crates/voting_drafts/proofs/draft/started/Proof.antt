@@ -14,24 +14,6 @@ use borrow.Author.Needs.{needs}
 use Rattle.voting_drafts.proofs.draft.started.Statement.{statement}
 use Rattle.voting_drafts.proofs.draft.started.Tie as tie
 
-unordered-pairs-requires : tie.Need-unordered-pairs-requires
-unordered-pairs-requires c κs = search needs
-
-index-table-requires : tie.Need-index-table-requires
-index-table-requires c κs = search needs
-
-settleds-requires : tie.Need-settleds-requires
-settleds-requires c κs = search needs
-
-settled-ranks-requires : tie.Need-settled-ranks-requires
-settled-ranks-requires c κs = search needs
-
-table-of-requires : tie.Need-table-of-requires
-table-of-requires c κs = search needs
-
-with-orders-requires : tie.Need-with-orders-requires
-with-orders-requires c κs = search needs
-
 returns : tie.Need-returns
 returns c =
     λ U Q e k f j.
@@ -48,10 +30,10 @@ pub started-spec : {M : Type 1} → statement M
 started-spec =
     tie.close
     (tie.spec
-    unordered-pairs-requires
-    index-table-requires
-    settleds-requires
-    settled-ranks-requires
-    table-of-requires
-    with-orders-requires
+    (λ c κs. search needs)
+    (λ c κs. search needs)
+    (λ c κs. search needs)
+    (λ c κs. search needs)
+    (λ c κs. search needs)
+    (λ c κs. search needs)
     returns)

@@ -11,18 +11,6 @@ returns : tie.Need-returns
 returns c =
     λ R g f l r. other-rule R (c .before .before .args .c) (c .if1 .taken)
 
-index16-requires : tie.Need-index16-requires
-index16-requires c κs = search needs
-
-index-of-requires : tie.Need-index-of-requires
-index-of-requires c κs = search needs
-
-index16-requires-2 : tie.Need-index16-requires-2
-index16-requires-2 c κs = search needs
-
-index-of-requires-2 : tie.Need-index-of-requires-2
-index-of-requires-2 c κs = search needs
-
 leads-to-requires : tie.Need-leads-to-requires
 leads-to-requires c κs =
     let s = c .before .before .before .before .before .before in
@@ -69,10 +57,10 @@ is-unordered-spec =
     tie.close
     (tie.spec
     returns
-    index16-requires
-    index-of-requires
-    index16-requires-2
-    index-of-requires-2
+    (λ c κs. search needs)
+    (λ c κs. search needs)
+    (λ c κs. search needs)
+    (λ c κs. search needs)
     leads-to-requires
     returns-2
     leads-to-requires-2

@@ -26,21 +26,9 @@ returns c =
     let s = c .before .before in
     (search (needs, length-mapped), search needs, λ R e f. absurd (omega (arith, within-limit (s .args .multilog) R e f, c .if1 .taken)))
 
-index-table-requires : tie.Need-index-table-requires Inv-loop μ-loop
-index-table-requires c κs = search needs
-
-resolved-requires : tie.Need-resolved-requires Inv-loop μ-loop
-resolved-requires c κs = search needs
-
 loop-holds : tie.Need-loop-holds Inv-loop μ-loop
 loop-holds c =
     (search needs, search needs, search (needs, length-mapped), search needs, search (needs, length-mapped), λ R g f e. pairs-start R (c .before .before .before .before .args .multilog .constraints))
-
-mul-c : tie.Need-mul-c Inv-loop μ-loop
-mul-c c = search needs
-
-array-copy-out-c : tie.Need-array-copy-out-c Inv-loop μ-loop
-array-copy-out-c c = search needs
 
 is-unordered-requires : tie.Need-is-unordered-requires Inv-loop μ-loop
 is-unordered-requires c κs =
@@ -48,26 +36,11 @@ is-unordered-requires c κs =
     let t = c .before .before .before .before .before .before .index-table in
     (r .ensures .0, t .ensures .0, t .ensures .1)
 
-mul-rows : tie.Need-mul-rows Inv-loop μ-loop
-mul-rows c = search needs
-
-array-set-from-rows : tie.Need-array-set-from-rows Inv-loop μ-loop
-array-set-from-rows c = search needs
-
-bit-requires : tie.Need-bit-requires Inv-loop μ-loop
-bit-requires c κs = search needs
-
 add-count : tie.Need-add-count Inv-loop μ-loop
 add-count c =
     let l = c .before .before .before .before .before .before .loop in
     let b = bit-low (c .before .is-unordered .result) (c .bit .ensures) in
     omega arith
-
-add-i : tie.Need-add-i Inv-loop μ-loop
-add-i c = search needs
-
-loop-less : tie.Need-loop-less Inv-loop μ-loop
-loop-less c = search needs
 
 loop-again : tie.Need-loop-again Inv-loop μ-loop
 loop-again c =
@@ -108,17 +81,17 @@ unordered-pairs-spec =
     Inv-loop
     μ-loop
     returns
-    index-table-requires
-    resolved-requires
+    (λ c κs. search needs)
+    (λ c κs. search needs)
     loop-holds
-    mul-c
-    array-copy-out-c
+    (λ c. search needs)
+    (λ c. search needs)
     is-unordered-requires
-    mul-rows
-    array-set-from-rows
-    bit-requires
+    (λ c. search needs)
+    (λ c. search needs)
+    (λ c κs. search needs)
     add-count
-    add-i
-    loop-less
+    (λ c. search needs)
+    (λ c. search needs)
     loop-again
     returns-2)

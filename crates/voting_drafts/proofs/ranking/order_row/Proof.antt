@@ -13,22 +13,10 @@ returns-2 : tie.Need-returns-2
 returns-2 c =
     λ t e a. let s = c .before .before .args in joined-none t (right-unranked (s .a) (s .b) (s .c .left) (s .c .right) (c .if2 .taken)) e
 
-notafter-requires : tie.Need-notafter-requires
-notafter-requires c κs = search needs
-
-insert-requires : tie.Need-insert-requires
-insert-requires c κs = search needs
-
 returns-3 : tie.Need-returns-3
 returns-3 c =
     λ t e a. let s = c .before .before .before .before .before .args in
     joined-one t (left-lower (s .a) (s .b) (s .c .left) (s .c .right) (c .before .before .before .before .if1 .left) (c .before .before .before .if2 .left) (c .before .before .if3 .taken)) (c .before .notafter .ensures) (c .insert .ensures t e a)
-
-notafter-requires-2 : tie.Need-notafter-requires-2
-notafter-requires-2 c κs = search needs
-
-insert-requires-2 : tie.Need-insert-requires-2
-insert-requires-2 c κs = search needs
 
 returns-4 : tie.Need-returns-4
 returns-4 c =
@@ -46,10 +34,10 @@ order-row-spec =
     (tie.spec
     returns
     returns-2
-    notafter-requires
-    insert-requires
+    (λ c κs. search needs)
+    (λ c κs. search needs)
     returns-3
-    notafter-requires-2
-    insert-requires-2
+    (λ c κs. search needs)
+    (λ c κs. search needs)
     returns-4
     returns-5)

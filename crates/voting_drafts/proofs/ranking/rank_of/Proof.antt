@@ -7,12 +7,6 @@ use borrow.Author.Needs.{needs}
 use Rattle.voting_drafts.proofs.ranking.rank_of.Statement.{statement}
 use Rattle.voting_drafts.proofs.ranking.rank_of.Tie as tie
 
-index16-requires : tie.Need-index16-requires
-index16-requires c κs = search needs
-
-index-of-requires : tie.Need-index-of-requires
-index-of-requires c κs = search needs
-
 element-copy-out-result : tie.Need-element-copy-out-result
 element-copy-out-result c =
     let s = c .before .before in
@@ -26,4 +20,4 @@ returns c =
 
 pub rank-of-spec : {M : Type 1} → statement M
 rank-of-spec =
-    tie.close (tie.spec index16-requires index-of-requires element-copy-out-result returns)
+    tie.close (tie.spec (λ c κs. search needs) (λ c κs. search needs) element-copy-out-result returns)

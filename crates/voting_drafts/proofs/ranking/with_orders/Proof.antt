@@ -29,12 +29,6 @@ loop-holds c =
     let s = c .before .args in
     (search needs, search needs, search (needs, length-mapped), λ t e a. joins-start (pairOrder (rankOf (s .index .now) (s .ranks .now))) t (s .pairs .rows) e)
 
-mul-c : tie.Need-mul-c Inv-loop μ-loop
-mul-c c = search needs
-
-array-copy-out-c : tie.Need-array-copy-out-c Inv-loop μ-loop
-array-copy-out-c c = search needs
-
 rank-of-requires : tie.Need-rank-of-requires Inv-loop μ-loop
 rank-of-requires c κs =
     let s = c .before .before .before .before in
@@ -44,15 +38,6 @@ rank-of-requires-2 : tie.Need-rank-of-requires-2 Inv-loop μ-loop
 rank-of-requires-2 c κs =
     let s = c .before .before .before .before .before in
     (s .pre .0, s .pre .1)
-
-order-row-requires : tie.Need-order-row-requires Inv-loop μ-loop
-order-row-requires c κs = search needs
-
-add-i : tie.Need-add-i Inv-loop μ-loop
-add-i c = search needs
-
-loop-less : tie.Need-loop-less Inv-loop μ-loop
-loop-less c = search needs
 
 loop-again : tie.Need-loop-again Inv-loop μ-loop
 loop-again c =
@@ -81,12 +66,12 @@ with-orders-spec =
     Inv-loop
     μ-loop
     loop-holds
-    mul-c
-    array-copy-out-c
+    (λ c. search needs)
+    (λ c. search needs)
     rank-of-requires
     rank-of-requires-2
-    order-row-requires
-    add-i
-    loop-less
+    (λ c κs. search needs)
+    (λ c. search needs)
+    (λ c. search needs)
     loop-again
     returns)

@@ -7,17 +7,11 @@ use Rattle.voting_proposals.proofs.keeping.Keeping.{same-kept, other-ke
 use Rattle.voting_proposals.proofs.keeping.is_kept.Statement.{statement}
 use Rattle.voting_proposals.proofs.keeping.is_kept.Tie as tie
 
-same-bundle-requires : tie.Need-same-bundle-requires
-same-bundle-requires c κs = search needs
-
 returns : tie.Need-returns
 returns c = λ Q P x f b a. same-kept Q P x (c .before .same-bundle .ensures (bundle P x) (bundle Q x) a b) (c .if1 .taken)
-
-all-settled-requires : tie.Need-all-settled-requires
-all-settled-requires c κs = search needs
 
 returns-2 : tie.Need-returns-2
 returns-2 c = λ Q P x f b a. other-kept Q P x (c .before .before .same-bundle .ensures (bundle P x) (bundle Q x) a b) (c .before .if1 .left) (c .all-settled .ensures (bundle Q x) b (bundle-fit Q f x) ∙ eligible-all Q x)
 
 pub is-kept-spec : {M : Type 1} → statement M
-is-kept-spec = tie.close (tie.spec same-bundle-requires returns all-settled-requires returns-2)
+is-kept-spec = tie.close (tie.spec (λ c κs. search needs) returns (λ c κs. search needs) returns-2)

@@ -26,35 +26,17 @@ abbrev μ-loop : tie.MeasureT-loop
 returns : tie.Need-returns Inv-loop μ-loop
 returns c = λ Q P e f g h w. absurd (omega (arith, few-left (c .before .args .old) Q e f, c .if1 .taken))
 
-index-table-requires : tie.Need-index-table-requires Inv-loop μ-loop
-index-table-requires c κs = search needs
-
-member-rows-requires : tie.Need-member-rows-requires Inv-loop μ-loop
-member-rows-requires c κs = search needs
-
-index-table-requires-2 : tie.Need-index-table-requires-2 Inv-loop μ-loop
-index-table-requires-2 c κs = search needs
-
 member-rows-requires-2 : tie.Need-member-rows-requires-2 Inv-loop μ-loop
 member-rows-requires-2 c κs = let t = c .before .index-table2 .ensures in (t .0, t .1)
 
 loop-holds : tie.Need-loop-holds Inv-loop μ-loop
 loop-holds c = (search needs, search needs, search (needs, length-mapped), λ Q P e f g h w. keeps-start Q P)
 
-mul-e : tie.Need-mul-e Inv-loop μ-loop
-mul-e c = search needs
-
-array-copy-out-e : tie.Need-array-copy-out-e Inv-loop μ-loop
-array-copy-out-e c = search needs
-
 bundle-by-requires : tie.Need-bundle-by-requires Inv-loop μ-loop
 bundle-by-requires c κs = let t = c .before .before .before .before .before .before .before .before .before .before .before .index-table .ensures in (t .0, t .1, c .before .before .before .before .before .before .before .before .before .member-rows .ensures .0)
 
 bundle-by-requires-2 : tie.Need-bundle-by-requires-2 Inv-loop μ-loop
 bundle-by-requires-2 c κs = let t = c .before .before .before .before .before .before .before .before .before .before .before .index-table2 .ensures in (t .0, t .1, c .before .before .before .before .before .before .before .before .before .member-rows2 .ensures .0)
-
-is-kept-requires : tie.Need-is-kept-requires Inv-loop μ-loop
-is-kept-requires c κs = search needs
 
 returns-2 : tie.Need-returns-2 Inv-loop μ-loop
 returns-2 c =
@@ -68,12 +50,6 @@ returns-2 c =
     let b = c .before .before .before .before .before .bundle-by .ensures Q e f t (c .before .before .before .before .before .before .before .before .before .before .before .before .before .before .before .member-rows .ensures .1 Q e f t) m in
     let a = c .before .before .bundle-by2 .ensures P g h u (c .before .before .before .before .before .before .before .before .before .before .before .before .member-rows2 .ensures .1 P g h u) (w _ m) in
     keeps-stop (s .args .old) Q P e (o .i) fillerEdit l (c .before .is-kept .ensures Q P _ f b a) (not-true _ (c .if2 .taken))
-
-add-i : tie.Need-add-i Inv-loop μ-loop
-add-i c = search needs
-
-loop-less : tie.Need-loop-less Inv-loop μ-loop
-loop-less c = search needs
 
 loop-again : tie.Need-loop-again Inv-loop μ-loop
 loop-again c =
@@ -103,18 +79,18 @@ keeps-spec =
     Inv-loop
     μ-loop
     returns
-    index-table-requires
-    member-rows-requires
-    index-table-requires-2
+    (λ c κs. search needs)
+    (λ c κs. search needs)
+    (λ c κs. search needs)
     member-rows-requires-2
     loop-holds
-    mul-e
-    array-copy-out-e
+    (λ c. search needs)
+    (λ c. search needs)
     bundle-by-requires
     bundle-by-requires-2
-    is-kept-requires
+    (λ c κs. search needs)
     returns-2
-    add-i
-    loop-less
+    (λ c. search needs)
+    (λ c. search needs)
     loop-again
     returns-3)
