@@ -1,5 +1,5 @@
-/* What a desk tool does with the library: document 01's three-edit text checked, reported and written back, a bench kept by its log, and how united
- * the benches are, from some elections. */
+/* What a desk tool does with the library: document 01's three-edit text checked, reported and written back, also where there is just enough room or
+ * too little, a bench kept by its log, and how united the benches are, from some elections. */
 #include "catalogue.h"
 #include <stdio.h>
 #include <string.h>
@@ -12,6 +12,27 @@ static const uint8_t *bytes_of(const char *text) { return (const uint8_t *)text;
 static void show(const char *title, struct catalogue_reply reply) {
     printf("%s: number=%u line=%zu size=%zu\n", title, (unsigned)reply.number, reply.line, reply.size);
     fwrite(out, 1, reply.size, stdout);
+}
+
+static void show_fit(const char *title, struct catalogue_reply reply) {
+    printf("%s: number=%u size=%zu\n", title, (unsigned)reply.number, reply.size);
+}
+
+/* Just enough room, and one byte less: at the start of `out`, and in `work`, where the answer to ask=text is written after 32 + 16 bytes that stand
+ * there already. The 26 bytes of the record's text are written whole or not at all. */
+static void show_room(const char *text) {
+    const char *log = "edit=257 do=insert chip=1\nask=text\n";
+    show_fit("written back into its own size", catalogue_rewrite(bytes_of(text), size_of(text), out, size_of(text)));
+    show_fit("into one byte less", catalogue_rewrite(bytes_of(text), size_of(text), out, size_of(text) - 1));
+    show_fit("nothing into nothing", catalogue_rewrite(bytes_of(""), 0, out, 0));
+    memset(work, '-', 80);
+    show_fit("a text at 48 of 80", catalogue_replay(bytes_of(log), size_of(log), work, 80, out, sizeof out));
+    printf("from 48 on stands %.32s\n", (const char *)work + 48);
+    show_fit("at 48 of 74", catalogue_replay(bytes_of(log), size_of(log), work, 74, out, sizeof out));
+    memset(work, '-', 80);
+    show_fit("at 48 of 73", catalogue_replay(bytes_of(log), size_of(log), work, 73, out, sizeof out));
+    printf("from 48 on stands %.32s\n", (const char *)work + 48);
+    show_fit("the empty text at 16 of 16", catalogue_replay(bytes_of("ask=text\n"), 9, work, 16, out, sizeof out));
 }
 
 /* A bench kept between calls: the lines that were given to it so far. */
@@ -56,6 +77,8 @@ int main(void) {
     memset(out, '-', 8);
     struct catalogue_reply none = catalogue_report(bytes_of(text), size_of(text), out, 8);
     printf("a report in 8 bytes: number=%u, the buffer holds %.8s\n", (unsigned)none.number, (const char *)out);
+
+    show_room(text);
 
     show("a log", catalogue_replay(bytes_of("edit=257 do=insert chip=5\nask=page\n"), 35, work, sizeof work, out, sizeof out));
     call("edit=257 do=insert chip=5\n");
