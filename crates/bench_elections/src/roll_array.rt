@@ -4,6 +4,7 @@ use ledger::Bench;
 use ledger::Outcome;
 use voting::Election;
 use voting::RollRow;
+use voting_count::Counted;
 use voting_count::LentConstraints;
 use voting_count::LentEdits;
 use voting_roll::Roll;
@@ -13,7 +14,7 @@ ghost use Prim.Native.Nat.{_≤_};
 ghost use lib.ListN.{take};
 ghost use Rattle.voting_roll.specs.Roll.{rollOf};
 ghost use Rattle.voting_roll.specs.Election.{electionOf};
-ghost use Rattle.voting_count.specs.Count.{lentProposals};
+ghost use Rattle.voting_count.specs.Count.{lentProposals, countOf};
 ghost use Rattle.ledger.specs.Ledger.{Call};
 ghost use Rattle.ledger.specs.Bench.{Answers};
 
@@ -39,6 +40,21 @@ pub fn election(
     let n = numbers::lesser(count, ROWS);
     let roll = first_rows(rows, n);
     voting_count::election(edit, edits, constraints, roll)
+}
+
+// With the won bundle.
+pub fn count(
+    edit: u32,
+    edits: LentEdits,
+    constraints: LentConstraints,
+    rows: [RollRow; 9],
+    n: usize,
+) -> Counted
+    ensures { λ r. ⌜ r ≡ countOf edit (lentProposals (map now (edits .entry)) (map now (constraints .entry))) (take n rows) ⌝ }
+{
+    let few = numbers::lesser(n, ROWS);
+    let roll = first_rows(rows, few);
+    voting_count::count(edit, edits, constraints, roll)
 }
 
 pub fn adopt(
