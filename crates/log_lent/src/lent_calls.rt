@@ -13,6 +13,7 @@ use record_tables::lookup;
 use suggestions::Suggested;
 use voting::Election;
 use voting_bundles::BundleAnswer;
+use voting_count::Counted;
 ghost use mathlib.Core.Path.{_≡_};
 ghost use Prim.Native.Nat.{_<_, _≤_};
 ghost use lib.ListN.{take};
@@ -24,6 +25,7 @@ ghost use Rattle.record_tables.specs.Checked.{Checked};
 ghost use Rattle.suggestions.specs.Suggest.{noRow};
 ghost use Rattle.judgement.specs.lent_record.Lent.{rowAnswerOf};
 ghost use Rattle.voting_roll.specs.Election.{electionOf};
+ghost use Rattle.voting_count.specs.Count.{countOf};
 ghost use Rattle.ledger.specs.Ledger.{Call};
 ghost use Rattle.ledger.specs.Bench.{Answers};
 ghost use Rattle.bench.specs.Changes.{refusedWith};
@@ -69,6 +71,28 @@ pub fn elect_lent(
     let roll = lending.roll;
     let count = lending.rollcount;
     roll_array::election(
+        edit,
+        crate::proposed_edits(editcounts, edits),
+        crate::proposed_constraints(constraintcounts, constraints),
+        roll,
+        count,
+    )
+}
+
+// The same election with its won bundle.
+pub fn count_lent(
+    lending: Lending,
+    edits: &[[u32; 5]],
+    constraints: &[[u32; 3]],
+    edit: u32,
+) -> Counted
+    ensures { λ r. ⌜ ((L : Lent) → Kept L lending (now (edits .entry)) (now (constraints .entry)) → r ≡ countOf edit (proposalsOf L) (L .roll)) ⌝ }
+{
+    let editcounts = lending.editcounts;
+    let constraintcounts = lending.constraintcounts;
+    let roll = lending.roll;
+    let count = lending.rollcount;
+    roll_array::count(
         edit,
         crate::proposed_edits(editcounts, edits),
         crate::proposed_constraints(constraintcounts, constraints),

@@ -15,6 +15,8 @@ use Rattle.voting.specs.declared.RollRow.{RollRow}
 use Rattle.voting.specs.Tally.{winner}
 use Rattle.voting_roll.specs.Roll.{rollBench, isBench, rollFaulty}
 use Rattle.voting_roll.specs.Election.{Proposals, firstGiven, proposalFault, benches, electionFault, cast, refusedElection, electionOf}
+use Rattle.voting_count.specs.declared.Counted.{Counted}
+use Rattle.voting_count.specs.Count.{refusedCount, countOf}
 use Rattle.ledger.specs.declared.Bench.{Bench}
 use Rattle.ledger.specs.declared.Outcome.{Outcome}
 use Rattle.ledger.specs.Ledger.{Ledger, adopt, start, fed, bundleFault, judge, refusal, step}
@@ -44,6 +46,10 @@ module _ (x : ℕ) (P : Proposals) where
     unfolding electionOf
     faulty-election = let e : eqb (electionFault x P a) 0 ≡ false = ne-eqb (electionFault x P a) 0 faulty-refused in rw e refl
 
+    faulty-count : countOf x P a ≡ refusedCount (electionFault x P a)
+    unfolding countOf
+    faulty-count = let e : eqb (electionFault x P a) 0 ≡ false = ne-eqb (electionFault x P a) 0 faulty-refused in rw (e, faulty-election) refl
+
     faulty-judged : (L : Ledger) → judge L (adopt x P a) ≡ electionFault x P a
     unfolding judge
     faulty-judged L = orelse-first (electionFault x P a) (bundleFault (L .multilog) (winner (cast x P a))) faulty-refused
@@ -55,11 +61,15 @@ module _ (x : ℕ) (P : Proposals) where
     first-faulty : rollPlaces ≤ length roll → rollFaulty (take rollPlaces roll) ≡ true
     first-faulty h = faulty-by-length (take rollPlaces roll) (let e = length-take-le rollPlaces roll h in omega arith)
 
-    pub first-elected : electionOf x P (take rollPlaces roll) ≡ electionOf x P roll
-    first-elected = le-by rollPlaces (length roll)
+    pub first-counted : countOf x P (take rollPlaces roll) ≡ countOf x P roll
+    first-counted = le-by rollPlaces (length roll)
         (λ h. let p = first-faulty h in let q = faulty-by-length roll h in
-        faulty-election (take rollPlaces roll) p ∙ ap refusedElection (faulty-number (take rollPlaces roll) roll p q) ∙ sym (faulty-election roll q))
-        (λ h. ap (electionOf x P) (take-all rollPlaces roll (omega arith)))
+        faulty-count (take rollPlaces roll) p ∙ ap refusedCount (faulty-number (take rollPlaces roll) roll p q) ∙ sym (faulty-count roll q))
+        (λ h. ap (countOf x P) (take-all rollPlaces roll (omega arith)))
+
+    pub first-elected : electionOf x P (take rollPlaces roll) ≡ electionOf x P roll
+    unfolding countOf
+    first-elected = ap (λ (c : Counted). c .election) first-counted
 
     first-stepped : (L : Ledger) → step L (adopt x P (take rollPlaces roll)) ≡ step L (adopt x P roll)
     first-stepped L = le-by rollPlaces (length roll)

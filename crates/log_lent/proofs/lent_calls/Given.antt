@@ -12,7 +12,8 @@ use Rattle.record_rows.specs.ground.Ground.{Rows}
 use Rattle.voting.specs.declared.Election.{Election}
 use Rattle.voting.specs.declared.RollRow.{RollRow}
 use Rattle.voting_roll.specs.Election.{electionOf, benches}
-use Rattle.voting_count.specs.Count.{lentProposals}
+use Rattle.voting_count.specs.declared.Counted.{Counted}
+use Rattle.voting_count.specs.Count.{lentProposals, countOf}
 use Rattle.voting_bundles.specs.declared.BundleAnswer.{BundleAnswer}
 use Rattle.voting_bundles.specs.Bundles.{bundleAnswer}
 use Rattle.judgement.specs.declared.lent_record.RowAnswer.{RowAnswer}
@@ -23,7 +24,7 @@ use Rattle.ledger.specs.Ledger.{merge, adopt}
 use Rattle.ledger.specs.Bench.{Answers}
 use Rattle.log_lent.specs.Lent.{Lent, rollPlaces}
 use Rattle.log_lent.specs.lent_calls.Calls.{proposalsOf, bundleIn, rowIn}
-use Rattle.log_lent.proofs.lent_calls.FirstRows.{first-elected, first-adopted}
+use Rattle.log_lent.proofs.lent_calls.FirstRows.{first-elected, first-counted, first-adopted}
 
 pub merge-given : (bench : Bench) {E C : Rows} (r : Outcome) → Answers bench (merge E C) r → {F D : Rows} → E ≡ F → C ≡ D → Answers bench (merge F D) r
 merge-given bench r a e f = rw (e, f) at a
@@ -32,6 +33,9 @@ module _ (L : Lent) where
   module _ (x : ℕ) {E C : List Rows} {seats : List RollRow} (e : E ≡ map (L .edits) benches) (f : C ≡ map (L .constraints) benches) (g : seats ≡ take rollPlaces (L .roll)) where
     pub election-given : {r : Election} → r ≡ electionOf x (lentProposals E C) seats → r ≡ electionOf x (proposalsOf L) (L .roll)
     election-given q = (rw (e, f, g) at q) ∙ first-elected x (proposalsOf L) (L .roll)
+
+    pub count-given : {r : Counted} → r ≡ countOf x (lentProposals E C) seats → r ≡ countOf x (proposalsOf L) (L .roll)
+    count-given q = (rw (e, f, g) at q) ∙ first-counted x (proposalsOf L) (L .roll)
 
     pub adoption-given : (bench : Bench) (r : Outcome) → Answers bench (adopt x (lentProposals E C) seats) r → Answers bench (adopt x (proposalsOf L) (L .roll)) r
     adoption-given bench r a = first-adopted x (proposalsOf L) (L .roll) bench r (rw (e, f, g) at a)
