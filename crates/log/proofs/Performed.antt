@@ -13,7 +13,7 @@ use Rattle.log_commands.specs.declared.Proposing.{Proposing}
 use Rattle.log_commands.specs.declared.Lend.{Lend as Lends}
 use Rattle.log_commands.specs.declared.Call.{Call as Calls}
 use Rattle.log_commands.specs.declared.Vote.{Vote as Votes}
-use Rattle.log_commands.specs.declared.Vote.the-variants.{Elect, Bundle, Suggest, Test}
+use Rattle.log_commands.specs.declared.Vote.the-variants.{Elect, Bundle, Suggest, Test, Winner}
 use Rattle.log_commands.specs.declared.Ask.{Ask as Asks}
 use Rattle.log_commands.specs.declared.Command.{Command}
 use Rattle.log_commands.specs.declared.Command.the-variants.{Refused, Lend, Propose, Call, Vote, Ask}
@@ -39,6 +39,7 @@ same-desk D (Elect edit) = refl
 same-desk D (Bundle edit k) = refl
 same-desk D (Suggest asked) = refl
 same-desk D (Test k) = refl
+same-desk D (Winner edit) = refl
 
 module _ (D : Desk) (line : ℕ) {bench : Bench} {lending : Lending} {edits constraints : Rows} {before after : List ℕ} {at end : ℕ} {command : Command} where
   -- of the command that it is

@@ -24,8 +24,9 @@ use Rattle.log_forms.proofs.productions.Unambiguous.{tellApart, apart, apart-un
 use Rattle.log_commands.specs.Grammar.{turnBack, commandForms, addForm, lendForm, grammar, commandRead}
 use Rattle.log_commands.specs.declared.Lend.the-variants.{EditRow}
 use Rattle.log_commands.specs.declared.Call.the-variants.{Hide, Turn, Adopt}
+use Rattle.log_commands.specs.declared.Vote.the-variants.{Winner}
 use Rattle.log_commands.specs.declared.Command.{Command}
-use Rattle.log_commands.specs.declared.Command.the-variants.{Refused, Lend, Call}
+use Rattle.log_commands.specs.declared.Command.the-variants.{Refused, Lend, Call, Vote}
 
 grammar-apart : apart grammar ≡ true
 unfolding commandForms grammar shapes setShapes ruleShapes setForm editForm ruleForm tellApart apart all differ bytes isMark spelling numberSpelling nameSpelling answerSpelling
@@ -61,14 +62,14 @@ line-read production m ns l k h =
     ∙ rw h
 
 -- the forms by their places
-grammar-size : length grammar ≡ 44
+grammar-size : length grammar ≡ 45
 unfolding commandForms grammar shapes setShapes ruleShapes
 grammar-size = refl
 
 abbrev formOf : ℕ → Production Command
 formOf k = getD grammar k ("" means (λ n. Refused 1))
 
-formed : (k : ℕ) → k < 44 → Has (formOf k) grammar
+formed : (k : ℕ) → k < 45 → Has (formOf k) grammar
 formed k h = has-getD grammar k ("" means (λ n. Refused 1)) (omega (arith, grammar-size))
 
 one-fits : (n : ℕ) → n < 4294967296 → all fitsWord (n ∷ []) ≡ true
@@ -82,6 +83,10 @@ hide-line n h = line-read (formOf 9) (formed 9 (omega arith)) (n ∷ []) refl re
 pub adopt-line : (n : ℕ) → n < 4294967296 → commandRead (bytes "do=adopt edit=" ++ (decimal n ++ bytes "\n")) ≡ Call (Adopt n)
 unfolding commandForms grammar bytes isMark spelling numberSpelling fill slots spelled
 adopt-line n h = line-read (formOf 13) (formed 13 (omega arith)) (n ∷ []) refl refl (one-fits n h)
+
+pub winner-line : (n : ℕ) → n < 4294967296 → commandRead (bytes "do=winner edit=" ++ (decimal n ++ bytes "\n")) ≡ Vote (Winner n)
+unfolding commandForms grammar bytes isMark spelling numberSpelling fill slots spelled
+winner-line n h = line-read (formOf 19) (formed 19 (omega arith)) (n ∷ []) refl refl (one-fits n h)
 
 -- to the least i32
 pub turn-back-line : (n : ℕ) → n ≤ 2147483648 → commandRead (bytes "do=turn pages=-" ++ (decimal n ++ bytes "\n")) ≡ Call (Turn (negℤ (pos n)))

@@ -13,7 +13,7 @@ use Rattle.log_commands.specs.declared.EditCells.{EditCells}
 use Rattle.log_commands.specs.declared.ConstraintCells.{ConstraintCells}
 use Rattle.log_commands.specs.declared.Lend.the-variants.{EditRow, ConstraintRow, NoRows, BenchRows, RollRow, NoRoll, RowName, NoRow}
 use Rattle.log_commands.specs.declared.Call.the-variants.{AddEdit, AddConstraint, Merge, Hide, Show, Turn, Adopt}
-use Rattle.log_commands.specs.declared.Vote.the-variants.{Elect, Bundle, Suggest, Test}
+use Rattle.log_commands.specs.declared.Vote.the-variants.{Elect, Bundle, Suggest, Test, Winner}
 use Rattle.log_commands.specs.declared.Ask.the-variants.{Text, Report, Hidden, Schedule, Catalogue, Journal, Page}
 use Rattle.log_commands.specs.declared.Command.{Command}
 use Rattle.log_commands.specs.declared.Command.the-variants.{Refused, Lend, Propose, Call, Vote, Ask}
@@ -55,6 +55,7 @@ commandForms =
     means (λ n. Propose (record { lent = n 0; old = n 1; edits = n 2; rules = n 3; keep = isYes (n 4) }))
     ∷ "do=suggest first=# second=# case=#" means (λ n. Vote (Suggest (record { first = n 0; second = n 1; case = n 2 })))
     ∷ "do=test lent=#" means (λ n. Vote (Test (n 0)))
+    ∷ "do=winner edit=#" means (λ n. Vote (Winner (n 0)))
     -- questions
     ∷ "ask=text" means (λ n. Ask Text)
     ∷ "ask=report" means (λ n. Ask Report)

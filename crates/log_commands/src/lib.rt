@@ -75,6 +75,7 @@ pub enum Vote {
     Bundle(u32, u32),
     Suggest(Suggesting),
     Test(u32),
+    Winner(u32),
 }
 
 // Questions.
@@ -258,6 +259,10 @@ fn read_do(bytes: &[u8]) -> Command
                 keep: w.fifth != 0,
             };
             unless_refused(w.number, Command::Propose(proposing))
+        }
+        b'w' => {
+            let w = productions::read_words(b"do=winner edit=#\n", bytes);
+            unless_refused(w.number, Command::Vote(Vote::Winner(w.first)))
         }
         _ => Command::Refused(1),
     }

@@ -2,6 +2,7 @@
 pub mod calls;
 pub mod questions;
 pub mod votes;
+pub mod winners;
 
 use bench_edits::visibility;
 use ledger::Bench;

@@ -1,5 +1,6 @@
 // The lines of a call log about votes, proposals, suggestions and the test of a row: what each prints.
 use crate::Told;
+use crate::winners;
 use judgement::lent_record::RowAnswer;
 use log_commands::Proposing;
 use log_commands::Vote;
@@ -25,7 +26,7 @@ fn bit(b: bool) -> u64
     if b { 1 } else { 0 }
 }
 
-fn print_election(election: Election, line: usize, out: &mut [u8], at: usize) -> usize
+pub fn print_election(election: Election, line: usize, out: &mut [u8], at: usize) -> usize
     ensures { λ r. ⌜ Printed (answeredText (election .number) (electionLine election) line) (now (out .entry)) at (now (out .exit)) r ⌝ }
 {
     if election.number != 0 {
@@ -160,6 +161,13 @@ pub fn print_vote(
         ),
         Vote::Test(k) => print_test(
             lent_calls::test_lent(lending, edits, constraints, k),
+            line,
+            &mut out[..],
+            at,
+        ),
+        Vote::Winner(edit) => winners::print_winner(
+            edit,
+            lent_calls::count_lent(lending, edits, constraints, edit),
             line,
             &mut out[..],
             at,

@@ -50,7 +50,11 @@ returns-8 c = arm "do=" (c .before .before .before .before .before .before .befo
 
 returns-9 : tie.Need-returns-9
 unfolding commandForms grammar shapes setShapes ruleShapes setForm editForm ruleForm readStarting starting parse filter mem bytes startsWith isMark spelling numberSpelling slots letterOther letterAmong ruledOut otherwise line-ends
-returns-9 c = no-form "do=" (c .before .before .before .args .bytes .now) (c .before .byte-at .ensures) (bytes "pbeatshm") (c .match .rest) refl
+returns-9 c = arm "do=" (c .before .before .before .before .before .before .args .bytes .now) (c .before .before .before .before .byte-at .ensures) 119 (c .before .before .before .match .keys9) refl (c .before .read-words7 .ensures) (c .unless-refused7 .ensures)
+
+returns-10 : tie.Need-returns-10
+unfolding commandForms grammar shapes setShapes ruleShapes setForm editForm ruleForm readStarting starting parse filter mem bytes startsWith isMark spelling numberSpelling slots letterOther letterAmong ruledOut otherwise line-ends
+returns-10 c = no-form "do=" (c .before .before .before .args .bytes .now) (c .before .byte-at .ensures) (bytes "wpbeatshm") (c .match .rest) refl
 
 pub read-do-spec : {M : Type 1} → statement M
 read-do-spec =
@@ -77,6 +81,9 @@ read-do-spec =
     (λ c. search needs)
     (λ c κs. search needs)
     (λ c κs. search needs)
+    (λ c. search needs)
+    (λ c κs. search needs)
+    (λ c κs. search needs)
     returns
     returns-2
     returns-3
@@ -85,4 +92,5 @@ read-do-spec =
     returns-6
     returns-7
     returns-8
-    returns-9)
+    returns-9
+    returns-10)

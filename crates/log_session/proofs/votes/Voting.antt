@@ -7,6 +7,8 @@ use Rattle.record.specs.Stored.{stored}
 use Rattle.record_tables.specs.Checked.{Checked}
 use Rattle.voting.specs.declared.Election.{Election}
 use Rattle.voting_roll.specs.Election.{electionOf}
+use Rattle.voting_count.specs.declared.Counted.{Counted}
+use Rattle.voting_count.specs.Count.{countOf}
 use Rattle.voting_bundles.specs.declared.BundleAnswer.{BundleAnswer}
 use Rattle.judgement.specs.declared.lent_record.RowAnswer.{RowAnswer}
 use Rattle.suggestions.specs.declared.Suggested.{Suggested}
@@ -16,11 +18,11 @@ use Rattle.ledger.proofs.Valid.{start-valid, fed-valid}
 use Rattle.log_forms.specs.Printed.{Printed}
 use Rattle.log_commands.specs.declared.Suggesting.{Suggesting}
 use Rattle.log_commands.specs.declared.Vote.{Vote}
-use Rattle.log_commands.specs.declared.Vote.the-variants.{Elect, Bundle, Suggest, Test}
+use Rattle.log_commands.specs.declared.Vote.the-variants.{Elect, Bundle, Suggest, Test, Winner}
 use Rattle.log_lent.specs.lent_calls.Calls.{proposalsOf, bundleIn, rowIn, suggestedIn}
 use Rattle.log_session.specs.Desk.{Desk, ledgerOf, benchIn, printedOf}
 use Rattle.log_answers.specs.Answers.{answeredText}
-use Rattle.log_session.specs.votes.Votes.{electionLine, bundleText, suggestionText, testLine, voteEffect}
+use Rattle.log_session.specs.votes.Votes.{electionLine, bundleText, suggestionText, testLine, winnerText, voteEffect}
 
 -- the bench's record in memory, and what holds of it
 pub bench-stored : (D : Desk) {multilog : declared.Record} → multilog ≡ benchIn D .multilog → multilog ≡ stored (ledgerOf D .multilog)
@@ -52,3 +54,8 @@ module _ (D : Desk) {vote : Vote} (line : ℕ) (before : List ℕ) (at : ℕ) {a
       → Printed (answeredText (a .number) (testLine a) line) before at after end → Printed (printedOf (voteEffect D vote) line) before at after end
   unfolding voteEffect printedOf
   vote-test k q a e p = rw q (rw e at p)
+
+  pub vote-winner : (edit : ℕ) → vote ≡ Winner edit → (c : Counted) → c ≡ countOf edit (proposalsOf (D .lent)) (D .lent .roll)
+      → Printed (answeredText (c .election .number) (winnerText edit c) line) before at after end → Printed (printedOf (voteEffect D vote) line) before at after end
+  unfolding voteEffect printedOf
+  vote-winner edit q c e p = rw q (rw e at p)

@@ -1,11 +1,16 @@
 -- The lines of a call log about votes, proposals, suggestions and the test of a row, each with its effect. Assumes nothing.
 use mathlib.Core.Bool.{cond, _&&_}
 use mathlib.Core.List.{[], _∷_, _++_}
+use Prim.Native.Nat.{ℕ}
 use lib.Dec.{eqb, leb}
+use Rattle.record.specs.declared.Record as declared
 use Rattle.record.specs.Stored.{recordOf}
+use Rattle.record.specs.Judgement.{must, never}
 use Rattle.record_rows.specs.row.Row.{Row}
 use Rattle.voting.specs.declared.Election.{Election}
 use Rattle.voting_roll.specs.Election.{electionOf}
+use Rattle.voting_count.specs.declared.Counted.{Counted}
+use Rattle.voting_count.specs.Count.{countOf}
 use Rattle.voting_bundles.specs.declared.BundleAnswer.{BundleAnswer}
 use Rattle.judgement.specs.declared.lent_record.RowAnswer.{RowAnswer}
 use Rattle.suggestions.specs.declared.Suggested.{Suggested}
@@ -14,7 +19,7 @@ use Rattle.log_forms.specs.Printed.{Texts}
 use Rattle.log_answers.specs.Answers.{answerLine, bit, storedText, recordText}
 use Rattle.log_commands.specs.declared.Proposing.{Proposing}
 use Rattle.log_commands.specs.declared.Vote.{Vote}
-use Rattle.log_commands.specs.declared.Vote.the-variants.{Elect, Bundle, Suggest, Test}
+use Rattle.log_commands.specs.declared.Vote.the-variants.{Elect, Bundle, Suggest, Test, Winner}
 use Rattle.log_lent.specs.Lent.{withRecord}
 use Rattle.log_lent.specs.lent_calls.Calls.{proposalsOf, bundleIn, rowIn, suggestedIn}
 use Rattle.log_lent.specs.lent_proposals.Made.{proposalIn}
@@ -51,9 +56,21 @@ suggestionText s =
 unfoldable pub testLine : RowAnswer → Texts
 testLine a = answerLine "sound=?\n" (bit (a .sound) ∷ [])
 
+-- whether an edit must stand in a won bundle, read as a record of its own, and whether it can never; the bundle's counts and its text
+unfoldable pub wonText : ℕ → declared.Record → Texts
+wonText edit b =
+    let R = recordOf b in
+    answerLine "edit=@ must=? never=? edits=# rules=#\n" (edit ∷ bit (must R edit) ∷ bit (never R edit) ∷ b .editcount ∷ b .constraintcount ∷ [])
+    ++ (storedText b ∷ [])
+
+-- an open election has nothing more to tell
+unfoldable pub winnerText : ℕ → Counted → Texts
+winnerText edit c = electionLine (c .election) ++ cond (c .election .won) (wonText edit (c .bundle)) []
+
 -- THE EFFECT of a line about votes
 unfoldable pub voteEffect : Desk → Vote → Effect
 voteEffect D (Elect edit) = let E = electionOf edit (proposalsOf (D .lent)) (D .lent .roll) in tells D (E .number) (electionLine E)
 voteEffect D (Bundle edit k) = let b = bundleIn (D .lent) k edit in tells D (b .number) (bundleText b)
 voteEffect D (Suggest w) = let s = suggestedIn (ledgerOf D .multilog) (w .first) (w .second) (w .case) in tells D (s .number) (suggestionText s)
 voteEffect D (Test k) = let a = rowIn (D .lent) k in tells D (a .number) (testLine a)
+voteEffect D (Winner edit) = let c = countOf edit (proposalsOf (D .lent)) (D .lent .roll) in tells D (c .election .number) (winnerText edit c)

@@ -1,5 +1,5 @@
 -- `votes::print_vote` meets its contract. Assumes nothing.
-use Rattle.log_session.proofs.votes.Voting.{bench-stored, bench-checked, vote-election, vote-bundle, vote-suggestion, vote-test}
+use Rattle.log_session.proofs.votes.Voting.{bench-stored, bench-checked, vote-election, vote-bundle, vote-suggestion, vote-test, vote-winner}
 use borrow.Author.Needs.{needs}
 use Rattle.log_session.proofs.votes.print_vote.Statement.{statement}
 use Rattle.log_session.proofs.votes.print_vote.Tie as tie
@@ -16,10 +16,16 @@ returns-3 c = λ D K m. let s = c .before .before .before .before .before .befor
 returns-4 : tie.Need-returns-4
 returns-4 c = λ D K m. let s = c .before .before .before .before .before .before .before .before .before .args in vote-test D (s .line) (s .out .now) (s .at) _ (c .before .before .before .before .before .before .vote4 .given .1) _ (c .before .before .before .before .test-lent .ensures (D .lent) K) (c .before .before .print-test .ensures)
 
+returns-5 : tie.Need-returns-5
+returns-5 c = λ D K m. let s = c .before .before .before .before .before .before .before .before .before .args in vote-winner D (s .line) (s .out .now) (s .at) _ (c .before .before .before .before .before .before .vote5 .given .1) _ (c .before .before .before .before .count-lent .ensures (D .lent) K) (c .before .before .print-winner .ensures _ _ (c .before .before .before .before .count-lent .ensures (D .lent) K))
+
 pub print-vote-spec : {M : Type 1} → statement M
 print-vote-spec =
     tie.close
     (tie.spec
+    (λ c. search needs)
+    (λ c κs. search needs)
+    (λ c κs. search needs)
     (λ c. search needs)
     (λ c κs. search needs)
     (λ c κs. search needs)
@@ -39,4 +45,6 @@ print-vote-spec =
     (λ c. search needs)
     returns-3
     (λ c. search needs)
-    returns-4)
+    returns-4
+    (λ c. search needs)
+    returns-5)
