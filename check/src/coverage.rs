@@ -23,8 +23,8 @@ pub struct Parts {
 }
 
 /// How often each kind of line had each outcome. An outcome is `accepted`, the
-/// answer's first word where answers differ in that, the counts of a full record,
-/// or `refused=N`.
+/// answer's first word where answers differ in that, what becomes of the edit of a
+/// won election, the counts of a full record, or `refused=N`.
 #[derive(Default)]
 pub struct Coverage {
     counts: BTreeMap<(&'static str, String), u64>,
@@ -38,6 +38,7 @@ impl Coverage {
         let line = outcome.kind.map_or(NO_FORM, form_of);
         let result = match outcome.refused {
             None if tells_by_first_word(outcome.kind) => first_word(answer),
+            None if outcome.kind == Some(Kind::Winner) => verdict(answer),
             refused => result(refused, answer),
         };
         self.add(line, result);
@@ -139,6 +140,15 @@ fn first_word(answer: &[u8]) -> String {
     String::from_utf8_lossy(word).into_owned()
 }
 
+/// Of the edit in the won bundle; that of an open election is its first word.
+fn verdict(answer: &[u8]) -> String {
+    let answer = String::from_utf8_lossy(answer);
+    let mut words = answer.split_whitespace().filter(|word| {
+        word.starts_with("must=") || word.starts_with("never=") || *word == "won=no"
+    });
+    [words.next(), words.next()].into_iter().flatten().collect::<Vec<_>>().join(" ")
+}
+
 /// Every outcome that a line of the log can have.
 fn wanted_of_logs() -> Vec<(&'static str, String)> {
     let lines = log::FORMS.iter().flat_map(|&(kind, form)| {
@@ -161,6 +171,7 @@ fn accepted_results(kind: Kind) -> &'static [&'static str] {
         Kind::Bundle => &["eligible=yes", "eligible=no"],
         Kind::Suggest => &["rules=0", "rules=1", "rules=2"],
         Kind::Test => &["sound=yes", "sound=no"],
+        Kind::Winner => &["won=no", "must=yes never=no", "must=no never=yes"],
         Kind::AskReport => &["accepted", FULL],
         _ => &["accepted"],
     }
@@ -183,7 +194,7 @@ fn numbers(kind: Kind) -> &'static [u8] {
         Kind::Hide | Kind::Show => &[2, 5, 9],
         Kind::TurnForward | Kind::TurnBack => &[2, 10],
         Kind::Adopt => &[2, 3, 4, 5, 6, 8, 13, 14],
-        Kind::Elect => &[2, 3, 5, 6, 8, 13, 14],
+        Kind::Elect | Kind::Winner => &[2, 3, 5, 6, 8, 13, 14],
         Kind::Bundle | Kind::Test => &[2, 3, 5, 6, 8, 13],
         Kind::Propose => &[2, 3, 4, 5, 6, 8, 11, 12, 13],
         Kind::Suggest => &[2, 5],

@@ -43,6 +43,7 @@ pub enum Kind {
     Propose,
     Suggest,
     Test,
+    Winner,
     AskText,
     AskReport,
     AskHidden,
@@ -52,7 +53,7 @@ pub enum Kind {
     AskPage,
 }
 
-pub const FORMS: [(Kind, &str); 34] = [
+pub const FORMS: [(Kind, &str); 35] = [
     (Kind::LentEdit, "lent=# edit=# kind=# chip=# field=# value=#"),
     (Kind::LentConstraint, "lent=# left=# rule=# right=#"),
     (Kind::LentInsert, "lent=# edit=@ do=insert chip=#"),
@@ -80,6 +81,7 @@ pub const FORMS: [(Kind, &str); 34] = [
     (Kind::Propose, "do=propose lent=# old=# edits=# rules=# keep=?"),
     (Kind::Suggest, "do=suggest first=# second=# case=#"),
     (Kind::Test, "do=test lent=#"),
+    (Kind::Winner, "do=winner edit=#"),
     (Kind::AskText, "ask=text"),
     (Kind::AskReport, "ask=report"),
     (Kind::AskHidden, "ask=hidden"),
@@ -200,6 +202,7 @@ impl Session {
             Kind::Propose => self.propose(numbers, out),
             Kind::Suggest => self.suggest(first, second, third, out),
             Kind::Test => self.test(first, out),
+            Kind::Winner => self.winner(first, out),
             _ => {
                 self.answer(kind, out);
                 Ok(())
@@ -266,6 +269,20 @@ impl Session {
     fn elect(&self, edit: u32, out: &mut Vec<u8>) -> Result<(), Ground> {
         let election = election(proposals(&self.lent), &self.roll, edit)?;
         put(out, format_args!("{}", show_election(&election)));
+        Ok(())
+    }
+
+    /// The election, and if it is won what becomes of the edit in the won bundle.
+    fn winner(&self, edit: u32, out: &mut Vec<u8>) -> Result<(), Ground> {
+        let election = election(proposals(&self.lent), &self.roll, edit)?;
+        put(out, format_args!("{}", show_election(&election)));
+        if let Some(bundle) = &election.won {
+            let sound = Sound::new(bundle).expect("a part of a sound record is sound");
+            let index = bundle.named(edit).expect("a bundle has its edit");
+            let (must, never) = (yes_or_no(sound.must(index)), yes_or_no(sound.never(index)));
+            out.extend_from_slice(format!("edit={edit} must={must} never={never} ").as_bytes());
+            write_record(bundle, out);
+        }
         Ok(())
     }
 
@@ -451,6 +468,28 @@ mod tests {
     }
 
     #[test]
+    fn what_becomes_of_an_edit_in_the_won_bundle() {
+        let log = "lent=3 edit=257 do=insert chip=5\n\
+                   lent=3 edit=258 do=insert chip=6\n\
+                   lent=3 left=257 rule=enables right=0\n\
+                   lent=3 left=258 rule=notafter right=258\n\
+                   roll=3 weight=2\n\
+                   roll=4 weight=1\n\
+                   do=winner edit=257\n\
+                   do=winner edit=258\n\
+                   roll=5 weight=1\n\
+                   do=winner edit=257\n";
+        let expected = "won=yes greatest=2 silent=1 total=3\n\
+                        edit=257 must=yes never=no edits=1 rules=1\n\
+                        edit=257 do=insert chip=5\nleft=257 rule=enables right=0\n\
+                        won=yes greatest=2 silent=1 total=3\n\
+                        edit=258 must=no never=yes edits=1 rules=1\n\
+                        edit=258 do=insert chip=6\nleft=258 rule=notafter right=258\n\
+                        won=no greatest=2 silent=2 total=4\n";
+        assert_eq!(answers(log), expected);
+    }
+
+    #[test]
     fn refusals_name_their_line() {
         let cases = [
             ("", ""),
@@ -476,6 +515,8 @@ mod tests {
             ("roll=9 weight=0\ndo=elect edit=0\n", "refused=14 line=2\n"),
             ("do=elect edit=0\n", "refused=2 line=1\n"),
             ("do=elect edit=257\n", "refused=5 line=1\n"),
+            ("do=winner edit=256\n", "refused=2 line=1\n"),
+            ("do=winner edit=257\n", "refused=5 line=1\n"),
             ("do=suggest first=257 second=0 case=0\n", "refused=2 line=1\n"),
             ("do=suggest first=257 second=258 case=2\n", "refused=2 line=1\n"),
             ("do=suggest first=257 second=258 case=1\n", "refused=5 line=1\n"),

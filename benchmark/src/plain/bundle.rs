@@ -23,10 +23,21 @@ impl PartialEq for Bundle {
 impl Bundle {
     /// Whether each member is settled in this small record taken alone.
     pub fn is_eligible(&self) -> bool {
-        let size = self.edits.len() + 1;
-        let graph = Graph::new(size, self.links.clone());
-        let sound = Sound::of(graph).expect("a part of a sound record is sound");
-        sound.settled(&sound.nevers())[..size].iter().all(|&settled| settled)
+        let sound = self.sound();
+        sound.settled(&sound.nevers())[..=self.edits.len()].iter().all(|&settled| settled)
+    }
+
+    /// Whether an edit of the bundle must stand in it, and whether it can never.
+    pub fn verdict(&self, name: u16) -> (bool, bool) {
+        let place = self.edits.iter().position(|edit| edit.name == name);
+        let index = place.expect("a bundle has its edit") + 1;
+        let sound = self.sound();
+        (sound.must(index), sound.never(index))
+    }
+
+    fn sound(&self) -> Sound {
+        let graph = Graph::new(self.edits.len() + 1, self.links.clone());
+        Sound::of(graph).expect("a part of a sound record is sound")
     }
 }
 

@@ -17,6 +17,7 @@ pub enum Order {
     Propose { lent: u32, old: u32, room: (u32, u32), keep: bool },
     Suggest { first: u32, second: u32, case: u32 },
     Test { lent: u32 },
+    Winner { edit: u32 },
     Ask(Question),
 }
 
@@ -247,6 +248,7 @@ impl<'line> Reader<'line> {
                 Some(Order::Suggest { first, second, case: self.number_of(b" case=")? })
             }
             b"test" => Some(Order::Test { lent: self.number_of(b" lent=")? }),
+            b"winner" => Some(Order::Winner { edit: self.number_of(b" edit=")? }),
             _ => None,
         }
     }

@@ -58,6 +58,7 @@ impl Session {
             Order::Propose { lent, old, room, keep } => self.propose(lent, old, room, keep, out),
             Order::Suggest { first, second, case } => self.suggest(first, second, case, out),
             Order::Test { lent } => self.test(lent, out),
+            Order::Winner { edit } => self.winner(edit, out),
             Order::Ask(question) => {
                 self.answer(question, out);
                 Ok(())
@@ -133,6 +134,19 @@ impl Session {
         let election = election(proposals(&self.lent), &self.roll, edit)?;
         print_election(&election, out);
         out.text("\n");
+        Ok(())
+    }
+
+    fn winner(&self, edit: u32, out: &mut Vec<u8>) -> Result<(), Ground> {
+        let election = election(proposals(&self.lent), &self.roll, edit)?;
+        print_election(&election, out);
+        out.text("\n");
+        if let Some(bundle) = &election.won {
+            let (must, never) = bundle.verdict(edit as u16);
+            out.text("edit=").number(edit).text(" must=").yes_or_no(must);
+            out.text(" never=").yes_or_no(never).text(" ");
+            print::rows(&bundle.edits, &bundle.constraints, out);
+        }
         Ok(())
     }
 

@@ -38,7 +38,7 @@ impl Sound {
     }
 
     /// No sound schedule holds an edit whose needs hold a ring.
-    fn never(&self, edit: usize) -> bool {
+    pub fn never(&self, edit: usize) -> bool {
         if self.must(edit) {
             return false;
         }

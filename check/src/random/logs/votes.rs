@@ -65,7 +65,7 @@ impl Maker {
 
     pub(super) fn vote_on(&mut self, slot: usize) {
         let edit = self.lent_name(slot);
-        let call = self.random.pick(&["elect", "adopt"]);
+        let call = self.random.pick(&["elect", "winner", "adopt"]);
         self.say(&format!("do={call} edit={edit}"));
     }
 
