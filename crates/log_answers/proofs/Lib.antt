@@ -1,1 +1,3 @@
 pub mod Placing
+pub mod Lengths
+pub mod Small

@@ -1,3 +1,4 @@
+pub mod Bounded
 pub mod Desk
 pub mod Lends
 pub mod Requests

@@ -41,7 +41,7 @@ refusal-room : room refusalForm ≤ 40
 unfolding room refusalForm bytes isMark
 refusal-room = omega arith
 
-joined-size : (bound : ℕ) (ls : List (List ℕ)) → ((l : List ℕ) → Has l ls → length l ≤ bound) → length (joinedLines ls) ≤ bound * length ls
+pub joined-size : (bound : ℕ) (ls : List (List ℕ)) → ((l : List ℕ) → Has l ls → length l ≤ bound) → length (joinedLines ls) ≤ bound * length ls
 unfolding joinedLines
 joined-size bound [] f = omega arith
 joined-size bound (l ∷ ls) f =

@@ -55,7 +55,7 @@ module _ {before : List ℕ} {at : ℕ} where
       outcome-called e f p = let q : eqb (a .number) 0 ≡ true = eq-eqb (a .number) 0 e in rw (q, f) p
 
 -- a line that lends makes no call, and prints nothing where it is accepted
-same-calls : (D : Desk) (lend : Lends) → lendEffect D lend .after .calls ≡ D .calls
+pub same-calls : (D : Desk) (lend : Lends) → lendEffect D lend .after .calls ≡ D .calls
 unfolding lendEffect
 same-calls D (EditRow k cells) = refl
 same-calls D (ConstraintRow k cells) = refl
@@ -66,7 +66,7 @@ same-calls D NoRoll = refl
 same-calls D (RowName name) = refl
 same-calls D NoRow = refl
 
-no-text : (D : Desk) (lend : Lends) → lendEffect D lend .text ≡ []
+pub no-text : (D : Desk) (lend : Lends) → lendEffect D lend .text ≡ []
 unfolding lendEffect
 no-text D (EditRow k cells) = refl
 no-text D (ConstraintRow k cells) = refl
