@@ -1,5 +1,6 @@
 pub mod Accepted
 pub mod Called
+pub mod Fits
 pub mod Performed
 pub mod Running
 pub mod Paging

@@ -125,19 +125,19 @@ stopped-after log {start} {from} h p e command o q f =
     (λ n. omega arith)
 
 -- a run of lines whose bench is opened at another page
-module _ (log : List ℕ) (D : Desk) (count : ℕ) (before : List ℕ) (start : ℕ) {from : ℕ} {bench : Bench} {lending : Lending} {edits constraints : Rows} {n : ℕ} {out : List ℕ} {at : ℕ}
-    (R : Running log D count before start from bench lending edits constraints n out at) where
-  pub running-as : {b : Bench} → bench ≡ b → Running log D count before start from b lending edits constraints n out at
+module _ (log : List ℕ) (D : Desk) (count : ℕ) (before : List ℕ) (start : ℕ) {from : ℕ} {bench : Bench} {lending : Lending} {edits constraints : Rows} {n : ℕ} {out : List ℕ} {at limit : ℕ}
+    (R : Running log D count before start from bench lending edits constraints n out at limit) where
+  pub running-as : {b : Bench} → bench ≡ b → Running log D count before start from b lending edits constraints n out at limit
   running-as e = rw e at R
 
-  pub running-open : {turner : Turner} → bench .turner ≡ turner → Running log D count before start from (openAt bench (turner .opened)) lending edits constraints n out at
+  pub running-open : {turner : Turner} → bench .turner ≡ turner → Running log D count before start from (openAt bench (turner .opened)) lending edits constraints n out at limit
   running-open t = running-as (open-again (R .run .desk) (R .held .benched) t)
 
 -- the bench opened where the lines have come to
-pub opened-there : (log : List ℕ) (D : Desk) (count : ℕ) (before : List ℕ) (start : ℕ) {from to : ℕ} {bench b : Bench} {lending : Lending} {edits constraints : Rows} {n m : ℕ} {out after : List ℕ} {at end : ℕ} (page : ℕ)
-    → Running log D count before start from bench lending edits constraints n out at
-    → Running log D count before start to (openAt bench page) lending edits constraints m after end → Opens bench page b
-    → Running log D count before start to b lending edits constraints m after end
+pub opened-there : (log : List ℕ) (D : Desk) (count : ℕ) (before : List ℕ) (start : ℕ) {from to : ℕ} {bench b : Bench} {lending : Lending} {edits constraints : Rows} {n m : ℕ} {out after : List ℕ} {at end limit : ℕ} (page : ℕ)
+    → Running log D count before start from bench lending edits constraints n out at limit
+    → Running log D count before start to (openAt bench page) lending edits constraints m after end limit → Opens bench page b
+    → Running log D count before start to b lending edits constraints m after end limit
 unfolding Opens openAt benchIn ledgerOf benchOf
 opened-there log D count before start {bench = bench} page R S o =
     running-as log D count before start S (sym (o (R .run .desk .calls) (R .held .benched) (within (S .run .desk) (S .held .benched))))
@@ -146,14 +146,14 @@ opened-there log D count before start {bench = bench} page R S o =
     within E e = omega (arith, ap (λ (b : Bench). b .turner .opened) e, ap (λ (b : Bench). b .turner .last) e, ledger-valid E .opened-within)
 
 -- one such line more
-module _ (log : List ℕ) (D : Desk) (count : ℕ) (before : List ℕ) (start : ℕ) {from : ℕ} (bench : Bench) {lending : Lending} {edits constraints : Rows} {n : ℕ} {out : List ℕ} {at : ℕ} (held : Turner)
-    (R : Running log D count before start from (openAt bench (held .opened)) lending edits constraints n out at) (l : bench .turner .last ≡ held .last) where
-  pub paged-next : (h : from < length log) {end : ℕ} → end ≡ from + length (firstLine (drop from log)) → {m : ℕ} → m ≡ suc n → {command : Command} → command ≡ commandRead (take (end - from) (drop from log))
+module _ (log : List ℕ) (D : Desk) (count : ℕ) (before : List ℕ) (start : ℕ) {from : ℕ} (bench : Bench) {lending : Lending} {edits constraints : Rows} {n : ℕ} {out : List ℕ} {at limit : ℕ} (held : Turner)
+    (R : Running log D count before start from (openAt bench (held .opened)) lending edits constraints n out at limit) (l : bench .turner .last ≡ held .last) where
+  pub paged-next : (h : from < length log) → at ≤ limit → {end : ℕ} → end ≡ from + length (firstLine (drop from log)) → {m : ℕ} → m ≡ suc n → {command : Command} → command ≡ commandRead (take (end - from) (drop from log))
       → {after : List ℕ} {place : ℕ} (page : ℕ)
       → ((E : Desk) (b : Bench) (lending : Lending) (edits constraints : Rows) → Holds E b lending edits constraints → b .turner ≡ held
       → Performed m (openAt b page) lending edits constraints out at after place (effect E command))
-      → Running log D count before start end (openAt bench page) lending edits constraints m after place
+      → Running log D count before start end (openAt bench page) lending edits constraints m after place limit
   unfolding openAt
-  paged-next h e q o page f =
-      running-next log D count before start R h e q o
+  paged-next h below e q o page f =
+      running-next log D count before start R h below e q o
       (λ E G. f E (openAt bench (held .opened)) lending edits constraints G (λ i. record { opened = held .opened; last = l i }))

@@ -226,9 +226,9 @@ fn run_turns(
     requires { ⌜ (start < length (now log)) × (at ≤ limit) × (isTurn (commandRead (firstLine (drop start (now log)))) ≡ true) ⌝ }
     ensures { λ r. ⌜ (start < r .from) × (r .from ≤ length (now (log .entry)))
         × ((D : Desk) (first : ℕ) (before : List ℕ) (begin : ℕ) (bench : Bench) (lending : Lending) (edits constraints : Rows)
-        → Running (now (log .entry)) D first before begin start bench lending edits constraints count (now (out .entry)) at → bench .turner ≡ turner
+        → Running (now (log .entry)) D first before begin start bench lending edits constraints count (now (out .entry)) at limit → bench .turner ≡ turner
         → first + length (now (log .entry)) ≤ 4611686018427387904
-        → Running (now (log .entry)) D first before begin (r .from) (openAt bench (r .turner .opened)) lending edits constraints (r .count) (now (out .exit)) (r .at)) ⌝ }
+        → Running (now (log .entry)) D first before begin (r .from) (openAt bench (r .turner .opened)) lending edits constraints (r .count) (now (out .exit)) (r .at) limit) ⌝ }
 {
     let mut held = turner;
     let mut n = count;
@@ -279,7 +279,7 @@ pub fn run_some(
     ensures { λ r. ⌜ Stops (length (now (log .entry))) limit at (r .from) (r .at)
         × ((D : Desk) → Holds D bench lending (now (edits .entry)) (now (constraints .entry))
         → count + length (now (log .entry)) ≤ 4611686018427387904
-        → Running (now (log .entry)) D count (now (out .entry)) at (r .from) (r .bench) (r .lending) (now (edits .exit)) (now (constraints .exit)) (r .count) (now (out .exit)) (r .at)) ⌝ }
+        → Running (now (log .entry)) D count (now (out .entry)) at (r .from) (r .bench) (r .lending) (now (edits .exit)) (now (constraints .exit)) (r .count) (now (out .exit)) (r .at) limit) ⌝ }
 {
     let mut held = bench;
     let mut lent = lending;

@@ -48,7 +48,7 @@ module _ (log : List ℕ) (D : Desk) (count : ℕ) where
         → {out after : List ℕ} {at next m : ℕ} {held : Bench} {lent : Lending} {editsafter constraintsafter : Rows}
         → Stops (length (take (length log - from) (drop from log))) limit 0 next at
         × ((E : Desk) → Holds E bench lending edits constraints → n + length (take (length log - from) (drop from log)) ≤ 4611686018427387904
-        → Running (take (length log - from) (drop from log)) E n out 0 next held lent editsafter constraintsafter m after at)
+        → Running (take (length log - from) (drop from log)) E n out 0 next held lent editsafter constraintsafter m after at limit)
         → UpTo log D count (from + next) held lent editsafter constraintsafter m
     up-to-next limit h k {next = next} {m = m} p =
         let part = take (length log - from) (drop from log) in

@@ -4,7 +4,7 @@ use mathlib.Core.Path.{_≡_, refl}
 use lib.ListN.{length}
 use native.Mathlib.Omega.{arith}
 use borrow.Author.Needs.{needs}
-use borrow.Author.Tests.{leb-false}
+use borrow.Author.Tests.{leb-true, leb-false}
 use Rattle.text_lines.proofs.Ends.{next-line}
 use Rattle.log_session.specs.Desk.{Desk}
 use Rattle.log_session.specs.calls.Lines.{Holds}
@@ -19,7 +19,7 @@ abbrev Inv-loop : tie.InvT-loop
 Inv-loop edits₀ constraints₀ log count out₀ at limit held₀ lent₀ n₀ place₀ from₀ edits constraints out held lent n place from =
     (from ≤ length log) × (length edits ≡ length edits₀) × (length constraints ≡ length constraints₀) × (length out ≡ length out₀) × (from ≡ 0 → place ≡ place₀)
     × ((D : Desk) → Holds D held₀ lent₀ edits₀ constraints₀ → n₀ + length log ≤ 4611686018427387904
-    → Running log D n₀ out₀ place₀ from held lent edits constraints n out place)
+    → Running log D n₀ out₀ place₀ from held lent edits constraints n out place limit)
 
 abbrev μ-loop : tie.MeasureT-loop
 μ-loop edits₀ constraints₀ log count out₀ at limit held₀ lent₀ n₀ place₀ from₀ edits constraints out held lent n place from =
@@ -76,7 +76,7 @@ loop-again-2 c =
       λ e. absurd (omega (arith, x .forward)),
       λ D H q.
           let R = b .before .before .before .loop .inv .5 D H q in
-          running-next _ D _ _ _ R h (b .line-end .ensures) (k .before .before .next .ensures (running-few _ D _ _ _ R h q)) (k .before .before .before .before .before .read-command .ensures)
+          running-next _ D _ _ _ R h (leb-true _ _ (b .before .if1 .taken)) (b .line-end .ensures) (k .before .before .next .ensures (running-few _ D _ _ _ R h q)) (k .before .before .before .before .before .read-command .ensures)
           (λ E G. refusal-performed E _ _ (k .command .given .1) G (c .before .before .print-refused .ensures)),
     )
 
@@ -99,7 +99,7 @@ loop-again-3 c =
       λ e. absurd (omega (arith, x .forward)),
       λ D H q.
           let R = b .before .before .before .loop .inv .5 D H q in
-          running-next _ D _ _ _ R h (b .line-end .ensures) (k .before .before .next .ensures (running-few _ D _ _ _ R h q)) (k .before .before .before .before .before .read-command .ensures)
+          running-next _ D _ _ _ R h (leb-true _ _ (b .before .if1 .taken)) (b .line-end .ensures) (k .before .before .next .ensures (running-few _ D _ _ _ R h q)) (k .before .before .before .before .before .read-command .ensures)
           (λ E G. lend-performed E _ _ (k .command2 .given .1) (c .before .before .before .before .before .run-lend .ensures E G)),
     )
 
@@ -122,7 +122,7 @@ loop-again-4 c =
       λ e. absurd (omega (arith, x .forward)),
       λ D H q.
           let R = b .before .before .before .loop .inv .5 D H q in
-          running-next _ D _ _ _ R h (b .line-end .ensures) (k .before .before .next .ensures (running-few _ D _ _ _ R h q)) (k .before .before .before .before .before .read-command .ensures)
+          running-next _ D _ _ _ R h (leb-true _ _ (b .before .if1 .taken)) (b .line-end .ensures) (k .before .before .next .ensures (running-few _ D _ _ _ R h q)) (k .before .before .before .before .before .read-command .ensures)
           (λ E G. proposal-performed E _ _ (k .command3 .given .1) (G .benched) (c .before .before .before .before .before .print-proposal .ensures E (G .kept))),
     )
 
@@ -145,7 +145,7 @@ loop-again-5 c =
       λ e. absurd (omega (arith, x .forward)),
       λ D H q.
           let R = b .before .before .before .loop .inv .5 D H q in
-          running-next _ D _ _ _ R h (b .line-end .ensures) (k .before .before .next .ensures (running-few _ D _ _ _ R h q)) (k .before .before .before .before .before .read-command .ensures)
+          running-next _ D _ _ _ R h (leb-true _ _ (b .before .if1 .taken)) (b .line-end .ensures) (k .before .before .next .ensures (running-few _ D _ _ _ R h q)) (k .before .before .before .before .before .read-command .ensures)
           (λ E G. call-performed E _ _ (k .command4 .given .1) _ (c .before .before .before .before .before .before .before .make-call .ensures E (G .benched) (G .kept)) (c .before .before .print-outcome .ensures) G),
     )
 
@@ -168,7 +168,7 @@ loop-again-6 c =
       λ e. absurd (omega (arith, x .forward)),
       λ D H q.
           let R = b .before .before .before .loop .inv .5 D H q in
-          running-next _ D _ _ _ R h (b .line-end .ensures) (k .before .before .next .ensures (running-few _ D _ _ _ R h q)) (k .before .before .before .before .before .read-command .ensures)
+          running-next _ D _ _ _ R h (leb-true _ _ (b .before .if1 .taken)) (b .line-end .ensures) (k .before .before .next .ensures (running-few _ D _ _ _ R h q)) (k .before .before .before .before .before .read-command .ensures)
           (λ E G. vote-performed E _ _ (k .command5 .given .1) G (c .before .before .print-vote .ensures E G)),
     )
 
@@ -191,7 +191,7 @@ loop-again-7 c =
       λ e. absurd (omega (arith, x .forward)),
       λ D H q.
           let R = b .before .before .before .loop .inv .5 D H q in
-          running-next _ D _ _ _ R h (b .line-end .ensures) (k .before .before .next .ensures (running-few _ D _ _ _ R h q)) (k .before .before .before .before .before .read-command .ensures)
+          running-next _ D _ _ _ R h (leb-true _ _ (b .before .if1 .taken)) (b .line-end .ensures) (k .before .before .next .ensures (running-few _ D _ _ _ R h q)) (k .before .before .before .before .before .read-command .ensures)
           (λ E G. ask-performed E _ _ (k .command6 .given .1) G (c .before .before .print-ask .ensures E (G .benched))),
     )
 

@@ -5,7 +5,7 @@ use mathlib.Core.List.{List}
 use lib.ListN.{length}
 use native.Mathlib.Omega.{arith}
 use borrow.Author.Needs.{needs}
-use borrow.Author.Tests.{leb-false, not-true, not-false}
+use borrow.Author.Tests.{leb-true, leb-false, not-true, not-false}
 use Rattle.lists.proofs.Lists.{is-by}
 use Rattle.record_rows.specs.ground.Ground.{Rows}
 use Rattle.pages_turner.specs.declared.Turner.{Turner}
@@ -24,8 +24,8 @@ abbrev Inv-loop : tie.InvT-loop
 Inv-loop log start count out₀ at limit held₀ n₀ place₀ from₀ out held n place from =
     (from ≤ length log) × (length out ≡ length out₀) × (from₀ ≤ from) × (from ≡ from₀ → place ≡ place₀) × (held .last ≡ held₀ .last)
     × ((D : Desk) (first : ℕ) (before : List ℕ) (begin : ℕ) (bench : Bench) (lending : Lending) (edits constraints : Rows)
-    → Running log D first before begin from₀ bench lending edits constraints n₀ out₀ place₀ → bench .turner ≡ held₀ → first + length log ≤ 4611686018427387904
-    → Running log D first before begin from (openAt bench (held .opened)) lending edits constraints n out place)
+    → Running log D first before begin from₀ bench lending edits constraints n₀ out₀ place₀ limit → bench .turner ≡ held₀ → first + length log ≤ 4611686018427387904
+    → Running log D first before begin from (openAt bench (held .opened)) lending edits constraints n out place limit)
 
 abbrev μ-loop : tie.MeasureT-loop
 μ-loop log start count out₀ at limit held₀ n₀ place₀ from₀ out held n place from = length log - from
@@ -67,7 +67,7 @@ loop-again c =
       r .0 ∙ v .4,
       λ D first before begin bench lending edits constraints R t k.
           let S = v .5 D first before begin bench lending edits constraints R t k in
-          paged-next _ D first before begin bench _ S (ap (λ (u : Turner). u .last) t ∙ sym (v .4)) h (b .line-end .ensures) (c .before .before .before .before .before .next .ensures (running-few _ D first before begin S h k))
+          paged-next _ D first before begin bench _ S (ap (λ (u : Turner). u .last) t ∙ sym (v .4)) h (leb-true _ _ (b .before .if1 .taken)) (b .line-end .ensures) (c .before .before .before .before .before .next .ensures (running-few _ D first before begin S h k))
           (c .before .before .before .before .before .before .before .before .read-command .ensures) _ (r .1),
     )
 
