@@ -12,6 +12,7 @@ use Rattle.text_lines.proofs.Ends.{no-lines}
 use Rattle.log_forms.specs.Printed.{Texts}
 use Rattle.log_lent.specs.declared.Lending.{Lending}
 use Rattle.log_session.specs.Desk.{Desk}
+use Rattle.log_session.specs.Bounded.{answerLimit, Bounded}
 use Rattle.log_session.specs.calls.Lines.{Holds}
 use Rattle.log.specs.Log.{begun, runLines}
 use Rattle.log.specs.Running.{Running, Stops}
@@ -37,10 +38,11 @@ pub record UpTo (log : List ℕ) (D : Desk) (count from : ℕ) (bench : Bench) (
   pub rest : runLines (begun D count) (lines log) ≡ prefixed told (runLines (begun desk n) (lines (drop from log)))
   pub held : Holds desk bench lending edits constraints
   pub few : n + (length log - from) ≤ count + length log
+  pub bounded : Bounded D → Bounded desk
 
 module _ (log : List ℕ) (D : Desk) (count : ℕ) where
   pub up-to-start : {bench : Bench} {lending : Lending} {edits constraints : Rows} → Holds D bench lending edits constraints → UpTo log D count 0 bench lending edits constraints count
-  up-to-start h = record { desk = D; told = []; rest = refl; held = h; few = omega arith }
+  up-to-start h = record { desk = D; told = []; rest = refl; held = h; few = omega arith; bounded = λ B. B }
 
   module _ {from : ℕ} {bench : Bench} {lending : Lending} {edits constraints : Rows} {n : ℕ} (A : UpTo log D count from bench lending edits constraints n) where
     -- a part more
@@ -69,7 +71,19 @@ module _ (log : List ℕ) (D : Desk) (count : ℕ) where
           rest = A .rest ∙ ap (prefixed (A .told)) q ∙ sym (after-both (A .told) (R .run .printed) (runLines (begun (R .run .desk) m) (lines (drop (from + next) log))));
           held = R .held;
           few = omega arith;
+          bounded = λ B. R .bounded (A .bounded B);
         }
+
+    -- its answers stand in a buffer that has room for one answer more after the limit
+    pub answers-inside : (limit : ℕ) → from < length log → count + length log ≤ 4611686018427387904 → Bounded D
+        → {out after : List ℕ} {at next m : ℕ} {held : Bench} {lent : Lending} {editsafter constraintsafter : Rows}
+        → ((E : Desk) → Holds E bench lending edits constraints → n + length (take (length log - from) (drop from log)) ≤ 4611686018427387904
+        → Running (take (length log - from) (drop from log)) E n out 0 next held lent editsafter constraintsafter m after at limit)
+        → limit + answerLimit ≤ length out → at ≤ limit + answerLimit
+    answers-inside limit h k B p room =
+        let l : length (take (length log - from) (drop from log)) ≡ length log - from = ap length (part-is log from) ∙ length-drop from log in
+        let w = A .few in
+        p (A .desk) (A .held) (omega arith) .near (A .bounded B) (omega arith) (omega arith) room
 
     pub up-to-end : length log ≤ from → Ran (runLines (begun D count) (lines log)) bench lending edits constraints n
     unfolding runLines

@@ -19,14 +19,20 @@ use Rattle.log_lent.specs.Kept.{Kept}
 use Rattle.log_session.specs.Desk.{Desk, emptyDesk}
 use Rattle.log_session.specs.calls.Lines.{Holds}
 use Rattle.log.specs.Log.{Run, begun, runLines}
+use Rattle.log_session.proofs.Bounds.{empty-bounded}
+use Rattle.log.proofs.Fits.{lines-bounded}
 use Rattle.log.proofs.Runs.{run-count, run-after, run-parts, empty-holds}
-use Rattle.stdio_log.specs.Streaming.{Ran, Streaming, Streamed}
+use Rattle.stdio_log.specs.Streaming.{Held, Ran, Streaming, Streamed}
 use Rattle.stdio_log.proofs.Decided.{pieces-run}
 
 -- a run that goes on from the desk and the count of another
 pub ran-on : (r : Run) (ls : List (List ℕ)) {bench : Bench} {lending : Lending} {edits constraints : Rows} {n : ℕ}
     → Ran (runLines (begun (r .desk) (r .count)) ls) bench lending edits constraints n → Ran (runLines r ls) bench lending edits constraints n
 ran-on r ls h = rw (run-after r ls) (record { held = h .held; counted = h .counted })
+
+-- the first bytes of a chunk, counted
+pub part-few : (s : List ℕ) (n count m : ℕ) → count + n ≤ m → count + length (take (n - 0) s) ≤ m
+part-few s n count m h = omega (arith, length-take (n - 0) s)
 
 -- a chunk is fed: its whole lines are run, and what waits stands at its front
 waiting-size : (s : List ℕ) → length (waiting s) ≡ min keptBytes (length s - lastEnd s)
@@ -43,6 +49,9 @@ module _ (chunk : List ℕ) (filled : ℕ) {whole : ℕ} (l : filled ≤ length 
 
   pub whole-filled : whole ≤ filled
   whole-filled = omega (arith, last-within (take (filled - 0) chunk), length-take (filled - 0) chunk)
+
+  pub whole-few : (count m : ℕ) → count + filled ≤ m → count + length (take (whole - 0) chunk) ≤ m
+  whole-few count m h = part-few chunk whole count m (omega (arith, whole-filled))
 
   ended-part : take (whole - 0) chunk ≡ ended (take filled chunk)
   unfolding ended
@@ -72,6 +81,9 @@ streaming-start chunk b k = record { pieces = []; ran = record { held = empty-ho
 module _ {bench : Bench} {lending : Lending} {edits constraints : Rows} {count : ℕ} {chunk : List ℕ} {rest : ℕ} (S : Streaming bench lending edits constraints count chunk rest) where
   pub streaming-read : {read : List ℕ} → take rest read ≡ take rest chunk → Streaming bench lending edits constraints count read rest
   streaming-read same = record { pieces = S .pieces; ran = S .ran; waits = same ∙ S .waits }
+
+  pub streaming-held : Held bench lending edits constraints
+  streaming-held = record { desk = _; holds = S .ran .held; bounded = lines-bounded (begun emptyDesk 0) (fedPieces noInput (S .pieces) .told) empty-bounded }
 
   -- one piece more: what was read after the bytes that wait
   pub streaming-next : (read : List ℕ) (size : ℕ) → take rest read ≡ take rest chunk

@@ -7,9 +7,16 @@ use Rattle.record_rows.specs.ground.Ground.{Rows}
 use Rattle.ledger.specs.declared.Bench.{Bench}
 use Rattle.stream.specs.Pieces.{noInput, fedPieces, inputOf}
 use Rattle.log_lent.specs.declared.Lending.{Lending}
-use Rattle.log_session.specs.Desk.{emptyDesk}
+use Rattle.log_session.specs.Desk.{Desk, emptyDesk}
+use Rattle.log_session.specs.Bounded.{Bounded}
 use Rattle.log_session.specs.calls.Lines.{Holds}
 use Rattle.log.specs.Log.{Run, begun, runLines, logRun}
+
+-- what is in memory is that of some desk whose numbers fit
+pub record Held (bench : Bench) (lending : Lending) (edits constraints : Rows) : Type 0 where
+  pub desk : Desk
+  pub holds : Holds desk bench lending edits constraints
+  pub bounded : Bounded desk
 
 -- what is in memory after a run
 pub record Ran (run : Run) (bench : Bench) (lending : Lending) (edits constraints : Rows) (count : ℕ) : Type 0 where

@@ -14,11 +14,10 @@ ghost use Rattle.stream.specs.Pieces.{ended, waiting};
 ghost use Rattle.log_session.specs.Desk.{Desk};
 ghost use Rattle.log_session.specs.calls.Lines.{Holds};
 ghost use Rattle.log.specs.Log.{begun, runLines};
-ghost use Rattle.stdio_log.specs.Streaming.{Ran, Streaming, Streamed};
+ghost use Rattle.stdio_log.specs.Streaming.{Held, Ran, Streaming, Streamed};
 
-// Answers are printed when they pass this many bytes. The answer to one line has less than 27,000 (the text of 127 edits and 512 constraints), so
-// that a buffer of 65,536 has room for it.
-const LIMIT: usize = 32768;
+// Answers are printed when they pass this many bytes, so that a buffer of 65,536 has room for one answer more (`answerLimit`).
+const LIMIT: usize = 28672;
 
 // So many bytes are read at most, and there are no more lines.
 const MOST: usize = 4611686018427387904;
@@ -32,12 +31,10 @@ struct Fed {
     failed: bool,
 }
 
-// Prints the answers, which are the first bytes of out; false where that fails. A place past the end says that an answer did not fit.
-fn print(out: &[u8], at: usize) -> bool {
-    if out.len() < at {
-        stdio::warn(b"an answer is longer than the buffer\n");
-        return false;
-    }
+// Prints the answers, which are the first bytes of out; false where that fails.
+fn print(out: &[u8], at: usize) -> bool
+    requires { ⌜ at ≤ length (now out) ⌝ }
+{
     stdio::print(&out[0..at])
 }
 
@@ -51,6 +48,7 @@ fn run_lines(
     count: usize,
     out: &mut [u8],
 ) -> Fed
+    requires { ⌜ Held bench lending (now edits) (now constraints) × (count + length (now log) ≤ 4611686018427387904) × (65536 ≤ length (now out)) ⌝ }
     ensures { λ r. ⌜ ((D : Desk) → Holds D bench lending (now (edits .entry)) (now (constraints .entry)) → count + length (now (log .entry)) ≤ 4611686018427387904 → r .failed ≡ false
         → Ran (runLines (begun D count) (lines (now (log .entry)))) (r .bench) (r .lending) (now (edits .exit)) (now (constraints .exit)) (r .count)) ⌝ }
 {
@@ -104,7 +102,7 @@ fn feed(
     count: usize,
     out: &mut [u8],
 ) -> Fed
-    requires { ⌜ filled ≤ length (now chunk) ⌝ }
+    requires { ⌜ (filled ≤ length (now chunk)) × Held bench lending (now edits) (now constraints) × (count + filled ≤ 4611686018427387904) × (65536 ≤ length (now out)) ⌝ }
     ensures { λ r. ⌜ (r .rest ≤ 102) × (take (r .rest) (now (chunk .exit)) ≡ waiting (take filled (now (chunk .entry))))
         × ((D : Desk) → Holds D bench lending (now (edits .entry)) (now (constraints .entry)) → count + filled ≤ 4611686018427387904 → r .failed ≡ false
         → Ran (runLines (begun D count) (lines (ended (take filled (now (chunk .entry)))))) (r .bench) (r .lending) (now (edits .exit)) (now (constraints .exit)) (r .count)
@@ -147,7 +145,7 @@ fn read_all(
     chunk: &mut [u8],
     out: &mut [u8],
 ) -> Fed
-    requires { ⌜ (length (now edits) ≡ 1152) × (length (now constraints) ≡ 4617) × (102 < length (now chunk)) ⌝ }
+    requires { ⌜ (length (now edits) ≡ 1152) × (length (now constraints) ≡ 4617) × (102 < length (now chunk)) × (65536 ≤ length (now out)) ⌝ }
     ensures { λ r. ⌜ (r .rest ≤ length (now (chunk .exit)))
         × (r .failed ≡ false → Streaming (r .bench) (r .lending) (now (edits .exit)) (now (constraints .exit)) (r .count) (now (chunk .exit)) (r .rest)
         × (r .count + r .rest ≤ 4611686018427387904)) ⌝ }
@@ -210,7 +208,7 @@ fn replayed(
     chunk: &mut [u8],
     out: &mut [u8],
 ) -> Fed
-    requires { ⌜ (length (now edits) ≡ 1152) × (length (now constraints) ≡ 4617) × (102 < length (now chunk)) ⌝ }
+    requires { ⌜ (length (now edits) ≡ 1152) × (length (now constraints) ≡ 4617) × (102 < length (now chunk)) × (65536 ≤ length (now out)) ⌝ }
     ensures { λ r. ⌜ (r .failed ≡ false → Streamed (r .bench) (r .lending) (now (edits .exit)) (now (constraints .exit)) (r .count)) ⌝ }
 {
     let fed = read_all(

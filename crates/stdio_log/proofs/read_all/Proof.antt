@@ -6,7 +6,7 @@ use native.Mathlib.Omega.{arith}
 use borrow.Author.Needs.{needs}
 use Rattle.lists.proofs.Lists.{clash}
 use Rattle.stdio_log.specs.Streaming.{Streaming}
-use Rattle.stdio_log.proofs.Streams.{streaming-start, streaming-read, streaming-next}
+use Rattle.stdio_log.proofs.Streams.{streaming-start, streaming-read, streaming-held, streaming-next}
 use Rattle.stdio_log.proofs.read_all.Statement.{statement}
 use Rattle.stdio_log.proofs.read_all.Tie as tie
 
@@ -48,7 +48,14 @@ add-feed : tie.Need-add-feed Inv-loop μ-loop
 add-feed c = search (needs, c .before .before .before .before .before .before .read-piece .ensures .0)
 
 feed-requires : tie.Need-feed-requires Inv-loop μ-loop
-feed-requires c κs = search (needs, c .before .before .before .before .before .before .before .read-piece .ensures .0, c .before .before .before .before .before .before .chunk .given)
+feed-requires c κs =
+    let v = c .before .before .before .before .before .before .before .before .before .before .loop .inv in
+    let p = c .before .before .before .before .before .before .before .read-piece .ensures in (
+      search (needs, p .0, c .before .before .before .before .before .before .chunk .given),
+      streaming-held (v .6),
+      omega (arith, v .7, p .0, c .before .before .before .before .before .before .before .before .before .loop-test .taken),
+      omega (arith, v .5, c .before .before .before .before .before .before .before .before .before .before .before .before .before .before .before .pre .3),
+    )
 
 sub-left : tie.Need-sub-left Inv-loop μ-loop
 sub-left c = omega (arith, c .before .before .before .before .before .before .before .before .before .before .before .before .before .before .before .before .read-piece .ensures .0, c .before .before .before .before .before .before .before .before .before .before .before .before .before .before .before .before .before .before .loop-test .taken)

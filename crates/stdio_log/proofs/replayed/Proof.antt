@@ -1,7 +1,7 @@
 -- `replayed` meets its contract. Assumes nothing.
 use borrow.Author.Needs.{needs}
 use Rattle.lists.proofs.Lists.{clash}
-use Rattle.stdio_log.proofs.Streams.{streaming-end}
+use Rattle.stdio_log.proofs.Streams.{part-few, streaming-held, streaming-end}
 use Rattle.stdio_log.proofs.replayed.Statement.{statement}
 use Rattle.stdio_log.proofs.replayed.Tie as tie
 
@@ -13,6 +13,11 @@ returns c = λ e. clash (c .if1 .taken) e
 
 part-run-lines-end : tie.Need-part-run-lines-end
 part-run-lines-end c = search (needs, c .before .before .before .before .before .before .before .before .before .before .before .before .read-all .ensures .0, c .before .before .before .before .before .before .before .before .before .chunk .given)
+
+run-lines-requires : tie.Need-run-lines-requires
+run-lines-requires c κs =
+    let q = c .before .before .before .before .before .before .before .before .before .before .before .before .before .before .read-all .ensures .1 (c .before .before .before .before .before .before .before .if1 .left) in
+    (streaming-held (q .0), part-few _ _ _ _ (q .1), search (needs, c .before .before .before .before .before .before .before .before .before .before .before .before .before .before .before .before .before .before .before .before .before .pre .3, c .before .before .before .before .before .before .before .before .before .out .given))
 
 same-length-5 : tie.Need-same-length-5
 same-length-5 c = search (needs, c .before .before .before .before .before .before .before .before .before .before .before .before .before .before .before .before .before .before .edits .given, c .before .before .before .edits2 .given)
@@ -44,7 +49,7 @@ replayed-spec =
     (λ c. search needs)
     (λ c. search needs)
     part-run-lines-end
-    (λ c κs. search needs)
+    run-lines-requires
     same-length-5
     same-length-6
     same-length-7
