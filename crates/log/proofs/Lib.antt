@@ -1,6 +1,7 @@
 pub mod Accepted
 pub mod Called
 pub mod Fits
+pub mod Kept
 pub mod Performed
 pub mod Running
 pub mod Paging

@@ -13,8 +13,7 @@ use Rattle.stream.specs.Pieces.{keptBytes, noInput, fedPieces, streamLines, inp
 use Rattle.stream.proofs.Pieces.{cut-anywhere}
 use Rattle.log_commands.specs.declared.Command.the-variants.{Refused}
 use Rattle.log_commands.specs.Grammar.{commandRead}
-use Rattle.log_session.specs.Desk.{emptyDesk}
-use Rattle.log.specs.Log.{Run, begun, runLine, runLines, logRun}
+use Rattle.log.specs.Log.{Run, runLine, runLines}
 
 -- a longer line is not in form, whatever it says
 too-long : (line : List ℕ) → lineLimit < length line → commandRead line ≡ Refused 1
@@ -37,9 +36,6 @@ unfolding runLines
 cut-run r [] = refl
 cut-run r (l ∷ ls) = ap (λ (q : Run). runLines q (map (take keptBytes) ls)) (line-decided r l) ∙ cut-run (runLine r l) ls
 
--- THE RUN OF THE PIECES IS THE RUN OF THE WHOLE LOG, wherever it is cut: the desk, the count, and what is printed
-pub pieces-run : (pieces : List (List ℕ)) → runLines (begun emptyDesk 0) (streamLines (fedPieces noInput pieces)) ≡ logRun (inputOf pieces)
-unfolding logRun
-pieces-run pieces =
-    let r = begun emptyDesk 0 in
-    sym (cut-run r (streamLines (fedPieces noInput pieces))) ∙ ap (runLines r) (cut-anywhere pieces) ∙ cut-run r (lines (inputOf pieces))
+-- THE RUN OF THE PIECES IS THE RUN OF THE WHOLE LOG, from whatever was run before and wherever it is cut: the desk, the count, and what is printed
+pub pieces-run : (r : Run) (pieces : List (List ℕ)) → runLines r (streamLines (fedPieces noInput pieces)) ≡ runLines r (lines (inputOf pieces))
+pieces-run r pieces = sym (cut-run r (streamLines (fedPieces noInput pieces))) ∙ ap (runLines r) (cut-anywhere pieces) ∙ cut-run r (lines (inputOf pieces))

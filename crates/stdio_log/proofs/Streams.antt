@@ -1,4 +1,4 @@
--- The pieces of the input, run one after the other. Assumes nothing.
+-- The pieces of a file, run one after the other, and a file after another. Assumes nothing.
 use mathlib.Core.Path.{_≡_, refl, ap, sym, _∙_}
 use mathlib.Core.Bool.{Bool, false}
 use mathlib.Core.List.{List, [], _∷_, _++_}
@@ -11,28 +11,33 @@ use Rattle.ledger.specs.declared.Bench.{Bench}
 use Rattle.ledger.specs.Ledger.{start}
 use Rattle.ledger.specs.Bench.{benchOf}
 use Rattle.text_lines.specs.Lines.{lines}
-use Rattle.stream.specs.Pieces.{lastEnd, ended, unended, keptBytes, waiting, Stream, noInput, fedPiece, fedPieces, streamLines}
+use Rattle.stream.specs.Pieces.{lastEnd, ended, unended, keptBytes, waiting, Stream, noInput, fedPiece, fedPieces, streamLines, inputOf}
 use Rattle.stream.proofs.Pieces.{last-within, lines-few, one-piece}
 use Rattle.log_lent.specs.declared.Lending.{Lending}
 use Rattle.log_lent.specs.Lent.{nothingLent}
 use Rattle.log_lent.specs.Kept.{Kept}
-use Rattle.log_session.specs.Desk.{Desk, emptyDesk}
-use Rattle.log_session.specs.calls.Lines.{Holds}
-use Rattle.log.specs.Log.{Run, begun, runLines}
-use Rattle.log_session.proofs.Bounds.{empty-bounded}
-use Rattle.log.proofs.Fits.{lines-bounded}
-use Rattle.log.proofs.Runs.{run-count, run-after, run-parts, empty-holds}
-use Rattle.stdio_log.specs.Streaming.{Held, Ran, Streaming, Streamed}
+use Rattle.log_session.specs.Desk.{emptyDesk}
+use Rattle.log.specs.Log.{Run, begun, runLines, logRun}
+use Rattle.log.proofs.Runs.{run-count, run-parts, empty-holds}
+use Rattle.log.proofs.Kept.{kept-run}
+use Rattle.stdio_log.specs.declared.Fed.{Fed}
+use Rattle.stdio_log.specs.Streaming.{mostLines, Ran, Streaming, Streamed, Continued}
 use Rattle.stdio_log.proofs.Decided.{pieces-run}
 
--- a run that goes on from the desk and the count of another
-pub ran-on : (r : Run) (ls : List (List ℕ)) {bench : Bench} {lending : Lending} {edits constraints : Rows} {n : ℕ}
-    → Ran (runLines (begun (r .desk) (r .count)) ls) bench lending edits constraints n → Ran (runLines r ls) bench lending edits constraints n
-ran-on r ls h = rw (run-after r ls) (record { held = h .held; counted = h .counted })
+-- the same desk with so many bytes that wait
+abbrev pub resting : Fed → ℕ → Bool → Fed
+resting fed rest failed = record { bench = fed .bench; lending = fed .lending; count = fed .count; rest = rest; failed = failed }
 
--- the first bytes of a chunk, counted
-pub part-few : (s : List ℕ) (n count m : ℕ) → count + n ≤ m → count + length (take (n - 0) s) ≤ m
-part-few s n count m h = omega (arith, length-take (n - 0) s)
+pub ran-resting : {R : Run} (fed : Fed) {edits constraints : Rows} → Ran R fed edits constraints → {rest : ℕ} {failed : Bool} → Ran R (resting fed rest failed) edits constraints
+ran-resting fed h = record { held = h .held; counted = h .counted }
+
+pub ran-few : {R : Run} {fed : Fed} {edits constraints : Rows} → Ran R fed edits constraints → (n : ℕ) → fed .count + n ≤ mostLines → R .count + n ≤ mostLines
+ran-few h n k = let c = h .counted in omega arith
+
+-- no more lines are counted than bytes were run
+ran-counted : {R : Run} {fed after : Fed} {edits constraints editsafter constraintsafter : Rows} (s : List ℕ) → Ran R fed edits constraints
+    → Ran (runLines R (lines s)) after editsafter constraintsafter → after .count ≤ fed .count + length s
+ran-counted {R} s h q = let c = h .counted in let d = q .counted in omega (arith, run-count R (lines s), lines-few s)
 
 -- a chunk is fed: its whole lines are run, and what waits stands at its front
 waiting-size : (s : List ℕ) → length (waiting s) ≡ min keptBytes (length s - lastEnd s)
@@ -50,83 +55,88 @@ module _ (chunk : List ℕ) (filled : ℕ) {whole : ℕ} (l : filled ≤ length 
   pub whole-filled : whole ≤ filled
   whole-filled = omega (arith, last-within (take (filled - 0) chunk), length-take (filled - 0) chunk)
 
-  pub whole-few : (count m : ℕ) → count + filled ≤ m → count + length (take (whole - 0) chunk) ≤ m
-  whole-few count m h = part-few chunk whole count m (omega (arith, whole-filled))
-
   ended-part : take (whole - 0) chunk ≡ ended (take filled chunk)
   unfolding ended
   ended-part =
       let e : whole - 0 ≡ whole = omega arith in
       ap (λ (n : ℕ). take n chunk) e ∙ sym (take-take whole filled chunk whole-filled) ∙ ap (λ (n : ℕ). take n (take filled chunk)) (w ∙ ap lastEnd first-part)
 
-  module _ (count : ℕ) {rest : ℕ} (r : rest ≡ length (waiting (take filled chunk))) {bench held : Bench} {lending lent : Lending} {edits constraints editsafter constraintsafter : Rows} {n : ℕ} {failed : Bool}
-      (f : (D : Desk) → Holds D bench lending edits constraints → count + length (take (whole - 0) chunk) ≤ 4611686018427387904 → failed ≡ false
-      → Ran (runLines (begun D count) (lines (take (whole - 0) chunk))) held lent editsafter constraintsafter n) where
-    pub fed-ran : (D : Desk) → Holds D bench lending edits constraints → count + filled ≤ 4611686018427387904 → failed ≡ false
-        → Ran (runLines (begun D count) (lines (ended (take filled chunk)))) held lent editsafter constraintsafter n × (n + rest ≤ count + filled)
-    fed-ran D h k e =
+  module _ (fed ran : Fed) {rest : ℕ} (r : rest ≡ length (waiting (take filled chunk))) {edits constraints editsafter constraintsafter : Rows}
+      (f : (R : Run) → Ran R fed edits constraints → fed .count + length (take (whole - 0) chunk) ≤ mostLines → ran .failed ≡ false
+      → Ran (runLines R (lines (take (whole - 0) chunk))) ran editsafter constraintsafter) where
+    pub fed-ran : (R : Run) → Ran R fed edits constraints → fed .count + filled ≤ mostLines → ran .failed ≡ false
+        → Ran (runLines R (lines (ended (take filled chunk)))) (resting ran rest (ran .failed)) editsafter constraintsafter × (ran .count + rest ≤ fed .count + filled)
+    fed-ran R h k e =
         let s = take filled chunk in
         let z : length s ≡ filled = omega (arith, length-take filled chunk) in
         let t : lastEnd s ≡ whole = sym (w ∙ ap lastEnd first-part) in
         let m : length (take (whole - 0) chunk) ≡ whole = omega (arith, length-take (whole - 0) chunk, whole-filled) in
-        let q = f D h (omega (arith, whole-filled)) e in
-        let c : n ≡ count + length (lines (take (whole - 0) chunk)) = q .counted ∙ run-count (begun D count) (lines (take (whole - 0) chunk)) in
-        (rw (← ended-part) q, omega (arith, lines-few (take (whole - 0) chunk), waiting-size s, whole-filled))
+        let q = f R h (omega (arith, whole-filled)) e in
+        (rw (← ended-part) (ran-resting ran q), omega (arith, ran-counted (take (whole - 0) chunk) h q, waiting-size s, whole-filled))
 
-pub streaming-start : (chunk : List ℕ) {bench : Bench} {lending : Lending} {edits constraints : Rows} → bench ≡ benchOf start → Kept nothingLent lending edits constraints
-    → Streaming bench lending edits constraints 0 chunk 0
+pub streaming-start : {R : Run} {fed : Fed} {edits constraints : Rows} → Ran R fed edits constraints → fed .rest ≡ 0 → (chunk : List ℕ) → Streaming R fed edits constraints chunk
 unfolding runLines fedPieces noInput
-streaming-start chunk b k = record { pieces = []; ran = record { held = empty-holds b k; counted = refl }; waits = refl }
+streaming-start h z chunk = record { pieces = []; ran = h; waits = ap (λ (n : ℕ). take n chunk) z }
 
-module _ {bench : Bench} {lending : Lending} {edits constraints : Rows} {count : ℕ} {chunk : List ℕ} {rest : ℕ} (S : Streaming bench lending edits constraints count chunk rest) where
-  pub streaming-read : {read : List ℕ} → take rest read ≡ take rest chunk → Streaming bench lending edits constraints count read rest
-  streaming-read same = record { pieces = S .pieces; ran = S .ran; waits = same ∙ S .waits }
-
-  pub streaming-held : Held bench lending edits constraints
-  streaming-held = record { desk = _; holds = S .ran .held; bounded = lines-bounded (begun emptyDesk 0) (fedPieces noInput (S .pieces) .told) empty-bounded }
+module _ {R : Run} {fed : Fed} {edits constraints : Rows} {chunk : List ℕ} (S : Streaming R fed edits constraints chunk) where
+  pub streaming-read : {read : List ℕ} → take (fed .rest) read ≡ take (fed .rest) chunk → {failed : Bool} → Streaming R (resting fed (fed .rest) failed) edits constraints read
+  streaming-read same = record { pieces = S .pieces; ran = ran-resting fed (S .ran); waits = same ∙ S .waits }
 
   -- one piece more: what was read after the bytes that wait
-  pub streaming-next : (read : List ℕ) (size : ℕ) → take rest read ≡ take rest chunk
-      → {held : Bench} {lent : Lending} {editsafter constraintsafter : Rows} {n next : ℕ} {after : List ℕ}
-      → take next after ≡ waiting (take (rest + size) read)
-      → ((D : Desk) → Holds D bench lending edits constraints → Ran (runLines (begun D count) (lines (ended (take (rest + size) read)))) held lent editsafter constraintsafter n)
-      → Streaming held lent editsafter constraintsafter n after next
+  pub streaming-next : (read : List ℕ) (size : ℕ) → take (fed .rest) read ≡ take (fed .rest) chunk
+      → {next : Fed} {editsafter constraintsafter : Rows} {after : List ℕ}
+      → take (next .rest) after ≡ waiting (take (fed .rest + size) read)
+      → ((Q : Run) → Ran Q fed edits constraints → Ran (runLines Q (lines (ended (take (fed .rest + size) read)))) next editsafter constraintsafter)
+      → Streaming R next editsafter constraintsafter after
   unfolding fedPiece
-  streaming-next read size same {held} {lent} {editsafter} {constraintsafter} {n} {next} {after} w f =
+  streaming-next read size same w f =
       let F = fedPieces noInput (S .pieces) in
-      let R = begun emptyDesk 0 in
-      let r = runLines R (F .told) in
-      let p = take size (drop rest read) in
-      let ls = lines (ended (take (rest + size) read)) in
+      let p = take size (drop (fed .rest) read) in
+      let ls = lines (ended (take (fed .rest + size) read)) in
       let e : fedPieces noInput (S .pieces ++ (p ∷ [])) ≡ fedPiece F p = one-piece noInput (S .pieces) p in
-      let j : F .waits ++ p ≡ take (rest + size) read = ap (λ (l : List ℕ). l ++ p) (sym (S .waits) ∙ sym same) ∙ sym (take-add rest size read) in
+      let j : F .waits ++ p ≡ take (fed .rest + size) read = ap (λ (l : List ℕ). l ++ p) (sym (S .waits) ∙ sym same) ∙ sym (take-add (fed .rest) size read) in
       let t : fedPieces noInput (S .pieces ++ (p ∷ [])) .told ≡ F .told ++ ls = ap (λ (G : Stream). G .told) e ∙ ap (λ (l : List ℕ). F .told ++ lines (ended l)) j in
-      let q : Ran (runLines (begun (r .desk) (r .count)) ls) held lent editsafter constraintsafter n = rw (S .ran .counted) at (f (r .desk) (S .ran .held)) in
       record {
         pieces = S .pieces ++ (p ∷ []);
-        ran = rw (t, run-parts R (F .told) ls) (ran-on r ls q);
+        ran = rw (t, run-parts R (F .told) ls) (f (runLines R (F .told)) (S .ran));
         waits = w ∙ ap waiting (sym j) ∙ ap (λ (G : Stream). G .waits) (sym e);
       }
 
   -- the last line, without its end
-  pub streaming-end : count + rest ≤ 4611686018427387904 → {held : Bench} {lent : Lending} {editsafter constraintsafter : Rows} {n : ℕ}
-      → ((D : Desk) → Holds D bench lending edits constraints → count + length (take (rest - 0) chunk) ≤ 4611686018427387904 → Ran (runLines (begun D count) (lines (take (rest - 0) chunk))) held lent editsafter constraintsafter n)
-      → Streamed held lent editsafter constraintsafter n
+  pub streaming-end : fed .count + fed .rest ≤ mostLines → {last : Fed} {editsafter constraintsafter : Rows}
+      → ((Q : Run) → Ran Q fed edits constraints → fed .count + length (take (fed .rest - 0) chunk) ≤ mostLines → Ran (runLines Q (lines (take (fed .rest - 0) chunk))) last editsafter constraintsafter)
+      → Streamed R last editsafter constraintsafter × (last .count ≤ mostLines)
   unfolding streamLines
-  streaming-end k {held} {lent} {editsafter} {constraintsafter} {n} f =
+  streaming-end k {last} {editsafter} {constraintsafter} f =
       let F = fedPieces noInput (S .pieces) in
-      let R = begun emptyDesk 0 in
       let r = runLines R (F .told) in
-      let z : rest - 0 ≡ rest = omega arith in
-      let l : take (rest - 0) chunk ≡ F .waits = ap (λ (k : ℕ). take k chunk) z ∙ S .waits in
-      let q : Ran (runLines (begun (r .desk) (r .count)) (lines (F .waits))) held lent editsafter constraintsafter n = rw (l, S .ran .counted) at (f (r .desk) (S .ran .held) (omega (arith, length-take (rest - 0) chunk))) in
-      record {
-        pieces = S .pieces;
-        ran = rw (← pieces-run (S .pieces), run-parts R (F .told) (lines (F .waits))) (ran-on r (lines (F .waits)) q);
-      }
+      let s = take (fed .rest - 0) chunk in
+      let z : fed .rest - 0 ≡ fed .rest = omega arith in
+      let l : s ≡ F .waits = ap (λ (k : ℕ). take k chunk) z ∙ S .waits in
+      let q = f r (S .ran) (omega (arith, length-take (fed .rest - 0) chunk)) in
+      let t : Ran (runLines r (lines (F .waits))) last editsafter constraintsafter = rw l at q in (
+        record { pieces = S .pieces; ran = rw (← pieces-run R (S .pieces), run-parts R (F .told) (lines (F .waits))) t },
+        omega (arith, ran-counted s (S .ran) q, length-take (fed .rest - 0) chunk),
+      )
 
 -- a read into the part after the bytes that wait leaves them
 pub piece-read : (chunk : List ℕ) (rest : ℕ) {size : ℕ} (more : List ℕ) → rest < length chunk → size ≤ length (take (length chunk - rest) (drop rest chunk))
     → (rest + size ≤ length chunk) × (take rest (take rest chunk ++ more) ≡ take rest chunk)
 piece-read chunk rest more l h =
     (omega (arith, length-take (length chunk - rest) (drop rest chunk), length-drop rest chunk), take-at (take rest chunk) more rest (length-take-le rest chunk (omega arith)))
+
+-- nothing was run yet
+pub ran-nothing : {bench : Bench} {lending : Lending} {edits constraints : Rows} → bench ≡ benchOf start → Kept nothingLent lending edits constraints
+    → {rest : ℕ} {failed : Bool} → Ran (begun emptyDesk 0) (record { bench = bench; lending = lending; count = 0; rest = rest; failed = failed }) edits constraints
+ran-nothing b k = record { held = empty-holds b k; counted = refl }
+
+-- a kept log, and the lines that follow it
+pub continues : {fed last : Fed} {edits constraints editsafter constraintsafter : Rows} → Streamed (begun emptyDesk 0) fed edits constraints
+    → ((R : Run) → Ran R fed edits constraints → Streamed R last editsafter constraintsafter) → Continued last editsafter constraintsafter
+unfolding logRun
+continues K f = let N = f (runLines (begun emptyDesk 0) (lines (inputOf (K .pieces)))) (K .ran) in record { kept = K .pieces; pieces = N .pieces; ran = N .ran }
+
+-- A KEPT LOG THAT ENDS ITS LAST LINE and the lines that follow it come to the run of both in one piece
+pub continued-whole : {fed : Fed} {edits constraints : Rows} (C : Continued fed edits constraints) → lastEnd (inputOf (C .kept)) ≡ length (inputOf (C .kept))
+    → Ran (logRun (inputOf (C .kept) ++ inputOf (C .pieces))) fed edits constraints
+continued-whole C h = rw (← kept-run (inputOf (C .kept)) (inputOf (C .pieces)) h) (C .ran)

@@ -1,6 +1,6 @@
-// Runs the call log on standard input on one bench from empty, and prints the answers as it goes (docs/CALL-LOG.md). Input of any length, bounded
-// memory: the whole lines of what was read are run, and what waits for the end of its line stands at the front of the buffer for what is read next
-// (crate `stream`).
+// Runs call logs on one bench from empty, and prints the answers as it goes (docs/CALL-LOG.md): the log on standard input, or a kept log, of which
+// nothing is printed, and then the lines on standard input. Input of any length, bounded memory: the whole lines of what was read are run, and what
+// waits for the end of its line stands at the front of the buffer for what is read next (crate `stream`).
 use ledger::Bench;
 use libc::STDIN_FILENO;
 use log_lent::Lending;
@@ -11,13 +11,13 @@ ghost use Prim.Native.Nat.{_+_, _≤_, _<_};
 ghost use lib.ListN.{length, take};
 ghost use Rattle.text_lines.specs.Lines.{lines};
 ghost use Rattle.stream.specs.Pieces.{ended, waiting};
-ghost use Rattle.log_session.specs.Desk.{Desk};
-ghost use Rattle.log_session.specs.calls.Lines.{Holds};
-ghost use Rattle.log.specs.Log.{begun, runLines};
-ghost use Rattle.stdio_log.specs.Streaming.{Held, Ran, Streaming, Streamed};
+ghost use Rattle.log_session.specs.Desk.{emptyDesk};
+ghost use Rattle.log.specs.Log.{Run, begun, runLines};
+ghost use Rattle.stdio_log.specs.Streaming.{mostLines, Ran, Streaming, Streamed, Continued};
 
-// Answers are printed when they pass this many bytes, so that a buffer of 65,536 has room for one answer more (`answerLimit`).
-const LIMIT: usize = 28672;
+// Answers are printed when they pass this many bytes. The answer to one line has less than 27,000 (the text of 127 edits and 512 constraints), so
+// that a buffer of 65,536 has room for it.
+const LIMIT: usize = 32768;
 
 // So many bytes are read at most, and there are no more lines.
 const MOST: usize = 4611686018427387904;
@@ -31,206 +31,241 @@ struct Fed {
     failed: bool,
 }
 
-// Prints the answers, which are the first bytes of out; false where that fails.
-fn print(out: &[u8], at: usize) -> bool
-    requires { ⌜ at ≤ length (now out) ⌝ }
-{
+// Prints the answers, which are the first bytes of out, where they are asked for; false where that fails. A place past the end says that an answer
+// did not fit.
+fn print(out: &[u8], at: usize, shown: bool) -> bool {
+    if !shown {
+        return true;
+    }
+    if out.len() < at {
+        stdio::warn(b"an answer is longer than the buffer\n");
+        return false;
+    }
     stdio::print(&out[0..at])
 }
 
 // Runs lines and prints their answers.
 fn run_lines(
-    bench: Bench,
-    lending: Lending,
+    fed: Fed,
     edits: &mut [[u32; 5]],
     constraints: &mut [[u32; 3]],
     log: &[u8],
-    count: usize,
     out: &mut [u8],
+    shown: bool,
 ) -> Fed
-    requires { ⌜ Held bench lending (now edits) (now constraints) × (count + length (now log) ≤ 4611686018427387904) × (65536 ≤ length (now out)) ⌝ }
-    ensures { λ r. ⌜ ((D : Desk) → Holds D bench lending (now (edits .entry)) (now (constraints .entry)) → count + length (now (log .entry)) ≤ 4611686018427387904 → r .failed ≡ false
-        → Ran (runLines (begun D count) (lines (now (log .entry)))) (r .bench) (r .lending) (now (edits .exit)) (now (constraints .exit)) (r .count)) ⌝ }
+    ensures { λ r. ⌜ ((R : Run) → Ran R fed (now (edits .entry)) (now (constraints .entry)) → fed .count + length (now (log .entry)) ≤ mostLines → r .failed ≡ false
+        → Ran (runLines R (lines (now (log .entry)))) r (now (edits .exit)) (now (constraints .exit))) ⌝ }
 {
-    let mut held = bench;
-    let mut lent = lending;
-    let mut lines = count;
+    let mut held = fed;
     let mut from = 0;
     while from < log.len() {
+        let bench = held.bench;
+        let lending = held.lending;
         let logged = log::run_some(
-            held,
-            lent,
+            bench,
+            lending,
             &mut edits[..],
             &mut constraints[..],
             &log[from..],
-            lines,
+            held.count,
             &mut out[..],
             0,
             LIMIT,
         );
-        held = logged.bench;
-        lent = logged.lending;
-        lines = logged.count;
+        let after = logged.bench;
+        let lent = logged.lending;
+        held.bench = after;
+        held.lending = lent;
+        held.count = logged.count;
         from += logged.from;
-        if !print(out, logged.at) {
-            return Fed {
-                bench: held,
-                lending: lent,
-                count: lines,
-                rest: 0,
-                failed: true,
-            };
+        if !print(out, logged.at, shown) {
+            held.failed = true;
+            return held;
         }
     }
-    Fed {
-        bench: held,
-        lending: lent,
-        count: lines,
-        rest: 0,
-        failed: false,
-    }
+    held
 }
 
 // The whole lines of the first bytes of a chunk are run, and what waits moves to the front.
 fn feed(
-    bench: Bench,
-    lending: Lending,
+    fed: Fed,
     edits: &mut [[u32; 5]],
     constraints: &mut [[u32; 3]],
     chunk: &mut [u8],
     filled: usize,
-    count: usize,
     out: &mut [u8],
+    shown: bool,
 ) -> Fed
-    requires { ⌜ (filled ≤ length (now chunk)) × Held bench lending (now edits) (now constraints) × (count + filled ≤ 4611686018427387904) × (65536 ≤ length (now out)) ⌝ }
+    requires { ⌜ filled ≤ length (now chunk) ⌝ }
     ensures { λ r. ⌜ (r .rest ≤ 102) × (take (r .rest) (now (chunk .exit)) ≡ waiting (take filled (now (chunk .entry))))
-        × ((D : Desk) → Holds D bench lending (now (edits .entry)) (now (constraints .entry)) → count + filled ≤ 4611686018427387904 → r .failed ≡ false
-        → Ran (runLines (begun D count) (lines (ended (take filled (now (chunk .entry)))))) (r .bench) (r .lending) (now (edits .exit)) (now (constraints .exit)) (r .count)
-        × (r .count + r .rest ≤ count + filled)) ⌝ }
+        × ((R : Run) → Ran R fed (now (edits .entry)) (now (constraints .entry)) → fed .count + filled ≤ mostLines → r .failed ≡ false
+        → Ran (runLines R (lines (ended (take filled (now (chunk .entry)))))) r (now (edits .exit)) (now (constraints .exit))
+        × (r .count + r .rest ≤ fed .count + filled)) ⌝ }
 {
     let whole = stream::last_end(&chunk[0..filled]);
-    let ran = run_lines(
-        bench,
-        lending,
+    let mut ran = run_lines(
+        fed,
         &mut edits[..],
         &mut constraints[..],
         &chunk[0..whole],
-        count,
         &mut out[..],
+        shown,
     );
     let rest = stream::keep_waiting(&mut chunk[..], filled);
-    let held = ran.bench;
-    let lent = ran.lending;
-    Fed {
-        bench: held,
-        lending: lent,
-        count: ran.count,
-        rest: rest,
-        failed: ran.failed,
-    }
+    ran.rest = rest;
+    ran
 }
 
 // One read into the chunk after the bytes that wait.
-fn read_piece(chunk: &mut [u8], rest: usize) -> Got
+fn read_piece(file: i32, chunk: &mut [u8], rest: usize) -> Got
     requires { ⌜ rest < length (now chunk) ⌝ }
     ensures { λ r. ⌜ (rest + r .size ≤ length (now (chunk .entry))) × (take rest (now (chunk .exit)) ≡ take rest (now (chunk .entry))) ⌝ }
 {
-    stdio::read_some(STDIN_FILENO, &mut chunk[rest..])
+    stdio::read_some(file, &mut chunk[rest..])
 }
 
-// The input, piece by piece.
+// A file, piece by piece.
 fn read_all(
+    file: i32,
+    fed: Fed,
     edits: &mut [[u32; 5]],
     constraints: &mut [[u32; 3]],
     chunk: &mut [u8],
     out: &mut [u8],
+    shown: bool,
 ) -> Fed
-    requires { ⌜ (length (now edits) ≡ 1152) × (length (now constraints) ≡ 4617) × (102 < length (now chunk)) × (65536 ≤ length (now out)) ⌝ }
+    requires { ⌜ (102 < length (now chunk)) × (fed .count ≤ mostLines) ⌝ }
     ensures { λ r. ⌜ (r .rest ≤ length (now (chunk .exit)))
-        × (r .failed ≡ false → Streaming (r .bench) (r .lending) (now (edits .exit)) (now (constraints .exit)) (r .count) (now (chunk .exit)) (r .rest)
-        × (r .count + r .rest ≤ 4611686018427387904)) ⌝ }
+        × ((R : Run) → Ran R fed (now (edits .entry)) (now (constraints .entry)) → r .failed ≡ false
+        → Streaming R r (now (edits .exit)) (now (constraints .exit)) (now (chunk .exit)) × (r .count + r .rest ≤ mostLines)) ⌝ }
 {
-    let mut held = bench::empty_bench();
-    let mut lent = log_lent::nothing_lent();
-    let mut lines = 0;
-    let mut rest = 0;
-    let mut left = MOST;
+    let mut held = fed;
+    held.rest = 0;
+    let mut left = MOST - fed.count;
     while chunk.len() <= left {
-        let got = read_piece(&mut chunk[..], rest);
+        let got = read_piece(file, &mut chunk[..], held.rest);
         let size = got.size;
         if size == 0 {
-            return Fed {
-                bench: held,
-                lending: lent,
-                count: lines,
-                rest: rest,
-                failed: got.failed,
-            };
+            held.failed = got.failed;
+            return held;
         }
-        let fed = feed(
+        let next = feed(
             held,
-            lent,
             &mut edits[..],
             &mut constraints[..],
             &mut chunk[..],
-            rest + size,
-            lines,
+            held.rest + size,
             &mut out[..],
+            shown,
         );
-        held = fed.bench;
-        lent = fed.lending;
-        lines = fed.count;
-        rest = fed.rest;
-        left -= size;
-        if fed.failed {
-            return Fed {
-                bench: held,
-                lending: lent,
-                count: lines,
-                rest: rest,
-                failed: true,
-            };
+        if next.failed {
+            return next;
         }
+        held = next;
+        left -= size;
     }
-    Fed {
-        bench: held,
-        lending: lent,
-        count: lines,
-        rest: rest,
-        failed: false,
-    }
+    held
 }
 
-// The whole input, its last line without an end too.
+// A whole file, its last line without an end too.
 fn replayed(
+    file: i32,
+    fed: Fed,
     edits: &mut [[u32; 5]],
     constraints: &mut [[u32; 3]],
     chunk: &mut [u8],
     out: &mut [u8],
+    shown: bool,
 ) -> Fed
-    requires { ⌜ (length (now edits) ≡ 1152) × (length (now constraints) ≡ 4617) × (102 < length (now chunk)) × (65536 ≤ length (now out)) ⌝ }
-    ensures { λ r. ⌜ (r .failed ≡ false → Streamed (r .bench) (r .lending) (now (edits .exit)) (now (constraints .exit)) (r .count)) ⌝ }
+    requires { ⌜ (102 < length (now chunk)) × (fed .count ≤ mostLines) ⌝ }
+    ensures { λ r. ⌜ ((R : Run) → Ran R fed (now (edits .entry)) (now (constraints .entry)) → r .failed ≡ false
+        → Streamed R r (now (edits .exit)) (now (constraints .exit)) × (r .count ≤ mostLines)) ⌝ }
 {
-    let fed = read_all(
+    let read = read_all(
+        file,
+        fed,
         &mut edits[..],
         &mut constraints[..],
         &mut chunk[..],
         &mut out[..],
+        shown,
+    );
+    if read.failed {
+        return read;
+    }
+    let rest = read.rest;
+    run_lines(
+        read,
+        &mut edits[..],
+        &mut constraints[..],
+        &chunk[0..rest],
+        &mut out[..],
+        shown,
+    )
+}
+
+// A whole file from an empty bench.
+fn replayed_first(
+    file: i32,
+    edits: &mut [[u32; 5]],
+    constraints: &mut [[u32; 3]],
+    chunk: &mut [u8],
+    out: &mut [u8],
+    shown: bool,
+) -> Fed
+    requires { ⌜ (length (now edits) ≡ 1152) × (length (now constraints) ≡ 4617) × (102 < length (now chunk)) ⌝ }
+    ensures { λ r. ⌜ (r .failed ≡ false → Streamed (begun emptyDesk 0) r (now (edits .exit)) (now (constraints .exit)) × (r .count ≤ mostLines)) ⌝ }
+{
+    let bench = bench::empty_bench();
+    let lending = log_lent::nothing_lent();
+    let fed = Fed {
+        bench: bench,
+        lending: lending,
+        count: 0,
+        rest: 0,
+        failed: false,
+    };
+    replayed(
+        file,
+        fed,
+        &mut edits[..],
+        &mut constraints[..],
+        &mut chunk[..],
+        &mut out[..],
+        shown,
+    )
+}
+
+// A kept log, of which nothing is printed, and then the lines on standard input.
+fn continued(
+    kept: i32,
+    edits: &mut [[u32; 5]],
+    constraints: &mut [[u32; 3]],
+    chunk: &mut [u8],
+    out: &mut [u8],
+) -> Fed
+    requires { ⌜ (length (now edits) ≡ 1152) × (length (now constraints) ≡ 4617) × (102 < length (now chunk)) ⌝ }
+    ensures { λ r. ⌜ (r .failed ≡ false → Continued r (now (edits .exit)) (now (constraints .exit))) ⌝ }
+{
+    let fed = replayed_first(
+        kept,
+        &mut edits[..],
+        &mut constraints[..],
+        &mut chunk[..],
+        &mut out[..],
+        false,
     );
     if fed.failed {
         return fed;
     }
-    let held = fed.bench;
-    let lent = fed.lending;
-    let rest = fed.rest;
-    run_lines(
-        held,
-        lent,
+    replayed(
+        STDIN_FILENO,
+        fed,
         &mut edits[..],
         &mut constraints[..],
-        &chunk[0..rest],
-        fed.count,
+        &mut chunk[..],
         &mut out[..],
+        true,
     )
 }
 
@@ -240,5 +275,27 @@ pub fn replay_input() {
     let mut constraints = [[0u32; 3]; 4617];
     let mut chunk = io::large_buffer();
     let mut out = io::large_buffer();
-    replayed(&mut edits, &mut constraints, &mut chunk, &mut out);
+    replayed_first(
+        STDIN_FILENO,
+        &mut edits,
+        &mut constraints,
+        &mut chunk,
+        &mut out,
+        true,
+    );
+}
+
+// Runs the log on standard input after the log that was kept in a file. Public for the programs.
+pub fn replay_after(path: &[u8]) {
+    let kept = os::open_read(path);
+    if kept < 0 {
+        os::fail(b"opening failed");
+        return;
+    }
+    let mut edits = [[0u32; 5]; 1152];
+    let mut constraints = [[0u32; 3]; 4617];
+    let mut chunk = io::large_buffer();
+    let mut out = io::large_buffer();
+    continued(kept, &mut edits, &mut constraints, &mut chunk, &mut out);
+    libc::close(kept);
 }
