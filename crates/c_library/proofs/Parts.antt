@@ -6,7 +6,7 @@ use native.Mathlib.Omega.{arith}
 use lib.ListN.{length, length-append}
 use Rattle.text_lines.specs.Lines.{lines}
 use Rattle.stream.specs.Pieces.{lastEnd}
-use Rattle.stream.proofs.Pieces.{last-append, lines-append, lines-few}
+use Rattle.stream.proofs.Pieces.{last-append, lines-few}
 use Rattle.ledger.specs.Ledger.{start}
 use Rattle.ledger.specs.Bench.{benchOf}
 use Rattle.ledger.specs.declared.Bench.{Bench}
@@ -18,7 +18,8 @@ use Rattle.log_lent.specs.Kept.{Kept}
 use Rattle.log_session.specs.Desk.{Desk, emptyDesk}
 use Rattle.log_session.specs.calls.Lines.{Holds}
 use Rattle.log.specs.Log.{begun, runLines, logRun}
-use Rattle.log.proofs.Runs.{prefixed, run-count, run-after, run-parts, empty-holds}
+use Rattle.log.proofs.Runs.{prefixed, run-count, run-after, empty-holds}
+use Rattle.log.proofs.Kept.{kept-run}
 use Rattle.c_library.specs.Replies.{textsAfter, worked}
 
 -- the run of the lines of a log, in memory
@@ -51,7 +52,4 @@ kept-whole inner = last-append inner (10 ∷ []) ∙ sym (length-append inner (1
 
 pub kept-log : (inner log : List ℕ) → let kept = inner ++ (10 ∷ []) in
     logRun (kept ++ log) ≡ prefixed (logRun kept .printed) (runLines (begun (logRun kept .desk) (logRun kept .count)) (lines log))
-unfolding logRun
-kept-log inner log =
-    let kept = inner ++ (10 ∷ []) in
-    ap (runLines (begun emptyDesk 0)) (lines-append kept log (kept-whole inner)) ∙ run-parts (begun emptyDesk 0) (lines kept) (lines log) ∙ run-after (logRun kept) (lines log)
+kept-log inner log = let kept = inner ++ (10 ∷ []) in sym (kept-run kept log (kept-whole inner)) ∙ run-after (logRun kept) (lines log)
