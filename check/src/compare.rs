@@ -7,6 +7,7 @@ use crate::model::text;
 use std::io::{Read, Write};
 use std::path::PathBuf;
 use std::process::{Command, Stdio};
+use std::time::Duration;
 
 /// Another implementation of the same document.
 pub trait Other {
@@ -45,22 +46,37 @@ impl Other for Programs {
     }
 }
 
-/// What a program prints. A program that doesn't start or is ended by a signal
-/// says so in a line that no answer looks like.
+/// What a program prints.
 pub(crate) fn printed(path: &PathBuf, input: &[u8]) -> Vec<u8> {
-    run(path, input).unwrap_or_else(|error| format!("({}: {error})\n", path.display()).into_bytes())
+    printed_of_pieces(Command::new(path), &[input])
 }
 
-fn run(path: &PathBuf, input: &[u8]) -> std::io::Result<Vec<u8>> {
-    let mut child = Command::new(path).stdin(Stdio::piped()).stdout(Stdio::piped()).spawn()?;
+/// What a program prints of an input that comes in pieces. A program that doesn't
+/// start or is ended by a signal says so in a line that no answer looks like.
+pub(crate) fn printed_of_pieces(mut program: Command, pieces: &[&[u8]]) -> Vec<u8> {
+    run(&mut program, pieces).unwrap_or_else(|error| {
+        format!("({}: {error})\n", program.get_program().display()).into_bytes()
+    })
+}
+
+fn run(program: &mut Command, pieces: &[&[u8]]) -> std::io::Result<Vec<u8>> {
+    let mut child = program.stdin(Stdio::piped()).stdout(Stdio::piped()).spawn()?;
     let mut standard_input = child.stdin.take().expect("standard input is piped");
     let mut standard_output = child.stdout.take().expect("standard output is piped");
     let mut output = Vec::new();
     // A program may answer while it reads: both ends have to move at once.
     std::thread::scope(|scope| {
         scope.spawn(move || {
-            // A program that stops reading early breaks the pipe, as it may.
-            let _ = standard_input.write_all(input);
+            for (place, piece) in pieces.iter().enumerate() {
+                // So that the program reads what came so far by itself.
+                match place {
+                    0 => (),
+                    1 => std::thread::sleep(START),
+                    _ => std::thread::sleep(PAUSE),
+                }
+                // A program that stops reading early breaks the pipe, as it may.
+                let _ = standard_input.write_all(piece);
+            }
         });
         standard_output.read_to_end(&mut output)
     })?;
@@ -70,6 +86,10 @@ fn run(path: &PathBuf, input: &[u8]) -> std::io::Result<Vec<u8>> {
     }
     Ok(output)
 }
+
+/// After the first piece, in which a program starts, and after any other.
+const START: Duration = Duration::from_millis(2);
+const PAUSE: Duration = Duration::from_micros(100);
 
 /// Where two implementations part.
 #[derive(Debug, PartialEq, Eq)]

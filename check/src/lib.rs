@@ -9,6 +9,7 @@ pub mod library;
 pub mod log;
 pub mod mergeability;
 pub mod model;
+pub mod pipes;
 pub mod random;
 mod slices;
 mod table;

@@ -9,6 +9,7 @@ use check::compare::{
 use check::coverage::{Coverage, Parts};
 use check::library::{self, Library};
 use check::mergeability::{self, Counts, Finding, Voters};
+use check::pipes::{self, Input, Piped};
 use check::trial::Trial;
 use check::{log, model, random, unity};
 use std::fmt::Display;
@@ -19,6 +20,7 @@ use std::process::ExitCode;
 const USAGE: &str = "\
 usage: check [--seed N] [--logs N] [--calls N] [--replay PATH] [--shelf PATH]
        check [--seed N] [--logs N] [--calls N] --library
+       check [--seed N] [--logs N] [--calls N] --pipes --replay PATH --shelf PATH
        check [--seed N] [--logs N] --mergeability [--not-kept] [--library]
        check [--seed N] [--logs N] --mergeability [--not-kept] --replay PATH --shelf PATH
        check [--seed N] [--logs N] --tables [--library] [--unity PATH]
@@ -27,12 +29,14 @@ usage: check [--seed N] [--logs N] [--calls N] [--replay PATH] [--shelf PATH]
        check --answer | --answer-text | --answer-table
 
   --seed N       the first seed (1)
-  --logs N       how many logs and texts, one of each to a seed (1000), histories (500)
-                 or tables (2000)
+  --logs N       how many logs and texts, one of each to a seed (1000; 300 of --pipes),
+                 histories (500) or tables (2000)
   --calls N      about how many lines a log has (300)
   --replay PATH  a program to compare on logs
   --shelf PATH   a program to compare on texts
   --library      compare the library that this was built with
+  --pipes        compare the programs on input that comes in pieces, and on logs after
+                 a kept one
   --mergeability run histories of proposals and elections: all that is won has to
                  form one sound record
   --not-kept     with a planted fault, a voter that does not keep its old proposal:
@@ -49,14 +53,17 @@ usage: check [--seed N] [--logs N] [--calls N] [--replay PATH] [--shelf PATH]
 Without a program or the library only the model runs, and what occurred is counted.
 ";
 
-/// How many logs and texts, histories and tables, if it is not said.
+/// How many logs and texts, histories and tables, if it is not said. Of those in pieces
+/// each log and text is a process, which pauses between its pieces.
 const LOGS: u64 = 1000;
+const PIPED: u64 = 300;
 const HISTORIES: u64 = 500;
 const TABLES: u64 = 2000;
 
 #[derive(Clone, Copy, PartialEq, Eq)]
 enum Task {
     Compare,
+    Pipes,
     Mergeability,
     Tables,
     Dump,
@@ -101,6 +108,7 @@ impl Options {
                 "--shelf" => options.shelf = Some(words.next()?.into()),
                 "--unity" => options.unity = Some(words.next()?.into()),
                 "--library" => options.library = true,
+                "--pipes" => options.task = Task::Pipes,
                 "--mergeability" => options.task = Task::Mergeability,
                 "--not-kept" => options.voters = Voters::OneDoesNotKeep,
                 "--tables" => options.task = Task::Tables,
@@ -116,14 +124,16 @@ impl Options {
         options.fit_together().then_some(options)
     }
 
-    /// On logs and texts the library goes without programs, and histories go with
-    /// both or none. Tables have a program of their own, which goes with the library.
+    /// On logs and texts the library goes without programs, pieces go with both of
+    /// them, and histories with both or none. Tables have a program of their own,
+    /// which goes with the library.
     fn fit_together(&self) -> bool {
         let programs = [&self.replay, &self.shelf].into_iter().flatten().count();
         match self.task {
             _ if self.library && programs > 0 => false,
             _ if self.unity.is_some() && self.task != Task::Tables => false,
             Task::Mergeability => programs != 1,
+            Task::Pipes => programs == 2 && self.voters == Voters::Keep,
             Task::Tables => programs == 0 && self.voters == Voters::Keep,
             _ => self.voters == Voters::Keep,
         }
@@ -143,6 +153,7 @@ fn main() -> ExitCode {
     match options.task {
         Task::Compare if options.library => compare_library(&options),
         Task::Compare => compare(&options),
+        Task::Pipes => compare_pipes(&options),
         Task::Mergeability => run_histories(&options),
         Task::Tables => compare_tables(&options),
         Task::Dump => print(&random::log(options.seed, options.calls)),
@@ -210,6 +221,40 @@ fn compare_library(options: &Options) -> ExitCode {
             && same_trials(&log_of(seed), &log, Trial::of_log(seed), library, coverage)
             && same_trials(&text_of(seed), &text, Trial::of_text(seed), library, coverage)
     })
+}
+
+/// Compares the programs on the log and the text of each seed in pieces, until there
+/// is a difference.
+fn compare_pipes(options: &Options) -> ExitCode {
+    let mut programs = Programs {
+        replay: options.replay.clone().unwrap_or_default(),
+        shelf: options.shelf.clone().unwrap_or_default(),
+    };
+    let mut counts = pipes::Counts::default();
+    let is_same = |seed: u64| {
+        let (log, text) = (Input::log(seed, options.calls), Input::text(seed));
+        counts.count_log(&log);
+        counts.count_text(&text);
+        let answers = Piped::replay(&mut programs, log.kept.as_deref(), &log.pieces());
+        let report = Piped::shelf(&mut programs, &text.pieces());
+        same_pieces(&log_of(seed), &log, &log.answers(), &answers)
+            && same_pieces(&text_of(seed), &text, &text.report(), &report)
+    };
+    match options.seeds(PIPED).all(is_same) {
+        true => show_counts(&counts, counts.missing()),
+        false => ExitCode::FAILURE,
+    }
+}
+
+/// What is the case of a difference is told: where it is cut, and what was kept.
+fn same_pieces(what: &str, input: &Input, model: &[u8], other: &[u8]) -> bool {
+    let difference = difference(model, other);
+    if let Some(difference) = &difference {
+        show(&format!("{what}, cut after {:?} bytes", input.cuts), difference);
+        show_lines("the kept log", input.kept.as_deref().unwrap_or_default());
+        show_lines("the input", &input.bytes);
+    }
+    difference.is_none()
 }
 
 /// Asks of each seed whether all is the same, until one says no.
@@ -388,6 +433,14 @@ mod tests {
         assert!(task("--library --replay path").is_none());
         assert!(task("--shelf path --library").is_none());
         assert!(task("--shelf path") == Some(Task::Compare));
+    }
+
+    #[test]
+    fn pieces_need_both_programs() {
+        assert!(task("--pipes --replay path --shelf path") == Some(Task::Pipes));
+        assert!(task("--pipes --replay path").is_none());
+        assert!(task("--pipes").is_none());
+        assert!(task("--pipes --library").is_none());
     }
 
     #[test]

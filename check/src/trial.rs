@@ -187,7 +187,7 @@ fn rewritten(text: &[u8]) -> Result<Vec<u8>, Fault> {
 
 /// The log in two halves. One of even size is parted between two lines, another one
 /// at any byte, and then its first half may lack its end.
-fn halves(log: &[u8]) -> (&[u8], &[u8]) {
+pub(crate) fn halves(log: &[u8]) -> (&[u8], &[u8]) {
     let half = log.len() / 2;
     if !log.len().is_multiple_of(2) {
         return log.split_at(half);
