@@ -51,8 +51,9 @@ struct catalogue_reply catalogue_rewrite(const uint8_t *text, size_t text_size, 
  * only the run tells, so on 12 lend more and call again. */
 struct catalogue_reply catalogue_replay(const uint8_t *log, size_t log_size, uint8_t *work, size_t work_size, uint8_t *out, size_t out_size);
 
-/* A bench between calls is kept by its log: the answers to the lines of `log` alone, on the bench that the lines of `kept` made. To go on,
- * append `log` to what was kept. `kept` ends with the end of a line, or is empty; where it does not, its last line counts as a line of its own.
+/* A bench between calls is kept by its log: the answers to the lines of `log` alone, on the bench that the lines of `kept` made (what the program
+ * `replay` prints for `log` with `kept` as its file). To go on, append `log` to what was kept. `kept` ends with the end of a line, or is empty;
+ * where it does not, its last line counts as a line of its own.
  * `work` needs room for the answers to `log` alone. It costs what running `kept` costs: from 0.1 microseconds a line (turns in a row) to 10
  * (adds on a bench at the limits). */
 struct catalogue_reply catalogue_continue(const uint8_t *kept, size_t kept_size, const uint8_t *log, size_t log_size, uint8_t *work,
