@@ -7,8 +7,6 @@ use Rattle.text_forms.specs.decimal.Decimal.{decimal}
 use Rattle.text_forms.specs.Spelling.{bytes}
 use Rattle.ledger.specs.Ledger.{Call as LedgerCall, hide, turn, adopt, start, last, fed, step}
 use Rattle.ledger.proofs.Undone.{fed-more}
-use Rattle.log_commands.specs.declared.Lend.{Lend as Lends}
-use Rattle.log_commands.specs.declared.Lend.the-variants.{EditRow, ConstraintRow, NoRows, BenchRows, RollRow, NoRoll, RowName, NoRow}
 use Rattle.log_commands.specs.declared.Call.{Call as Calls}
 use Rattle.log_commands.specs.declared.Call.the-variants.{Hide, Turn, Adopt}
 use Rattle.log_commands.specs.declared.Command.{Command}
@@ -17,11 +15,11 @@ use Rattle.log_commands.specs.Grammar.{commandRead}
 use Rattle.log_commands.proofs.Lines.{hide-line, adopt-line, turn-back-line}
 use Rattle.log_lent.specs.lent_calls.Calls.{proposalsOf}
 use Rattle.log_session.specs.Desk.{Desk, Request, make, ledgerOf, requested}
-use Rattle.log_session.specs.Lends.{lendEffect}
 use Rattle.log_session.specs.Requests.{requestOf}
-use Rattle.log_session.specs.calls.Lines.{callText, callEffect}
+use Rattle.log_session.specs.calls.Lines.{callKind, callText, callEffect}
 use Rattle.log_session.specs.votes.Votes.{proposalEffect}
 use Rattle.log_session.specs.questions.Questions.{askEffect}
+use Rattle.log_session.proofs.calls.Telling.{lend-calls}
 use Rattle.log.specs.Effects.{effect}
 use Rattle.log.specs.Log.{Run, runLine}
 use Rattle.log.proofs.Performed.{same-desk}
@@ -32,7 +30,7 @@ pub call-runs : (r : Run) (line : List ℕ) (call : Calls) (made : LedgerCall) �
 unfolding runLine effect callEffect requested ledgerOf
 call-runs r line call made e q =
     ap (λ (command : Command). ledgerOf (effect (r .desk) command .after)) e
-    ∙ (ap (λ (asked : Request). ledgerOf (requested (r .desk) (λ a L. callText call a (L .opened) (last L)) asked .after)) q ∙ fed-more start (r .desk .calls) made)
+    ∙ (ap (λ (asked : Request). ledgerOf (requested (r .desk) (λ a L. callText (callKind call) a (L .opened) (last L)) asked .after)) q ∙ fed-more start (r .desk .calls) made)
 
 pub hide-runs : (r : Run) (n : ℕ) → n < 4294967296
     → ledgerOf (runLine r (bytes "do=hide edit=" ++ (decimal n ++ bytes "\n")) .desk) ≡ step (ledgerOf (r .desk)) (hide n) .after
@@ -51,17 +49,6 @@ pub turn-back-runs : (r : Run) (n : ℕ) → n ≤ 2147483648
     → ledgerOf (runLine r (bytes "do=turn pages=-" ++ (decimal n ++ bytes "\n")) .desk) ≡ step (ledgerOf (r .desk)) (turn (negℤ (pos n))) .after
 unfolding requestOf
 turn-back-runs r n h = call-runs r (bytes "do=turn pages=-" ++ (decimal n ++ bytes "\n")) (Turn (negℤ (pos n))) (turn (negℤ (pos n))) (turn-back-line n h) refl
-
-lend-calls : (D : Desk) (lend : Lends) → lendEffect D lend .after .calls ≡ D .calls
-unfolding lendEffect
-lend-calls D (EditRow k cells) = refl
-lend-calls D (ConstraintRow k cells) = refl
-lend-calls D (NoRows k) = refl
-lend-calls D (BenchRows k) = refl
-lend-calls D (RollRow seat weight) = refl
-lend-calls D NoRoll = refl
-lend-calls D (RowName name) = refl
-lend-calls D NoRow = refl
 
 other-calls : (D : Desk) (command : Command) → ((call : Calls) → command ≡ Call call → ⊥) → effect D command .after .calls ≡ D .calls
 unfolding effect proposalEffect askEffect

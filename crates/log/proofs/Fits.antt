@@ -23,7 +23,7 @@ use Rattle.log_commands.specs.declared.Command.{Command}
 use Rattle.log_commands.specs.declared.Command.the-variants.{Refused, Lend, Propose, Call, Vote, Ask}
 use Rattle.log_session.specs.Desk.{Desk, printedOf}
 use Rattle.log_session.specs.Bounded.{answerLimit, Bounded}
-use Rattle.log_session.specs.calls.Lines.{callText, callEffect}
+use Rattle.log_session.specs.calls.Lines.{callKind, callText, callEffect}
 use Rattle.log_session.specs.questions.Questions.{askEffect}
 use Rattle.log_session.proofs.Bounds.{CallLineFits, LendLineFits, call-bounded, lend-bounded, proposal-bounded}
 use Rattle.log_session.proofs.Lengths.{ask-size, call-size, proposal-size, vote-size, lend-size, refusal-size}
@@ -82,85 +82,7 @@ back-fits n = by (ltb n 2147483649) (λ (e : ltb n 2147483649 ≡ true). rw e tt
 -- one line for each production, in the order of the grammar
 forms-fit : AllFit commandForms
 unfolding commandForms
-forms-fit = (
-  λ n h. h 5,
-  (
-    λ n h. tt,
-    (
-      λ n h. tt,
-      (
-        λ n h. tt,
-        (
-          λ n h. tt,
-          (
-            λ n h. tt,
-            (
-              λ n h. tt,
-              (
-                λ n h. tt,
-                (
-                  λ n h. tt,
-                  (
-                    λ n h. tt,
-                    (
-                      λ n h. tt,
-                      (
-                        λ n h. forward-fits (n 0),
-                        (
-                          λ n h. back-fits (n 0),
-                          (
-                            λ n h. tt,
-                            (
-                              λ n h. tt,
-                              (
-                                λ n h. tt,
-                                (
-                                  λ n h. tt,
-                                  (
-                                    λ n h. tt,
-                                    (
-                                      λ n h. tt,
-                                      (
-                                        λ n h. tt,
-                                        (
-                                          λ n h. tt,
-                                          (
-                                            λ n h. tt,
-                                            (
-                                              λ n h. tt,
-                                              (
-                                                λ n h. tt,
-                                                (
-                                                  λ n h. tt,
-                                                  (
-                                                    λ n h. tt,
-                                                    tt,
-                                                  ),
-                                                ),
-                                              ),
-                                            ),
-                                          ),
-                                        ),
-                                      ),
-                                    ),
-                                  ),
-                                ),
-                              ),
-                            ),
-                          ),
-                        ),
-                      ),
-                    ),
-                  ),
-                ),
-              ),
-            ),
-          ),
-        ),
-      ),
-    ),
-  ),
-)
+forms-fit = (λ n h. h 5, (λ n h. tt, (λ n h. tt, (λ n h. tt, (λ n h. tt, (λ n h. tt, (λ n h. tt, (λ n h. tt, (λ n h. tt, (λ n h. tt, (λ n h. tt, (λ n h. forward-fits (n 0), (λ n h. back-fits (n 0), (λ n h. tt, (λ n h. tt, (λ n h. tt, (λ n h. tt, (λ n h. tt, (λ n h. tt, (λ n h. tt, (λ n h. tt, (λ n h. tt, (λ n h. tt, (λ n h. tt, (λ n h. tt, (λ n h. tt, (λ n h. tt, tt)))))))))))))))))))))))))))
 
 -- the lines of the exchanged text
 added-fit : AllFit (map addForm shapes)
@@ -238,7 +160,7 @@ unfolding effect callEffect askEffect
 after-bounded D B (Refused number) c = B
 after-bounded D B (Lend lend) c = lend-bounded D B lend c
 after-bounded D B (Propose asked) c = proposal-bounded D B asked
-after-bounded D B (Call call) c = call-bounded D B (λ a L. callText call a (L .opened) (last L)) call c
+after-bounded D B (Call call) c = call-bounded D B (λ a L. callText (callKind call) a (L .opened) (last L)) call c
 after-bounded D B (Vote vote) c = rw (same-desk D vote) B
 after-bounded D B (Ask ask) c = B
 

@@ -6,6 +6,8 @@ use Prim.Native.Nat.{ℕ}
 use lib.Dec.{eqb}
 use Rattle.record_rows.specs.ground.Ground.{Rows}
 use Rattle.text_report.specs.Report.{refusalLine}
+use Rattle.pages_turner.specs.declared.Turner.{Turner}
+use Rattle.ledger.specs.declared.Answer.{Answer}
 use Rattle.ledger.specs.declared.Bench.{Bench}
 use Rattle.ledger.specs.declared.Outcome.{Outcome}
 use Rattle.log_forms.specs.Printed.{Printed}
@@ -22,7 +24,8 @@ use Rattle.log_lent.specs.Kept.{Kept}
 use Rattle.log_session.specs.Desk.{Desk, Effect, ledgerOf, benchIn, replied, printedOf}
 use Rattle.log_session.specs.Lends.{lendEffect}
 use Rattle.log_session.specs.Requests.{requestOf}
-use Rattle.log_session.specs.calls.Lines.{Holds, outcomeText}
+use Rattle.log_session.specs.declared.calls.Kind.{Kind}
+use Rattle.log_session.specs.calls.Lines.{Holds, callKind, outcomeText}
 use Rattle.log_session.specs.votes.Votes.{proposalEffect, voteEffect}
 use Rattle.log_session.specs.questions.Questions.{askText, askEffect}
 use Rattle.log_session.proofs.calls.Telling.{call-held, call-printed}
@@ -76,7 +79,12 @@ module _ (D : Desk) (line : ℕ) {bench : Bench} {lending : Lending} {edits cons
 -- a call: its answer is printed with the open and last page of the bench after it
 pub call-performed : (D : Desk) (line : ℕ) {command : Command} (call : Calls) → command ≡ Call call
     → {bench : Bench} {lending : Lending} {edits constraints : Rows} {before after : List ℕ} {at end : ℕ} (r : Outcome)
-    → r ≡ replied D (requestOf D call) → Printed (outcomeText call (r .answer) (r .bench .turner) line) before at after end → Holds D bench lending edits constraints
+    → r ≡ replied D (requestOf D call) → Printed (outcomeText (callKind call) (r .answer) (r .bench .turner) line) before at after end → Holds D bench lending edits constraints
     → Performed line (r .bench) lending edits constraints before at after end (effect D command)
 unfolding effect
 call-performed D line call e r q p h = performed-as D line e (call-held D call line r q (h .kept), call-printed D call line r q p)
+
+-- what an outcome prints, of the kind that its call is
+pub kind-printed : (call : Calls) (a : Answer) (turner : Turner) {kind : Kind} → kind ≡ callKind call → (line : ℕ) {before after : List ℕ} {at end : ℕ}
+    → Printed (outcomeText kind a turner line) before at after end → Printed (outcomeText (callKind call) a turner line) before at after end
+kind-printed call a turner e line p = rw e at p

@@ -4,7 +4,9 @@ use mathlib.Core.List.{List, [], _∷_, _++_}
 use Prim.Native.Nat.{ℕ, suc}
 use lib.Dec.{eqb}
 use Rattle.text_lines.specs.Lines.{lines}
+use Rattle.ledger.specs.declared.Outcome.{Outcome}
 use Rattle.ledger.specs.Ledger.{Ledger, Call, judge, step}
+use Rattle.ledger.specs.Bench.{outcome}
 use Rattle.log_forms.specs.Printed.{Texts}
 use Rattle.log_commands.specs.Grammar.{commandRead}
 use Rattle.log_session.specs.Desk.{Desk, emptyDesk, printedOf}
@@ -38,3 +40,8 @@ logRun log = runLines (begun emptyDesk 0) (lines log)
 unfoldable pub accepted : Ledger → List Call → List Call
 accepted L [] = []
 accepted L (call ∷ rest) = cond (eqb (judge L call) 0) (call ∷ accepted (step L call .after) rest) (accepted L rest)
+
+-- what calls come to, one after the other
+unfoldable pub outcomes : Ledger → List Call → List Outcome
+outcomes L [] = []
+outcomes L (call ∷ rest) = outcome (step L call) ∷ outcomes (step L call .after) rest

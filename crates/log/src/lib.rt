@@ -2,127 +2,97 @@
 use ledger::Bench;
 use log_answers::bench_answers;
 use log_commands::Ask;
-use log_commands::Call;
 use log_commands::Command;
 use log_commands::Vote;
 use log_lent::Lending;
 use log_session::calls;
+use log_session::calls::Kind;
 use log_session::questions;
 use log_session::votes;
 use pages_turner::Turner;
 use pages_turner::turning;
 ghost use mathlib.Core.Path.{_≡_};
-ghost use mathlib.Core.Bool.{true, cond, _||_};
-ghost use mathlib.Core.List.{List, [], _∷_};
+ghost use mathlib.Core.Bool.{true, false};
+ghost use mathlib.Core.List.{List};
 ghost use Prim.Native.Nat.{ℕ, suc, _+_, _<_, _≤_};
-ghost use lib.Dec.{eqb};
 ghost use lib.ListN.{length, drop};
 ghost use Rattle.text_lines.specs.Lines.{lines, firstLine};
-ghost use Rattle.text_report.specs.Report.{refusalLine};
 ghost use Rattle.record_rows.specs.ground.Ground.{Rows};
 ghost use Rattle.ledger.specs.declared.Bench.{Bench};
 ghost use Rattle.bench.specs.Changes.{openAt};
 ghost use Rattle.log_forms.specs.Printed.{Printed};
+ghost use Rattle.log_commands.specs.declared.Command.{Command};
 ghost use Rattle.log_commands.specs.Grammar.{commandRead};
 ghost use Rattle.log_lent.specs.declared.Lending.{Lending};
 ghost use Rattle.log_session.specs.Desk.{Desk, printedOf};
 ghost use Rattle.log_session.specs.calls.Lines.{Holds};
 ghost use Rattle.log_session.specs.votes.Votes.{voteEffect};
-ghost use Rattle.log.specs.Branches.{turnsPages, asksPage, isTurn, isPageQuestion, callMade, pagesTurned};
+ghost use Rattle.log.specs.Branches.{turnOf, questionOf, pagingOf, isTurn, isOther};
 ghost use Rattle.log.specs.Effects.{effect};
 ghost use Rattle.log.specs.Log.{begun, runLines};
 ghost use Rattle.log.specs.Running.{Running, Stops};
 
-fn turns_pages(call: Call) -> bool
-    ensures { λ r. ⌜ r ≡ turnsPages call ⌝ }
+// What the turner alone tells of a line: a turn by so many pages, the question for the open page, and of any other line nothing.
+enum PageLine {
+    Other,
+    Pages(i32),
+    Question,
+}
+
+fn turn_of(kind: Kind) -> PageLine
+    ensures { λ r. ⌜ r ≡ turnOf kind ⌝ }
 {
-    match call {
-        Call::AddEdit(_) => false,
-        Call::AddConstraint(_) => false,
-        Call::Merge(_) => false,
-        Call::Hide(_) => false,
-        Call::Show(_) => false,
-        Call::Turn(_) => true,
-        Call::Adopt(_) => false,
+    match kind {
+        Kind::Change => PageLine::Other,
+        Kind::PageTurn(pages) => PageLine::Pages(pages),
+        Kind::Adoption => PageLine::Other,
     }
 }
 
-fn asks_page(ask: Ask) -> bool
-    ensures { λ r. ⌜ r ≡ asksPage ask ⌝ }
+fn question_of(ask: Ask) -> PageLine
+    ensures { λ r. ⌜ r ≡ questionOf ask ⌝ }
 {
     match ask {
-        Ask::Text => false,
-        Ask::Report => false,
-        Ask::Hidden => false,
-        Ask::Schedule => false,
-        Ask::Catalogue => false,
-        Ask::Journal => false,
-        Ask::Page => true,
+        Ask::Text => PageLine::Other,
+        Ask::Report => PageLine::Other,
+        Ask::Hidden => PageLine::Other,
+        Ask::Schedule => PageLine::Other,
+        Ask::Catalogue => PageLine::Other,
+        Ask::Journal => PageLine::Other,
+        Ask::Page => PageLine::Question,
     }
 }
 
-fn is_turn(command: Command) -> bool
-    ensures { λ r. ⌜ r ≡ isTurn command ⌝ }
+fn paging_of(command: Command) -> PageLine
+    ensures { λ r. ⌜ r ≡ pagingOf command ⌝ }
 {
     match command {
-        Command::Refused(_) => false,
-        Command::Lend(_) => false,
-        Command::Propose(_) => false,
-        Command::Call(call) => turns_pages(call),
-        Command::Vote(_) => false,
-        Command::Ask(_) => false,
+        Command::Refused(_) => PageLine::Other,
+        Command::Lend(_) => PageLine::Other,
+        Command::Propose(_) => PageLine::Other,
+        Command::Call(call) => turn_of(calls::kind_of(call)),
+        Command::Vote(_) => PageLine::Other,
+        Command::Ask(ask) => question_of(ask),
     }
 }
 
-fn is_page_question(command: Command) -> bool
-    ensures { λ r. ⌜ r ≡ isPageQuestion command ⌝ }
+fn is_turn(paging: PageLine) -> bool
+    ensures { λ r. ⌜ r ≡ isTurn paging ⌝ }
 {
-    match command {
-        Command::Refused(_) => false,
-        Command::Lend(_) => false,
-        Command::Propose(_) => false,
-        Command::Call(_) => false,
-        Command::Vote(_) => false,
-        Command::Ask(ask) => asks_page(ask),
+    match paging {
+        PageLine::Other => false,
+        PageLine::Pages(_) => true,
+        PageLine::Question => false,
     }
 }
 
-// Whether the turner alone tells what a line comes to.
-fn is_paging(command: Command) -> bool
-    ensures { λ r. ⌜ r ≡ (isTurn command || isPageQuestion command) ⌝ }
+fn is_other(paging: PageLine) -> bool
+    ensures { λ r. ⌜ r ≡ isOther paging ⌝ }
 {
-    if is_turn(command) {
-        return true;
-    }
-    is_page_question(command)
-}
-
-// The call that a line makes; a line that makes none gives one that stands in for it.
-fn call_made(command: Command) -> Call
-    ensures { λ r. ⌜ r ≡ callMade command ⌝ }
-{
-    match command {
-        Command::Refused(_) => Call::Hide(0),
-        Command::Lend(_) => Call::Hide(0),
-        Command::Propose(_) => Call::Hide(0),
-        Command::Call(call) => call,
-        Command::Vote(_) => Call::Hide(0),
-        Command::Ask(_) => Call::Hide(0),
-    }
-}
-
-// The pages that a call turns; 0 where it is no turn.
-fn pages_turned(call: Call) -> i32
-    ensures { λ r. ⌜ r ≡ pagesTurned call ⌝ }
-{
-    match call {
-        Call::AddEdit(_) => 0,
-        Call::AddConstraint(_) => 0,
-        Call::Merge(_) => 0,
-        Call::Hide(_) => 0,
-        Call::Show(_) => 0,
-        Call::Turn(pages) => pages,
-        Call::Adopt(_) => 0,
+    match paging {
+        PageLine::Other => true,
+        PageLine::Pages(_) => false,
+        PageLine::Question => false,
     }
 }
 
@@ -133,39 +103,37 @@ struct Paged {
 }
 
 // A line that turns pages or asks for the open page. The bench itself is not needed: what a row of turns comes to is opened once, after the last.
-fn run_page(turner: Turner, command: Command, line: usize, out: &mut [u8], at: usize) -> Paged
-    requires { ⌜ (isTurn command || isPageQuestion command) ≡ true ⌝ }
+fn run_page(turner: Turner, paging: PageLine, line: usize, out: &mut [u8], at: usize) -> Paged
     ensures { λ r. ⌜ (r .turner .last ≡ turner .last)
-        × ((D : Desk) (bench : Bench) (lending : Lending) (edits constraints : Rows) → Holds D bench lending edits constraints → bench .turner ≡ turner
+        × ((D : Desk) (command : Command) (bench : Bench) (lending : Lending) (edits constraints : Rows) → Holds D bench lending edits constraints → bench .turner ≡ turner
+        → pagingOf command ≡ paging → isOther paging ≡ false
         → Holds (effect D command .after) (openAt bench (r .turner .opened)) lending edits constraints
         × Printed (printedOf (effect D command) line) (now (out .entry)) at (now (out .exit)) (r .at)) ⌝ }
 {
-    if is_page_question(command) {
-        let place = bench_answers::print_page(&mut out[..], at, turner);
-        return Paged {
+    match paging {
+        PageLine::Other => Paged {
             turner: turner,
-            at: place,
-        };
+            at: at,
+        },
+        PageLine::Pages(pages) => {
+            let turning = turning::turned(turner, pages);
+            let after = turning.turner;
+            let answer = bench::plain_answer(turning.number as u32);
+            let kind = Kind::PageTurn(pages);
+            let place = calls::print_outcome(answer, after, kind, line, &mut out[..], at);
+            Paged {
+                turner: after,
+                at: place,
+            }
+        }
+        PageLine::Question => {
+            let place = bench_answers::print_page(&mut out[..], at, turner);
+            Paged {
+                turner: turner,
+                at: place,
+            }
+        }
     }
-    let call = call_made(command);
-    let turning = turning::turned(turner, pages_turned(call));
-    let after = turning.turner;
-    let answer = bench::plain_answer(turning.number as u32);
-    let place = calls::print_outcome(answer, after, call, line, &mut out[..], at);
-    Paged {
-        turner: after,
-        at: place,
-    }
-}
-
-// The refusal of a line that is not in form. Number 0 is no refusal.
-fn print_refused(number: u32, line: usize, out: &mut [u8], at: usize) -> usize
-    ensures { λ r. ⌜ Printed (cond (eqb number 0) [] (refusalLine number line ∷ [])) (now (out .entry)) at (now (out .exit)) r ⌝ }
-{
-    if number == 0 {
-        return at;
-    }
-    log_answers::print_refusal(number, line, &mut out[..], at)
 }
 
 // A line about votes that makes no proposal. The record is taken out here, so that no other line copies it.
@@ -223,7 +191,7 @@ fn run_turns(
     at: usize,
     limit: usize,
 ) -> Turns
-    requires { ⌜ (start < length (now log)) × (at ≤ limit) × (isTurn (commandRead (firstLine (drop start (now log)))) ≡ true) ⌝ }
+    requires { ⌜ (start < length (now log)) × (at ≤ limit) × (isTurn (pagingOf (commandRead (firstLine (drop start (now log))))) ≡ true) ⌝ }
     ensures { λ r. ⌜ (start < r .from) × (r .from ≤ length (now (log .entry)))
         × ((D : Desk) (first : ℕ) (before : List ℕ) (begin : ℕ) (bench : Bench) (lending : Lending) (edits constraints : Rows)
         → Running (now (log .entry)) D first before begin start bench lending edits constraints count (now (out .entry)) at limit → bench .turner ≡ turner
@@ -237,11 +205,12 @@ fn run_turns(
     while from < log.len() && place <= limit {
         let end = text_lines::line_end(log, from);
         let command = log_commands::read_command(&log[from..end]);
-        if !is_paging(command) {
+        let paging = paging_of(command);
+        if is_other(paging) {
             break;
         }
         n = next(n);
-        let paged = run_page(held, command, n, &mut out[..], place);
+        let paged = run_page(held, paging, n, &mut out[..], place);
         held = paged.turner;
         place = paged.at;
         from = end;
@@ -289,7 +258,7 @@ pub fn run_some(
     while from < log.len() && place <= limit {
         let end = text_lines::line_end(log, from);
         let command = log_commands::read_command(&log[from..end]);
-        if is_turn(command) {
+        if is_turn(paging_of(command)) {
             let turner = held.turner;
             let turns = run_turns(turner, log, from, n, &mut out[..], place, limit);
             let after = turns.turner;
@@ -303,7 +272,7 @@ pub fn run_some(
             from = end;
             match command {
                 Command::Refused(number) => {
-                    place = print_refused(number, n, &mut out[..], place);
+                    place = calls::print_refused(number, n, &mut out[..], place);
                 }
                 Command::Lend(lend) => {
                     let told = calls::run_lend(
@@ -343,7 +312,8 @@ pub fn run_some(
                     let answer = outcome.answer;
                     held = outcome.bench;
                     let turner = held.turner;
-                    place = calls::print_outcome(answer, turner, call, n, &mut out[..], place);
+                    let kind = calls::kind_of(call);
+                    place = calls::print_outcome(answer, turner, kind, n, &mut out[..], place);
                 }
                 Command::Vote(vote) => {
                     place = print_vote(

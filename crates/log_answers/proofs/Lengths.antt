@@ -183,11 +183,14 @@ module _ (R : Record) (k : SmallRecord R) where
       let m : length cs ≡ length (R .constraints) = length-map (map constraintRow (R .constraints)) constraintLine ∙ length-map (R .constraints) constraintRow in
       omega (arith, length-append (joinedLines es) (joinedLines cs), k .editplaces, k .constraintplaces)
 
+  pub stored-text-size : sizeOf (textOf (recordOf (stored R)) ∷ []) ≤ 34748
+  stored-text-size =
+      let t : sizeOf (textOf (recordOf (stored R)) ∷ []) ≡ length (textOf R) = size-one (textOf (recordOf (stored R))) ∙ ap (λ (S : Record). length (textOf S)) (stored-back R) in
+      omega (arith, text-size)
+
   -- the text after a head
   pub stored-size : (form ns : List ℕ) → AllSmall ns → leb (room form) 60 ≡ true → sizeOf ((fill form ns ∷ []) ++ (textOf (recordOf (stored R)) ∷ [])) ≤ 34808
-  stored-size form ns s h =
-      let t : sizeOf (textOf (recordOf (stored R)) ∷ []) ≡ length (textOf R) = size-one (textOf (recordOf (stored R))) ∙ ap (λ (S : Record). length (textOf S)) (stored-back R) in
-      omega (arith, head-size form ns 34748 (textOf (recordOf (stored R)) ∷ []) s h (omega (arith, text-size)))
+  stored-size form ns s h = omega (arith, head-size form ns 34748 (textOf (recordOf (stored R)) ∷ []) s h stored-text-size)
 
   pub record-size : sizeOf (recordText (stored R)) ≤ 34808
   unfolding recordText countsForm room bytes isMark

@@ -49,7 +49,7 @@ use Rattle.log_session.specs.Bounded.{Bounded}
 use Rattle.log_session.specs.Lends.{lendEffect, editCellsRow}
 use Rattle.log_session.specs.Requests.{requestOf}
 use Rattle.log_session.specs.votes.Votes.{proposalEffect}
-use Rattle.log_session.proofs.calls.Telling.{same-calls}
+use Rattle.log_session.proofs.calls.Telling.{lend-calls}
 
 -- edits, rows and seats whose numbers fit
 abbrev pub EditFits : Edit → Type 0
@@ -112,10 +112,10 @@ winner-fits l (b ∷ m) f =
     (λ (e : ltb (total l) (2 * group l (b .vote)) ≡ true). rw e (f b (inl refl)))
     (λ (e : ltb (total l) (2 * group l (b .vote)) ≡ false). rw e (winner-fits l m (λ x w. f x (inr w))))
 
-abbrev ProposalsFit : Proposals → Type 0
+abbrev pub ProposalsFit : Proposals → Type 0
 ProposalsFit P = (i : ℕ) → Each RowFits (getD (P .edits) i [])
 
-held-fits : (P : Proposals) → ProposalsFit P → (k : ℕ) → Each EditFits (held P k .edits)
+pub held-fits : (P : Proposals) → ProposalsFit P → (k : ℕ) → Each EditFits (held P k .edits)
 unfolding held
 held-fits P f k = decoded-fits (getD (P .edits) (k - 1) []) (f (k - 1))
 
@@ -177,7 +177,7 @@ CallLineFits (Show edit) = Unit
 CallLineFits (Turn pages) = Unit
 CallLineFits (Adopt edit) = Unit
 
-proposals-fit : (D : Desk) → Bounded D → ProposalsFit (proposalsOf (D .lent))
+pub proposals-fit : (D : Desk) → Bounded D → ProposalsFit (proposalsOf (D .lent))
 proposals-fit D B i = each-at (Each RowFits) (map (D .lent .edits) benches) i [] (λ rows m. has-mapped (D .lent .edits) rows benches m (λ k n q. rw q (B .lent k))) (λ x m. absurd m)
 
 pub request-fits : (D : Desk) → Bounded D → (call : Calls) → CallLineFits call → RequestFits (requestOf D call)
@@ -267,7 +267,7 @@ unfolding ledgerOf
 lent-bounded D E B e F = record { values = rw e (B .values); lent = F .lent; weights = F .weights }
 
 pub lend-bounded : (D : Desk) → Bounded D → (lend : Lends) → LendLineFits lend → Bounded (lendEffect D lend .after)
-lend-bounded D B lend v = lent-bounded D (lendEffect D lend .after) B (same-calls D lend) (lends-fit D B lend v)
+lend-bounded D B lend v = lent-bounded D (lendEffect D lend .after) B (lend-calls D lend) (lends-fit D B lend v)
 
 -- a new proposal
 pub new-proposal-fits : (t : proposal.LentToPropose) → Each RowFits (t .edits) → Each RowFits (t .oldedits) → Each EditFits (newProposal t .edits)

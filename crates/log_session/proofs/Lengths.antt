@@ -12,31 +12,36 @@ use lib.ListN.{length, take, replicate, length-map, length-take}
 use lib.Seq.{take-length}
 use Rattle.lists.specs.Lists.{mem}
 use Rattle.lists.proofs.Lists.{by, and-l, and-r}
-use Rattle.lists.proofs.Logic.{has-mapped, filter-from}
+use Rattle.lists.proofs.Logic.{all-has, has-mapped, filter-from}
 use Rattle.lists.proofs.Front.{filter-length}
 use Rattle.record.specs.declared.Edit.{Edit}
+use Rattle.record.specs.declared.Record as declared
 use Rattle.record.specs.Record.{Record}
 use Rattle.record.specs.Stored.{padded, fillerEdit, recordOf, stored, editNamed}
+use Rattle.record.specs.Judgement.{must, never}
 use Rattle.record.proofs.Padded.{take-padded}
 use Rattle.record_rows.specs.row.Row.{Row, cell, nameCell, editInRange, editRow}
 use Rattle.record_rows.specs.ground.Ground.{Rows}
 use Rattle.record_rows.proofs.ground.Grounds.{orelse-none}
-use Rattle.record_rows.proofs.row.Cells.{edit-bounds}
+use Rattle.record_rows.proofs.row.Cells.{name-small, edit-bounds}
 use Rattle.record_tables.specs.Table.{emptyTables, decoded, lentFault}
 use Rattle.record_tables.specs.Checked.{Checked}
 use Rattle.record_tables.proofs.Tables.{stored-back}
 use Rattle.record_tables.proofs.Records.{joined-checked, lent-checked}
 use Rattle.catalogue.specs.Chips.{rows, chipsView, scheduleOf}
 use Rattle.text_forms.specs.Spelling.{bytes}
-use Rattle.text_forms.specs.Form.{isMark}
+use Rattle.text_forms.specs.Form.{isMark, fill}
 use Rattle.text_forms.proofs.Forms.{room}
 use Rattle.text_lines.specs.Line.{constraintLine}
 use Rattle.text_report.specs.Report.{reportOf}
 use Rattle.text_report.proofs.Size.{report-size}
 use Rattle.voting.specs.declared.Election.{Election}
+use Rattle.voting.specs.declared.RollRow.{RollRow}
 use Rattle.voting.specs.Bundle.{members, between, bundle}
 use Rattle.voting.specs.Tally.{winner, counted}
-use Rattle.voting_roll.specs.Election.{electionFault, cast, electionOf}
+use Rattle.voting_roll.specs.Roll.{isBench}
+use Rattle.voting_roll.specs.Election.{Proposals, held, electionFault, cast, electionOf}
+use Rattle.voting_count.specs.Count.{countOf}
 use Rattle.voting_bundles.specs.declared.BundleAnswer.{BundleAnswer}
 use Rattle.voting_bundles.specs.Bundles.{lentBundleFault, bundleAnswer}
 use Rattle.voting_proposals.specs.Propose as proposal
@@ -53,9 +58,9 @@ use Rattle.ledger.specs.Bench.{pageEdits, openEdits, benchOf}
 use Rattle.ledger.proofs.Valid.{Valid, step-valid}
 use Rattle.bench.proofs.Pages.{last-room}
 use Rattle.log_forms.specs.Printed.{Texts}
-use Rattle.log_answers.specs.Answers.{answeredText, bit}
+use Rattle.log_answers.specs.Answers.{answeredText, bit, storedText}
 use Rattle.log_answers.specs.bench_answers.Asks.{hiddenText, scheduleText}
-use Rattle.log_answers.proofs.Lengths.{sizeOf, size-none, size-both, size-one, line-size, head-size, bit-small, answered-size, SmallEdit, rule-line-size, SmallRecord, checked-small, stored-size, record-size, hidden-size, schedule-size, catalogue-size, journal-size, page-size}
+use Rattle.log_answers.proofs.Lengths.{sizeOf, size-none, size-both, size-one, line-size, head-size, bit-small, answered-size, SmallEdit, rule-line-size, SmallRecord, checked-small, stored-text-size, stored-size, record-size, hidden-size, schedule-size, catalogue-size, journal-size, page-size}
 use Rattle.log_answers.proofs.Small.{Each, each-take, each-filled, each-both, entries-small, entries-few, journal-small}
 use Rattle.log_commands.specs.declared.Ask.{Ask}
 use Rattle.log_commands.specs.declared.Ask.the-variants.{Text, Report, Hidden, Schedule, Catalogue, Journal, Page}
@@ -63,7 +68,7 @@ use Rattle.log_commands.specs.declared.Call.{Call as Calls}
 use Rattle.log_commands.specs.declared.Lend.{Lend as Lends}
 use Rattle.log_commands.specs.declared.Proposing.{Proposing}
 use Rattle.log_commands.specs.declared.Vote.{Vote}
-use Rattle.log_commands.specs.declared.Vote.the-variants.{Elect, Bundle, Suggest, Test}
+use Rattle.log_commands.specs.declared.Vote.the-variants.{Elect, Bundle, Suggest, Test, Winner}
 use Rattle.log_lent.specs.Lent.{isLent}
 use Rattle.log_lent.specs.lent_calls.Calls.{proposalsOf, bundleIn, rowIn, suggestFault, suggestedIn}
 use Rattle.log_lent.specs.lent_proposals.Made.{tablesOf, proposalOf, proposalIn}
@@ -71,13 +76,16 @@ use Rattle.log_session.specs.Desk.{Desk, Request, outside, make, ledgerO
 use Rattle.log_session.specs.Bounded.{answerLimit, Bounded}
 use Rattle.log_session.specs.Lends.{lendEffect}
 use Rattle.log_session.specs.Requests.{requestOf}
-use Rattle.log_session.specs.calls.Lines.{pagesText, adoptionText, isAdoption, callText, callEffect}
+use Rattle.log_session.specs.calls.Lines.{pagesText, adoptionText, callKind, callText, callEffect}
+use Rattle.log_session.specs.declared.calls.Kind.{Kind}
+use Rattle.log_session.specs.declared.calls.Kind.the-variants.{Change, PageTurn, Adoption}
 use Rattle.log_session.specs.questions.Questions.{askText}
-use Rattle.log_session.specs.votes.Votes.{electionLine, bundleText, ruleLine, suggestionText, testLine, proposalEffect, voteEffect}
+use Rattle.log_session.specs.votes.Votes.{electionLine, bundleText, ruleLine, suggestionText, testLine, wonText, winnerText, proposalEffect, voteEffect}
 use Rattle.log_session.proofs.Cases.{ledger-valid}
-use Rattle.log_session.proofs.calls.Telling.{no-text}
+use Rattle.log_session.proofs.calls.Telling.{lend-text}
 use Rattle.log_session.proofs.Numbers.{judge-small, propose-small, bundle-number-small, test-number-small, suggest-number-small, lend-number-small, SmallElection, counted-small, election-small}
-use Rattle.log_session.proofs.Bounds.{RowFits, decoded-fits, CallFits, RequestFits, CallLineFits, request-fits, new-proposal-fits}
+use Rattle.log_session.proofs.Bounds.{RowFits, SeatFits, decoded-fits, ProposalsFit, held-fits, CallFits, RequestFits, CallLineFits, proposals-fit, request-fits, new-proposal-fits}
+use Rattle.log_session.proofs.winners.Won.{winner-holds, vote-bundle, faultless, seat-checked, won-bundle}
 
 -- the edits of a desk
 filler-small : SmallEdit fillerEdit
@@ -186,16 +194,17 @@ step-small L v call c =
     (λ (e : eqb (judge L call) 0 ≡ true). rw e (act-small L v call c (eqb-true (judge L call) 0 e) (rw e at w)))
     (λ (e : eqb (judge L call) 0 ≡ false). rw e (plain-small (judge L call) (judge-small L call)))
 
-call-text-size : (call : Calls) (a : Answer) (opened last : ℕ) → SmallAnswer a → opened < 4294967296 → last < 4294967296 → sizeOf (callText call a opened last) ≤ 200
-unfolding callText pagesText adoptionText room bytes isMark
-call-text-size call a opened last s h i =
-    by (isAdoption call)
-    (λ (e : isAdoption call ≡ true).
-    rw e
-    (line-size (bytes "won=? greatest=# silent=# total=# undone=# redone=# open=# last=#\n") (bit (a .won) ∷ a .greatest ∷ a .silent ∷ a .total ∷ a .undone ∷ a .redone ∷ opened ∷ last ∷ []) 200
-    (bit-small (a .won), (s .greatest, (s .silent, (s .total, (s .undone, (s .redone, (h, (i, tt)))))))) refl))
-    (λ (e : isAdoption call ≡ false).
-    rw e (line-size (bytes "undone=# redone=# open=# last=#\n") (a .undone ∷ a .redone ∷ opened ∷ last ∷ []) 200 (s .undone, (s .redone, (h, (i, tt)))) refl))
+pages-size : (a : Answer) (opened last : ℕ) → SmallAnswer a → opened < 4294967296 → last < 4294967296 → sizeOf (pagesText a opened last) ≤ 200
+unfolding pagesText room bytes isMark
+pages-size a opened last s h i = line-size (bytes "undone=# redone=# open=# last=#\n") (a .undone ∷ a .redone ∷ opened ∷ last ∷ []) 200 (s .undone, (s .redone, (h, (i, tt)))) refl
+
+call-text-size : (kind : Kind) (a : Answer) (opened last : ℕ) → SmallAnswer a → opened < 4294967296 → last < 4294967296 → sizeOf (callText kind a opened last) ≤ 200
+unfolding callText adoptionText room bytes isMark
+call-text-size Change a opened last s h i = pages-size a opened last s h i
+call-text-size (PageTurn pages) a opened last s h i = pages-size a opened last s h i
+call-text-size Adoption a opened last s h i =
+    line-size (bytes "won=? greatest=# silent=# total=# undone=# redone=# open=# last=#\n") (bit (a .won) ∷ a .greatest ∷ a .silent ∷ a .total ∷ a .undone ∷ a .redone ∷ opened ∷ last ∷ []) 200
+    (bit-small (a .won), (s .greatest, (s .silent, (s .total, (s .undone, (s .redone, (h, (i, tt)))))))) refl
 
 -- a refusal, or texts that are short
 answer-size : (number line : ℕ) (texts : Texts) → number ≤ 14 → line < 2 ^ 64 → (number ≡ 0 → sizeOf texts ≤ answerLimit) → sizeOf (answeredText number texts line) ≤ answerLimit
@@ -206,7 +215,7 @@ outside-size : (line : ℕ) → line < 2 ^ 64 → sizeOf (answeredText 2 [] line
 outside-size line l = answer-size 2 line [] (omega arith) l (λ z. omega (arith, size-none))
 
 module _ (D : Desk) (B : Bounded D) (line : ℕ) (l : line < 2 ^ 64) where
-  requested-size : (call : Calls) (q : Request) → RequestFits q → sizeOf (printedOf (requested D (λ a L. callText call a (L .opened) (last L)) q) line) ≤ answerLimit
+  requested-size : (call : Calls) (q : Request) → RequestFits q → sizeOf (printedOf (requested D (λ a L. callText (callKind call) a (L .opened) (last L)) q) line) ≤ answerLimit
   unfolding requested printedOf
   requested-size call outside c = outside-size line l
   requested-size call (make made) c =
@@ -214,8 +223,8 @@ module _ (D : Desk) (B : Bounded D) (line : ℕ) (l : line < 2 ^ 64) where
       let s = step-small (ledgerOf D) (ledger-valid D) made c in
       let v = step-valid (ledgerOf D) made (ledger-valid D) in
       let h : last (r .after) < 4294967296 = omega (arith, last-room (r .after) v) in
-      answered-size (r .answer .number) line answerLimit (callText call (r .answer) (r .after .opened) (last (r .after))) (s .number) l (omega arith)
-      (λ z. omega (arith, call-text-size call (r .answer) (r .after .opened) (last (r .after)) s (omega (arith, v .opened-within)) h))
+      answered-size (r .answer .number) line answerLimit (callText (callKind call) (r .answer) (r .after .opened) (last (r .after))) (s .number) l (omega arith)
+      (λ z. omega (arith, call-text-size (callKind call) (r .answer) (r .after .opened) (last (r .after)) s (omega (arith, v .opened-within)) h))
 
   -- A CALL
   pub call-size : (call : Calls) → CallLineFits call → sizeOf (printedOf (callEffect D call) line) ≤ answerLimit
@@ -312,16 +321,60 @@ tested-size : (a : RowAnswer) → sizeOf (testLine a) ≤ answerLimit
 unfolding testLine room bytes isMark
 tested-size a = line-size (bytes "sound=?\n") (bit (a .sound) ∷ []) answerLimit (bit-small (a .sound), tt) refl
 
+election-line-size : (E : Election) → SmallElection E → sizeOf (electionLine E) ≤ 100
+unfolding electionLine room bytes isMark
+election-line-size E s =
+    line-size (bytes "won=? greatest=# silent=# total=#\n") (bit (E .won) ∷ E .greatest ∷ E .silent ∷ E .total ∷ []) 100 (bit-small (E .won), (s .greatest, (s .silent, (s .total, tt)))) refl
+
+-- what an election has won
+winner-small : (e : ℕ) (P : Proposals) (roll : List RollRow) → ProposalsFit P → electionFault e P roll ≡ 0 → (B : Record) → winner (cast e P roll) ≡ some B → SmallRecord B
+unfolding winner cast
+winner-small e P roll f z =
+    winner-holds SmallRecord (cast e P roll) (held P) e roll
+    (λ row m B q.
+    let i = all-has isBench roll (faultless e P roll z .1) row m in
+    let k = bundle-small (held P (row .bench)) e (checked-small (held P (row .bench)) (seat-checked e P roll z row i) (held-fits P f (row .bench))) in
+    rw (vote-bundle (held P (row .bench)) e B q) at k)
+
+won-size : (edit : ℕ) (b : declared.Record) (R : Record) → SmallRecord R → b ≡ stored R → edit < 4294967296 → sizeOf (wonText edit b) ≤ 34848
+unfolding wonText room bytes isMark
+won-size edit b R k q h =
+    let ns = edit ∷ bit (must (recordOf (stored R)) edit) ∷ bit (never (recordOf (stored R)) edit) ∷ length (R .edits) ∷ length (R .constraints) ∷ [] in
+    let head = fill (bytes "edit=@ must=? never=? edits=# rules=#\n") ns ∷ [] in
+    let s = line-size (bytes "edit=@ must=? never=? edits=# rules=#\n") ns 100
+    (h, (bit-small (must (recordOf (stored R)) edit), (bit-small (never (recordOf (stored R)) edit), (omega (arith, k .editplaces), (omega (arith, k .constraintplaces), tt))))) refl in
+    let t = storedText (stored R) ∷ [] in
+    let n : sizeOf (head ++ t) ≤ 34848 = omega (arith, size-both head t, s, stored-text-size R k) in
+    rw q n
+
+won-rest-size : (edit : ℕ) (P : Proposals) (roll : List RollRow) → ProposalsFit P
+    → sizeOf (cond (countOf edit P roll .election .won) (wonText edit (countOf edit P roll .bundle)) []) ≤ 34848
+won-rest-size edit P roll f =
+    let c = countOf edit P roll in
+    by (c .election .won)
+    (λ (e : c .election .won ≡ true).
+    let W = won-bundle (λ B. SmallRecord B × (edit < 4294967296)) edit P roll
+    (λ z B q. let n = name-small edit (faultless edit P roll z .3) in (winner-small edit P roll f z B q, omega arith)) e in
+    rw e (won-size edit (c .bundle) (W .choice) (W .known .0) (W .holds) (W .known .1)))
+    (λ (e : c .election .won ≡ false). rw e (omega (arith, size-none)))
+
 module _ (line : ℕ) (l : line < 2 ^ 64) where
   -- A REFUSAL
   pub refusal-size : (number : ℕ) → number ≤ 14 → sizeOf (answeredText number [] line) ≤ answerLimit
   refusal-size number h = answer-size number line [] h l (λ z. omega (arith, size-none))
 
   elect-size : (E : Election) → SmallElection E → sizeOf (answeredText (E .number) (electionLine E) line) ≤ answerLimit
-  unfolding electionLine room bytes isMark
-  elect-size E s =
-      answered-size (E .number) line answerLimit (electionLine E) (s .number) l (omega arith)
-      (λ z. line-size (bytes "won=? greatest=# silent=# total=#\n") (bit (E .won) ∷ E .greatest ∷ E .silent ∷ E .total ∷ []) answerLimit (bit-small (E .won), (s .greatest, (s .silent, (s .total, tt)))) refl)
+  elect-size E s = answered-size (E .number) line answerLimit (electionLine E) (s .number) l (omega arith) (λ z. omega (arith, election-line-size E s))
+
+  winner-size : (edit : ℕ) (P : Proposals) (roll : List RollRow) → ProposalsFit P → Each SeatFits roll
+      → sizeOf (answeredText (countOf edit P roll .election .number) (winnerText edit (countOf edit P roll)) line) ≤ answerLimit
+  unfolding countOf winnerText
+  winner-size edit P roll f w =
+      let E = electionOf edit P roll in
+      let s = election-small edit P roll w in
+      let rest = cond (E .won) (wonText edit (countOf edit P roll .bundle)) [] in
+      answered-size (E .number) line answerLimit (electionLine E ++ rest) (s .number) l (omega arith)
+      (λ z. omega (arith, size-both (electionLine E) rest, election-line-size E s, won-rest-size edit P roll f))
 
   bundle-answer-size : (es cs : Rows) → Each RowFits es → (edit : ℕ) → sizeOf (answeredText (bundleAnswer es cs edit .number) (bundleText (bundleAnswer es cs edit)) line) ≤ answerLimit
   unfolding bundleAnswer
@@ -356,8 +409,9 @@ module _ (D : Desk) (B : Bounded D) (line : ℕ) (l : line < 2 ^ 64) where
       let k = suggestion-fits (ledgerOf D .multilog) (w .first) (w .second) (w .case) in
       answer-size (s .number) line (suggestionText s) (k .number) l (λ z. omega (arith, suggestion-size s k))
   vote-size (Test k) = test-size k
+  vote-size (Winner edit) = winner-size line l edit (proposalsOf (D .lent)) (D .lent .roll) (proposals-fit D B) (B .weights)
 
   -- A LINE THAT LENDS
   pub lend-size : (lend : Lends) → sizeOf (printedOf (lendEffect D lend) line) ≤ answerLimit
   unfolding printedOf
-  lend-size lend = answer-size (lendEffect D lend .number) line (lendEffect D lend .text) (lend-number-small D lend) l (λ z. rw (no-text D lend) (omega (arith, size-none)))
+  lend-size lend = answer-size (lendEffect D lend .number) line (lendEffect D lend .text) (lend-number-small D lend) l (λ z. rw (lend-text D lend) (omega (arith, size-none)))

@@ -15,10 +15,10 @@ ghost use Rattle.text_report.specs.Report.{refusalLine};
 ghost use Rattle.log_answers.specs.Answers.{bit};
 ghost use Rattle.log_session.specs.Desk.{Desk, printedOf};
 ghost use Rattle.log_session.specs.Lends.{lendEffect};
-ghost use Rattle.log_session.specs.calls.Lines.{Holds, pagesText, adoptionText, isAdoption, outcomeText};
+ghost use Rattle.log_session.specs.calls.Lines.{Holds, pagesText, adoptionText, callKind, outcomeText};
 
-// An accepted line that lends prints nothing.
-fn print_setting(number: u32, line: usize, out: &mut [u8], at: usize) -> usize
+// A refusal; number 0 is none and prints nothing.
+pub fn print_refused(number: u32, line: usize, out: &mut [u8], at: usize) -> usize
     ensures { λ r. ⌜ Printed (cond (eqb number 0) [] (refusalLine number line ∷ [])) (now (out .entry)) at (now (out .exit)) r ⌝ }
 {
     if number == 0 {
@@ -75,18 +75,24 @@ fn print_adoption(answer: Answer, turner: Turner, out: &mut [u8], at: usize) -> 
     )
 }
 
-// Whether a call is an adoption, whose answer has the election's too.
-fn is_adoption(call: Call) -> bool
-    ensures { λ r. ⌜ r ≡ isAdoption call ⌝ }
+// Calls by what they come to: a change of the record or of what is hidden; a turn by so many pages; an adoption, whose answer has the election's too.
+pub enum Kind {
+    Change,
+    PageTurn(i32),
+    Adoption,
+}
+
+pub fn kind_of(call: Call) -> Kind
+    ensures { λ r. ⌜ r ≡ callKind call ⌝ }
 {
     match call {
-        Call::AddEdit(_) => false,
-        Call::AddConstraint(_) => false,
-        Call::Merge(_) => false,
-        Call::Hide(_) => false,
-        Call::Show(_) => false,
-        Call::Turn(_) => false,
-        Call::Adopt(_) => true,
+        Call::AddEdit(_) => Kind::Change,
+        Call::AddConstraint(_) => Kind::Change,
+        Call::Merge(_) => Kind::Change,
+        Call::Hide(_) => Kind::Change,
+        Call::Show(_) => Kind::Change,
+        Call::Turn(pages) => Kind::PageTurn(pages),
+        Call::Adopt(_) => Kind::Adoption,
     }
 }
 
@@ -94,20 +100,21 @@ fn is_adoption(call: Call) -> bool
 pub fn print_outcome(
     answer: Answer,
     turner: Turner,
-    call: Call,
+    kind: Kind,
     line: usize,
     out: &mut [u8],
     at: usize,
 ) -> usize
-    ensures { λ r. ⌜ Printed (outcomeText call answer turner line) (now (out .entry)) at (now (out .exit)) r ⌝ }
+    ensures { λ r. ⌜ Printed (outcomeText kind answer turner line) (now (out .entry)) at (now (out .exit)) r ⌝ }
 {
     if answer.number != 0 {
         return log_answers::print_refusal(answer.number, line, &mut out[..], at);
     }
-    if is_adoption(call) {
-        return print_adoption(answer, turner, &mut out[..], at);
+    match kind {
+        Kind::Change => print_pages(answer, turner, &mut out[..], at),
+        Kind::PageTurn(_) => print_pages(answer, turner, &mut out[..], at),
+        Kind::Adoption => print_adoption(answer, turner, &mut out[..], at),
     }
-    print_pages(answer, turner, &mut out[..], at)
 }
 
 // A line that lends.
@@ -126,7 +133,7 @@ pub fn run_lend(
         × Printed (printedOf (lendEffect D lend) line) (now (out .entry)) at (now (out .exit)) (r .at)) ⌝ }
 {
     let setting = crate::lend_line(lending, &mut edits[..], &mut constraints[..], bench, lend);
-    let place = print_setting(setting.number, line, &mut out[..], at);
+    let place = print_refused(setting.number, line, &mut out[..], at);
     let lent = setting.lending;
     Told {
         lending: lent,

@@ -9,7 +9,7 @@ use Rattle.text_lines.proofs.Ends.{next-line}
 use Rattle.log_session.specs.Desk.{Desk}
 use Rattle.log_session.specs.calls.Lines.{Holds}
 use Rattle.log.specs.Running.{Running}
-use Rattle.log.proofs.Performed.{refusal-performed, lend-performed, proposal-performed, call-performed, vote-performed, ask-performed}
+use Rattle.log.proofs.Performed.{refusal-performed, lend-performed, proposal-performed, call-performed, kind-printed, vote-performed, ask-performed}
 use Rattle.log.proofs.Running.{running-start, running-few, running-next, stopped-above, stopped-end}
 use Rattle.log.proofs.Paging.{first-turn, opened-there}
 use Rattle.log.proofs.run_some.Statement.{statement}
@@ -39,8 +39,8 @@ part-read-command-end c = let x = next-line (c .before .before .before .before .
 
 run-turns-requires : tie.Need-run-turns-requires Inv-loop μ-loop
 run-turns-requires c κs =
-    let b = c .before .before .before .before .before .before in
-    (b .before .before .loop-test .taken, search needs, first-turn _ _ (b .line-end .ensures) _ (c .before .before .before .before .read-command .ensures) (c .before .before .before .is-turn .ensures) (c .before .before .if2 .taken))
+    let b = c .before .before .before .before .before .before .before in
+    (b .before .before .loop-test .taken, search needs, first-turn _ _ (b .line-end .ensures) _ (c .before .before .before .before .before .read-command .ensures) (c .before .before .before .before .paging-of .ensures) (c .before .before .before .is-turn .ensures) (c .before .before .if2 .taken))
 
 loop-less : tie.Need-loop-less Inv-loop μ-loop
 loop-less c = let t = c .before .before .before .before .run-turns .ensures in omega (arith, t .0, t .1)
@@ -48,7 +48,7 @@ loop-less c = let t = c .before .before .before .before .run-turns .ensures in o
 loop-again : tie.Need-loop-again Inv-loop μ-loop
 loop-again c =
     let t = c .before .before .before .before .run-turns .ensures in
-    let v = c .before .before .before .before .before .before .before .before .before .before .before .before .before .before .loop .inv in (
+    let v = c .before .before .before .before .before .before .before .before .before .before .before .before .before .before .before .loop .inv in (
       t .1,
       search needs,
       search needs,
@@ -59,14 +59,14 @@ loop-again c =
 
 loop-less-2 : tie.Need-loop-less-2 Inv-loop μ-loop
 loop-less-2 c =
-    let b = c .before .before .before .before .before .before .before .before .before .before .before .before in
+    let b = c .before .before .before .before .before .before .before .before .before .before .before .before .before in
     let x = next-line (b .before .before .before .before .before .before .args .log .now) (b .before .before .before .loop .from) (b .before .before .loop-test .taken) (b .line-end .ensures) in
     omega (arith, x .forward, x .inside)
 
 loop-again-2 : tie.Need-loop-again-2 Inv-loop μ-loop
 loop-again-2 c =
     let k = c .before .before .before .before .before in
-    let b = k .before .before .before .before .before .before .before in
+    let b = k .before .before .before .before .before .before .before .before in
     let h = b .before .before .loop-test .taken in
     let x = next-line (b .before .before .before .before .before .before .args .log .now) (b .before .before .before .loop .from) h (b .line-end .ensures) in (
       x .inside,
@@ -76,20 +76,20 @@ loop-again-2 c =
       λ e. absurd (omega (arith, x .forward)),
       λ D H q.
           let R = b .before .before .before .loop .inv .5 D H q in
-          running-next _ D _ _ _ R h (leb-true _ _ (b .before .if1 .taken)) (b .line-end .ensures) (k .before .before .next .ensures (running-few _ D _ _ _ R h q)) (k .before .before .before .before .before .read-command .ensures)
+          running-next _ D _ _ _ R h (leb-true _ _ (b .before .if1 .taken)) (b .line-end .ensures) (k .before .before .next .ensures (running-few _ D _ _ _ R h q)) (k .before .before .before .before .before .before .read-command .ensures)
           (λ E G. refusal-performed E _ _ (k .command .given .1) G (c .before .before .print-refused .ensures)),
     )
 
 loop-less-3 : tie.Need-loop-less-3 Inv-loop μ-loop
 loop-less-3 c =
-    let b = c .before .before .before .before .before .before .before .before .before .before .before .before .before .before .before .before .before in
+    let b = c .before .before .before .before .before .before .before .before .before .before .before .before .before .before .before .before .before .before in
     let x = next-line (b .before .before .before .before .before .before .args .log .now) (b .before .before .before .loop .from) (b .before .before .loop-test .taken) (b .line-end .ensures) in
     omega (arith, x .forward, x .inside)
 
 loop-again-3 : tie.Need-loop-again-3 Inv-loop μ-loop
 loop-again-3 c =
     let k = c .before .before .before .before .before .before .before .before .before .before in
-    let b = k .before .before .before .before .before .before .before in
+    let b = k .before .before .before .before .before .before .before .before in
     let h = b .before .before .loop-test .taken in
     let x = next-line (b .before .before .before .before .before .before .args .log .now) (b .before .before .before .loop .from) h (b .line-end .ensures) in (
       x .inside,
@@ -99,20 +99,20 @@ loop-again-3 c =
       λ e. absurd (omega (arith, x .forward)),
       λ D H q.
           let R = b .before .before .before .loop .inv .5 D H q in
-          running-next _ D _ _ _ R h (leb-true _ _ (b .before .if1 .taken)) (b .line-end .ensures) (k .before .before .next .ensures (running-few _ D _ _ _ R h q)) (k .before .before .before .before .before .read-command .ensures)
+          running-next _ D _ _ _ R h (leb-true _ _ (b .before .if1 .taken)) (b .line-end .ensures) (k .before .before .next .ensures (running-few _ D _ _ _ R h q)) (k .before .before .before .before .before .before .read-command .ensures)
           (λ E G. lend-performed E _ _ (k .command2 .given .1) (c .before .before .before .before .before .run-lend .ensures E G)),
     )
 
 loop-less-4 : tie.Need-loop-less-4 Inv-loop μ-loop
 loop-less-4 c =
-    let b = c .before .before .before .before .before .before .before .before .before .before .before .before .before .before .before .before .before in
+    let b = c .before .before .before .before .before .before .before .before .before .before .before .before .before .before .before .before .before .before in
     let x = next-line (b .before .before .before .before .before .before .args .log .now) (b .before .before .before .loop .from) (b .before .before .loop-test .taken) (b .line-end .ensures) in
     omega (arith, x .forward, x .inside)
 
 loop-again-4 : tie.Need-loop-again-4 Inv-loop μ-loop
 loop-again-4 c =
     let k = c .before .before .before .before .before .before .before .before .before .before in
-    let b = k .before .before .before .before .before .before .before in
+    let b = k .before .before .before .before .before .before .before .before in
     let h = b .before .before .loop-test .taken in
     let x = next-line (b .before .before .before .before .before .before .args .log .now) (b .before .before .before .loop .from) h (b .line-end .ensures) in (
       x .inside,
@@ -122,20 +122,20 @@ loop-again-4 c =
       λ e. absurd (omega (arith, x .forward)),
       λ D H q.
           let R = b .before .before .before .loop .inv .5 D H q in
-          running-next _ D _ _ _ R h (leb-true _ _ (b .before .if1 .taken)) (b .line-end .ensures) (k .before .before .next .ensures (running-few _ D _ _ _ R h q)) (k .before .before .before .before .before .read-command .ensures)
+          running-next _ D _ _ _ R h (leb-true _ _ (b .before .if1 .taken)) (b .line-end .ensures) (k .before .before .next .ensures (running-few _ D _ _ _ R h q)) (k .before .before .before .before .before .before .read-command .ensures)
           (λ E G. proposal-performed E _ _ (k .command3 .given .1) (G .benched) (c .before .before .before .before .before .print-proposal .ensures E (G .kept))),
     )
 
 loop-less-5 : tie.Need-loop-less-5 Inv-loop μ-loop
 loop-less-5 c =
-    let b = c .before .before .before .before .before .before .before .before .before .before .before .before .before .before .before .before .before .before in
+    let b = c .before .before .before .before .before .before .before .before .before .before .before .before .before .before .before .before .before .before .before .before in
     let x = next-line (b .before .before .before .before .before .before .args .log .now) (b .before .before .before .loop .from) (b .before .before .loop-test .taken) (b .line-end .ensures) in
     omega (arith, x .forward, x .inside)
 
 loop-again-5 : tie.Need-loop-again-5 Inv-loop μ-loop
 loop-again-5 c =
-    let k = c .before .before .before .before .before .before .before .before .before .before .before in
-    let b = k .before .before .before .before .before .before .before in
+    let k = c .before .before .before .before .before .before .before .before .before .before .before .before in
+    let b = k .before .before .before .before .before .before .before .before in
     let h = b .before .before .loop-test .taken in
     let x = next-line (b .before .before .before .before .before .before .args .log .now) (b .before .before .before .loop .from) h (b .line-end .ensures) in (
       x .inside,
@@ -145,20 +145,20 @@ loop-again-5 c =
       λ e. absurd (omega (arith, x .forward)),
       λ D H q.
           let R = b .before .before .before .loop .inv .5 D H q in
-          running-next _ D _ _ _ R h (leb-true _ _ (b .before .if1 .taken)) (b .line-end .ensures) (k .before .before .next .ensures (running-few _ D _ _ _ R h q)) (k .before .before .before .before .before .read-command .ensures)
-          (λ E G. call-performed E _ _ (k .command4 .given .1) _ (c .before .before .before .before .before .before .before .make-call .ensures E (G .benched) (G .kept)) (c .before .before .print-outcome .ensures) G),
+          running-next _ D _ _ _ R h (leb-true _ _ (b .before .if1 .taken)) (b .line-end .ensures) (k .before .before .next .ensures (running-few _ D _ _ _ R h q)) (k .before .before .before .before .before .before .read-command .ensures)
+          (λ E G. call-performed E _ _ (k .command4 .given .1) _ (c .before .before .before .before .before .before .before .before .make-call .ensures E (G .benched) (G .kept)) (kind-printed _ _ _ (c .before .before .before .before .kind-of .ensures) _ (c .before .before .print-outcome .ensures)) G),
     )
 
 loop-less-6 : tie.Need-loop-less-6 Inv-loop μ-loop
 loop-less-6 c =
-    let b = c .before .before .before .before .before .before .before .before .before .before .before .before .before .before in
+    let b = c .before .before .before .before .before .before .before .before .before .before .before .before .before .before .before in
     let x = next-line (b .before .before .before .before .before .before .args .log .now) (b .before .before .before .loop .from) (b .before .before .loop-test .taken) (b .line-end .ensures) in
     omega (arith, x .forward, x .inside)
 
 loop-again-6 : tie.Need-loop-again-6 Inv-loop μ-loop
 loop-again-6 c =
     let k = c .before .before .before .before .before .before .before in
-    let b = k .before .before .before .before .before .before .before in
+    let b = k .before .before .before .before .before .before .before .before in
     let h = b .before .before .loop-test .taken in
     let x = next-line (b .before .before .before .before .before .before .args .log .now) (b .before .before .before .loop .from) h (b .line-end .ensures) in (
       x .inside,
@@ -168,20 +168,20 @@ loop-again-6 c =
       λ e. absurd (omega (arith, x .forward)),
       λ D H q.
           let R = b .before .before .before .loop .inv .5 D H q in
-          running-next _ D _ _ _ R h (leb-true _ _ (b .before .if1 .taken)) (b .line-end .ensures) (k .before .before .next .ensures (running-few _ D _ _ _ R h q)) (k .before .before .before .before .before .read-command .ensures)
+          running-next _ D _ _ _ R h (leb-true _ _ (b .before .if1 .taken)) (b .line-end .ensures) (k .before .before .next .ensures (running-few _ D _ _ _ R h q)) (k .before .before .before .before .before .before .read-command .ensures)
           (λ E G. vote-performed E _ _ (k .command5 .given .1) G (c .before .before .print-vote .ensures E G)),
     )
 
 loop-less-7 : tie.Need-loop-less-7 Inv-loop μ-loop
 loop-less-7 c =
-    let b = c .before .before .before .before .before .before .before .before .before .before .before .before in
+    let b = c .before .before .before .before .before .before .before .before .before .before .before .before .before in
     let x = next-line (b .before .before .before .before .before .before .args .log .now) (b .before .before .before .loop .from) (b .before .before .loop-test .taken) (b .line-end .ensures) in
     omega (arith, x .forward, x .inside)
 
 loop-again-7 : tie.Need-loop-again-7 Inv-loop μ-loop
 loop-again-7 c =
     let k = c .before .before .before .before .before in
-    let b = k .before .before .before .before .before .before .before in
+    let b = k .before .before .before .before .before .before .before .before in
     let h = b .before .before .loop-test .taken in
     let x = next-line (b .before .before .before .before .before .before .args .log .now) (b .before .before .before .loop .from) h (b .line-end .ensures) in (
       x .inside,
@@ -191,7 +191,7 @@ loop-again-7 c =
       λ e. absurd (omega (arith, x .forward)),
       λ D H q.
           let R = b .before .before .before .loop .inv .5 D H q in
-          running-next _ D _ _ _ R h (leb-true _ _ (b .before .if1 .taken)) (b .line-end .ensures) (k .before .before .next .ensures (running-few _ D _ _ _ R h q)) (k .before .before .before .before .before .read-command .ensures)
+          running-next _ D _ _ _ R h (leb-true _ _ (b .before .if1 .taken)) (b .line-end .ensures) (k .before .before .next .ensures (running-few _ D _ _ _ R h q)) (k .before .before .before .before .before .before .read-command .ensures)
           (λ E G. ask-performed E _ _ (k .command6 .given .1) G (c .before .before .print-ask .ensures E (G .benched))),
     )
 
@@ -232,6 +232,7 @@ run-some-spec =
     part-read-command-end
     (λ c κs. search needs)
     (λ c κs. search needs)
+    (λ c κs. search needs)
     run-turns-requires
     (λ c κs. search needs)
     loop-less
@@ -250,6 +251,7 @@ run-some-spec =
     loop-less-4
     loop-again-4
     (λ c. search needs)
+    (λ c κs. search needs)
     (λ c κs. search needs)
     (λ c κs. search needs)
     loop-less-5

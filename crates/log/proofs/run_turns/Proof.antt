@@ -5,7 +5,7 @@ use mathlib.Core.List.{List}
 use lib.ListN.{length}
 use native.Mathlib.Omega.{arith}
 use borrow.Author.Needs.{needs}
-use borrow.Author.Tests.{leb-true, leb-false, not-true, not-false}
+use borrow.Author.Tests.{leb-true, leb-false}
 use Rattle.lists.proofs.Lists.{is-by}
 use Rattle.record_rows.specs.ground.Ground.{Rows}
 use Rattle.pages_turner.specs.declared.Turner.{Turner}
@@ -44,19 +44,16 @@ part-read-command-start c = let x = next-line (c .before .before .before .before
 part-read-command-end : tie.Need-part-read-command-end Inv-loop μ-loop
 part-read-command-end c = let x = next-line (c .before .before .before .before .before .before .args .log .now) (c .before .before .before .loop .from) (c .before .before .loop-test .taken) (c .line-end .ensures) in omega (arith, x .inside)
 
-run-page-requires : tie.Need-run-page-requires Inv-loop μ-loop
-run-page-requires c κs = sym (c .before .before .before .is-paging .ensures) ∙ not-false _ (c .before .before .if2 .left)
-
 loop-less : tie.Need-loop-less Inv-loop μ-loop
 loop-less c =
-    let b = c .before .before .before .before .before .before .before .before .before .before in
+    let b = c .before .before .before .before .before .before .before .before .before .before .before in
     let x = next-line (b .before .before .before .before .before .before .args .log .now) (b .before .before .before .loop .from) (b .before .before .loop-test .taken) (b .line-end .ensures) in
     omega (arith, x .forward, x .inside)
 
 loop-again : tie.Need-loop-again Inv-loop μ-loop
 loop-again c =
     let r = c .before .before .before .run-page .ensures in
-    let b = c .before .before .before .before .before .before .before .before .before .before in
+    let b = c .before .before .before .before .before .before .before .before .before .before .before in
     let h = b .before .before .loop-test .taken in
     let v = b .before .before .before .loop .inv in
     let x = next-line (b .before .before .before .before .before .before .args .log .now) (b .before .before .before .loop .from) h (b .line-end .ensures) in (
@@ -68,7 +65,8 @@ loop-again c =
       λ D first before begin bench lending edits constraints R t k.
           let S = v .5 D first before begin bench lending edits constraints R t k in
           paged-next _ D first before begin bench _ S (ap (λ (u : Turner). u .last) t ∙ sym (v .4)) h (leb-true _ _ (b .before .if1 .taken)) (b .line-end .ensures) (c .before .before .before .before .before .next .ensures (running-few _ D first before begin S h k))
-          (c .before .before .before .before .before .before .before .before .read-command .ensures) _ (r .1),
+          (c .before .before .before .before .before .before .before .before .before .read-command .ensures)
+          _ (λ E b l e k H q. r .1 E _ b l e k H q (sym (c .before .before .before .before .before .before .before .before .paging-of .ensures)) (sym (c .before .before .before .before .before .before .before .is-other .ensures) ∙ c .before .before .before .before .before .before .if2 .left)),
     )
 
 same-length : tie.Need-same-length Inv-loop μ-loop
@@ -90,14 +88,14 @@ returns-2 c =
     (omega (arith, c .loop-test .left, p .0), v .0, v .5)
 
 same-length-3 : tie.Need-same-length-3 Inv-loop μ-loop
-same-length-3 c = c .before .before .before .before .before .before .before .loop .inv .1
+same-length-3 c = c .before .before .before .before .before .before .before .before .loop .inv .1
 
 returns-3 : tie.Need-returns-3 Inv-loop μ-loop
 returns-3 c =
-    let b = c .before .before .before .before in
+    let b = c .before .before .before .before .before in
     let v = b .before .before .before .loop .inv in
     let p = b .before .before .before .before .before .before .pre in
-    (stopped-after _ (v .2) (p .2) (b .line-end .ensures) _ (c .before .before .read-command .ensures) (c .before .is-paging .ensures) (not-true _ (c .if2 .taken)), v .0, v .5)
+    (stopped-after _ (v .2) (p .2) (b .line-end .ensures) _ (c .before .before .before .read-command .ensures) (c .before .before .paging-of .ensures) (c .before .is-other .ensures) (c .if2 .taken), v .0, v .5)
 
 pub run-turns-spec : {M : Type 1} → statement M
 run-turns-spec =
@@ -113,7 +111,8 @@ run-turns-spec =
     (λ c κs. search needs)
     (λ c κs. search needs)
     (λ c κs. search needs)
-    run-page-requires
+    (λ c κs. search needs)
+    (λ c κs. search needs)
     loop-less
     loop-again
     same-length

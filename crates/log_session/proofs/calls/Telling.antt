@@ -22,10 +22,11 @@ use Rattle.log_commands.specs.declared.Lend.the-variants.{EditRow, ConstraintRo
 use Rattle.log_commands.specs.declared.Call.{Call as Calls}
 use Rattle.log_lent.specs.declared.Lending.{Lending}
 use Rattle.log_lent.specs.Kept.{Kept}
-use Rattle.log_session.specs.Desk.{Desk, Request, outside, make, ledgerOf, benchIn, requested, replied, printedOf}
+use Rattle.log_session.specs.Desk.{Desk, Effect, Request, outside, make, ledgerOf, benchIn, lends, requested, replied, printedOf}
 use Rattle.log_session.specs.Lends.{lendEffect}
 use Rattle.log_session.specs.Requests.{requestOf}
-use Rattle.log_session.specs.calls.Lines.{Holds, pagesText, adoptionText, isAdoption, callText, callEffect, outcomeText}
+use Rattle.log_session.specs.calls.Lines.{Holds, adoptionText, callKind, callText, callEffect, outcomeText}
+use Rattle.log_session.specs.declared.calls.Kind.{Kind}
 
 module _ {before : List ℕ} {at : ℕ} where
   pub setting-none : (number : ℕ) (texts : Texts) → number ≡ 0 → Printed (cond (eqb number 0) [] texts) before at before at
@@ -41,63 +42,55 @@ module _ {before : List ℕ} {at : ℕ} where
     unfolding adoptionText
     adoption-told a opened last e p = rw e at p
 
-    module _ (call : Calls) (a : Answer) (t : Turner) (line : ℕ) where
-      pub outcome-refused : (a .number ≡ 0 → ⊥) → Printed (refusalLine (a .number) line ∷ []) before at after end → Printed (outcomeText call a t line) before at after end
+    module _ (kind : Kind) (a : Answer) (t : Turner) (line : ℕ) where
+      pub outcome-refused : (a .number ≡ 0 → ⊥) → Printed (refusalLine (a .number) line ∷ []) before at after end → Printed (outcomeText kind a t line) before at after end
       unfolding outcomeText
       outcome-refused e p = let q : eqb (a .number) 0 ≡ false = ne-eqb (a .number) 0 e in rw q p
 
-      pub outcome-adopted : a .number ≡ 0 → isAdoption call ≡ true → Printed (adoptionText a (t .opened) (t .last)) before at after end → Printed (outcomeText call a t line) before at after end
-      unfolding outcomeText callText
-      outcome-adopted e f p = let q : eqb (a .number) 0 ≡ true = eq-eqb (a .number) 0 e in rw (q, f) p
-
-      pub outcome-called : a .number ≡ 0 → isAdoption call ≡ false → Printed (pagesText a (t .opened) (t .last)) before at after end → Printed (outcomeText call a t line) before at after end
-      unfolding outcomeText callText
-      outcome-called e f p = let q : eqb (a .number) 0 ≡ true = eq-eqb (a .number) 0 e in rw (q, f) p
+      -- of the kind that it is
+      pub outcome-told : {other : Kind} → kind ≡ other → a .number ≡ 0 → Printed (callText other a (t .opened) (t .last)) before at after end → Printed (outcomeText kind a t line) before at after end
+      unfolding outcomeText
+      outcome-told e n p = let q : eqb (a .number) 0 ≡ true = eq-eqb (a .number) 0 n in rw (q, e) p
 
 -- a line that lends makes no call, and prints nothing where it is accepted
-pub same-calls : (D : Desk) (lend : Lends) → lendEffect D lend .after .calls ≡ D .calls
+lend-is : (D : Desk) (lend : Lends) → lendEffect D lend ≡ lends D (lendEffect D lend .number) (lendEffect D lend .after .lent)
 unfolding lendEffect
-same-calls D (EditRow k cells) = refl
-same-calls D (ConstraintRow k cells) = refl
-same-calls D (NoRows k) = refl
-same-calls D (BenchRows k) = refl
-same-calls D (RollRow seat weight) = refl
-same-calls D NoRoll = refl
-same-calls D (RowName name) = refl
-same-calls D NoRow = refl
+lend-is D (EditRow k cells) = refl
+lend-is D (ConstraintRow k cells) = refl
+lend-is D (NoRows k) = refl
+lend-is D (BenchRows k) = refl
+lend-is D (RollRow seat weight) = refl
+lend-is D NoRoll = refl
+lend-is D (RowName name) = refl
+lend-is D NoRow = refl
 
-pub no-text : (D : Desk) (lend : Lends) → lendEffect D lend .text ≡ []
-unfolding lendEffect
-no-text D (EditRow k cells) = refl
-no-text D (ConstraintRow k cells) = refl
-no-text D (NoRows k) = refl
-no-text D (BenchRows k) = refl
-no-text D (RollRow seat weight) = refl
-no-text D NoRoll = refl
-no-text D (RowName name) = refl
-no-text D NoRow = refl
+pub lend-calls : (D : Desk) (lend : Lends) → lendEffect D lend .after .calls ≡ D .calls
+lend-calls D lend = ap (λ (E : Effect). E .after .calls) (lend-is D lend)
+
+pub lend-text : (D : Desk) (lend : Lends) → lendEffect D lend .text ≡ []
+lend-text D lend = ap (λ (E : Effect). E .text) (lend-is D lend)
 
 module _ (D : Desk) (lend : Lends) (line : ℕ) {bench : Bench} (b : bench ≡ benchIn D) where
   pub lend-holds : {lending : Lending} {edits constraints : Rows} → Kept (lendEffect D lend .after .lent) lending edits constraints → Holds (lendEffect D lend .after) bench lending edits constraints
   unfolding benchIn ledgerOf
-  lend-holds k = record { benched = b ∙ ap (λ (calls : List Call). benchOf (fed start calls)) (sym (same-calls D lend)); kept = k }
+  lend-holds k = record { benched = b ∙ ap (λ (calls : List Call). benchOf (fed start calls)) (sym (lend-calls D lend)); kept = k }
 
   pub lend-printed : {before after : List ℕ} {at end number : ℕ} → number ≡ lendEffect D lend .number
       → Printed (cond (eqb number 0) [] (refusalLine number line ∷ [])) before at after end → Printed (printedOf (lendEffect D lend) line) before at after end
   unfolding printedOf
-  lend-printed q p = rw (no-text D lend) (rw q at p)
+  lend-printed q p = rw (lend-text D lend) (rw q at p)
 
 -- a call
 module _ (D : Desk) (call : Calls) (line : ℕ) (r : Outcome) where
   by-request : (q : Request) → r ≡ replied D q
-      → (r .bench ≡ benchIn (requested D (λ a L. callText call a (L .opened) (last L)) q .after))
-      × (outcomeText call (r .answer) (r .bench .turner) line ≡ printedOf (requested D (λ a L. callText call a (L .opened) (last L)) q) line)
+      → (r .bench ≡ benchIn (requested D (λ a L. callText (callKind call) a (L .opened) (last L)) q .after))
+      × (outcomeText (callKind call) (r .answer) (r .bench .turner) line ≡ printedOf (requested D (λ a L. callText (callKind call) a (L .opened) (last L)) q) line)
   unfolding replied requested benchIn ledgerOf outcomeText printedOf outcome benchOf
-  by-request outside e = (ap (λ (x : Outcome). x .bench) e, ap (λ (x : Outcome). outcomeText call (x .answer) (x .bench .turner) line) e)
-  by-request (make made) e = (ap (λ (x : Outcome). x .bench) e ∙ ap benchOf (sym (fed-more start (D .calls) made)), ap (λ (x : Outcome). outcomeText call (x .answer) (x .bench .turner) line) e)
+  by-request outside e = (ap (λ (x : Outcome). x .bench) e, ap (λ (x : Outcome). outcomeText (callKind call) (x .answer) (x .bench .turner) line) e)
+  by-request (make made) e = (ap (λ (x : Outcome). x .bench) e ∙ ap benchOf (sym (fed-more start (D .calls) made)), ap (λ (x : Outcome). outcomeText (callKind call) (x .answer) (x .bench .turner) line) e)
 
   same-lent : (q : Request) {lending : Lending} {edits constraints : Rows} → Kept (D .lent) lending edits constraints
-      → Kept (requested D (λ a L. callText call a (L .opened) (last L)) q .after .lent) lending edits constraints
+      → Kept (requested D (λ a L. callText (callKind call) a (L .opened) (last L)) q .after .lent) lending edits constraints
   unfolding requested
   same-lent outside k = k
   same-lent (make made) k = k
@@ -107,7 +100,7 @@ module _ (D : Desk) (call : Calls) (line : ℕ) (r : Outcome) where
   unfolding callEffect
   call-held e k = record { benched = by-request (requestOf D call) e .0; kept = same-lent (requestOf D call) k }
 
-  pub call-printed : r ≡ replied D (requestOf D call) → {before after : List ℕ} {at end : ℕ} → Printed (outcomeText call (r .answer) (r .bench .turner) line) before at after end
+  pub call-printed : r ≡ replied D (requestOf D call) → {before after : List ℕ} {at end : ℕ} → Printed (outcomeText (callKind call) (r .answer) (r .bench .turner) line) before at after end
       → Printed (printedOf (callEffect D call) line) before at after end
   unfolding callEffect
   call-printed e p = rw (by-request (requestOf D call) e .1) at p

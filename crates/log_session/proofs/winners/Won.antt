@@ -21,6 +21,7 @@ use Rattle.record.proofs.Judged.{sound-no-both}
 use Rattle.record_rows.specs.row.Row.{isName}
 use Rattle.record_rows.specs.ground.Ground.{_given_, _orelse_}
 use Rattle.record_rows.proofs.ground.Grounds.{orelse-none, given-none}
+use Rattle.record_tables.specs.Checked.{Checked}
 use Rattle.record_tables.proofs.Tables.{stored-back}
 use Rattle.graph.specs.links.Marks.{marksOf, placeIn}
 use Rattle.graph.specs.indexes.Fit.{Fit}
@@ -46,7 +47,7 @@ use Rattle.log_session.specs.declared.winners.Verdict.{Verdict}
 use Rattle.log_session.specs.votes.Votes.{electionLine, wonText, winnerText}
 
 -- what holds of every vote holds of the winner
-winner-holds : (Q : Record → Type 0) (l : List Ballot) (held : ℕ → Record) (e : ℕ) (rows : List RollRow)
+pub winner-holds : (Q : Record → Type 0) (l : List Ballot) (held : ℕ → Record) (e : ℕ) (rows : List RollRow)
     → ((row : RollRow) → Has row rows → (B : Record) → vote (held (row .bench)) e ≡ some B → Q B) → (B : Record) → winnerOf l (ballots held e rows) ≡ some B → Q B
 unfolding winnerOf ballots
 winner-holds Q l held e [] f B h = absurd (let z : _≡_ {A = ℕ} 0 1 = cc in omega arith)
@@ -56,15 +57,23 @@ winner-holds Q l held e (row ∷ rows) f B h =
     (λ (g : ltb (total l) (2 * group l v) ≡ true). f row (inl refl) B (rw g at h))
     (λ (g : ltb (total l) (2 * group l v) ≡ false). winner-holds Q l held e rows (λ r m. f r (inr m)) B (rw g at h))
 
+some-same : {A B : Record} → some A ≡ some B → A ≡ B
+some-same q = cc
+
+-- a vote is the edit's bundle
+pub vote-bundle : (R : Record) (e : ℕ) (B : Record) → vote R e ≡ some B → bundle R e ≡ B
+unfolding vote
+vote-bundle R e B h =
+    by (mem e (written R) && eligible R e)
+    (λ (k : (mem e (written R) && eligible R e) ≡ true). some-same (rw k at h))
+    (λ (k : (mem e (written R) && eligible R e) ≡ false). absurd (let g : none ≡ some B = rw k at h in let z : _≡_ {A = ℕ} 0 1 = cc in omega arith))
+
 -- what is known of a vote: it is fit to be judged and has the edit, which is settled in it
 pub record Judgeable (e : ℕ) (B : Record) : Type 0 where
   pub fit : Fit B
   pub known : e among names B
   pub decided : settled B e ≡ true
   pub sounds : sound B ≡ true
-
-some-same : {A B : Record} → some A ≡ some B → A ≡ B
-some-same q = cc
 
 vote-judgeable : (R : Record) → Fit R → sound R ≡ true → (e : ℕ) (B : Record) → vote R e ≡ some B → Judgeable e B
 unfolding vote eligible
@@ -73,7 +82,6 @@ vote-judgeable R f s e B h =
     (λ (k : (mem e (written R) && eligible R e) ≡ true).
     let i : e among written R = and-l (mem e (written R)) (eligible R e) k in
     let m : e among written (bundle R e) = written-bundle (f .formed) e e i (member-self R e) in
-    let q : some (bundle R e) ≡ some B = rw k at h in
     let j : Judgeable e (bundle R e) =
     record {
       fit = bundle-fit R f e;
@@ -81,11 +89,11 @@ vote-judgeable R f s e B h =
       decided = all-in (settled (bundle R e)) (written (bundle R e)) (and-r (mem e (written R)) (eligible R e) k) e m;
       sounds = bundle-sound (f .formed) e s;
     } in
-    rw (some-same q) at j)
+    rw (vote-bundle R e B h) at j)
     (λ (k : (mem e (written R) && eligible R e) ≡ false). absurd (let g : none ≡ some B = rw k at h in let z : _≡_ {A = ℕ} 0 1 = cc in omega arith))
 
 module _ (e : ℕ) (P : Proposals) (roll : List RollRow) (z : electionFault e P roll ≡ 0) where
-  faultless : Faultless P × (all isBench roll ≡ true) × (all (λ k. sound (held P k)) benches ≡ true)
+  pub faultless : Faultless P × (all isBench roll ≡ true) × (all (λ k. sound (held P k)) benches ≡ true) × (isName e ≡ true)
   unfolding electionFault rollFaulty
   faultless =
       let sounds = all (λ k. sound (held P k)) benches in
@@ -99,6 +107,7 @@ module _ (e : ℕ) (P : Proposals) (roll : List RollRow) (z : electionFault e P 
         p .0,
         not-false (all isBench roll) (or-no-l (not (all isBench roll)) _ (given-none 13 (rollFaulty roll) (q .0))),
         not-false sounds (given-none 7 (not sounds) (s .1)),
+        not-false (isName e) (given-none 1 (not (isName e)) (r .0)),
       )
 
   -- the proposal of a bench of the roll
@@ -109,8 +118,11 @@ module _ (e : ℕ) (P : Proposals) (roll : List RollRow) (z : electionFault e P 
     bench-again : (row .bench - 1) + 1 ≡ row .bench
     bench-again = omega (arith, bench-low .0)
 
+    pub seat-checked : Checked (held P (row .bench))
+    seat-checked = held-checked P (row .bench) (rw bench-again at (bench-faultless P (faultless .0) (row .bench - 1) (omega (arith, bench-low .0, bench-low .1))))
+
     held-fit : Fit (held P (row .bench))
-    held-fit = checked-fit (held P (row .bench)) (held-checked P (row .bench) (rw bench-again at (bench-faultless P (faultless .0) (row .bench - 1) (omega (arith, bench-low .0, bench-low .1)))))
+    held-fit = checked-fit (held P (row .bench)) seat-checked
 
     held-sound : sound (held P (row .bench)) ≡ true
     held-sound =
@@ -124,27 +136,28 @@ module _ (e : ℕ) (P : Proposals) (roll : List RollRow) (z : electionFault e P 
       winner-holds (Judgeable e) (cast e P roll) (held P) e roll
       (λ row m B q. let i = all-has isBench roll (faultless .1) row m in vote-judgeable (held P (row .bench)) (held-fit row i) (held-sound row i) e B q)
 
--- the count of an election that is won
-pub record WonBundle (e : ℕ) (c : Counted) : Type 0 where
+-- the count of an election that is won, and what is known of its choice
+pub record WonBundle (Q : Record → Type 0) (c : Counted) : Type 0 where
   pub accepted : c .election .number ≡ 0
   pub choice : Record
   pub holds : c .bundle ≡ stored choice
-  pub judgeable : Judgeable e choice
+  pub known : Q choice
 
-won-bundle : (e : ℕ) (P : Proposals) (roll : List RollRow) → countOf e P roll .election .won ≡ true → WonBundle e (countOf e P roll)
+pub won-bundle : (Q : Record → Type 0) (e : ℕ) (P : Proposals) (roll : List RollRow) → (electionFault e P roll ≡ 0 → (B : Record) → winner (cast e P roll) ≡ some B → Q B)
+    → countOf e P roll .election .won ≡ true → WonBundle Q (countOf e P roll)
 unfolding countOf electionOf
-won-bundle e P roll h =
+won-bundle Q e P roll f h =
     by (eqb (electionFault e P roll) 0)
     (λ (z : eqb (electionFault e P roll) 0 ≡ true). go z (winner (cast e P roll)) refl (rw z at h))
     (λ (z : eqb (electionFault e P roll) 0 ≡ false). clash (rw z at h) refl)
   where
-    go : eqb (electionFault e P roll) 0 ≡ true → (end : Option Record) → winner (cast e P roll) ≡ end → won (cast e P roll) ≡ true → WonBundle e (countOf e P roll)
+    go : eqb (electionFault e P roll) 0 ≡ true → (end : Option Record) → winner (cast e P roll) ≡ end → won (cast e P roll) ≡ true → WonBundle Q (countOf e P roll)
     go z none p w = clash w (open-is (cast e P roll) p)
     go z (some B) p w =
-        rw (z, p) (record { accepted = refl; choice = B; holds = refl; judgeable = winner-judgeable e P roll (eqb-true (electionFault e P roll) 0 z) B p })
+        rw (z, p) (record { accepted = refl; choice = B; holds = refl; known = f (eqb-true (electionFault e P roll) 0 z) B p })
 
-pub won-by : (e : ℕ) (P : Proposals) (roll : List RollRow) (c : Counted) → c ≡ countOf e P roll → c .election .won ≡ true → WonBundle e c
-won-by e P roll c q h = rw q (won-bundle e P roll (rw q at h))
+pub won-by : (e : ℕ) (P : Proposals) (roll : List RollRow) (c : Counted) → c ≡ countOf e P roll → c .election .won ≡ true → WonBundle (Judgeable e) c
+won-by e P roll c q h = rw q (won-bundle (Judgeable e) e P roll (winner-judgeable e P roll) (rw q at h))
 
 -- a settled edit of a sound record must stand or can never, and not both
 decided-one : (R : Record) → WellFormed R → sound R ≡ true → (e : ℕ) → settled R e ≡ true → never R e ≡ not (must R e)
@@ -158,8 +171,8 @@ decided-one R w s e h =
 pub won-decided : (e : ℕ) (P : Proposals) (roll : List RollRow) → countOf e P roll .election .won ≡ true
     → never (recordOf (countOf e P roll .bundle)) e ≡ not (must (recordOf (countOf e P roll .bundle)) e)
 won-decided e P roll h =
-    let b = won-bundle e P roll h in
-    let j = b .judgeable in
+    let b = won-bundle (Judgeable e) e P roll (winner-judgeable e P roll) h in
+    let j = b .known in
     let back : recordOf (countOf e P roll .bundle) ≡ b .choice = ap recordOf (b .holds) ∙ stored-back (b .choice) in
     rw back (decided-one (b .choice) (j .fit .formed) (j .sounds) e (j .decided))
 

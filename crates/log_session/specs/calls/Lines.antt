@@ -1,6 +1,5 @@
 -- A desk in memory, and what a line that lends or makes a call prints. Assumes nothing.
 use mathlib.Core.Path.{_≡_}
-use mathlib.Core.Bool.{Bool, true, false, cond}
 use mathlib.Core.List.{[], _∷_}
 use Prim.Native.Nat.{ℕ}
 use Rattle.record_rows.specs.ground.Ground.{Rows}
@@ -16,6 +15,8 @@ use Rattle.log_lent.specs.declared.Lending.{Lending}
 use Rattle.log_lent.specs.Kept.{Kept}
 use Rattle.log_session.specs.Desk.{Desk, Effect, benchIn, requested}
 use Rattle.log_session.specs.Requests.{requestOf}
+use Rattle.log_session.specs.declared.calls.Kind.{Kind}
+use Rattle.log_session.specs.declared.calls.Kind.the-variants.{Change, PageTurn, Adoption}
 
 -- what is in memory for a desk
 pub record Holds (D : Desk) (bench : Bench) (lending : Lending) (edits constraints : Rows) : Type 0 where
@@ -31,24 +32,25 @@ adoptionText a opened last =
     answerLine "won=? greatest=# silent=# total=# undone=# redone=# open=# last=#\n"
     (bit (a .won) ∷ a .greatest ∷ a .silent ∷ a .total ∷ a .undone ∷ a .redone ∷ opened ∷ last ∷ [])
 
--- an adoption answers what the election does, too
-unfoldable pub isAdoption : Call → Bool
-isAdoption (AddEdit cells) = false
-isAdoption (AddConstraint cells) = false
-isAdoption (Merge k) = false
-isAdoption (Hide edit) = false
-isAdoption (Show edit) = false
-isAdoption (Turn pages) = false
-isAdoption (Adopt edit) = true
+unfoldable pub callKind : Call → Kind
+callKind (AddEdit cells) = Change
+callKind (AddConstraint cells) = Change
+callKind (Merge k) = Change
+callKind (Hide edit) = Change
+callKind (Show edit) = Change
+callKind (Turn pages) = PageTurn pages
+callKind (Adopt edit) = Adoption
 
--- what an accepted line that makes a call prints
-unfoldable pub callText : Call → Answer → ℕ → ℕ → Texts
-callText call = cond (isAdoption call) adoptionText pagesText
+-- what an accepted line that makes a call prints: an adoption answers what the election does, too
+unfoldable pub callText : Kind → Answer → ℕ → ℕ → Texts
+callText Change = pagesText
+callText (PageTurn pages) = pagesText
+callText Adoption = adoptionText
 
 -- THE EFFECT of a line that makes a call
 unfoldable pub callEffect : Desk → Call → Effect
-callEffect D call = requested D (λ a L. callText call a (L .opened) (last L)) (requestOf D call)
+callEffect D call = requested D (λ a L. callText (callKind call) a (L .opened) (last L)) (requestOf D call)
 
 -- the same from the answer and the open and last page that the code has
-unfoldable pub outcomeText : Call → Answer → Turner → ℕ → Texts
-outcomeText call a t line = answeredText (a .number) (callText call a (t .opened) (t .last)) line
+unfoldable pub outcomeText : Kind → Answer → Turner → ℕ → Texts
+outcomeText kind a t line = answeredText (a .number) (callText kind a (t .opened) (t .last)) line

@@ -14,7 +14,7 @@ returns-2 c =
     let w = not-false _ (c .before .before .before .before .if1 .left) in
     λ P roll q.
     let b = won-by (s .edit) P roll (s .counted) q w in
-    winner-printed (s .edit) (s .out .now) (s .at) (s .counted) (s .line) (c .before .before .before .before .before .before .before .before .print-election .ensures) (b .accepted) w (c .before .before .print-won .ensures (b .choice) (b .holds) (b .judgeable .fit) (b .judgeable .known))
+    winner-printed (s .edit) (s .out .now) (s .at) (s .counted) (s .line) (c .before .before .before .before .before .before .before .before .print-election .ensures) (b .accepted) w (c .before .before .print-won .ensures (b .choice) (b .holds) (b .known .fit) (b .known .known))
 
 pub print-winner-spec : {M : Type 1} → statement M
 print-winner-spec = tie.close (tie.spec (λ c κs. search needs) (λ c. search needs) returns (λ c κs. search needs) (λ c. search needs) returns-2)

@@ -1,8 +1,8 @@
--- `print_refused` meets its contract. Assumes nothing.
+-- `calls::print_refused` meets its contract. Assumes nothing.
 use borrow.Author.Needs.{needs}
 use Rattle.log_session.proofs.calls.Telling.{setting-none, setting-some}
-use Rattle.log.proofs.print_refused.Statement.{statement}
-use Rattle.log.proofs.print_refused.Tie as tie
+use Rattle.log_session.proofs.calls.print_refused.Statement.{statement}
+use Rattle.log_session.proofs.calls.print_refused.Tie as tie
 
 returns : tie.Need-returns
 returns c = setting-none _ _ (c .if1 .taken)
