@@ -69,16 +69,15 @@ ran : (L : Ledger) → benchOf L .view .catalogue .entries ≡ run chips (emptyC
 unfolding benchOf chipsView
 ran L = catalogue-of chips places rows (openEdits L)
 
+-- of a bench that is the ledger's, with the answers that it tells
+pub undo-of : (calls : List Call) {rs : List Outcome} {c : Bench} → c ≡ benchOf (fed start calls) → answersOf rs ≡ told start calls → Undo calls rs c
+undo-of calls e a =
+    record { ledger = e; answers = a; catalogue = ap (λ (b : Bench). b .view .catalogue .entries) e ∙ ran (fed start calls) }
+
 -- THE UNDO RULE
 pub undo-rule : {calls : List Call} {rs : List Outcome} {c : Bench} → Linked (benchOf start) calls rs c → Undo calls rs c
 unfolding fed
-undo-rule {calls} l =
-    let k = kept [] l refl in
-    record {
-      ledger = k .ledger;
-      answers = k .answers;
-      catalogue = ap (λ (b : Bench). b .view .catalogue .entries) (k .ledger) ∙ ran (fed start calls);
-    }
+undo-rule {calls} l = let k = kept [] l refl in undo-of calls (k .ledger) (k .answers)
 
 -- a step by its judgement
 pub step-refused : (L : Ledger) (call : Call) → (judge L call ≡ 0 → ⊥) → step L call ≡ refusal L (judge L call)
