@@ -5,8 +5,8 @@ use bench::hidden;
 use ledger::Bench;
 use ledger::Outcome;
 use record_joining::Joined;
-use record_rows::row::CONSTRAINT_CELLS;
-use record_rows::row::EDIT_CELLS;
+use record_rows::row::ConstraintRow;
+use record_rows::row::EditRow;
 use voting::Election;
 ghost use Rattle.ledger.specs.Ledger.{Call};
 ghost use Rattle.ledger.specs.Bench.{Answers};
@@ -32,7 +32,7 @@ pub fn joined_bench(bench: Bench, joined: Joined, election: Election) -> Outcome
     bench::reschedule(bench, union, hidden, schedule, election)
 }
 
-pub fn add_edit(bench: Bench, row: [u32; EDIT_CELLS]) -> Outcome
+pub fn add_edit(bench: Bench, row: EditRow) -> Outcome
     ensures { λ r. ⌜ Answers bench (Call.addEdit row) r ⌝ }
 {
     let multilog = bench.multilog;
@@ -40,7 +40,7 @@ pub fn add_edit(bench: Bench, row: [u32; EDIT_CELLS]) -> Outcome
     joined_bench(bench, joined, bench::no_election())
 }
 
-pub fn add_constraint(bench: Bench, row: [u32; CONSTRAINT_CELLS]) -> Outcome
+pub fn add_constraint(bench: Bench, row: ConstraintRow) -> Outcome
     ensures { λ r. ⌜ Answers bench (Call.addConstraint row) r ⌝ }
 {
     let multilog = bench.multilog;
@@ -48,11 +48,7 @@ pub fn add_constraint(bench: Bench, row: [u32; CONSTRAINT_CELLS]) -> Outcome
     joined_bench(bench, joined, bench::no_election())
 }
 
-pub fn merge(
-    bench: Bench,
-    edits: &[[u32; EDIT_CELLS]],
-    constraints: &[[u32; CONSTRAINT_CELLS]],
-) -> Outcome
+pub fn merge(bench: Bench, edits: &[EditRow], constraints: &[ConstraintRow]) -> Outcome
     ensures { λ r. ⌜ Answers bench (Call.merge (now (edits .entry)) (now (constraints .entry))) r ⌝ }
 {
     let multilog = bench.multilog;

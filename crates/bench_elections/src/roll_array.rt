@@ -2,7 +2,6 @@
 use crate::lent_roll;
 use ledger::Bench;
 use ledger::Outcome;
-use voting::Election;
 use voting::RollRow;
 use voting_count::Counted;
 use voting_count::LentConstraints;
@@ -13,7 +12,6 @@ ghost use mathlib.Core.List.{map};
 ghost use Prim.Native.Nat.{_≤_};
 ghost use lib.ListN.{take};
 ghost use Rattle.voting_roll.specs.Roll.{rollOf};
-ghost use Rattle.voting_roll.specs.Election.{electionOf};
 ghost use Rattle.voting_count.specs.Count.{lentProposals, countOf};
 ghost use Rattle.ledger.specs.Ledger.{Call};
 ghost use Rattle.ledger.specs.Bench.{Answers};
@@ -28,21 +26,7 @@ fn first_rows(rows: [RollRow; 9], n: usize) -> Roll
     lent_roll::gathered(&rows[..n])
 }
 
-pub fn election(
-    edit: u32,
-    edits: LentEdits,
-    constraints: LentConstraints,
-    rows: [RollRow; 9],
-    count: usize,
-) -> Election
-    ensures { λ r. ⌜ r ≡ electionOf edit (lentProposals (map now (edits .entry)) (map now (constraints .entry))) (take count rows) ⌝ }
-{
-    let n = numbers::lesser(count, ROWS);
-    let roll = first_rows(rows, n);
-    voting_count::election(edit, edits, constraints, roll)
-}
-
-// With the won bundle.
+// THE COUNT of an election: its answer, and the won bundle.
 pub fn count(
     edit: u32,
     edits: LentEdits,

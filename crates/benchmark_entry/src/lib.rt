@@ -2,6 +2,8 @@
 use graph::links::MARKS;
 use judgement::lent_record;
 use record::Schedule;
+use record_rows::row::ConstraintRow;
+use record_rows::row::EditRow;
 use voting::RollRow;
 use voting_roll::Roll;
 ghost use mathlib.Core.Path.{_≡_};
@@ -44,7 +46,7 @@ pub struct Elected {
 }
 
 #[no_mangle]
-pub extern "C" fn measure_judgement(edits: &[[u32; 5]], constraints: &[[u32; 3]]) -> Judged
+pub extern "C" fn measure_judgement(edits: &[EditRow], constraints: &[ConstraintRow]) -> Judged
     ensures { λ r. ⌜ r ≡ judgementNumbers (judgementOf (now (edits .entry)) (now (constraints .entry))) ⌝ }
 {
     let judgement = lent_record::judge_lent(edits, constraints);
@@ -62,7 +64,7 @@ pub extern "C" fn measure_judgement(edits: &[[u32; 5]], constraints: &[[u32; 3]]
 }
 
 #[no_mangle]
-pub extern "C" fn measure_schedule(edits: &[[u32; 5]], constraints: &[[u32; 3]]) -> Scheduled
+pub extern "C" fn measure_schedule(edits: &[EditRow], constraints: &[ConstraintRow]) -> Scheduled
     ensures { λ r. ⌜ r ≡ scheduledOf (scheduleAnswerOf (now (edits .entry)) (now (constraints .entry))) ⌝ }
 {
     let answer = lent_record::schedule_lent(edits, constraints);
@@ -76,10 +78,10 @@ pub extern "C" fn measure_schedule(edits: &[[u32; 5]], constraints: &[[u32; 3]])
 // An empty bench merges one record, then another.
 #[no_mangle]
 pub extern "C" fn measure_merge(
-    edits: &[[u32; 5]],
-    constraints: &[[u32; 3]],
-    others: &[[u32; 5]],
-    otherconstraints: &[[u32; 3]],
+    edits: &[EditRow],
+    constraints: &[ConstraintRow],
+    others: &[EditRow],
+    otherconstraints: &[ConstraintRow],
 ) -> Merged
     ensures { λ r. ⌜ r ≡ mergedOf (now (edits .entry)) (now (constraints .entry)) (now (others .entry)) (now (otherconstraints .entry)) ⌝ }
 {
@@ -116,10 +118,10 @@ fn equal_seats() -> Roll
 #[no_mangle]
 pub extern "C" fn measure_election<'a>(
     edit: u32,
-    edits: &'a [[u32; 5]],
-    constraints: &'a [[u32; 3]],
-    rivals: &'a [[u32; 5]],
-    rivalconstraints: &'a [[u32; 3]],
+    edits: &'a [EditRow],
+    constraints: &'a [ConstraintRow],
+    rivals: &'a [EditRow],
+    rivalconstraints: &'a [ConstraintRow],
 ) -> Elected
     ensures { λ r. ⌜ r ≡ electedOf edit (now (edits .entry)) (now (constraints .entry)) (now (rivals .entry)) (now (rivalconstraints .entry)) ⌝ }
 {

@@ -1,5 +1,7 @@
 // The library for programs in other languages (include/catalogue.h): texts and call logs, as bytes in and bytes out, and tables of election
 // answers. Nothing is kept between calls: a bench is kept by its log.
+use record_rows::row::ConstraintRow;
+use record_rows::row::EditRow;
 use unity_table::Unity;
 ghost use mathlib.Core.Path.{_≡_};
 ghost use mathlib.Core.List.{[], _++_, map};
@@ -87,8 +89,8 @@ fn copy(from: &[u8], to: &mut [u8], n: usize)
 
 // The place after the answers in work. What the kept log printed there is written over.
 fn log_size(
-    edits: &mut [[u32; 5]],
-    constraints: &mut [[u32; 3]],
+    edits: &mut [EditRow],
+    constraints: &mut [ConstraintRow],
     kept: &[u8],
     log: &[u8],
     work: &mut [u8],
@@ -178,7 +180,7 @@ pub extern "C" fn catalogue_continue(
 
 // How united the benches are, from a table of election answers.
 #[no_mangle]
-pub extern "C" fn catalogue_unity(answers: &[[u32; 3]]) -> Unity
+pub extern "C" fn catalogue_unity(answers: &[ConstraintRow]) -> Unity
     ensures { λ r. ⌜ r ≡ unityOf (map weightsOf (now (answers .entry))) ⌝ }
 {
     unity_table::unity_of(answers)

@@ -7,8 +7,8 @@ use record::EDITS;
 use record::Edit;
 use record::Record;
 use record::Schedule;
-use record_rows::row::CONSTRAINT_CELLS;
-use record_rows::row::EDIT_CELLS;
+use record_rows::row::ConstraintRow;
+use record_rows::row::EditRow;
 ghost use mathlib.Core.Path.{_≡_};
 ghost use Rattle.judgement.specs.lent_record.Lent.{recordFault, Taking, refusedJudgement, judgementOf, rowAnswerOf, emptySchedule, scheduleAnswerOf};
 
@@ -39,7 +39,7 @@ pub struct Taken {
     pub multilog: Record,
 }
 
-fn take_record(edits: &[[u32; EDIT_CELLS]], constraints: &[[u32; CONSTRAINT_CELLS]]) -> Taken
+fn take_record(edits: &[EditRow], constraints: &[ConstraintRow]) -> Taken
     ensures { λ r. ⌜ (r .number ≡ recordFault (now (edits .entry)) (now (constraints .entry)))
         × (r .number ≡ 0 → Taking (now (edits .entry)) (now (constraints .entry)) (r .multilog)) ⌝ }
 {
@@ -78,7 +78,7 @@ fn refused(number: u32) -> Judgement
 }
 
 // Must, never, settled and page of each edit of a lent record.
-pub fn judge_lent(edits: &[[u32; EDIT_CELLS]], constraints: &[[u32; CONSTRAINT_CELLS]]) -> Judgement
+pub fn judge_lent(edits: &[EditRow], constraints: &[ConstraintRow]) -> Judgement
     ensures { λ r. ⌜ r ≡ judgementOf (now (edits .entry)) (now (constraints .entry)) ⌝ }
 {
     let taken = take_record(edits, constraints);
@@ -117,10 +117,7 @@ fn empty_schedule() -> Schedule
 }
 
 // The bench schedule of a lent record, with nothing hidden.
-pub fn schedule_lent(
-    edits: &[[u32; EDIT_CELLS]],
-    constraints: &[[u32; CONSTRAINT_CELLS]],
-) -> ScheduleAnswer
+pub fn schedule_lent(edits: &[EditRow], constraints: &[ConstraintRow]) -> ScheduleAnswer
     ensures { λ r. ⌜ r ≡ scheduleAnswerOf (now (edits .entry)) (now (constraints .entry)) ⌝ }
 {
     let taken = take_record(edits, constraints);
@@ -140,11 +137,7 @@ pub fn schedule_lent(
 }
 
 // The test of any row of numbers against a lent record.
-pub fn test_row(
-    edits: &[[u32; EDIT_CELLS]],
-    constraints: &[[u32; CONSTRAINT_CELLS]],
-    row: &[u32],
-) -> RowAnswer
+pub fn test_row(edits: &[EditRow], constraints: &[ConstraintRow], row: &[u32]) -> RowAnswer
     ensures { λ r. ⌜ r ≡ rowAnswerOf (now (edits .entry)) (now (constraints .entry)) (now (row .entry)) ⌝ }
 {
     let taken = take_record(edits, constraints);

@@ -17,16 +17,16 @@ use Rattle.log_forms.specs.productions.Productions.{Production, meant, parse}
 use Rattle.ledger.specs.Ledger.{last}
 use Rattle.log_forms.specs.Printed.{Texts, Printed}
 use Rattle.log_forms.proofs.Printing.{printed-whole}
-use Rattle.log_answers.proofs.Lengths.{sizeOf}
+use Rattle.log_bounds.proofs.Sizes.{sizeOf}
 use Rattle.log_commands.specs.Grammar.{turnForward, turnBack, commandForms, addForm, lendForm, grammar, commandRead}
 use Rattle.log_commands.specs.declared.Command.{Command}
 use Rattle.log_commands.specs.declared.Command.the-variants.{Refused, Lend, Propose, Call, Vote, Ask}
 use Rattle.log_session.specs.Desk.{Desk, printedOf}
-use Rattle.log_session.specs.Bounded.{answerLimit, Bounded}
+use Rattle.log_bounds.specs.Bounded.{answerLimit, Bounded}
 use Rattle.log_session.specs.calls.Lines.{callKind, callText, callEffect}
 use Rattle.log_session.specs.questions.Questions.{askEffect}
-use Rattle.log_session.proofs.Bounds.{CallLineFits, LendLineFits, call-bounded, lend-bounded, proposal-bounded}
-use Rattle.log_session.proofs.Lengths.{ask-size, call-size, proposal-size, vote-size, lend-size, refusal-size}
+use Rattle.log_bounds.proofs.Bounds.{CallLineFits, LendLineFits, call-bounded, lend-bounded, proposal-bounded}
+use Rattle.log_bounds.proofs.Lengths.{ask-size, call-size, proposal-size, vote-size, lend-size, refusal-size}
 use Rattle.log.specs.Effects.{effect}
 use Rattle.log.specs.Log.{Run, runLine, runLines}
 use Rattle.log.proofs.Performed.{same-desk}
@@ -87,65 +87,11 @@ forms-fit = (λ n h. h 5, (λ n h. tt, (λ n h. tt, (λ n h. tt, (λ n h. tt, (�
 -- the lines of the exchanged text
 added-fit : AllFit (map addForm shapes)
 unfolding shapes setShapes ruleShapes
-added-fit = (
-  λ n h. h 2,
-  (
-    λ n h. h 2,
-    (
-      λ n h. h 2,
-      (
-        λ n h. h 2,
-        (
-          λ n h. h 2,
-          (
-            λ n h. h 2,
-            (
-              λ n h. tt,
-              (
-                λ n h. tt,
-                (
-                  λ n h. tt,
-                  tt,
-                ),
-              ),
-            ),
-          ),
-        ),
-      ),
-    ),
-  ),
-)
+added-fit = (λ n h. h 2, (λ n h. h 2, (λ n h. h 2, (λ n h. h 2, (λ n h. h 2, (λ n h. h 2, (λ n h. tt, (λ n h. tt, (λ n h. tt, tt)))))))))
 
 lent-fit : AllFit (map lendForm shapes)
 unfolding shapes setShapes ruleShapes
-lent-fit = (
-  λ n h. h 3,
-  (
-    λ n h. h 3,
-    (
-      λ n h. h 3,
-      (
-        λ n h. h 3,
-        (
-          λ n h. h 3,
-          (
-            λ n h. h 3,
-            (
-              λ n h. tt,
-              (
-                λ n h. tt,
-                (
-                  λ n h. tt,
-                  tt,
-                ),
-              ),
-            ),
-          ),
-        ),
-      ),
-    ),
-  ),
-)
+lent-fit = (λ n h. h 3, (λ n h. h 3, (λ n h. h 3, (λ n h. h 3, (λ n h. h 3, (λ n h. h 3, (λ n h. tt, (λ n h. tt, (λ n h. tt, tt)))))))))
 
 command-fits : (line : List ℕ) → CommandFits (commandRead line)
 unfolding commandRead grammar

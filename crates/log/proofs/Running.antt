@@ -15,7 +15,7 @@ use Rattle.log_commands.specs.declared.Command.{Command}
 use Rattle.log_commands.specs.Grammar.{commandRead}
 use Rattle.log_lent.specs.declared.Lending.{Lending}
 use Rattle.log_session.specs.Desk.{Desk, printedOf}
-use Rattle.log_session.specs.Bounded.{answerLimit}
+use Rattle.log_bounds.specs.Bounded.{answerLimit}
 use Rattle.log_session.specs.calls.Lines.{Holds}
 use Rattle.log.specs.Effects.{effect}
 use Rattle.log.specs.Log.{begun, runLine, runLines}

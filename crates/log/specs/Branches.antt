@@ -10,10 +10,10 @@ use Rattle.log_session.specs.calls.Lines.{callKind}
 use Rattle.log.specs.declared.PageLine.{PageLine}
 use Rattle.log.specs.declared.PageLine.the-variants.{Other, Pages, Question}
 
-abbrev pub turnOf : Kind → PageLine
-turnOf Change = Other
-turnOf (PageTurn pages) = Pages pages
-turnOf Adoption = Other
+abbrev pub turnTold : Kind → PageLine
+turnTold Change = Other
+turnTold (PageTurn pages) = Pages pages
+turnTold Adoption = Other
 
 abbrev pub questionOf : Asks → PageLine
 questionOf Text = Other
@@ -28,7 +28,7 @@ abbrev pub pagingOf : Command → PageLine
 pagingOf (Refused number) = Other
 pagingOf (Lend lend) = Other
 pagingOf (Propose asked) = Other
-pagingOf (Call call) = turnOf (callKind call)
+pagingOf (Call call) = turnTold (callKind call)
 pagingOf (Vote vote) = Other
 pagingOf (Ask ask) = questionOf ask
 

@@ -9,7 +9,7 @@ use Rattle.text_lines.specs.Lines.{lines}
 use Rattle.log_forms.specs.Printed.{Printed}
 use Rattle.log_lent.specs.declared.Lending.{Lending}
 use Rattle.log_session.specs.Desk.{Desk}
-use Rattle.log_session.specs.Bounded.{answerLimit, Bounded}
+use Rattle.log_bounds.specs.Bounded.{answerLimit, Bounded}
 use Rattle.log_session.specs.calls.Lines.{Holds}
 use Rattle.log.specs.Log.{Run, begun, runLines}
 

@@ -11,6 +11,8 @@ use log_session::questions;
 use log_session::votes;
 use pages_turner::Turner;
 use pages_turner::turning;
+use record_rows::row::ConstraintRow;
+use record_rows::row::EditRow;
 ghost use mathlib.Core.Path.{_≡_};
 ghost use mathlib.Core.Bool.{true, false};
 ghost use mathlib.Core.List.{List};
@@ -27,7 +29,7 @@ ghost use Rattle.log_lent.specs.declared.Lending.{Lending};
 ghost use Rattle.log_session.specs.Desk.{Desk, printedOf};
 ghost use Rattle.log_session.specs.calls.Lines.{Holds};
 ghost use Rattle.log_session.specs.votes.Votes.{voteEffect};
-ghost use Rattle.log.specs.Branches.{turnOf, questionOf, pagingOf, isTurn, isOther};
+ghost use Rattle.log.specs.Branches.{turnTold, questionOf, pagingOf, isTurn, isOther};
 ghost use Rattle.log.specs.Effects.{effect};
 ghost use Rattle.log.specs.Log.{begun, runLines};
 ghost use Rattle.log.specs.Running.{Running, Stops};
@@ -40,7 +42,7 @@ enum PageLine {
 }
 
 fn turn_of(kind: Kind) -> PageLine
-    ensures { λ r. ⌜ r ≡ turnOf kind ⌝ }
+    ensures { λ r. ⌜ r ≡ turnTold kind ⌝ }
 {
     match kind {
         Kind::Change => PageLine::Other,
@@ -140,8 +142,8 @@ fn run_page(turner: Turner, paging: PageLine, line: usize, out: &mut [u8], at: u
 fn print_vote(
     bench: Bench,
     lending: Lending,
-    edits: &[[u32; 5]],
-    constraints: &[[u32; 3]],
+    edits: &[EditRow],
+    constraints: &[ConstraintRow],
     vote: Vote,
     line: usize,
     out: &mut [u8],
@@ -237,8 +239,8 @@ pub struct Logged {
 pub fn run_some(
     bench: Bench,
     lending: Lending,
-    edits: &mut [[u32; 5]],
-    constraints: &mut [[u32; 3]],
+    edits: &mut [EditRow],
+    constraints: &mut [ConstraintRow],
     log: &[u8],
     count: usize,
     out: &mut [u8],
@@ -346,8 +348,8 @@ pub fn run_some(
 pub fn run_log(
     bench: Bench,
     lending: Lending,
-    edits: &mut [[u32; 5]],
-    constraints: &mut [[u32; 3]],
+    edits: &mut [EditRow],
+    constraints: &mut [ConstraintRow],
     log: &[u8],
     count: usize,
     out: &mut [u8],

@@ -1,3 +1,1 @@
 pub mod Placing
-pub mod Lengths
-pub mod Small

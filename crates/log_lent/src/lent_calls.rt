@@ -9,6 +9,8 @@ use ledger::Outcome;
 use record::EDITS;
 use record::Record;
 use record_rows::row;
+use record_rows::row::ConstraintRow;
+use record_rows::row::EditRow;
 use record_tables::lookup;
 use suggestions::Suggested;
 use voting::Election;
@@ -37,8 +39,8 @@ ghost use Rattle.log_lent.specs.lent_calls.Calls.{proposalsOf, bundleIn,
 pub fn merge_lent(
     bench: Bench,
     lending: Lending,
-    edits: &[[u32; 5]],
-    constraints: &[[u32; 3]],
+    edits: &[EditRow],
+    constraints: &[ConstraintRow],
     k: u32,
 ) -> Outcome
     ensures { λ r. ⌜ (8 < k → r ≡ refusedWith bench 2)
@@ -57,33 +59,11 @@ pub fn merge_lent(
     )
 }
 
-// The election on an edit over records 1 to 8 and the roll.
-pub fn elect_lent(
-    lending: Lending,
-    edits: &[[u32; 5]],
-    constraints: &[[u32; 3]],
-    edit: u32,
-) -> Election
-    ensures { λ r. ⌜ ((L : Lent) → Kept L lending (now (edits .entry)) (now (constraints .entry)) → r ≡ electionOf edit (proposalsOf L) (L .roll)) ⌝ }
-{
-    let editcounts = lending.editcounts;
-    let constraintcounts = lending.constraintcounts;
-    let roll = lending.roll;
-    let count = lending.rollcount;
-    roll_array::election(
-        edit,
-        crate::proposed_edits(editcounts, edits),
-        crate::proposed_constraints(constraintcounts, constraints),
-        roll,
-        count,
-    )
-}
-
-// The same election with its won bundle.
+// The election on an edit over records 1 to 8 and the roll, with its won bundle.
 pub fn count_lent(
     lending: Lending,
-    edits: &[[u32; 5]],
-    constraints: &[[u32; 3]],
+    edits: &[EditRow],
+    constraints: &[ConstraintRow],
     edit: u32,
 ) -> Counted
     ensures { λ r. ⌜ ((L : Lent) → Kept L lending (now (edits .entry)) (now (constraints .entry)) → r ≡ countOf edit (proposalsOf L) (L .roll)) ⌝ }
@@ -101,11 +81,25 @@ pub fn count_lent(
     )
 }
 
+// Its answer alone.
+pub fn elect_lent(
+    lending: Lending,
+    edits: &[EditRow],
+    constraints: &[ConstraintRow],
+    edit: u32,
+) -> Election
+    ensures { λ r. ⌜ ((L : Lent) → Kept L lending (now (edits .entry)) (now (constraints .entry)) → r ≡ electionOf edit (proposalsOf L) (L .roll)) ⌝ }
+{
+    let counted = count_lent(lending, edits, constraints, edit);
+    let answer = counted.election;
+    answer
+}
+
 // The bundle of an edit in record k, and whether it is eligible.
 pub fn bundle_lent(
     lending: Lending,
-    edits: &[[u32; 5]],
-    constraints: &[[u32; 3]],
+    edits: &[EditRow],
+    constraints: &[ConstraintRow],
     k: u32,
     edit: u32,
 ) -> BundleAnswer
@@ -130,8 +124,8 @@ pub fn bundle_lent(
 
 // Whether the first n names of a row are a sound schedule of a lent record.
 fn test_names(
-    edits: &[[u32; 5]],
-    constraints: &[[u32; 3]],
+    edits: &[EditRow],
+    constraints: &[ConstraintRow],
     row: [u32; ROW_PLACES],
     n: usize,
 ) -> RowAnswer
@@ -144,8 +138,8 @@ fn test_names(
 // Whether the row is a sound schedule of record k.
 pub fn test_lent(
     lending: Lending,
-    edits: &[[u32; 5]],
-    constraints: &[[u32; 3]],
+    edits: &[EditRow],
+    constraints: &[ConstraintRow],
     k: u32,
 ) -> RowAnswer
     ensures { λ r. ⌜ ((L : Lent) → Kept L lending (now (edits .entry)) (now (constraints .entry)) → r ≡ rowIn L k) ⌝ }
@@ -179,8 +173,8 @@ pub fn test_lent(
 pub fn adopt_lent(
     bench: Bench,
     lending: Lending,
-    edits: &[[u32; 5]],
-    constraints: &[[u32; 3]],
+    edits: &[EditRow],
+    constraints: &[ConstraintRow],
     edit: u32,
 ) -> Outcome
     ensures { λ r. ⌜ ((L : Lent) → Kept L lending (now (edits .entry)) (now (constraints .entry)) → Answers bench (Call.adopt edit (proposalsOf L) (L .roll)) r) ⌝ }
@@ -212,7 +206,7 @@ fn no_suggestion(number: u32) -> Suggested
 }
 
 // The row of the edit of a name that the record knows.
-fn row_named(multilog: Record, name: u16) -> [u32; 5]
+fn row_named(multilog: Record, name: u16) -> EditRow
     ensures { λ r. ⌜ ((R : theory.Record) → multilog ≡ stored R → Checked R → name among theory.written R → r ≡ editRow (editNamed (R .edits) name)) ⌝ }
 {
     let place = lookup::place_of(multilog, name);

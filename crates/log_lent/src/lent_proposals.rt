@@ -1,6 +1,8 @@
 // A proposal made from the records that the lines of a call log lend (document 01, "Proposals and votes").
 use crate::Lending;
 use record_joining::Joined;
+use record_rows::row::ConstraintRow;
+use record_rows::row::EditRow;
 ghost use mathlib.Core.Path.{_≡_};
 ghost use Rattle.record_rows.specs.ground.Ground.{Rows};
 ghost use Rattle.voting_proposals.specs.Propose.{newOutcome};
@@ -28,8 +30,8 @@ fn fitted(new: Joined, n: u32, m: u32) -> Joined
 // The new proposal from record k and the old one, where n edits and m constraints have a place.
 pub fn propose_lent(
     lending: Lending,
-    edits: &[[u32; 5]],
-    constraints: &[[u32; 3]],
+    edits: &[EditRow],
+    constraints: &[ConstraintRow],
     k: u32,
     old: u32,
     n: u32,

@@ -9,6 +9,8 @@ use record::EDITS;
 use record::Edit;
 use record::Record;
 use record_rows::row;
+use record_rows::row::ConstraintRow;
+use record_rows::row::EditRow;
 use voting::RollRow;
 ghost use mathlib.Core.Path.{_≡_};
 ghost use mathlib.Core.List.{[], map};
@@ -81,7 +83,7 @@ fn next_place(counts: [usize; RECORDS], places: usize, size: usize, k: usize) ->
 }
 
 // A row joins table k of the lent edits.
-fn add_edit(counts: [usize; RECORDS], kept: &mut [[u32; 5]], k: usize, row: [u32; 5]) -> Placing
+fn add_edit(counts: [usize; RECORDS], kept: &mut [EditRow], k: usize, row: EditRow) -> Placing
     ensures { λ r. ⌜ ((tables : ℕ → Rows) → Tables editPlaces tables counts (now (kept .entry))
         → (r .number ≡ rowsFault editPlaces tables k) × Tables editPlaces (added editPlaces tables k row) (r .counts) (now (kept .exit))) ⌝ }
 {
@@ -96,9 +98,9 @@ fn add_edit(counts: [usize; RECORDS], kept: &mut [[u32; 5]], k: usize, row: [u32
 // A row joins table k of the lent constraints.
 fn add_constraint(
     counts: [usize; RECORDS],
-    kept: &mut [[u32; 3]],
+    kept: &mut [ConstraintRow],
     k: usize,
-    row: [u32; 3],
+    row: ConstraintRow,
 ) -> Placing
     ensures { λ r. ⌜ ((tables : ℕ → Rows) → Tables constraintPlaces tables counts (now (kept .entry))
         → (r .number ≡ rowsFault constraintPlaces tables k) × Tables constraintPlaces (added constraintPlaces tables k row) (r .counts) (now (kept .exit))) ⌝ }
@@ -125,7 +127,7 @@ fn without_rows(counts: [usize; RECORDS], k: usize) -> [usize; RECORDS]
 // The rows of n edits join table k.
 fn add_edits(
     counts: [usize; RECORDS],
-    kept: &mut [[u32; 5]],
+    kept: &mut [EditRow],
     k: usize,
     edits: [Edit; EDITS],
     n: usize,
@@ -149,7 +151,7 @@ fn add_edits(
 // The rows of n constraints join table k.
 fn add_constraints(
     counts: [usize; RECORDS],
-    kept: &mut [[u32; 3]],
+    kept: &mut [ConstraintRow],
     k: usize,
     constraints: [Constraint; CONSTRAINTS],
     n: usize,
@@ -203,7 +205,7 @@ fn part_of(counts: [usize; RECORDS], places: usize, size: usize, k: usize) -> Pa
 }
 
 // The rows of table k of the lent edits.
-pub fn edits_of<'a>(counts: [usize; RECORDS], kept: &'a [[u32; 5]], k: usize) -> &'a [[u32; 5]]
+pub fn edits_of<'a>(counts: [usize; RECORDS], kept: &'a [EditRow], k: usize) -> &'a [EditRow]
     ensures { λ r. ⌜ ((tables : ℕ → Rows) → Tables editPlaces tables counts (now (kept .entry)) → k < lentRecords → now r ≡ tables k) ⌝ }
 {
     let part = part_of(counts, EDIT_PLACES, kept.len(), k);
@@ -215,9 +217,9 @@ pub fn edits_of<'a>(counts: [usize; RECORDS], kept: &'a [[u32; 5]], k: usize) ->
 // The rows of table k of the lent constraints.
 pub fn constraints_of<'a>(
     counts: [usize; RECORDS],
-    kept: &'a [[u32; 3]],
+    kept: &'a [ConstraintRow],
     k: usize,
-) -> &'a [[u32; 3]]
+) -> &'a [ConstraintRow]
     ensures { λ r. ⌜ ((tables : ℕ → Rows) → Tables constraintPlaces tables counts (now (kept .entry)) → k < lentRecords → now r ≡ tables k) ⌝ }
 {
     let part = part_of(counts, CONSTRAINT_PLACES, kept.len(), k);
@@ -227,7 +229,7 @@ pub fn constraints_of<'a>(
 }
 
 // The lent edits of the eight proposals.
-pub fn proposed_edits<'a>(counts: [usize; RECORDS], kept: &'a [[u32; 5]]) -> [&'a [[u32; 5]]; 8]
+pub fn proposed_edits<'a>(counts: [usize; RECORDS], kept: &'a [EditRow]) -> [&'a [EditRow]; 8]
     ensures { λ r. ⌜ ((tables : ℕ → Rows) → Tables editPlaces tables counts (now (kept .entry)) → map now r ≡ map tables benches) ⌝ }
 {
     [
@@ -245,8 +247,8 @@ pub fn proposed_edits<'a>(counts: [usize; RECORDS], kept: &'a [[u32; 5]]) -> [&'
 // The lent constraints of the eight proposals.
 pub fn proposed_constraints<'a>(
     counts: [usize; RECORDS],
-    kept: &'a [[u32; 3]],
-) -> [&'a [[u32; 3]]; 8]
+    kept: &'a [ConstraintRow],
+) -> [&'a [ConstraintRow]; 8]
     ensures { λ r. ⌜ ((tables : ℕ → Rows) → Tables constraintPlaces tables counts (now (kept .entry)) → map now r ≡ map tables benches) ⌝ }
 {
     [
@@ -288,7 +290,7 @@ pub fn nothing_lent() -> Lending
 }
 
 // A row of edits for record k.
-pub fn lend_edit(lending: Lending, kept: &mut [[u32; 5]], k: u32, row: [u32; 5]) -> Setting
+pub fn lend_edit(lending: Lending, kept: &mut [EditRow], k: u32, row: EditRow) -> Setting
     ensures { λ r. ⌜ ((L : Lent) (constraints : Rows) → Kept L lending (now (kept .entry)) constraints
         → (r .number ≡ rowsFault editPlaces (L .edits) k) × Kept (withEdit L k row) (r .lending) (now (kept .exit)) constraints) ⌝ }
 {
@@ -304,7 +306,12 @@ pub fn lend_edit(lending: Lending, kept: &mut [[u32; 5]], k: u32, row: [u32; 5])
 }
 
 // A row of constraints for record k.
-pub fn lend_constraint(lending: Lending, kept: &mut [[u32; 3]], k: u32, row: [u32; 3]) -> Setting
+pub fn lend_constraint(
+    lending: Lending,
+    kept: &mut [ConstraintRow],
+    k: u32,
+    row: ConstraintRow,
+) -> Setting
     ensures { λ r. ⌜ ((L : Lent) (edits : Rows) → Kept L lending edits (now (kept .entry))
         → (r .number ≡ rowsFault constraintPlaces (L .constraints) k) × Kept (withConstraint L k row) (r .lending) edits (now (kept .exit))) ⌝ }
 {
@@ -322,8 +329,8 @@ pub fn lend_constraint(lending: Lending, kept: &mut [[u32; 3]], k: u32, row: [u3
 // Record k is this one.
 pub fn lend_record(
     lending: Lending,
-    edits: &mut [[u32; 5]],
-    constraints: &mut [[u32; 3]],
+    edits: &mut [EditRow],
+    constraints: &mut [ConstraintRow],
     k: u32,
     multilog: Record,
 ) -> Setting

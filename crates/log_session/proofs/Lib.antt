@@ -1,4 +1,1 @@
 pub mod Cases
-pub mod Numbers
-pub mod Bounds
-pub mod Lengths

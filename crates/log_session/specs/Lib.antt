@@ -1,4 +1,3 @@
-pub mod Bounded
 pub mod Desk
 pub mod Lends
 pub mod Requests

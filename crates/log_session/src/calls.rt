@@ -6,6 +6,8 @@ use log_commands::Call;
 use log_commands::Lend;
 use log_lent::Lending;
 use pages_turner::Turner;
+use record_rows::row::ConstraintRow;
+use record_rows::row::EditRow;
 ghost use mathlib.Core.Path.{_≡_};
 ghost use mathlib.Core.Bool.{cond};
 ghost use mathlib.Core.List.{[], _∷_};
@@ -121,8 +123,8 @@ pub fn print_outcome(
 pub fn run_lend(
     bench: Bench,
     lending: Lending,
-    edits: &mut [[u32; 5]],
-    constraints: &mut [[u32; 3]],
+    edits: &mut [EditRow],
+    constraints: &mut [ConstraintRow],
     lend: Lend,
     line: usize,
     out: &mut [u8],

@@ -14,6 +14,8 @@ use log_commands::Lend;
 use log_lent::Lending;
 use log_lent::Setting;
 use log_lent::lent_calls;
+use record_rows::row::ConstraintRow;
+use record_rows::row::EditRow;
 ghost use mathlib.Core.Path.{_≡_};
 ghost use Rattle.log_lent.specs.Kept.{Kept};
 ghost use Rattle.log_session.specs.Desk.{Desk, benchIn, replied};
@@ -26,7 +28,7 @@ pub struct Told {
     pub at: usize,
 }
 
-fn edit_row(cells: EditCells) -> [u32; 5]
+fn edit_row(cells: EditCells) -> EditRow
     ensures { λ r. ⌜ r ≡ editCellsRow cells ⌝ }
 {
     [
@@ -38,7 +40,7 @@ fn edit_row(cells: EditCells) -> [u32; 5]
     ]
 }
 
-fn constraint_row(cells: ConstraintCells) -> [u32; 3]
+fn constraint_row(cells: ConstraintCells) -> ConstraintRow
     ensures { λ r. ⌜ r ≡ constraintCellsRow cells ⌝ }
 {
     [cells.left, cells.rule, cells.right]
@@ -56,8 +58,8 @@ fn set(lending: Lending) -> Setting
 // A line that lends.
 pub fn lend_line(
     lending: Lending,
-    edits: &mut [[u32; 5]],
-    constraints: &mut [[u32; 3]],
+    edits: &mut [EditRow],
+    constraints: &mut [ConstraintRow],
     bench: Bench,
     lend: Lend,
 ) -> Setting
@@ -93,8 +95,8 @@ pub fn lend_line(
 pub fn make_call(
     bench: Bench,
     lending: Lending,
-    edits: &[[u32; 5]],
-    constraints: &[[u32; 3]],
+    edits: &[EditRow],
+    constraints: &[ConstraintRow],
     call: Call,
 ) -> Outcome
     ensures { λ r. ⌜ ((D : Desk) → bench ≡ benchIn D → Kept (D .lent) lending (now (edits .entry)) (now (constraints .entry))

@@ -9,6 +9,8 @@ use log_lent::lent_calls;
 use log_lent::lent_proposals;
 use record::Record;
 use record_joining::Joined;
+use record_rows::row::ConstraintRow;
+use record_rows::row::EditRow;
 use suggestions::Suggested;
 use voting::Election;
 use voting_bundles::BundleAnswer;
@@ -68,7 +70,7 @@ fn print_bundle(answer: BundleAnswer, line: usize, out: &mut [u8], at: usize) ->
 }
 
 // The line of a suggested constraint, by its rule.
-fn print_rule(row: [u32; 3], out: &mut [u8], at: usize) -> usize
+fn print_rule(row: ConstraintRow, out: &mut [u8], at: usize) -> usize
     ensures { λ r. ⌜ Printed (ruleLine row) (now (out .entry)) at (now (out .exit)) r ⌝ }
 {
     let rule = row[1];
@@ -129,8 +131,8 @@ fn print_test(answer: RowAnswer, line: usize, out: &mut [u8], at: usize) -> usiz
 // What a line about votes prints.
 pub fn print_vote(
     lending: Lending,
-    edits: &[[u32; 5]],
-    constraints: &[[u32; 3]],
+    edits: &[EditRow],
+    constraints: &[ConstraintRow],
     multilog: Record,
     vote: Vote,
     line: usize,
@@ -189,8 +191,8 @@ fn print_made(made: Joined, line: usize, out: &mut [u8], at: usize) -> usize
 // Makes a proposal from what is lent and prints it; kept, it takes the place of the old one.
 pub fn print_proposal(
     lending: Lending,
-    edits: &mut [[u32; 5]],
-    constraints: &mut [[u32; 3]],
+    edits: &mut [EditRow],
+    constraints: &mut [ConstraintRow],
     asked: Proposing,
     line: usize,
     out: &mut [u8],

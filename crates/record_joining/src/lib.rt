@@ -9,7 +9,9 @@ use record::Edit;
 use record::Record;
 use record_rows::row;
 use record_rows::row::CONSTRAINT_CELLS;
+use record_rows::row::ConstraintRow;
 use record_rows::row::EDIT_CELLS;
+use record_rows::row::EditRow;
 ghost use mathlib.Core.Path.{_≡_};
 ghost use mathlib.Core.List.{[], _∷_, map};
 ghost use Prim.Native.Nat.{_≤_};
@@ -28,7 +30,7 @@ pub struct Joined {
 }
 
 // A lent record by itself.
-pub fn lent(edits: &[[u32; EDIT_CELLS]], constraints: &[[u32; CONSTRAINT_CELLS]]) -> Joined
+pub fn lent(edits: &[EditRow], constraints: &[ConstraintRow]) -> Joined
     ensures { λ r. ⌜ r ≡ joinedOf (lentFault emptyTables (now (edits .entry)) (now (constraints .entry))) emptyTables (decoded (now (edits .entry)) (now (constraints .entry))) ⌝ }
 {
     let number = record_refusal::lent_fault(edits, constraints);
@@ -45,11 +47,7 @@ pub fn lent(edits: &[[u32; EDIT_CELLS]], constraints: &[[u32; CONSTRAINT_CELLS]]
 }
 
 // A lent record joins a record.
-pub fn merge(
-    joined: Record,
-    edits: &[[u32; EDIT_CELLS]],
-    constraints: &[[u32; CONSTRAINT_CELLS]],
-) -> Joined
+pub fn merge(joined: Record, edits: &[EditRow], constraints: &[ConstraintRow]) -> Joined
     ensures { λ r. ⌜ ((R : theory.Record) → joined ≡ stored R → Checked R → r ≡ joinedOf (lentFault R (now (edits .entry)) (now (constraints .entry))) R (unite R (decoded (now (edits .entry)) (now (constraints .entry))))) ⌝ }
 {
     let number = record_refusal::fault(joined, edits, constraints);
@@ -67,7 +65,7 @@ pub fn merge(
 }
 
 // One edit is added.
-pub fn add_edit(joined: Record, row: [u32; EDIT_CELLS]) -> Joined
+pub fn add_edit(joined: Record, row: EditRow) -> Joined
     ensures { λ r. ⌜ ((R : theory.Record) → joined ≡ stored R → Checked R → r ≡ joinedOf (addEditFault R row) R (unite R (decoded (row ∷ []) []))) ⌝ }
 {
     let number = record_refusal::edit_add_fault(joined, row);
@@ -85,7 +83,7 @@ pub fn add_edit(joined: Record, row: [u32; EDIT_CELLS]) -> Joined
 }
 
 // One constraint is added: its place is found by halving, where a union walks through the whole table.
-pub fn add_constraint(joined: Record, row: [u32; CONSTRAINT_CELLS]) -> Joined
+pub fn add_constraint(joined: Record, row: ConstraintRow) -> Joined
     ensures { λ r. ⌜ ((R : theory.Record) → joined ≡ stored R → Checked R → r ≡ joinedOf (addConstraintFault R row) R (unite R (decoded [] (row ∷ [])))) ⌝ }
 {
     let number = record_refusal::constraint_add_fault(joined, row);
@@ -104,7 +102,7 @@ pub fn add_constraint(joined: Record, row: [u32; CONSTRAINT_CELLS]) -> Joined
 }
 
 // The rows of the first n edits.
-fn edit_rows(a: [Edit; EDITS], n: usize) -> [[u32; EDIT_CELLS]; EDITS]
+fn edit_rows(a: [Edit; EDITS], n: usize) -> [EditRow; EDITS]
     requires { ⌜ n ≤ editLimit ⌝ }
     ensures { λ r. ⌜ take n r ≡ map editRow (take n a) ⌝ }
 {
@@ -119,7 +117,7 @@ fn edit_rows(a: [Edit; EDITS], n: usize) -> [[u32; EDIT_CELLS]; EDITS]
 }
 
 // The rows of the first n constraints.
-fn constraint_rows(a: [Constraint; CONSTRAINTS], n: usize) -> [[u32; CONSTRAINT_CELLS]; CONSTRAINTS]
+fn constraint_rows(a: [Constraint; CONSTRAINTS], n: usize) -> [ConstraintRow; CONSTRAINTS]
     requires { ⌜ n ≤ constraintLimit ⌝ }
     ensures { λ r. ⌜ take n r ≡ map constraintRow (take n a) ⌝ }
 {

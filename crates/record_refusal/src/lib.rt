@@ -8,8 +8,8 @@ use record::Record;
 use record_rows::ground;
 use record_rows::ground::Step;
 use record_rows::row;
-use record_rows::row::CONSTRAINT_CELLS;
-use record_rows::row::EDIT_CELLS;
+use record_rows::row::ConstraintRow;
+use record_rows::row::EditRow;
 ghost use mathlib.Core.Path.{_≡_};
 ghost use mathlib.Core.Bool.{false};
 ghost use mathlib.Core.List.{List, [], map};
@@ -37,7 +37,7 @@ fn step(at: usize, n: usize, x: &[u32], row: &[u32], key: usize, count: usize, l
 }
 
 // How many of the first n edits stand before the row, whose length is ensured for callers that copy it out of a slice.
-fn edit_place(a: [Edit; EDITS], n: usize, row: [u32; EDIT_CELLS]) -> usize
+fn edit_place(a: [Edit; EDITS], n: usize, row: EditRow) -> usize
     requires { ⌜ n ≤ editLimit ⌝ }
     ensures { λ r. ⌜ (r ≤ n) × (length row ≡ editWidth) × PlaceOf 1 (map editRow (take n a)) row r ⌝ }
 {
@@ -54,7 +54,7 @@ fn edit_place(a: [Edit; EDITS], n: usize, row: [u32; EDIT_CELLS]) -> usize
 }
 
 // The number of a row that is out of order or repeated.
-fn edit_late(a: [Edit; EDITS], n: usize, count: usize, t: &[[u32; EDIT_CELLS]], i: usize) -> u32
+fn edit_late(a: [Edit; EDITS], n: usize, count: usize, t: &[EditRow], i: usize) -> u32
     requires { ⌜ (n ≤ editLimit) × (count ≤ editLimit) × (i < length (now t)) ⌝ }
     ensures { λ r. ⌜ (Ascending (take 1) (map editRow (take n a)) → r ≡ lateFault 1 editLimit (map editRow (take n a)) count (take i (now (t .entry))) (getD (now (t .entry)) i [])) ⌝ }
 {
@@ -67,7 +67,7 @@ fn edit_late(a: [Edit; EDITS], n: usize, count: usize, t: &[[u32; EDIT_CELLS]], 
 }
 
 // The number of the first faulty row of a table of edits that joins a record.
-fn edit_fault(r: Record, t: &[[u32; EDIT_CELLS]]) -> u32
+fn edit_fault(r: Record, t: &[EditRow]) -> u32
     ensures { λ q. ⌜ (OrderedTables r → q ≡ tableFault editKind (editRows (recordOf r)) (now (t .entry))) ⌝ }
 {
     let a = r.edits;
@@ -99,7 +99,7 @@ fn edit_fault(r: Record, t: &[[u32; EDIT_CELLS]]) -> u32
 }
 
 // The same of constraints.
-fn constraint_place(a: [Constraint; CONSTRAINTS], n: usize, row: [u32; CONSTRAINT_CELLS]) -> usize
+fn constraint_place(a: [Constraint; CONSTRAINTS], n: usize, row: ConstraintRow) -> usize
     requires { ⌜ n ≤ constraintLimit ⌝ }
     ensures { λ r. ⌜ (r ≤ n) × (length row ≡ constraintWidth) × PlaceOf 3 (map constraintRow (take n a)) row r ⌝ }
 {
@@ -120,7 +120,7 @@ fn constraint_late(
     a: [Constraint; CONSTRAINTS],
     n: usize,
     count: usize,
-    t: &[[u32; CONSTRAINT_CELLS]],
+    t: &[ConstraintRow],
     i: usize,
 ) -> u32
     requires { ⌜ (n ≤ constraintLimit) × (count ≤ constraintLimit) × (i < length (now t)) ⌝ }
@@ -135,7 +135,7 @@ fn constraint_late(
 }
 
 // The number of the first faulty row of a table of constraints that joins a record, where marks are those of the edits that it knows.
-fn constraint_fault(r: Record, t: &[[u32; CONSTRAINT_CELLS]], marks: &[u8], adding: bool) -> u32
+fn constraint_fault(r: Record, t: &[ConstraintRow], marks: &[u8], adding: bool) -> u32
     ensures { λ q. ⌜ ((names : List ℕ) → MarksNames (now (marks .entry)) names → OrderedTables r → q ≡ tableFault (constraintKind names adding) (constraintRows (recordOf r)) (now (t .entry))) ⌝ }
 {
     let a = r.constraints;
@@ -170,11 +170,7 @@ fn constraint_fault(r: Record, t: &[[u32; CONSTRAINT_CELLS]], marks: &[u8], addi
 }
 
 // The number of the first faulty row of a lent record that joins a record; its constraints know only its own edits.
-pub fn fault(
-    joined: Record,
-    edits: &[[u32; EDIT_CELLS]],
-    constraints: &[[u32; CONSTRAINT_CELLS]],
-) -> u32
+pub fn fault(joined: Record, edits: &[EditRow], constraints: &[ConstraintRow]) -> u32
     ensures { λ q. ⌜ ((R : theory.Record) → joined ≡ stored R → Checked R → q ≡ lentFault R (now (edits .entry)) (now (constraints .entry))) ⌝ }
 {
     let number = edit_fault(joined, edits);
@@ -186,14 +182,14 @@ pub fn fault(
 }
 
 // The same of a lent record by itself.
-pub fn lent_fault(edits: &[[u32; EDIT_CELLS]], constraints: &[[u32; CONSTRAINT_CELLS]]) -> u32
+pub fn lent_fault(edits: &[EditRow], constraints: &[ConstraintRow]) -> u32
     ensures { λ q. ⌜ q ≡ lentFault emptyTables (now (edits .entry)) (now (constraints .entry)) ⌝ }
 {
     fault(record::empty(), edits, constraints)
 }
 
 // The number of one edit that is added to a record.
-pub fn edit_add_fault(joined: Record, row: [u32; EDIT_CELLS]) -> u32
+pub fn edit_add_fault(joined: Record, row: EditRow) -> u32
     ensures { λ q. ⌜ ((R : theory.Record) → joined ≡ stored R → Checked R → q ≡ addEditFault R row) ⌝ }
 {
     let t = [row];
@@ -201,7 +197,7 @@ pub fn edit_add_fault(joined: Record, row: [u32; EDIT_CELLS]) -> u32
 }
 
 // The number of one constraint that is added to a record; it knows the record's edits.
-pub fn constraint_add_fault(joined: Record, row: [u32; CONSTRAINT_CELLS]) -> u32
+pub fn constraint_add_fault(joined: Record, row: ConstraintRow) -> u32
     ensures { λ q. ⌜ ((R : theory.Record) → joined ≡ stored R → Checked R → q ≡ addConstraintFault R row) ⌝ }
 {
     let n = joined.editcount;

@@ -17,6 +17,10 @@ pub const EDIT_CELLS: usize = 5;
 
 pub const CONSTRAINT_CELLS: usize = 3;
 
+pub type EditRow = [u32; EDIT_CELLS];
+
+pub type ConstraintRow = [u32; CONSTRAINT_CELLS];
+
 pub const NAMES: usize = 2304;
 
 const PLACES: u32 = 64;
@@ -71,7 +75,7 @@ fn cells_in_range(first: bool, cell: u32, bound: u32, rest: bool) -> bool
 }
 
 // The length of the row is ensured for callers that copy it out of a slice.
-pub fn edit_in_range(row: [u32; EDIT_CELLS]) -> bool
+pub fn edit_in_range(row: EditRow) -> bool
     ensures { λ r. ⌜ (r ≡ editInRange row) × (length row ≡ editWidth) ⌝ }
 {
     let named = is_name(row[0]);
@@ -101,7 +105,7 @@ fn body_of(kind: u32, place: u8, field: u32, value: u32) -> Body
 }
 
 // A row in range as an edit; of any other the filler.
-pub fn edit_of(row: [u32; EDIT_CELLS]) -> Edit
+pub fn edit_of(row: EditRow) -> Edit
     ensures { λ r. ⌜ r ≡ editOf row ⌝ }
 {
     if !edit_in_range(row) {
@@ -131,7 +135,7 @@ pub fn field_number(f: Field) -> u32
     }
 }
 
-pub fn edit_row(e: Edit) -> [u32; EDIT_CELLS]
+pub fn edit_row(e: Edit) -> EditRow
     ensures { λ r. ⌜ r ≡ editRow e ⌝ }
 {
     let name = e.name as u32;
@@ -152,7 +156,7 @@ fn is_side(n: u32) -> bool
     is_name(n)
 }
 
-pub fn constraint_in_range(row: [u32; CONSTRAINT_CELLS]) -> bool
+pub fn constraint_in_range(row: ConstraintRow) -> bool
     ensures { λ r. ⌜ (r ≡ constraintInRange row) × (length row ≡ constraintWidth) ⌝ }
 {
     let left = is_side(row[0]);
@@ -161,7 +165,7 @@ pub fn constraint_in_range(row: [u32; CONSTRAINT_CELLS]) -> bool
 }
 
 // A row in range as a constraint; of any other the filler.
-pub fn constraint_of(row: [u32; CONSTRAINT_CELLS]) -> Constraint
+pub fn constraint_of(row: ConstraintRow) -> Constraint
     ensures { λ r. ⌜ r ≡ constraintOf row ⌝ }
 {
     if !constraint_in_range(row) {
@@ -178,7 +182,7 @@ pub fn constraint_of(row: [u32; CONSTRAINT_CELLS]) -> Constraint
     }
 }
 
-pub fn constraint_row(c: Constraint) -> [u32; CONSTRAINT_CELLS]
+pub fn constraint_row(c: Constraint) -> ConstraintRow
     ensures { λ r. ⌜ r ≡ constraintRow c ⌝ }
 {
     let left = c.left as u32;

@@ -7,8 +7,8 @@ use record::EDITS;
 use record::Edit;
 use record_rows::ground;
 use record_rows::row;
-use record_rows::row::CONSTRAINT_CELLS;
-use record_rows::row::EDIT_CELLS;
+use record_rows::row::ConstraintRow;
+use record_rows::row::EditRow;
 use record_rows::row::NAMES;
 ghost use mathlib.Core.Path.{_≡_};
 ghost use mathlib.Core.Bool.{true, not};
@@ -26,7 +26,7 @@ ghost use Rattle.record_tables.specs.Table.{namesOf, pairNotAllowed, dec
 ghost use Rattle.record_tables.specs.Checked.{MarksNames};
 
 // Whether row i is above the row before it. Pub for `record_refusal` and `text_reader`, which walk the rows.
-pub fn edit_follows(t: &[[u32; EDIT_CELLS]], i: usize) -> bool
+pub fn edit_follows(t: &[EditRow], i: usize) -> bool
     requires { ⌜ i < length (now t) ⌝ }
     ensures { λ r. ⌜ (Ascending (take 1) (take i (now (t .entry))) → not r ≡ misplaced 1 (take i (now (t .entry))) (getD (now (t .entry)) i [])) ⌝ }
 {
@@ -37,7 +37,7 @@ pub fn edit_follows(t: &[[u32; EDIT_CELLS]], i: usize) -> bool
 }
 
 // Whether the name of row i stands above it. Pub for `record_refusal` and `text_reader`, which walk the rows.
-pub fn edit_repeated(t: &[[u32; EDIT_CELLS]], i: usize) -> bool
+pub fn edit_repeated(t: &[EditRow], i: usize) -> bool
     requires { ⌜ i < length (now t) ⌝ }
     ensures { λ r. ⌜ r ≡ known 1 (getD (now (t .entry)) i []) (take i (now (t .entry))) ⌝ }
 {
@@ -92,7 +92,7 @@ fn is_decision(left: u32, rule: u32, right: u32) -> bool
 }
 
 // The lowest of 5, 6 and 7 that holds of a row.
-pub fn constraint_further(row: [u32; CONSTRAINT_CELLS], marks: &[u8], adding: bool) -> u32
+pub fn constraint_further(row: ConstraintRow, marks: &[u8], adding: bool) -> u32
     ensures { λ r. ⌜ ((names : List ℕ) → MarksNames (now (marks .entry)) names → r ≡ constraintFurther names adding row) ⌝ }
 {
     let left = row[0];
@@ -117,7 +117,7 @@ pub fn constraint_further(row: [u32; CONSTRAINT_CELLS], marks: &[u8], adding: bo
 }
 
 // Whether row i is above the row before it. Pub for `record_refusal` and `text_reader`, which walk the rows.
-pub fn constraint_follows(t: &[[u32; CONSTRAINT_CELLS]], i: usize) -> bool
+pub fn constraint_follows(t: &[ConstraintRow], i: usize) -> bool
     requires { ⌜ i < length (now t) ⌝ }
     ensures { λ r. ⌜ (Ascending (take 3) (take i (now (t .entry))) → not r ≡ misplaced 3 (take i (now (t .entry))) (getD (now (t .entry)) i [])) ⌝ }
 {
@@ -128,7 +128,7 @@ pub fn constraint_follows(t: &[[u32; CONSTRAINT_CELLS]], i: usize) -> bool
 }
 
 // Whether row i stands above it already. Pub for `record_refusal` and `text_reader`, which walk the rows.
-pub fn constraint_repeated(t: &[[u32; CONSTRAINT_CELLS]], i: usize) -> bool
+pub fn constraint_repeated(t: &[ConstraintRow], i: usize) -> bool
     requires { ⌜ i < length (now t) ⌝ }
     ensures { λ r. ⌜ r ≡ known 3 (getD (now (t .entry)) i []) (take i (now (t .entry))) ⌝ }
 {
@@ -143,7 +143,7 @@ pub fn constraint_repeated(t: &[[u32; CONSTRAINT_CELLS]], i: usize) -> bool
 }
 
 // The marks of the names of a table of edits in range.
-pub fn mark_rows(t: &[[u32; EDIT_CELLS]]) -> [u8; NAMES]
+pub fn mark_rows(t: &[EditRow]) -> [u8; NAMES]
     ensures { λ r. ⌜ (all editInRange (now (t .entry)) ≡ true → MarksNames r (namesOf (now (t .entry)))) ⌝ }
 {
     let mut marks = [0u8; NAMES];

@@ -9,8 +9,8 @@ use record::Edit;
 use record::Record;
 use record_rows::ground;
 use record_rows::row;
-use record_rows::row::CONSTRAINT_CELLS;
-use record_rows::row::EDIT_CELLS;
+use record_rows::row::ConstraintRow;
+use record_rows::row::EditRow;
 ghost use mathlib.Core.Path.{_≡_};
 ghost use mathlib.Core.Bool.{cond};
 ghost use mathlib.Core.List.{[], _∷_, map};
@@ -43,7 +43,7 @@ fn constraint_filler() -> Constraint
     }
 }
 
-fn decode_edits(t: &[[u32; EDIT_CELLS]]) -> [Edit; EDITS]
+fn decode_edits(t: &[EditRow]) -> [Edit; EDITS]
     requires { ⌜ length (now t) ≤ editLimit ⌝ }
     ensures { λ r. ⌜ r ≡ padded editLimit fillerEdit (map editOf (now (t .entry))) ⌝ }
 {
@@ -58,7 +58,7 @@ fn decode_edits(t: &[[u32; EDIT_CELLS]]) -> [Edit; EDITS]
     out
 }
 
-fn decode_constraints(t: &[[u32; CONSTRAINT_CELLS]]) -> [Constraint; CONSTRAINTS]
+fn decode_constraints(t: &[ConstraintRow]) -> [Constraint; CONSTRAINTS]
     requires { ⌜ length (now t) ≤ constraintLimit ⌝ }
     ensures { λ r. ⌜ r ≡ padded constraintLimit fillerConstraint (map constraintOf (now (t .entry))) ⌝ }
 {
@@ -74,7 +74,7 @@ fn decode_constraints(t: &[[u32; CONSTRAINT_CELLS]]) -> [Constraint; CONSTRAINTS
 }
 
 // Two tables within the limits as a record.
-pub fn decode(edits: &[[u32; EDIT_CELLS]], constraints: &[[u32; CONSTRAINT_CELLS]]) -> Record
+pub fn decode(edits: &[EditRow], constraints: &[ConstraintRow]) -> Record
     ensures { λ r. ⌜ (length (now (edits .entry)) ≤ editLimit → length (now (constraints .entry)) ≤ constraintLimit → r ≡ stored (decoded (now (edits .entry)) (now (constraints .entry)))) ⌝ }
 {
     if EDITS < edits.len() {
@@ -94,7 +94,7 @@ pub fn decode(edits: &[[u32; EDIT_CELLS]], constraints: &[[u32; CONSTRAINT_CELLS
 }
 
 // One edit, or one constraint, as a record.
-pub fn edit_alone(row: [u32; EDIT_CELLS]) -> Record
+pub fn edit_alone(row: EditRow) -> Record
     ensures { λ r. ⌜ r ≡ stored (decoded (row ∷ []) []) ⌝ }
 {
     let filler = edit_filler();

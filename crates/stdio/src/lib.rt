@@ -2,7 +2,6 @@
 // not taken for the end of the input.
 pub mod text_input;
 
-use libc::STDERR_FILENO;
 use libc::STDIN_FILENO;
 use libc::STDOUT_FILENO;
 ghost use Prim.Native.Nat.{_≤_};
@@ -64,9 +63,4 @@ pub fn print(bytes: &[u8]) -> bool {
         os::fail(b"writing failed");
     }
     written
-}
-
-// Writes a line to standard error.
-pub fn warn(line: &[u8]) {
-    io::write_all(STDERR_FILENO, line);
 }

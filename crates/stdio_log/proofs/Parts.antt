@@ -13,6 +13,7 @@ use Rattle.text_lines.proofs.Ends.{no-lines}
 use Rattle.log_forms.specs.Printed.{Texts}
 use Rattle.log_lent.specs.declared.Lending.{Lending}
 use Rattle.log_session.specs.Desk.{Desk}
+use Rattle.log_bounds.specs.Bounded.{answerLimit, Bounded}
 use Rattle.log_session.specs.calls.Lines.{Holds}
 use Rattle.log.specs.Log.{Run, begun, runLines}
 use Rattle.log.specs.Running.{Running, Stops}
@@ -42,10 +43,11 @@ pub record UpTo (log : List ℕ) (R : Run) (from : ℕ) (fed : Fed) (edits const
   pub rest : runLines R (lines log) ≡ runLines run (lines (drop from log))
   pub ran : Ran run fed edits constraints
   pub few : fed .count + (length log - from) ≤ R .count + length log
+  pub bounded : Bounded (R .desk) → Bounded (run .desk)
 
 module _ (log : List ℕ) (R : Run) where
   pub up-to-start : {fed : Fed} {edits constraints : Rows} → Ran R fed edits constraints → UpTo log R 0 fed edits constraints
-  up-to-start h = let c = h .counted in record { run = R; rest = refl; ran = h; few = omega arith }
+  up-to-start h = let c = h .counted in record { run = R; rest = refl; ran = h; few = omega arith; bounded = λ B. B }
 
   module _ {from : ℕ} {fed : Fed} {edits constraints : Rows} (A : UpTo log R from fed edits constraints) where
     -- a part more
@@ -53,7 +55,7 @@ module _ (log : List ℕ) (R : Run) where
         → {out after : List ℕ} {at next n : ℕ} {held : Bench} {lent : Lending} {editsafter constraintsafter : Rows}
         → Stops (length (take (length log - from) (drop from log))) limit 0 next at
         × ((D : Desk) → Holds D (fed .bench) (fed .lending) edits constraints → fed .count + length (take (length log - from) (drop from log)) ≤ mostLines
-        → Running (take (length log - from) (drop from log)) D (fed .count) out 0 next held lent editsafter constraintsafter n after at)
+        → Running (take (length log - from) (drop from log)) D (fed .count) out 0 next held lent editsafter constraintsafter n after at limit)
         → {waits : ℕ} {failed : Bool} → UpTo log R (from + next) (record { bench = held; lending = lent; count = n; rest = waits; failed = failed }) editsafter constraintsafter
     up-to-next limit h k {next = next} {n = n} p =
         let part = take (length log - from) (drop from log) in
@@ -74,7 +76,19 @@ module _ (log : List ℕ) (R : Run) where
           rest = A .rest ∙ run-after r (lines (drop from log)) ∙ ap (prefixed (r .printed)) (b ∙ q) ∙ run-prefixed (r .printed) (P .run) (lines (drop (from + next) log));
           ran = record { held = P .held; counted = P .counted };
           few = omega arith;
+          bounded = λ B. P .bounded (A .bounded B);
         }
+
+    -- its answers stand in a buffer that has room for one answer more after the limit
+    pub answers-inside : (limit : ℕ) → from < length log → R .count + length log ≤ mostLines → Bounded (R .desk)
+        → {out after : List ℕ} {at next n : ℕ} {held : Bench} {lent : Lending} {editsafter constraintsafter : Rows}
+        → ((D : Desk) → Holds D (fed .bench) (fed .lending) edits constraints → fed .count + length (take (length log - from) (drop from log)) ≤ mostLines
+        → Running (take (length log - from) (drop from log)) D (fed .count) out 0 next held lent editsafter constraintsafter n after at limit)
+        → limit + answerLimit ≤ length out → at ≤ limit + answerLimit
+    answers-inside limit h k B p room =
+        let l : length (take (length log - from) (drop from log)) ≡ length log - from = ap length (part-is log from) ∙ length-drop from log in
+        let w = A .few in
+        p (A .run .desk) (A .ran .held) (omega arith) .near (A .bounded B) (omega arith) (omega arith) room
 
     pub up-to-end : length log ≤ from → Ran (runLines R (lines log)) fed edits constraints
     unfolding runLines

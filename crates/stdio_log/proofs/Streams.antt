@@ -17,11 +17,14 @@ use Rattle.log_lent.specs.declared.Lending.{Lending}
 use Rattle.log_lent.specs.Lent.{nothingLent}
 use Rattle.log_lent.specs.Kept.{Kept}
 use Rattle.log_session.specs.Desk.{emptyDesk}
+use Rattle.log_bounds.specs.Bounded.{Bounded}
+use Rattle.log_bounds.proofs.Bounds.{empty-bounded}
 use Rattle.log.specs.Log.{Run, begun, runLines, logRun}
+use Rattle.log.proofs.Fits.{lines-bounded}
 use Rattle.log.proofs.Runs.{run-count, run-parts, empty-holds}
 use Rattle.log.proofs.Kept.{kept-run}
 use Rattle.stdio_log.specs.declared.Fed.{Fed}
-use Rattle.stdio_log.specs.Streaming.{mostLines, Ran, Streaming, Streamed, Continued}
+use Rattle.stdio_log.specs.Streaming.{mostLines, Held, Ran, Streaming, Streamed, Continued}
 use Rattle.stdio_log.proofs.Decided.{pieces-run}
 
 -- the same desk with so many bytes that wait
@@ -34,10 +37,22 @@ ran-resting fed h = record { held = h .held; counted = h .counted }
 pub ran-few : {R : Run} {fed : Fed} {edits constraints : Rows} → Ran R fed edits constraints → (n : ℕ) → fed .count + n ≤ mostLines → R .count + n ≤ mostLines
 ran-few h n k = let c = h .counted in omega arith
 
+-- the numbers of the desk still fit after some lines
+held-after : (R : Run) (ls : List (List ℕ)) {fed : Fed} {edits constraints : Rows} → Bounded (R .desk) → Ran (runLines R ls) fed edits constraints → Held fed edits constraints
+held-after R ls B h = record { desk = runLines R ls .desk; holds = h .held; bounded = lines-bounded R ls B }
+
+-- a run that begins with what is in memory
+pub held-ran : {fed : Fed} {edits constraints : Rows} (H : Held fed edits constraints) → Ran (begun (H .desk) (fed .count)) fed edits constraints
+held-ran H = record { held = H .holds; counted = refl }
+
 -- no more lines are counted than bytes were run
 ran-counted : {R : Run} {fed after : Fed} {edits constraints editsafter constraintsafter : Rows} (s : List ℕ) → Ran R fed edits constraints
     → Ran (runLines R (lines s)) after editsafter constraintsafter → after .count ≤ fed .count + length s
 ran-counted {R} s h q = let c = h .counted in let d = q .counted in omega (arith, run-count R (lines s), lines-few s)
+
+-- the first bytes of a chunk, counted
+pub part-few : (s : List ℕ) (n count m : ℕ) → count + n ≤ m → count + length (take (n - 0) s) ≤ m
+part-few s n count m h = omega (arith, length-take (n - 0) s)
 
 -- a chunk is fed: its whole lines are run, and what waits stands at its front
 waiting-size : (s : List ℕ) → length (waiting s) ≡ min keptBytes (length s - lastEnd s)
@@ -54,6 +69,9 @@ module _ (chunk : List ℕ) (filled : ℕ) {whole : ℕ} (l : filled ≤ length 
 
   pub whole-filled : whole ≤ filled
   whole-filled = omega (arith, last-within (take (filled - 0) chunk), length-take (filled - 0) chunk)
+
+  pub whole-few : (count m : ℕ) → count + filled ≤ m → count + length (take (whole - 0) chunk) ≤ m
+  whole-few count m h = part-few chunk whole count m (omega (arith, whole-filled))
 
   ended-part : take (whole - 0) chunk ≡ ended (take filled chunk)
   unfolding ended
@@ -81,6 +99,9 @@ streaming-start h z chunk = record { pieces = []; ran = h; waits = ap (λ (n : �
 module _ {R : Run} {fed : Fed} {edits constraints : Rows} {chunk : List ℕ} (S : Streaming R fed edits constraints chunk) where
   pub streaming-read : {read : List ℕ} → take (fed .rest) read ≡ take (fed .rest) chunk → {failed : Bool} → Streaming R (resting fed (fed .rest) failed) edits constraints read
   streaming-read same = record { pieces = S .pieces; ran = ran-resting fed (S .ran); waits = same ∙ S .waits }
+
+  pub streaming-held : Bounded (R .desk) → Held fed edits constraints
+  streaming-held B = held-after R (fedPieces noInput (S .pieces) .told) B (S .ran)
 
   -- one piece more: what was read after the bytes that wait
   pub streaming-next : (read : List ℕ) (size : ℕ) → take (fed .rest) read ≡ take (fed .rest) chunk
@@ -129,6 +150,13 @@ piece-read chunk rest more l h =
 pub ran-nothing : {bench : Bench} {lending : Lending} {edits constraints : Rows} → bench ≡ benchOf start → Kept nothingLent lending edits constraints
     → {rest : ℕ} {failed : Bool} → Ran (begun emptyDesk 0) (record { bench = bench; lending = lending; count = 0; rest = rest; failed = failed }) edits constraints
 ran-nothing b k = record { held = empty-holds b k; counted = refl }
+
+pub held-first : {bench : Bench} {lending : Lending} {edits constraints : Rows} → bench ≡ benchOf start → Kept nothingLent lending edits constraints
+    → {rest : ℕ} {failed : Bool} → Held (record { bench = bench; lending = lending; count = 0; rest = rest; failed = failed }) edits constraints
+held-first b k = record { desk = emptyDesk; holds = empty-holds b k; bounded = empty-bounded }
+
+pub held-kept : {fed : Fed} {edits constraints : Rows} → Streamed (begun emptyDesk 0) fed edits constraints → Held fed edits constraints
+held-kept K = held-after (begun emptyDesk 0) (lines (inputOf (K .pieces))) empty-bounded (K .ran)
 
 -- a kept log, and the lines that follow it
 pub continues : {fed last : Fed} {edits constraints editsafter constraintsafter : Rows} → Streamed (begun emptyDesk 0) fed edits constraints

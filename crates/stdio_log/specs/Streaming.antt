@@ -6,6 +6,8 @@ use lib.ListN.{take}
 use Rattle.record_rows.specs.ground.Ground.{Rows}
 use Rattle.text_lines.specs.Lines.{lines}
 use Rattle.stream.specs.Pieces.{noInput, fedPieces, inputOf}
+use Rattle.log_session.specs.Desk.{Desk}
+use Rattle.log_bounds.specs.Bounded.{Bounded}
 use Rattle.log_session.specs.calls.Lines.{Holds}
 use Rattle.log.specs.Log.{Run, runLines, logRun}
 use Rattle.stdio_log.specs.declared.Fed.{Fed}
@@ -13,6 +15,12 @@ use Rattle.stdio_log.specs.declared.Fed.{Fed}
 -- so many bytes are read at most, and there are no more lines
 abbrev pub mostLines : ℕ
 mostLines = 4611686018427387904
+
+-- what is in memory is that of some desk whose numbers fit
+pub record Held (fed : Fed) (edits constraints : Rows) : Type 0 where
+  pub desk : Desk
+  pub holds : Holds desk (fed .bench) (fed .lending) edits constraints
+  pub bounded : Bounded desk
 
 -- what is in memory after a run
 pub record Ran (run : Run) (fed : Fed) (edits constraints : Rows) : Type 0 where

@@ -4,6 +4,8 @@
 use ledger::Bench;
 use libc::STDIN_FILENO;
 use log_lent::Lending;
+use record_rows::row::ConstraintRow;
+use record_rows::row::EditRow;
 use stdio::Got;
 ghost use mathlib.Core.Path.{_≡_};
 ghost use mathlib.Core.Bool.{false};
@@ -13,11 +15,10 @@ ghost use Rattle.text_lines.specs.Lines.{lines};
 ghost use Rattle.stream.specs.Pieces.{ended, waiting};
 ghost use Rattle.log_session.specs.Desk.{emptyDesk};
 ghost use Rattle.log.specs.Log.{Run, begun, runLines};
-ghost use Rattle.stdio_log.specs.Streaming.{mostLines, Ran, Streaming, Streamed, Continued};
+ghost use Rattle.stdio_log.specs.Streaming.{mostLines, Held, Ran, Streaming, Streamed, Continued};
 
-// Answers are printed when they pass this many bytes. The answer to one line has less than 27,000 (the text of 127 edits and 512 constraints), so
-// that a buffer of 65,536 has room for it.
-const LIMIT: usize = 32768;
+// Answers are printed when they pass this many bytes, so that a buffer of 65,536 has room for one answer more (`answerLimit`).
+const LIMIT: usize = 28672;
 
 // So many bytes are read at most, and there are no more lines.
 const MOST: usize = 4611686018427387904;
@@ -31,15 +32,12 @@ struct Fed {
     failed: bool,
 }
 
-// Prints the answers, which are the first bytes of out, where they are asked for; false where that fails. A place past the end says that an answer
-// did not fit.
-fn print(out: &[u8], at: usize, shown: bool) -> bool {
+// Prints the answers, which are the first bytes of out, where they are asked for; false where that fails.
+fn print(out: &[u8], at: usize, shown: bool) -> bool
+    requires { ⌜ at ≤ length (now out) ⌝ }
+{
     if !shown {
         return true;
-    }
-    if out.len() < at {
-        stdio::warn(b"an answer is longer than the buffer\n");
-        return false;
     }
     stdio::print(&out[0..at])
 }
@@ -47,12 +45,13 @@ fn print(out: &[u8], at: usize, shown: bool) -> bool {
 // Runs lines and prints their answers.
 fn run_lines(
     fed: Fed,
-    edits: &mut [[u32; 5]],
-    constraints: &mut [[u32; 3]],
+    edits: &mut [EditRow],
+    constraints: &mut [ConstraintRow],
     log: &[u8],
     out: &mut [u8],
     shown: bool,
 ) -> Fed
+    requires { ⌜ Held fed (now edits) (now constraints) × (fed .count + length (now log) ≤ mostLines) × (65536 ≤ length (now out)) ⌝ }
     ensures { λ r. ⌜ ((R : Run) → Ran R fed (now (edits .entry)) (now (constraints .entry)) → fed .count + length (now (log .entry)) ≤ mostLines → r .failed ≡ false
         → Ran (runLines R (lines (now (log .entry)))) r (now (edits .exit)) (now (constraints .exit))) ⌝ }
 {
@@ -89,14 +88,14 @@ fn run_lines(
 // The whole lines of the first bytes of a chunk are run, and what waits moves to the front.
 fn feed(
     fed: Fed,
-    edits: &mut [[u32; 5]],
-    constraints: &mut [[u32; 3]],
+    edits: &mut [EditRow],
+    constraints: &mut [ConstraintRow],
     chunk: &mut [u8],
     filled: usize,
     out: &mut [u8],
     shown: bool,
 ) -> Fed
-    requires { ⌜ filled ≤ length (now chunk) ⌝ }
+    requires { ⌜ (filled ≤ length (now chunk)) × Held fed (now edits) (now constraints) × (fed .count + filled ≤ mostLines) × (65536 ≤ length (now out)) ⌝ }
     ensures { λ r. ⌜ (r .rest ≤ 102) × (take (r .rest) (now (chunk .exit)) ≡ waiting (take filled (now (chunk .entry))))
         × ((R : Run) → Ran R fed (now (edits .entry)) (now (constraints .entry)) → fed .count + filled ≤ mostLines → r .failed ≡ false
         → Ran (runLines R (lines (ended (take filled (now (chunk .entry)))))) r (now (edits .exit)) (now (constraints .exit))
@@ -128,13 +127,13 @@ fn read_piece(file: i32, chunk: &mut [u8], rest: usize) -> Got
 fn read_all(
     file: i32,
     fed: Fed,
-    edits: &mut [[u32; 5]],
-    constraints: &mut [[u32; 3]],
+    edits: &mut [EditRow],
+    constraints: &mut [ConstraintRow],
     chunk: &mut [u8],
     out: &mut [u8],
     shown: bool,
 ) -> Fed
-    requires { ⌜ (102 < length (now chunk)) × (fed .count ≤ mostLines) ⌝ }
+    requires { ⌜ (102 < length (now chunk)) × (fed .count ≤ mostLines) × Held fed (now edits) (now constraints) × (65536 ≤ length (now out)) ⌝ }
     ensures { λ r. ⌜ (r .rest ≤ length (now (chunk .exit)))
         × ((R : Run) → Ran R fed (now (edits .entry)) (now (constraints .entry)) → r .failed ≡ false
         → Streaming R r (now (edits .exit)) (now (constraints .exit)) (now (chunk .exit)) × (r .count + r .rest ≤ mostLines)) ⌝ }
@@ -171,13 +170,13 @@ fn read_all(
 fn replayed(
     file: i32,
     fed: Fed,
-    edits: &mut [[u32; 5]],
-    constraints: &mut [[u32; 3]],
+    edits: &mut [EditRow],
+    constraints: &mut [ConstraintRow],
     chunk: &mut [u8],
     out: &mut [u8],
     shown: bool,
 ) -> Fed
-    requires { ⌜ (102 < length (now chunk)) × (fed .count ≤ mostLines) ⌝ }
+    requires { ⌜ (102 < length (now chunk)) × (fed .count ≤ mostLines) × Held fed (now edits) (now constraints) × (65536 ≤ length (now out)) ⌝ }
     ensures { λ r. ⌜ ((R : Run) → Ran R fed (now (edits .entry)) (now (constraints .entry)) → r .failed ≡ false
         → Streamed R r (now (edits .exit)) (now (constraints .exit)) × (r .count ≤ mostLines)) ⌝ }
 {
@@ -207,13 +206,13 @@ fn replayed(
 // A whole file from an empty bench.
 fn replayed_first(
     file: i32,
-    edits: &mut [[u32; 5]],
-    constraints: &mut [[u32; 3]],
+    edits: &mut [EditRow],
+    constraints: &mut [ConstraintRow],
     chunk: &mut [u8],
     out: &mut [u8],
     shown: bool,
 ) -> Fed
-    requires { ⌜ (length (now edits) ≡ 1152) × (length (now constraints) ≡ 4617) × (102 < length (now chunk)) ⌝ }
+    requires { ⌜ (length (now edits) ≡ 1152) × (length (now constraints) ≡ 4617) × (102 < length (now chunk)) × (65536 ≤ length (now out)) ⌝ }
     ensures { λ r. ⌜ (r .failed ≡ false → Streamed (begun emptyDesk 0) r (now (edits .exit)) (now (constraints .exit)) × (r .count ≤ mostLines)) ⌝ }
 {
     let bench = bench::empty_bench();
@@ -239,12 +238,12 @@ fn replayed_first(
 // A kept log, of which nothing is printed, and then the lines on standard input.
 fn continued(
     kept: i32,
-    edits: &mut [[u32; 5]],
-    constraints: &mut [[u32; 3]],
+    edits: &mut [EditRow],
+    constraints: &mut [ConstraintRow],
     chunk: &mut [u8],
     out: &mut [u8],
 ) -> Fed
-    requires { ⌜ (length (now edits) ≡ 1152) × (length (now constraints) ≡ 4617) × (102 < length (now chunk)) ⌝ }
+    requires { ⌜ (length (now edits) ≡ 1152) × (length (now constraints) ≡ 4617) × (102 < length (now chunk)) × (65536 ≤ length (now out)) ⌝ }
     ensures { λ r. ⌜ (r .failed ≡ false → Continued r (now (edits .exit)) (now (constraints .exit))) ⌝ }
 {
     let fed = replayed_first(

@@ -1,7 +1,7 @@
 // Suggested constraints (document 01 and document 02, A1; 002, tables 2 and 3): rows for whoever asks, for two edits and the case that holds.
 use record_rows::row;
-use record_rows::row::CONSTRAINT_CELLS;
-use record_rows::row::EDIT_CELLS;
+use record_rows::row::ConstraintRow;
+use record_rows::row::EditRow;
 ghost use mathlib.Core.Path.{_≡_};
 ghost use Rattle.suggestions.specs.Suggest.{afterTable, concurrentTable, advised, rowsOf, given, refusedSuggestion, suggested};
 ghost use Prim.Native.Nat.{min, max};
@@ -19,8 +19,8 @@ pub enum Advice {
 pub struct Suggested {
     pub number: u32,
     pub count: usize,
-    pub first: [u32; CONSTRAINT_CELLS],
-    pub second: [u32; CONSTRAINT_CELLS],
+    pub first: ConstraintRow,
+    pub second: ConstraintRow,
 }
 
 // B after A by one author: kinds of A and B.
@@ -70,7 +70,7 @@ fn concurrent(first: u32, second: u32, onefield: bool) -> bool
     }
 }
 
-fn advise(kind: u32, a: [u32; EDIT_CELLS], b: [u32; EDIT_CELLS]) -> Advice
+fn advise(kind: u32, a: EditRow, b: EditRow) -> Advice
     ensures { λ r. ⌜ r ≡ advised kind a b ⌝ }
 {
     let name = a[0];
@@ -162,7 +162,7 @@ fn refuse() -> Suggested
 }
 
 // The rows that the edits a and b suggest. Case 0: b after a by one author; 1: concurrent.
-pub fn suggest(a: [u32; EDIT_CELLS], b: [u32; EDIT_CELLS], kind: u32) -> Suggested
+pub fn suggest(a: EditRow, b: EditRow, kind: u32) -> Suggested
     ensures { λ r. ⌜ r ≡ suggested a b kind ⌝ }
 {
     if !row::edit_in_range(a) {

@@ -4,7 +4,9 @@ use record::EDITS;
 use record::Record;
 use record_rows::row;
 use record_rows::row::CONSTRAINT_CELLS;
+use record_rows::row::ConstraintRow;
 use record_rows::row::EDIT_CELLS;
+use record_rows::row::EditRow;
 use record_rows::row::NAMES;
 use text_lines::Line;
 ghost use mathlib.Core.Path.{_≡_};
@@ -36,7 +38,7 @@ pub struct Reading {
 }
 
 // Whether row n is new and the rows above it take every place.
-fn edit_no_place(t: &[[u32; EDIT_CELLS]], n: usize) -> bool
+fn edit_no_place(t: &[EditRow], n: usize) -> bool
     requires { ⌜ n < length (now t) ⌝ }
     ensures { λ r. ⌜ r ≡ (not (known 1 (getD (now (t .entry)) n []) (take n (now (t .entry)))) && leb editLimit n) ⌝ }
 {
@@ -47,7 +49,7 @@ fn edit_no_place(t: &[[u32; EDIT_CELLS]], n: usize) -> bool
 }
 
 // The number of row n below those above it.
-fn edit_row_fault(t: &[[u32; EDIT_CELLS]], n: usize) -> u32
+fn edit_row_fault(t: &[EditRow], n: usize) -> u32
     requires { ⌜ n < length (now t) ⌝ }
     ensures { λ r. ⌜ (Ascending (take 1) (take n (now (t .entry))) → r ≡ rowFault editKind [] (take n (now (t .entry))) (getD (now (t .entry)) n [])) ⌝ }
 {
@@ -65,13 +67,7 @@ fn edit_row_fault(t: &[[u32; EDIT_CELLS]], n: usize) -> u32
 }
 
 // The number of an edit after n edits and m constraints. Without fault it is held.
-fn take_edit(
-    edits: &mut [[u32; EDIT_CELLS]],
-    marks: &mut [u8],
-    n: usize,
-    m: usize,
-    row: [u32; EDIT_CELLS],
-) -> u32
+fn take_edit(edits: &mut [EditRow], marks: &mut [u8], n: usize, m: usize, row: EditRow) -> u32
     requires { ⌜ EditsHeld (now edits) (now marks) n ⌝ }
     ensures { λ r. ⌜ EditTaken (now (edits .entry)) (now (marks .entry)) n m row r (now (edits .exit)) (now (marks .exit)) ⌝ }
 {
@@ -89,7 +85,7 @@ fn take_edit(
 }
 
 // Whether row m is new and the rows above it take every place.
-fn constraint_no_place(t: &[[u32; CONSTRAINT_CELLS]], m: usize) -> bool
+fn constraint_no_place(t: &[ConstraintRow], m: usize) -> bool
     requires { ⌜ m < length (now t) ⌝ }
     ensures { λ r. ⌜ r ≡ (not (known 3 (getD (now (t .entry)) m []) (take m (now (t .entry)))) && leb constraintLimit m) ⌝ }
 {
@@ -100,7 +96,7 @@ fn constraint_no_place(t: &[[u32; CONSTRAINT_CELLS]], m: usize) -> bool
 }
 
 // The number of row m below those above it, where marks are those of the edits that it knows.
-fn constraint_row_fault(t: &[[u32; CONSTRAINT_CELLS]], m: usize, marks: &[u8]) -> u32
+fn constraint_row_fault(t: &[ConstraintRow], m: usize, marks: &[u8]) -> u32
     requires { ⌜ m < length (now t) ⌝ }
     ensures { λ r. ⌜ ((names : List ℕ) → MarksNames (now (marks .entry)) names → Ascending (take 3) (take m (now (t .entry))) → r ≡ rowFault (constraintKind names false) [] (take m (now (t .entry))) (getD (now (t .entry)) m [])) ⌝ }
 {
@@ -123,10 +119,10 @@ fn constraint_row_fault(t: &[[u32; CONSTRAINT_CELLS]], m: usize, marks: &[u8]) -
 
 // The number of a constraint after m constraints. Without fault it is held.
 fn take_constraint(
-    constraints: &mut [[u32; CONSTRAINT_CELLS]],
+    constraints: &mut [ConstraintRow],
     m: usize,
     marks: &[u8],
-    row: [u32; CONSTRAINT_CELLS],
+    row: ConstraintRow,
 ) -> u32
     requires { ⌜ ConstraintsHeld (now constraints) m ⌝ }
     ensures { λ r. ⌜ ((names : List ℕ) → MarksNames (now (marks .entry)) names → ConstraintTaken names (now (constraints .entry)) m row r (now (constraints .exit))) ⌝ }
@@ -137,9 +133,9 @@ fn take_constraint(
 
 // The number of a line after n edits and m constraints. Without fault its row is held.
 fn take_line(
-    edits: &mut [[u32; EDIT_CELLS]],
+    edits: &mut [EditRow],
     marks: &mut [u8],
-    constraints: &mut [[u32; CONSTRAINT_CELLS]],
+    constraints: &mut [ConstraintRow],
     n: usize,
     m: usize,
     said: Line,

@@ -148,7 +148,7 @@ group-le : (l : List Ballot) (v : Option Record) → group l v ≤ total l
 group-le l none = omega arith
 group-le l (some B) = weigh-le (votesFor B) l
 
-greatest-le : (l m : List Ballot) → greatestOf l m ≤ total l
+pub greatest-le : (l m : List Ballot) → greatestOf l m ≤ total l
 unfolding greatestOf
 greatest-le l [] = omega arith
 greatest-le l (b ∷ m) = omega (arith, group-le l (b .vote), greatest-le l m)

@@ -10,6 +10,8 @@ use record::EDITS;
 use record::Edit;
 use record::Record;
 use record_rows::row;
+use record_rows::row::ConstraintRow;
+use record_rows::row::EditRow;
 use record_rows::row::NAMES;
 use record_tables::lookup;
 ghost use mathlib.Core.Path.{_≡_};
@@ -194,7 +196,7 @@ fn refused(number: u32) -> BundleAnswer
 }
 
 // THE BUNDLE of an edit in a lent record, and whether it is eligible.
-pub fn lent_bundle(edits: &[[u32; 5]], constraints: &[[u32; 3]], edit: u32) -> BundleAnswer
+pub fn lent_bundle(edits: &[EditRow], constraints: &[ConstraintRow], edit: u32) -> BundleAnswer
     ensures { λ r. ⌜ r ≡ bundleAnswer (now (edits .entry)) (now (constraints .entry)) edit ⌝ }
 {
     let lent = record_joining::lent(edits, constraints);

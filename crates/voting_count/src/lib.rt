@@ -2,8 +2,8 @@
 
 use record::Record;
 use record_rows::row;
-use record_rows::row::CONSTRAINT_CELLS;
-use record_rows::row::EDIT_CELLS;
+use record_rows::row::ConstraintRow;
+use record_rows::row::EditRow;
 use record_tables::lookup;
 use voting::Election;
 use voting_roll::Roll;
@@ -30,9 +30,9 @@ ghost use Rattle.voting_roll.specs.Election.{held, proposalFault, firstGiven, b
 ghost use Rattle.voting_count.specs.Count.{lentProposals, Faultless, refusedCount, countOf};
 
 // The tables of the eight benches' proposals, as they are lent.
-pub type LentEdits<'a> = [&'a [[u32; EDIT_CELLS]]; 8];
+pub type LentEdits<'a> = [&'a [EditRow]; 8];
 
-pub type LentConstraints<'a> = [&'a [[u32; CONSTRAINT_CELLS]]; 8];
+pub type LentConstraints<'a> = [&'a [ConstraintRow]; 8];
 
 // The answer of an election and the won bundle, the empty record where there is none.
 pub struct Counted {
@@ -91,7 +91,7 @@ fn proposal_at(edits: LentEdits, constraints: LentConstraints, k: usize) -> Reco
 }
 
 // Whether a row of a lent table has this name.
-fn has_name(edits: &[[u32; 5]], name: u16) -> bool
+fn has_name(edits: &[EditRow], name: u16) -> bool
     ensures { λ r. ⌜ r ≡ mem name (namesOf (now (edits .entry))) ⌝ }
 {
     let wanted = name as u32;

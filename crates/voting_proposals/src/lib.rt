@@ -5,8 +5,8 @@ use record::Record;
 use record_joining::Joined;
 use record_joining::insertion;
 use record_rows::row;
-use record_rows::row::CONSTRAINT_CELLS;
-use record_rows::row::EDIT_CELLS;
+use record_rows::row::ConstraintRow;
+use record_rows::row::EditRow;
 use voting_drafts::draft;
 ghost use mathlib.Core.Path.{_≡_};
 ghost use mathlib.Core.List.{map};
@@ -86,10 +86,10 @@ fn made(both: Record, old: Record) -> Joined
 
 // The new proposal of four lent tables, before an output is looked at. Pub for the crates of this workspace that make proposals without lent outputs.
 pub fn new_proposal(
-    edits: &[[u32; EDIT_CELLS]],
-    constraints: &[[u32; CONSTRAINT_CELLS]],
-    oldedits: &[[u32; EDIT_CELLS]],
-    oldconstraints: &[[u32; CONSTRAINT_CELLS]],
+    edits: &[EditRow],
+    constraints: &[ConstraintRow],
+    oldedits: &[EditRow],
+    oldconstraints: &[ConstraintRow],
 ) -> Joined
     ensures { λ r. ⌜ r ≡ newOutcome (now (edits .entry)) (now (constraints .entry)) (now (oldedits .entry)) (now (oldconstraints .entry)) ⌝ }
 {
@@ -120,7 +120,7 @@ fn refused(number: u32) -> Proposed
 }
 
 // The rows of a record's edits, written over the first of a table.
-fn write_edits(multilog: Record, table: &mut [[u32; EDIT_CELLS]])
+fn write_edits(multilog: Record, table: &mut [EditRow])
     requires { ⌜ (multilog .editcount ≤ editLimit) × (multilog .editcount ≤ length (now table)) ⌝ }
     ensures { λ _. ⌜ now (table .exit) ≡ over (map editRow (take (multilog .editcount) (multilog .edits))) (now (table .entry)) ⌝ }
 {
@@ -136,7 +136,7 @@ fn write_edits(multilog: Record, table: &mut [[u32; EDIT_CELLS]])
 }
 
 // The rows of a record's constraints, written over the first of a table.
-fn write_constraints(multilog: Record, table: &mut [[u32; CONSTRAINT_CELLS]])
+fn write_constraints(multilog: Record, table: &mut [ConstraintRow])
     requires { ⌜ (multilog .constraintcount ≤ constraintLimit) × (multilog .constraintcount ≤ length (now table)) ⌝ }
     ensures { λ _. ⌜ now (table .exit) ≡ over (map constraintRow (take (multilog .constraintcount) (multilog .constraints))) (now (table .entry)) ⌝ }
 {
@@ -154,12 +154,12 @@ fn write_constraints(multilog: Record, table: &mut [[u32; CONSTRAINT_CELLS]])
 // Makes a proposal from a record and the bench's old proposal, and writes it over the first rows of two tables. Nothing is written before it is known
 // that nothing is refused.
 pub fn propose(
-    edits: &[[u32; EDIT_CELLS]],
-    constraints: &[[u32; CONSTRAINT_CELLS]],
-    oldedits: &[[u32; EDIT_CELLS]],
-    oldconstraints: &[[u32; CONSTRAINT_CELLS]],
-    newedits: &mut [[u32; EDIT_CELLS]],
-    newconstraints: &mut [[u32; CONSTRAINT_CELLS]],
+    edits: &[EditRow],
+    constraints: &[ConstraintRow],
+    oldedits: &[EditRow],
+    oldconstraints: &[ConstraintRow],
+    newedits: &mut [EditRow],
+    newconstraints: &mut [ConstraintRow],
 ) -> Proposed
     ensures { λ r. ⌜ Makes (record {
       edits = now (edits .entry);

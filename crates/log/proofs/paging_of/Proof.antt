@@ -1,7 +1,7 @@
 -- `paging_of` meets its contract. Assumes nothing.
 use mathlib.Core.Path.{ap, sym, _∙_}
 use borrow.Author.Needs.{needs}
-use Rattle.log.specs.Branches.{turnOf, pagingOf}
+use Rattle.log.specs.Branches.{turnTold, pagingOf}
 use Rattle.log.proofs.paging_of.Statement.{statement}
 use Rattle.log.proofs.paging_of.Tie as tie
 
@@ -15,7 +15,7 @@ returns-3 : tie.Need-returns-3
 returns-3 c = sym (ap pagingOf (c .enum-told3 .given .1))
 
 returns-4 : tie.Need-returns-4
-returns-4 c = c .turn-of .ensures ∙ (ap turnOf (c .before .kind-of .ensures) ∙ sym (ap pagingOf (c .before .before .before .command .given .1)))
+returns-4 c = c .turn-of .ensures ∙ (ap turnTold (c .before .kind-of .ensures) ∙ sym (ap pagingOf (c .before .before .before .command .given .1)))
 
 returns-5 : tie.Need-returns-5
 returns-5 c = sym (ap pagingOf (c .enum-told4 .given .1))

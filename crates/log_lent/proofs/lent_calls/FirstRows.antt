@@ -15,7 +15,6 @@ use Rattle.voting.specs.declared.RollRow.{RollRow}
 use Rattle.voting.specs.Tally.{winner}
 use Rattle.voting_roll.specs.Roll.{rollBench, isBench, rollFaulty}
 use Rattle.voting_roll.specs.Election.{Proposals, firstGiven, proposalFault, benches, electionFault, cast, refusedElection, electionOf}
-use Rattle.voting_count.specs.declared.Counted.{Counted}
 use Rattle.voting_count.specs.Count.{refusedCount, countOf}
 use Rattle.ledger.specs.declared.Bench.{Bench}
 use Rattle.ledger.specs.declared.Outcome.{Outcome}
@@ -66,10 +65,6 @@ module _ (x : ℕ) (P : Proposals) where
         (λ h. let p = first-faulty h in let q = faulty-by-length roll h in
         faulty-count (take rollPlaces roll) p ∙ ap refusedCount (faulty-number (take rollPlaces roll) roll p q) ∙ sym (faulty-count roll q))
         (λ h. ap (countOf x P) (take-all rollPlaces roll (omega arith)))
-
-    pub first-elected : electionOf x P (take rollPlaces roll) ≡ electionOf x P roll
-    unfolding countOf
-    first-elected = ap (λ (c : Counted). c .election) first-counted
 
     first-stepped : (L : Ledger) → step L (adopt x P (take rollPlaces roll)) ≡ step L (adopt x P roll)
     first-stepped L = le-by rollPlaces (length roll)

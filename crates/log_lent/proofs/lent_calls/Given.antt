@@ -9,9 +9,8 @@ use lib.ListN.{take}
 use borrow.Author.Tests.{lt-ltb, le-ltb}
 use Rattle.record.specs.Stored.{emptyRecord}
 use Rattle.record_rows.specs.ground.Ground.{Rows}
-use Rattle.voting.specs.declared.Election.{Election}
 use Rattle.voting.specs.declared.RollRow.{RollRow}
-use Rattle.voting_roll.specs.Election.{electionOf, benches}
+use Rattle.voting_roll.specs.Election.{benches}
 use Rattle.voting_count.specs.declared.Counted.{Counted}
 use Rattle.voting_count.specs.Count.{lentProposals, countOf}
 use Rattle.voting_bundles.specs.declared.BundleAnswer.{BundleAnswer}
@@ -24,16 +23,13 @@ use Rattle.ledger.specs.Ledger.{merge, adopt}
 use Rattle.ledger.specs.Bench.{Answers}
 use Rattle.log_lent.specs.Lent.{Lent, rollPlaces}
 use Rattle.log_lent.specs.lent_calls.Calls.{proposalsOf, bundleIn, rowIn}
-use Rattle.log_lent.proofs.lent_calls.FirstRows.{first-elected, first-counted, first-adopted}
+use Rattle.log_lent.proofs.lent_calls.FirstRows.{first-counted, first-adopted}
 
 pub merge-given : (bench : Bench) {E C : Rows} (r : Outcome) → Answers bench (merge E C) r → {F D : Rows} → E ≡ F → C ≡ D → Answers bench (merge F D) r
 merge-given bench r a e f = rw (e, f) at a
 
 module _ (L : Lent) where
   module _ (x : ℕ) {E C : List Rows} {seats : List RollRow} (e : E ≡ map (L .edits) benches) (f : C ≡ map (L .constraints) benches) (g : seats ≡ take rollPlaces (L .roll)) where
-    pub election-given : {r : Election} → r ≡ electionOf x (lentProposals E C) seats → r ≡ electionOf x (proposalsOf L) (L .roll)
-    election-given q = (rw (e, f, g) at q) ∙ first-elected x (proposalsOf L) (L .roll)
-
     pub count-given : {r : Counted} → r ≡ countOf x (lentProposals E C) seats → r ≡ countOf x (proposalsOf L) (L .roll)
     count-given q = (rw (e, f, g) at q) ∙ first-counted x (proposalsOf L) (L .roll)
 

@@ -1,7 +1,7 @@
 -- `continued` meets its contract. Assumes nothing.
 use borrow.Author.Needs.{needs}
 use Rattle.lists.proofs.Lists.{clash}
-use Rattle.stdio_log.proofs.Streams.{continues}
+use Rattle.stdio_log.proofs.Streams.{held-kept, continues}
 use Rattle.stdio_log.proofs.continued.Statement.{statement}
 use Rattle.stdio_log.proofs.continued.Tie as tie
 
@@ -12,7 +12,10 @@ returns : tie.Need-returns
 returns c = λ e. clash (c .if1 .taken) e
 
 replayed-requires : tie.Need-replayed-requires
-replayed-requires c κs = (search (needs, c .before .before .before .before .before .before .before .before .before .before .before .before .before .before .before .before .before .before .pre .2, c .before .before .before .before .before .before .before .before .chunk .given), c .before .before .before .before .before .before .before .before .before .before .before .replayed-first .ensures (c .before .before .before .before .if1 .left) .1)
+replayed-requires c κs =
+    let s = c .before .before .before .before .before .before .before .before .before .before .before .before .before .before .before .before .before .before in
+    let K = c .before .before .before .before .before .before .before .before .before .before .before .replayed-first .ensures (c .before .before .before .before .if1 .left) in
+    (search (needs, s .pre .2, c .before .before .before .before .before .before .before .before .chunk .given), K .1, held-kept (K .0), search (needs, s .pre .3, c .before .before .before .before .before .before .out .given))
 
 same-length-5 : tie.Need-same-length-5
 same-length-5 c = search (needs, c .before .before .before .before .before .before .before .before .before .before .before .before .before .before .before .before .before .edits .given, c .before .before .before .before .before .edits2 .given)

@@ -7,7 +7,7 @@ use borrow.Author.Needs.{needs}
 use Rattle.lists.proofs.Lists.{clash}
 use Rattle.log.specs.Log.{Run}
 use Rattle.stdio_log.specs.Streaming.{mostLines, Ran, Streaming}
-use Rattle.stdio_log.proofs.Streams.{ran-resting, streaming-start, streaming-read, streaming-next}
+use Rattle.stdio_log.proofs.Streams.{ran-resting, held-ran, streaming-start, streaming-read, streaming-held, streaming-next}
 use Rattle.stdio_log.proofs.read_all.Statement.{statement}
 use Rattle.stdio_log.proofs.read_all.Tie as tie
 
@@ -54,7 +54,17 @@ add-feed c =
     record { fits = fits }
 
 feed-requires : tie.Need-feed-requires Inv-loop μ-loop
-feed-requires c κs = search (needs, c .before .before .before .before .before .before .before .before .read-piece .ensures .0, c .before .before .before .before .before .before .before .chunk .given)
+feed-requires c κs =
+    let s = c .before .before .before .before .before .before .before .before .before .before .before .before .before .before .before in
+    let H = s .pre .2 in
+    let v = c .before .before .before .before .before .before .before .before .before .before .before .loop .inv in
+    let p = c .before .before .before .before .before .before .before .before .read-piece .ensures in
+    let q = v .7 _ (ran-resting (s .args .fed) (held-ran H)) in (
+      search (needs, p .0, c .before .before .before .before .before .before .before .chunk .given),
+      streaming-held (q .0) (H .bounded),
+      omega (arith, q .1, p .0, c .before .before .before .before .before .before .before .before .before .before .loop-test .taken),
+      omega (arith, v .5, s .pre .3),
+    )
 
 same-length-5 : tie.Need-same-length-5 Inv-loop μ-loop
 same-length-5 c = search (needs, c .before .before .before .before .before .before .before .before .before .before .before .before .before .before .before .before .before .before .before .loop .inv .2)

@@ -1,7 +1,7 @@
 -- `replayed` meets its contract. Assumes nothing.
 use borrow.Author.Needs.{needs}
 use Rattle.lists.proofs.Lists.{clash}
-use Rattle.stdio_log.proofs.Streams.{part-few, streaming-held, streaming-end}
+use Rattle.stdio_log.proofs.Streams.{part-few, held-ran, streaming-held, streaming-end}
 use Rattle.stdio_log.proofs.replayed.Statement.{statement}
 use Rattle.stdio_log.proofs.replayed.Tie as tie
 
@@ -16,8 +16,10 @@ part-run-lines-end c = search (needs, c .before .before .before .before .before 
 
 run-lines-requires : tie.Need-run-lines-requires
 run-lines-requires c κs =
-    let q = c .before .before .before .before .before .before .before .before .before .before .before .before .before .before .read-all .ensures .1 (c .before .before .before .before .before .before .before .if1 .left) in
-    (streaming-held (q .0), part-few _ _ _ _ (q .1), search (needs, c .before .before .before .before .before .before .before .before .before .before .before .before .before .before .before .before .before .before .before .before .before .pre .3, c .before .before .before .before .before .before .before .before .before .out .given))
+    let s = c .before .before .before .before .before .before .before .before .before .before .before .before .before .before .before .before .before .before .before in
+    let H = s .pre .2 in
+    let q = c .before .before .before .before .before .before .before .before .before .before .before .before .read-all .ensures .1 _ (held-ran H) (c .before .before .before .before .before .if1 .left) in
+    (streaming-held (q .0) (H .bounded), part-few _ _ _ _ (q .1), search (needs, s .pre .3, c .before .before .before .before .before .before .before .out .given))
 
 same-length-5 : tie.Need-same-length-5
 same-length-5 c = search (needs, c .before .before .before .before .before .before .before .before .before .before .before .before .before .before .before .before .edits .given, c .before .before .before .edits2 .given)

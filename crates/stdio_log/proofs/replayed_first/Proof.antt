@@ -3,12 +3,14 @@ use native.Mathlib.Omega.{arith}
 use borrow.Author.Needs.{needs}
 use Rattle.log_session.specs.Desk.{emptyDesk}
 use Rattle.log.specs.Log.{begun}
-use Rattle.stdio_log.proofs.Streams.{ran-nothing}
+use Rattle.stdio_log.proofs.Streams.{ran-nothing, held-first}
 use Rattle.stdio_log.proofs.replayed_first.Statement.{statement}
 use Rattle.stdio_log.proofs.replayed_first.Tie as tie
 
 replayed-requires : tie.Need-replayed-requires
-replayed-requires c κs = (c .before .before .before .before .before .before .before .before .pre .2, omega arith)
+replayed-requires c κs =
+    let s = c .before .before .before .before .before .before .before .before in
+    (s .pre .2, omega arith, held-first (c .before .before .before .before .before .empty-bench .ensures) (c .before .before .before .before .nothing-lent .ensures _ _ (s .pre .0) (s .pre .1)), s .pre .3)
 
 returns : tie.Need-returns
 returns c = λ e.

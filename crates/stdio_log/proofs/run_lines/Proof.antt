@@ -7,8 +7,8 @@ use borrow.Author.Needs.{needs}
 use Rattle.lists.proofs.Lists.{clash}
 use Rattle.log.specs.Log.{Run}
 use Rattle.stdio_log.specs.Streaming.{mostLines, Ran}
-use Rattle.stdio_log.proofs.Parts.{further, UpTo, up-to-start, up-to-next, up-to-end}
-use Rattle.stdio_log.proofs.Streams.{ran-few}
+use Rattle.stdio_log.proofs.Parts.{further, UpTo, up-to-start, up-to-next, answers-inside, up-to-end}
+use Rattle.stdio_log.proofs.Streams.{ran-few, held-ran}
 use Rattle.stdio_log.proofs.run_lines.Statement.{statement}
 use Rattle.stdio_log.proofs.run_lines.Tie as tie
 
@@ -26,8 +26,16 @@ loop-holds c = (search needs, search needs, search needs, search needs, λ R H k
 
 add-from : tie.Need-add-from Inv-loop μ-loop
 add-from c =
-    let x = further (c .before .before .before .before .before .before .before .before .before .before .before .before .before .before .before .before .before .before .args .log .now) (c .before .before .before .before .before .before .before .before .before .before .before .before .before .before .before .loop .from) 32768 (c .before .before .before .before .before .before .before .before .before .before .before .before .before .before .loop-test .taken) (c .before .before .before .before .before .before .before .run-some .ensures .0) in
+    let x = further (c .before .before .before .before .before .before .before .before .before .before .before .before .before .before .before .before .before .before .args .log .now) (c .before .before .before .before .before .before .before .before .before .before .before .before .before .before .before .loop .from) _ (c .before .before .before .before .before .before .before .before .before .before .before .before .before .before .loop-test .taken) (c .before .before .before .before .before .before .before .run-some .ensures .0) in
     omega (arith, x .1, c .before .before .before .before .before .before .before .before .before .before .before .before .before .before .before .before .before .before .good)
+
+print-requires : tie.Need-print-requires Inv-loop μ-loop
+print-requires c κs =
+    let s = c .before .before .before .before .before .before .before .before .before .before .before .before .before .before .before .before .before .before .before in
+    let v = c .before .before .before .before .before .before .before .before .before .before .before .before .before .before .before .before .loop .inv in
+    let H = s .pre .0 in
+    let a = answers-inside _ _ (v .4 _ (held-ran H) (s .pre .1)) _ (c .before .before .before .before .before .before .before .before .before .before .before .before .before .before .before .loop-test .taken) (s .pre .1) (H .bounded) (c .before .before .before .before .before .before .before .before .run-some .ensures .1) (omega (arith, v .3, s .pre .2)) in
+    omega (arith, a, v .3, s .pre .2, c .before .before .before .before .before .out .given)
 
 same-length : tie.Need-same-length Inv-loop μ-loop
 same-length c = search (needs, c .before .before .before .before .before .before .before .before .before .before .before .before .before .before .before .before .before .before .loop .inv .1)
@@ -43,14 +51,14 @@ returns c = λ R H k e. clash refl e
 
 loop-less : tie.Need-loop-less Inv-loop μ-loop
 loop-less c =
-    let x = further (c .before .before .before .before .before .before .before .before .before .before .before .before .before .before .before .before .before .before .before .before .before .args .log .now) (c .before .before .before .before .before .before .before .before .before .before .before .before .before .before .before .before .before .before .loop .from) 32768 (c .before .before .before .before .before .before .before .before .before .before .before .before .before .before .before .before .before .loop-test .taken) (c .before .before .before .before .before .before .before .before .before .before .run-some .ensures .0) in
+    let x = further (c .before .before .before .before .before .before .before .before .before .before .before .before .before .before .before .before .before .before .before .before .before .args .log .now) (c .before .before .before .before .before .before .before .before .before .before .before .before .before .before .before .before .before .before .loop .from) _ (c .before .before .before .before .before .before .before .before .before .before .before .before .before .before .before .before .before .loop-test .taken) (c .before .before .before .before .before .before .before .before .before .before .run-some .ensures .0) in
     omega (arith, x .0, x .1)
 
 loop-again : tie.Need-loop-again Inv-loop μ-loop
 loop-again c =
-    let x = further (c .before .before .before .before .before .before .before .before .before .before .before .before .before .before .before .before .before .before .before .before .before .args .log .now) (c .before .before .before .before .before .before .before .before .before .before .before .before .before .before .before .before .before .before .loop .from) 32768 (c .before .before .before .before .before .before .before .before .before .before .before .before .before .before .before .before .before .loop-test .taken) (c .before .before .before .before .before .before .before .before .before .before .run-some .ensures .0) in
+    let x = further (c .before .before .before .before .before .before .before .before .before .before .before .before .before .before .before .before .before .before .before .before .before .args .log .now) (c .before .before .before .before .before .before .before .before .before .before .before .before .before .before .before .before .before .before .loop .from) _ (c .before .before .before .before .before .before .before .before .before .before .before .before .before .before .before .before .before .loop-test .taken) (c .before .before .before .before .before .before .before .before .before .before .run-some .ensures .0) in
     let v = c .before .before .before .before .before .before .before .before .before .before .before .before .before .before .before .before .before .before .loop .inv in
-    (omega (arith, x .1), search (needs, v .1), search (needs, v .2), search (needs, v .3), λ R H k. up-to-next _ R (v .4 R H k) 32768 (c .before .before .before .before .before .before .before .before .before .before .before .before .before .before .before .before .before .loop-test .taken) (ran-few H _ k) (c .before .before .before .before .before .before .before .before .before .before .run-some .ensures))
+    (omega (arith, x .1), search (needs, v .1), search (needs, v .2), search (needs, v .3), λ R H k. up-to-next _ R (v .4 R H k) _ (c .before .before .before .before .before .before .before .before .before .before .before .before .before .before .before .before .before .loop-test .taken) (ran-few H _ k) (c .before .before .before .before .before .before .before .before .before .before .run-some .ensures))
 
 returns-2 : tie.Need-returns-2 Inv-loop μ-loop
 returns-2 c = λ R H k e. up-to-end _ R (c .before .loop .inv .4 R H k) (c .loop-test .left)
@@ -67,7 +75,7 @@ run-lines-spec =
     (λ c. search needs)
     (λ c κs. search needs)
     add-from
-    (λ c κs. search needs)
+    print-requires
     same-length
     same-length-2
     same-length-3

@@ -1,13 +1,14 @@
 -- `lent_calls::elect_lent` meets its contract. Assumes nothing.
+use mathlib.Core.Path.{ap}
 use borrow.Author.Needs.{needs}
-use Rattle.log_lent.proofs.lent_calls.Given.{election-given}
+use Rattle.voting_count.specs.declared.Counted.{Counted}
+use Rattle.voting_count.specs.Count.{countOf}
 use Rattle.log_lent.proofs.lent_calls.elect_lent.Statement.{statement}
 use Rattle.log_lent.proofs.lent_calls.elect_lent.Tie as tie
 
 returns : tie.Need-returns
-returns c = λ L K. election-given L _ (c .before .before .proposed-edits .ensures (L .edits) (K .edits)) (c .before .proposed-constraints .ensures (L .constraints) (K .constraints)) (K .roll .rows) (c .election .ensures)
+unfolding countOf
+returns c = λ L K. ap (λ (r : Counted). r .election) (c .before .count-lent .ensures L K)
 
 pub elect-lent-spec : {M : Type 1} → statement M
-elect-lent-spec =
-    tie.close
-    (tie.spec (λ c κs. search needs) (λ c κs. search needs) (λ c κs. search needs) returns)
+elect-lent-spec = tie.close (tie.spec (λ c κs. search needs) returns)

@@ -1,6 +1,5 @@
 -- `calls::kind_of` meets its contract. Assumes nothing.
 use mathlib.Core.Path.{ap, sym, _∙_}
-use lib.IntN.{ℤ}
 use borrow.Author.Needs.{needs}
 use Rattle.log_session.specs.declared.calls.Kind.the-variants.{PageTurn}
 use Rattle.log_session.specs.calls.Lines.{callKind}

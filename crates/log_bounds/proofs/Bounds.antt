@@ -35,7 +35,7 @@ use Rattle.ledger.specs.declared.Answer.{Answer}
 use Rattle.ledger.specs.Ledger.{Ledger, Call, addEdit, addConstraint, merge, hide, show, turn, adopt, start, change, adopted, act, refusal, judge, step, fed}
 use Rattle.ledger.proofs.Undone.{fed-more}
 use Rattle.log_forms.specs.Printed.{Texts}
-use Rattle.log_answers.proofs.Small.{Each, each-both, each-at}
+use Rattle.log_bounds.proofs.Small.{Each, each-both, each-at}
 use Rattle.log_commands.specs.declared.Lend.{Lend as Lends}
 use Rattle.log_commands.specs.declared.Lend.the-variants.{EditRow, ConstraintRow, NoRows, BenchRows, RollRow, NoRoll, RowName, NoRow}
 use Rattle.log_commands.specs.declared.Call.{Call as Calls}
@@ -44,12 +44,12 @@ use Rattle.log_commands.specs.declared.Proposing.{Proposing}
 use Rattle.log_lent.specs.Lent.{Lent, nothingLent, isLent, editPlaces, rowsFault, with, added, withEdit, withConstraint, withRecord, seatNumber, withSeat, withoutRoll, nameNumber, withName, withoutRow}
 use Rattle.log_lent.specs.lent_calls.Calls.{proposalsOf}
 use Rattle.log_lent.specs.lent_proposals.Made.{tablesOf, proposalOf, proposalIn}
 use Rattle.log_session.specs.Desk.{Desk, Request, outside, make, emptyDesk, ledgerOf, requested}
-use Rattle.log_session.specs.Bounded.{Bounded}
+use Rattle.log_bounds.specs.Bounded.{Bounded}
 use Rattle.log_session.specs.Lends.{lendEffect, editCellsRow}
 use Rattle.log_session.specs.Requests.{requestOf}
 use Rattle.log_session.specs.votes.Votes.{proposalEffect}
 use Rattle.log_session.proofs.calls.Telling.{lend-calls}
 
 -- edits, rows and seats whose numbers fit
 abbrev pub EditFits : Edit → Type 0

@@ -22,9 +22,9 @@ use Rattle.pages_turner.specs.declared.Turned.the-variants.{To, Refused}
 use Rattle.pages_turner.specs.Turn.{turned, turnedAnswer}
 use Rattle.voting.specs.declared.RollRow.{RollRow}
 use Rattle.voting.specs.declared.Election.{Election}
-use Rattle.voting.specs.Tally.{Ballot, ballots, total, isSilent, votesFor, group, greatestOf, greatest, silent, counted, winner}
+use Rattle.voting.specs.Tally.{ballots, total, isSilent, greatest, silent, counted, winner}
 use Rattle.voting.specs.Proposal.{started, proposed}
-use Rattle.voting.proofs.Elections.{weigh-le}
+use Rattle.voting.proofs.Elections.{weigh-le, greatest-le}
 use Rattle.voting_roll.specs.Roll.{rollFaulty, rollOf}
 use Rattle.voting_roll.specs.Election.{Proposals, benches, held, proposalFault, firstGiven, electionFault, cast, electionOf}
 use Rattle.voting_count.proofs.Rolled.{rows-few}
@@ -174,15 +174,6 @@ pub record SmallElection (E : Election) : Type 0 where
   pub greatest : E .greatest < 4294967296
   pub silent : E .silent < 4294967296
   pub total : E .total < 4294967296
-
-group-le : (l : List Ballot) (v : Option Record) → group l v ≤ total l
-group-le l none = omega arith
-group-le l (some B) = weigh-le (votesFor B) l
-
-greatest-le : (l m : List Ballot) → greatestOf l m ≤ total l
-unfolding greatestOf
-greatest-le l [] = omega arith
-greatest-le l (b ∷ m) = omega (arith, group-le l (b .vote), greatest-le l m)
 
 cast-total : (e : ℕ) (P : Proposals) (roll : List RollRow) → ((row : RollRow) → Has row roll → row .weight < 65536) → total (cast e P roll) ≤ 65535 * length roll
 unfolding cast ballots total

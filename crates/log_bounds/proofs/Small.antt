@@ -18,7 +18,7 @@ use Rattle.catalogue.specs.declared.Cell.{Cell}
 use Rattle.catalogue.specs.declared.Entry.{Entry}
 use Rattle.catalogue.specs.Entries.{placeOf, blank, absentEntry, runBody}
 use Rattle.catalogue.specs.Chips.{cells, places, rows, chips, chipsView}
-use Rattle.log_answers.proofs.Lengths.{SmallEdit, SmallEntry}
+use Rattle.log_bounds.proofs.Sizes.{SmallEdit, SmallEntry}
 
 module _ {A : Type 0} (P : A → Type 0) where
   abbrev pub Each : List A → Type 0

@@ -60,8 +60,8 @@ use Rattle.bench.proofs.Pages.{last-room}
 use Rattle.log_forms.specs.Printed.{Texts}
 use Rattle.log_answers.specs.Answers.{answeredText, bit, storedText}
 use Rattle.log_answers.specs.bench_answers.Asks.{hiddenText, scheduleText}
-use Rattle.log_answers.proofs.Lengths.{sizeOf, size-none, size-both, size-one, line-size, head-size, bit-small, answered-size, SmallEdit, rule-line-size, SmallRecord, checked-small, stored-text-size, stored-size, record-size, hidden-size, schedule-size, catalogue-size, journal-size, page-size}
-use Rattle.log_answers.proofs.Small.{Each, each-take, each-filled, each-both, entries-small, entries-few, journal-small}
+use Rattle.log_bounds.proofs.Sizes.{sizeOf, size-none, size-both, size-one, line-size, head-size, bit-small, answered-size, SmallEdit, rule-line-size, SmallRecord, checked-small, stored-text-size, stored-size, record-size, hidden-size, schedule-size, catalogue-size, journal-size, page-size}
+use Rattle.log_bounds.proofs.Small.{Each, each-take, each-filled, each-both, entries-small, entries-few, journal-small}
 use Rattle.log_commands.specs.declared.Ask.{Ask}
 use Rattle.log_commands.specs.declared.Ask.the-variants.{Text, Report, Hidden, Schedule, Catalogue, Journal, Page}
 use Rattle.log_commands.specs.declared.Call.{Call as Calls}
@@ -72,20 +72,20 @@ use Rattle.log_commands.specs.declared.Vote.the-variants.{Elect, Bundle, Sugges
 use Rattle.log_lent.specs.Lent.{isLent}
 use Rattle.log_lent.specs.lent_calls.Calls.{proposalsOf, bundleIn, rowIn, suggestFault, suggestedIn}
 use Rattle.log_lent.specs.lent_proposals.Made.{tablesOf, proposalOf, proposalIn}
 use Rattle.log_session.specs.Desk.{Desk, Request, outside, make, ledgerOf, benchIn, requested, printedOf}
-use Rattle.log_session.specs.Bounded.{answerLimit, Bounded}
+use Rattle.log_bounds.specs.Bounded.{answerLimit, Bounded}
 use Rattle.log_session.specs.Lends.{lendEffect}
 use Rattle.log_session.specs.Requests.{requestOf}
 use Rattle.log_session.specs.calls.Lines.{pagesText, adoptionText, callKind, callText, callEffect}
 use Rattle.log_session.specs.declared.calls.Kind.{Kind}
 use Rattle.log_session.specs.declared.calls.Kind.the-variants.{Change, PageTurn, Adoption}
 use Rattle.log_session.specs.questions.Questions.{askText}
 use Rattle.log_session.specs.votes.Votes.{electionLine, bundleText, ruleLine, suggestionText, testLine, wonText, winnerText, proposalEffect, voteEffect}
 use Rattle.log_session.proofs.Cases.{ledger-valid}
 use Rattle.log_session.proofs.calls.Telling.{lend-text}
-use Rattle.log_session.proofs.Numbers.{judge-small, propose-small, bundle-number-small, test-number-small, suggest-number-small, lend-number-small, SmallElection, counted-small, election-small}
-use Rattle.log_session.proofs.Bounds.{RowFits, SeatFits, decoded-fits, ProposalsFit, held-fits, CallFits, RequestFits, CallLineFits, proposals-fit, request-fits, new-proposal-fits}
+use Rattle.log_bounds.proofs.Numbers.{judge-small, propose-small, bundle-number-small, test-number-small, suggest-number-small, lend-number-small, SmallElection, counted-small, election-small}
+use Rattle.log_bounds.proofs.Bounds.{RowFits, SeatFits, decoded-fits, ProposalsFit, held-fits, CallFits, RequestFits, CallLineFits, proposals-fit, request-fits, new-proposal-fits}
 use Rattle.log_session.proofs.winners.Won.{winner-holds, vote-bundle, faultless, seat-checked, won-bundle}
 
 -- the edits of a desk
 filler-small : SmallEdit fillerEdit

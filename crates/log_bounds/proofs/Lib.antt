@@ -1,0 +1,5 @@
+pub mod Small
+pub mod Sizes
+pub mod Numbers
+pub mod Bounds
+pub mod Lengths
