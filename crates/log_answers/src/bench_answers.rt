@@ -20,7 +20,7 @@ ghost use Rattle.log_answers.specs.declared.bench_answers.Owner.the-vari
 ghost use Rattle.log_answers.specs.bench_answers.Asks.{hides, hiddenLine, hiddenText, pageLine, scheduleText, cellForm, cellLine, cellsText, isPresent, entryText, catalogueText, rowText, rowAt, journalText, pageText};
 
 // Whose cells are printed: a chip's of the catalogue, or those that a page of the journal keeps.
-enum Owner {
+pub enum Owner {
     Chip,
     Page,
 }
