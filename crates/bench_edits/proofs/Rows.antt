@@ -13,7 +13,7 @@ use Rattle.record.specs.Judgement.{sound}
 use Rattle.lists.proofs.Lists.{by, clash}
 use Rattle.bench.proofs.Moves.{bench-record}
 use Rattle.record_rows.specs.row.Row.{Row}
-use Rattle.record_rows.specs.ground.Ground.{Rows, ◌given◌, ◌orelse◌}
+use Rattle.record_rows.specs.grounds.Ground.{Rows, ◌given◌, ◌orelse◌}
 use Rattle.graph.specs.links.Marks.{marks_of}
 use Rattle.record_tables.specs.Table.{decoded, lent_fault, add_edit_fault, add_constraint_fault, unite}
 use Rattle.record_tables.specs.Checked.{Checked}

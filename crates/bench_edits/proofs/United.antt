@@ -16,7 +16,7 @@ use Rattle.record.proofs.Extended.{sound-extended}
 use Rattle.lists.specs.Keyed.{Ascending, united}
 use Rattle.lists.proofs.Order.{less_one}
 use Rattle.lists.proofs.Union.{below-has, united-old}
-use Rattle.record_rows.specs.ground.Ground.{Rows}
+use Rattle.record_rows.specs.grounds.Ground.{Rows}
 use Rattle.record_tables.specs.Table.{decoded, edit_key, lent_fault, unite}
 use Rattle.record_tables.specs.Checked.{Checked}
 use Rattle.record_tables.proofs.Unions.{mem-by, joining-extends}

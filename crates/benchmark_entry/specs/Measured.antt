@@ -1,6 +1,6 @@
 -- What the benchmark is answered: parts of the answers to other operations, as numbers. Assumes nothing.
 use Rattle.std.specs.Prelude.{cond, List, [], ◌∷◌, map, ℕ}
-use Rattle.record_rows.specs.ground.Ground.{Rows}
+use Rattle.record_rows.specs.grounds.Ground.{Rows}
 use Rattle.judgement.specs.declared.lent_record.Judgement.{Judgement}
 use Rattle.judgement.specs.declared.lent_record.ScheduleAnswer.{ScheduleAnswer}
 use Rattle.ledger.specs.Ledger.{merge, start, step, fed}

@@ -14,7 +14,7 @@ use voting::RollRow;
 use voting_roll::Roll;
 
 #[repr(C)]
-#[derive(Drop)]
+#[derive(Clone, Copy)]
 pub struct Judged {
     pub number: u32,
     pub must: [u8; MARKS],
@@ -25,7 +25,7 @@ pub struct Judged {
 
 // How many pages the bench schedule has.
 #[repr(C)]
-#[derive(Drop)]
+#[derive(Clone, Copy)]
 pub struct Scheduled {
     pub number: u32,
     pub count: usize,
@@ -33,7 +33,7 @@ pub struct Scheduled {
 
 // The answer to a merge.
 #[repr(C)]
-#[derive(Drop)]
+#[derive(Clone, Copy)]
 pub struct Merged {
     pub number: u32,
     pub undone: usize,
@@ -42,7 +42,7 @@ pub struct Merged {
 
 // The answer of an election; won is 1, otherwise 0.
 #[repr(C)]
-#[derive(Drop)]
+#[derive(Clone, Copy)]
 pub struct Elected {
     pub number: u32,
     pub won: u32,

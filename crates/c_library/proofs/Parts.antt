@@ -10,7 +10,7 @@ use Rattle.stream.proofs.Pieces.{last-append, lines-few}
 use Rattle.ledger.specs.Ledger.{start}
 use Rattle.ledger.specs.Bench.{bench_of}
 use Rattle.ledger.specs.declared.Bench.{Bench}
-use Rattle.record_rows.specs.ground.Ground.{Rows}
+use Rattle.record_rows.specs.grounds.Ground.{Rows}
 use Rattle.log_forms.specs.Printed.{Buffer, with_texts, Printed}
 use Rattle.log_lent.specs.declared.Lending.{Lending}
 use Rattle.log_lent.specs.Lent.{nothing_lent}

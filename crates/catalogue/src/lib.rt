@@ -20,30 +20,30 @@ pub const PLACES: usize = 64;
 pub const PAGES: usize = EDITS;
 
 // A blank cell is not filled and has the value 0.
-#[derive(Drop)]
+#[derive(Clone, Copy)]
 pub struct Cell {
     pub filled: bool,
     pub value: u32,
 }
 
-#[derive(Drop)]
+#[derive(Clone, Copy)]
 pub struct Entry {
     pub present: bool,
     pub cells: [Cell; CELLS],
 }
 
-#[derive(Drop)]
+#[derive(Clone, Copy)]
 pub struct Catalogue {
     pub entries: [Entry; PLACES],
 }
 
 // Row q - 1 is that of page q.
-#[derive(Drop)]
+#[derive(Clone, Copy)]
 pub struct Journal {
     pub rows: [Entry; PAGES],
 }
 
-#[derive(Drop)]
+#[derive(Clone, Copy)]
 pub struct View {
     pub catalogue: Catalogue,
     pub journal: Journal,
@@ -215,7 +215,7 @@ fn common_beginning(old: Schedule, opened: usize, new: Schedule) -> usize
 }
 
 // The view at the last page of the new schedule, and the pages undone and redone.
-#[derive(Drop)]
+#[derive(Clone, Copy)]
 pub struct Changed {
     pub view: View,
     pub undone: usize,

@@ -7,21 +7,21 @@ ghost use Rattle.fraction.specs.Fraction.{lowest_terms, is_below};
 ghost use Rattle.fraction.specs.Bounded as bound;
 
 #[repr(C)]
-#[derive(Drop)]
+#[derive(Clone, Copy)]
 pub struct Fraction {
     pub numerator: u64,
     pub denominator: u64,
 }
 
 // A whole number, or that it does not fit 64 bits.
-#[derive(Drop)]
+#[derive(Clone, Copy)]
 pub struct Bounded {
     pub fits: bool,
     pub value: u64,
 }
 
 // A fraction, or that a part of it does not fit 64 bits.
-#[derive(Drop)]
+#[derive(Clone, Copy)]
 pub struct BoundedFraction {
     pub fits: bool,
     pub fraction: Fraction,

@@ -9,7 +9,7 @@ use record::{Body, EDITS, Edit, Record, Schedule};
 use record_rows::row::{ConstraintRow, EditRow};
 
 // For each edit, INIT first: must, never, settled and its page with nothing hidden (0: not in it). Refused: 0 throughout.
-#[derive(Drop)]
+#[derive(Clone, Copy)]
 pub struct Judgement {
     pub number: u32,
     pub count: usize,
@@ -20,20 +20,20 @@ pub struct Judgement {
 }
 
 // Whether the row is a sound schedule. Refused: no.
-#[derive(Drop)]
+#[derive(Clone, Copy)]
 pub struct RowAnswer {
     pub number: u32,
     pub sound: bool,
 }
 
-#[derive(Drop)]
+#[derive(Clone, Copy)]
 pub struct ScheduleAnswer {
     pub number: u32,
     pub schedule: Schedule,
 }
 
 // A lent record without fault, or the number of its refusal.
-#[derive(Drop)]
+#[derive(Clone, Copy)]
 pub struct Taken {
     pub number: u32,
     pub multilog: Record,

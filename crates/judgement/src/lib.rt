@@ -22,7 +22,7 @@ use judgement_marks::schedules;
 use record::{Body, EDITS, Edit, Record, Schedule};
 
 // Marks by index, 0 for INIT and i for the i-th edit; the page of each edit with nothing hidden, 0 where it is not in the schedule.
-#[derive(Drop)]
+#[derive(Clone, Copy)]
 pub struct Judged {
     pub must: Marks,
     pub never: Marks,
@@ -129,7 +129,7 @@ pub fn schedule(multilog: Record, hidden: Marks) -> Schedule
 }
 
 // Whether a record is sound, the edits that must stand, and its bench schedule.
-#[derive(Drop)]
+#[derive(Clone, Copy)]
 pub struct Planned {
     pub sound: bool,
     pub must: Marks,

@@ -16,7 +16,7 @@ use record::Record;
 use record_rows::row::NAMES;
 
 // The place of each edit in the row, counted from 1 (0: not in it), by index; not fit where a name is unknown or repeated.
-#[derive(Drop)]
+#[derive(Clone, Copy)]
 struct Seats {
     fit: bool,
     places: [usize; MARKS],

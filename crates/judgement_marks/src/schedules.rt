@@ -14,7 +14,7 @@ use graph::links;
 use graph::links::{ENABLES, MARKS, Marks, Rows};
 
 // Edits in order, by index.
-#[derive(Drop)]
+#[derive(Clone, Copy)]
 pub struct Row {
     pub indexes: Marks,
     pub count: usize,
@@ -164,7 +164,7 @@ fn is_shut(
 }
 
 // A record as a whole: how many edits it has, whether one of them is barred, whether all together hold a ring.
-#[derive(Drop)]
+#[derive(Clone, Copy)]
 struct Whole {
     n: usize,
     barring: bool,

@@ -18,9 +18,9 @@ use Rattle.record.specs.Judgement.{must}
 use Rattle.lists.proofs.Lists.{by, clash, is-by, mem-head, mem-tail, or-no-r}
 use Rattle.record.proofs.Scheduled.{schedule-sound}
 use Rattle.lists.proofs.Union.{united-old}
-use Rattle.record_rows.proofs.ground.Grounds.{orelse-none, given-none}
+use Rattle.record_rows.proofs.grounds.Grounds.{orelse-none, given-none}
 use Rattle.record_rows.specs.row.Row.{Row, is_name, edit_of}
-use Rattle.record_rows.specs.ground.Ground.{◌given◌}
+use Rattle.record_rows.specs.grounds.Ground.{◌given◌}
 use Rattle.record_tables.specs.Table.{edit_key, unite}
 use Rattle.record_tables.proofs.Records.{joining-kept}
 use Rattle.voting.specs.declared.Election.{Election}

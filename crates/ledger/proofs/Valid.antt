@@ -13,9 +13,9 @@ use Rattle.record.specs.Record.{Record, names, written, has, WellFormed}
 use Rattle.record.specs.Schedule.{needs, musts, ready, order, admits, scheduled, schedule}
 use Rattle.record.specs.Judgement.{sound}
 use Rattle.lists.proofs.Lists.{by, and_r, nil-no, cons-within, filter-mem}
-use Rattle.record_rows.proofs.ground.Grounds.{orelse-none, given-none}
+use Rattle.record_rows.proofs.grounds.Grounds.{orelse-none, given-none}
 use Rattle.record_rows.specs.row.Row.{is_name}
-use Rattle.record_rows.specs.ground.Ground.{◌given◌}
+use Rattle.record_rows.specs.grounds.Ground.{◌given◌}
 use Rattle.record_tables.specs.Table.{empty_tables, decoded, lent_fault, add_edit_fault, add_constraint_fault, record_join_fault, unite}
 use Rattle.record_tables.specs.Checked.{Checked}
 use Rattle.record_tables.proofs.Unions.{united-extends}

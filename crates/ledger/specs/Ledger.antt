@@ -6,7 +6,7 @@ use Rattle.record.specs.Record.{Record, written}
 use Rattle.record.specs.Schedule.{schedule}
 use Rattle.record.specs.Judgement.{sound, must}
 use Rattle.record_rows.specs.row.Row.{Row, is_name}
-use Rattle.record_rows.specs.ground.Ground.{Rows, ◌given◌, ◌orelse◌}
+use Rattle.record_rows.specs.grounds.Ground.{Rows, ◌given◌, ◌orelse◌}
 use Rattle.record_tables.specs.Table.{empty_tables, decoded, lent_fault, add_edit_fault, add_constraint_fault, record_join_fault, unite}
 use Rattle.voting.specs.declared.RollRow.{RollRow}
 use Rattle.voting.specs.declared.Election.{Election}

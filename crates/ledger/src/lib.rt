@@ -8,7 +8,7 @@ use pages_turner::Turner;
 use record::{Record, Schedule};
 
 // A bench: its record, the marks of its hidden edits, its schedule, its open and last page, and what the open pages make.
-#[derive(Drop)]
+#[derive(Clone, Copy)]
 pub struct Bench {
     pub multilog: Record,
     pub hidden: [u8; MARKS],
@@ -18,7 +18,7 @@ pub struct Bench {
 }
 
 // What a call answers: the number of its refusal, 0 for none, and the pages undone and redone; of an adoption also the election's answer.
-#[derive(Drop)]
+#[derive(Clone, Copy)]
 pub struct Answer {
     pub number: u32,
     pub undone: usize,
@@ -29,7 +29,7 @@ pub struct Answer {
     pub total: u32,
 }
 
-#[derive(Drop)]
+#[derive(Clone, Copy)]
 pub struct Outcome {
     pub answer: Answer,
     pub bench: Bench,

@@ -13,7 +13,7 @@ use pages_turner::Turner;
 use record::Edit;
 
 // Whose cells are printed: a chip's of the catalogue, or those that a page of the journal keeps.
-#[derive(Drop)]
+#[derive(Clone, Copy)]
 pub enum Owner {
     Chip,
     Page,

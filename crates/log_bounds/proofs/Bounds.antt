@@ -18,8 +18,8 @@ use Rattle.record.specs.declared.Edit.{Edit}
 use Rattle.record.specs.Record.{Record, written}
 use Rattle.record.specs.Stored.{stored, record_of}
 use Rattle.record_rows.specs.row.Row.{Row, value_cell, edit_in_range, edit_of, edit_row}
-use Rattle.record_rows.specs.ground.Ground.{Rows}
-use Rattle.record_rows.proofs.ground.Grounds.{given-none}
+use Rattle.record_rows.specs.grounds.Ground.{Rows}
+use Rattle.record_rows.proofs.grounds.Grounds.{given-none}
 use Rattle.record_rows.proofs.row.Cells.{edit-filler, edit-back}
 use Rattle.record_tables.specs.Table.{edit_rows, empty_tables, edit_key, unite}
 use Rattle.record_tables.proofs.Tables.{stored_back}

@@ -21,8 +21,8 @@ use Rattle.record.specs.Stored.{padded, filler_edit, record_of, stored, edit_nam
 use Rattle.record.specs.Judgement.{must, never}
 use Rattle.record.proofs.Padded.{take-padded}
 use Rattle.record_rows.specs.row.Row.{Row, cell, name_cell, edit_in_range, edit_row}
-use Rattle.record_rows.specs.ground.Ground.{Rows}
-use Rattle.record_rows.proofs.ground.Grounds.{orelse-none}
+use Rattle.record_rows.specs.grounds.Ground.{Rows}
+use Rattle.record_rows.proofs.grounds.Grounds.{orelse-none}
 use Rattle.record_rows.proofs.row.Cells.{name-small, edit-bounds}
 use Rattle.record_tables.specs.Table.{empty_tables, decoded, lent_fault}
 use Rattle.record_tables.specs.Checked.{Checked}

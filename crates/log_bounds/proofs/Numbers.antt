@@ -14,9 +14,9 @@ use Rattle.lists.proofs.Lists.{by}
 use Rattle.record.specs.Record.{Record, written}
 use Rattle.record.specs.Judgement.{sound, must}
 use Rattle.record_rows.specs.row.Row.{is_name}
-use Rattle.record_rows.specs.ground.Ground.{Rows, row_fault, first_fault, ◌given◌}
-use Rattle.record_rows.proofs.ground.Grounds.{orelse-none, given-none}
-use Rattle.record_rows.proofs.ground.Small.{orelse-small, given-small, first_small, row-fault-small, first-fault-small}
+use Rattle.record_rows.specs.grounds.Ground.{Rows, row_fault, first_fault, ◌given◌}
+use Rattle.record_rows.proofs.grounds.Grounds.{orelse-none, given-none}
+use Rattle.record_rows.proofs.grounds.Small.{orelse-small, given-small, first_small, row-fault-small, first-fault-small}
 use Rattle.record_tables.proofs.Further.{further-small}
 use Rattle.record_tables.specs.Table.{edit_rows, constraint_rows, decoded, empty_tables, edit_kind, constraint_kind, names_of, join_fault, record_join_fault, unite}
 use Rattle.pages_turner.specs.declared.Turned.{Turned}

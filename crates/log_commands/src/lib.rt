@@ -14,7 +14,7 @@ use text_forms::decimal::Numeral;
 use text_lines::Line;
 
 // A row of edits.
-#[derive(Drop)]
+#[derive(Clone, Copy)]
 pub struct EditCells {
     pub name: u32,
     pub kind: u32,
@@ -24,7 +24,7 @@ pub struct EditCells {
 }
 
 // A row of constraints.
-#[derive(Drop)]
+#[derive(Clone, Copy)]
 pub struct ConstraintCells {
     pub left: u32,
     pub rule: u32,
@@ -32,7 +32,7 @@ pub struct ConstraintCells {
 }
 
 // A proposal from the record `lent` and the old proposal `old`, into a table of so many edits and rules.
-#[derive(Drop)]
+#[derive(Clone, Copy)]
 pub struct Proposing {
     pub lent: u32,
     pub old: u32,
@@ -42,7 +42,7 @@ pub struct Proposing {
 }
 
 // Constraints for two edits.
-#[derive(Drop)]
+#[derive(Clone, Copy)]
 pub struct Suggesting {
     pub first: u32,
     pub second: u32,
@@ -50,7 +50,7 @@ pub struct Suggesting {
 }
 
 // What is lent: a row for a record, no rows or all the bench's; a bench of the roll and its weight; a name of the row to be tested.
-#[derive(Drop)]
+#[derive(Clone, Copy)]
 pub enum Lend {
     EditRow(u32, EditCells),
     ConstraintRow(u32, ConstraintCells),
@@ -63,7 +63,7 @@ pub enum Lend {
 }
 
 // Calls on the bench.
-#[derive(Drop)]
+#[derive(Clone, Copy)]
 pub enum Call {
     AddEdit(EditCells),
     AddConstraint(ConstraintCells),
@@ -75,7 +75,7 @@ pub enum Call {
 }
 
 // Elections, bundles, suggestions and tests.
-#[derive(Drop)]
+#[derive(Clone, Copy)]
 pub enum Vote {
     Elect(u32),
     Bundle(u32, u32),
@@ -85,7 +85,7 @@ pub enum Vote {
 }
 
 // Questions.
-#[derive(Drop)]
+#[derive(Clone, Copy)]
 pub enum Ask {
     Text,
     Report,
@@ -97,7 +97,7 @@ pub enum Ask {
 }
 
 // Refused 1: the line is not in form; 2: a number in it is too large.
-#[derive(Drop)]
+#[derive(Clone, Copy)]
 pub enum Command {
     Refused(u32),
     Lend(Lend),

@@ -4,7 +4,7 @@ ghost use Rattle.text_forms.specs.Form.{taken};
 ghost use Rattle.log_forms.specs.productions.Words.{no_words, words_kept, words_of};
 
 // Number 0: the numbers of a form. 1: not in form. 2: a number does not fit 32 bits. Words that say nothing are 0.
-#[derive(Drop)]
+#[derive(Clone, Copy)]
 pub struct Words {
     pub number: u32,
     pub first: u32,

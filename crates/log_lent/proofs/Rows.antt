@@ -11,7 +11,7 @@ use lib.Seq.{take-suc, take-set-le, drop-set-lt, drop-set-add, take-suc-set, set
 use borrow.Author.Tests.{eq-eqb, ne_eqb, lt-ltb, le-ltb, le-leb, lt-leb}
 use Rattle.lists.proofs.Lists.{is-by, le-by}
 use Rattle.record_rows.specs.row.Row.{Row}
-use Rattle.record_rows.specs.ground.Ground.{Rows}
+use Rattle.record_rows.specs.grounds.Ground.{Rows}
 use Rattle.voting_roll.specs.Election.{benches}
 use Rattle.log_lent.specs.Lent.{lent_records, with, rows_fault, added}
 use Rattle.log_lent.specs.Kept.{Tables}

@@ -14,7 +14,7 @@ use Rattle.record.specs.Stored.{stored, padded}
 use Rattle.lists.proofs.Lists.{is-by, le-by}
 use Rattle.lists.proofs.Arrays.{get_or-zeros}
 use Rattle.record_rows.specs.row.Row.{Row, edit_row, constraint_row}
-use Rattle.record_rows.specs.ground.Ground.{Rows}
+use Rattle.record_rows.specs.grounds.Ground.{Rows}
 use Rattle.record_tables.specs.Table.{edit_rows, constraint_rows}
 use Rattle.voting.specs.declared.RollRow.{RollRow}
 use Rattle.log_lent.specs.declared.Lending.{Lending}

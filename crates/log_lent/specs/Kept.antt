@@ -1,6 +1,6 @@
 -- How what is lent is kept: the nine tables of a kind stand in one, each from its own place on. Assumes nothing.
 use Rattle.std.specs.Prelude.{◌≡◌, List, ℕ, ◌*◌, ◌≤◌, ◌<◌, length, get_or, take, drop}
-use Rattle.record_rows.specs.ground.Ground.{Rows}
+use Rattle.record_rows.specs.grounds.Ground.{Rows}
 use Rattle.log_lent.specs.declared.Lending.{Lending}
 use Rattle.log_lent.specs.Lent.{Lent, lent_records, edit_places, constraint_places, roll_places, row_places}
 

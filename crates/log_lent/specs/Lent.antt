@@ -2,7 +2,7 @@
 use Rattle.std.specs.Prelude.{Bool, not, ◌&&◌, cond, List, [], ◌∷◌, ◌++◌, ℕ, eqb, leb, ltb, length}
 use Rattle.record.specs.Record.{Record}
 use Rattle.record_rows.specs.row.Row.{Row}
-use Rattle.record_rows.specs.ground.Ground.{Rows, ◌given◌, ◌orelse◌}
+use Rattle.record_rows.specs.grounds.Ground.{Rows, ◌given◌, ◌orelse◌}
 use Rattle.record_tables.specs.Table.{edit_rows, constraint_rows}
 use Rattle.voting.specs.declared.RollRow.{RollRow}
 

@@ -1,6 +1,6 @@
 // A proposal made from the records that the lines of a call log lend (document 01, "Proposals and votes").
 ghost use Rattle.std.specs.Prelude.{◌≡◌};
-ghost use Rattle.record_rows.specs.ground.Ground.{Rows};
+ghost use Rattle.record_rows.specs.grounds.Ground.{Rows};
 ghost use Rattle.voting_proposals.specs.Propose.{new_outcome};
 ghost use Rattle.log_lent.specs.Lent.{Lent};
 ghost use Rattle.log_lent.specs.Kept.{Kept};

@@ -9,7 +9,7 @@ ghost use Rattle.std.specs.Prelude.{◌≡◌, [], map, ℕ, ◌-◌, ◌<◌, �
 ghost use Rattle.record.specs.Record as theory;
 ghost use Rattle.record.specs.Stored.{stored};
 ghost use Rattle.record_rows.specs.row.Row.{Row, edit_row, constraint_row};
-ghost use Rattle.record_rows.specs.ground.Ground.{Rows};
+ghost use Rattle.record_rows.specs.grounds.Ground.{Rows};
 ghost use Rattle.voting_roll.specs.Election.{benches};
 ghost use Rattle.log_lent.specs.Lent.{Lent, nothing_lent, lent_records, with, edit_places, constraint_places, rows_fault, added, with_edit, with_constraint, with_record, record_number, seat_number, with_seat, without_roll, name_number, with_name, without_row};
 ghost use Rattle.log_lent.specs.Kept.{Tables, Kept};
@@ -31,7 +31,7 @@ pub const ROW_PLACES: usize = EDITS + 2;
 pub const ROLL_PLACES: usize = 9;
 
 // How many rows each table has; the first rows of the roll; the row to be tested.
-#[derive(Drop)]
+#[derive(Clone, Copy)]
 pub struct Lending {
     pub editcounts: [usize; RECORDS],
     pub constraintcounts: [usize; RECORDS],
@@ -42,7 +42,7 @@ pub struct Lending {
 }
 
 // What one row more comes to: the number of a refusal, 0 for none; the row's place, past the end for a refusal; how many rows each table has then.
-#[derive(Drop)]
+#[derive(Clone, Copy)]
 pub struct Placing {
     pub number: u32,
     pub place: usize,
@@ -170,7 +170,7 @@ fn add_constraints(
 }
 
 // Where the rows of a table stand: from a place up to another.
-#[derive(Drop)]
+#[derive(Clone, Copy)]
 pub struct Part {
     pub start: usize,
     pub stop: usize,
@@ -262,7 +262,7 @@ pub fn proposed_constraints<'a>(
 }
 
 // The number of a refusal, 0 for none, and what is lent then.
-#[derive(Drop)]
+#[derive(Clone, Copy)]
 pub struct Setting {
     pub number: u32,
     pub lending: Lending,

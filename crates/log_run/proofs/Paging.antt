@@ -9,7 +9,7 @@ use lib.ListN.{length, take, drop}
 use mir.Syntax.{w32}
 use mir.Val.{SFits, to_z, of_z}
 use Rattle.lists.proofs.Lists.{is-by, clash}
-use Rattle.record_rows.specs.ground.Ground.{Rows}
+use Rattle.record_rows.specs.grounds.Ground.{Rows}
 use Rattle.pages_turner.specs.declared.Turner.{Turner}
 use Rattle.pages_turner.specs.declared.turning.Turning.{Turning}
 use Rattle.pages_turner.specs.turning.Turning.{turning_of}

@@ -7,7 +7,7 @@ use lib.ListN.{length}
 use Rattle.ledger.specs.Ledger.{start, fed}
 use Rattle.ledger.specs.Bench.{bench_of}
 use Rattle.ledger.specs.declared.Bench.{Bench}
-use Rattle.record_rows.specs.ground.Ground.{Rows}
+use Rattle.record_rows.specs.grounds.Ground.{Rows}
 use Rattle.log_lent.specs.declared.Lending.{Lending}
 use Rattle.log_lent.specs.Lent.{nothing_lent}
 use Rattle.log_lent.specs.Kept.{Kept}

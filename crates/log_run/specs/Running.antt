@@ -1,6 +1,6 @@
 -- Inner: a log that is run in part. Assumes nothing.
 use Rattle.std.specs.Prelude.{◌≡◌, List, ℕ, ◌+◌, ◌-◌, ◌≤◌, ◌<◌, length, drop}
-use Rattle.record_rows.specs.ground.Ground.{Rows}
+use Rattle.record_rows.specs.grounds.Ground.{Rows}
 use Rattle.ledger.specs.declared.Bench.{Bench}
 use Rattle.text_lines.specs.Lines.{lines}
 use Rattle.log_forms.specs.Printed.{Printed}

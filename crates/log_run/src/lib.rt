@@ -3,7 +3,7 @@
 
 ghost use Rattle.std.specs.Prelude.{◌≡◌, true, false, List, ℕ, suc, ◌+◌, ◌<◌, ◌≤◌, length, drop};
 ghost use Rattle.text_lines.specs.Lines.{lines, first_line};
-ghost use Rattle.record_rows.specs.ground.Ground.{Rows};
+ghost use Rattle.record_rows.specs.grounds.Ground.{Rows};
 ghost use Rattle.ledger.specs.declared.Bench.{Bench};
 ghost use Rattle.bench.specs.Changes.{open_at};
 ghost use Rattle.log_forms.specs.Printed.{Printed};
@@ -28,7 +28,7 @@ use pages_turner::{Turner, turning};
 use record_rows::row::{ConstraintRow, EditRow};
 
 // What the turner alone tells of a line: a turn by so many pages, the question for the open page, and of any other line nothing.
-#[derive(Drop)]
+#[derive(Clone, Copy)]
 enum PageLine {
     Other,
     Pages(i32),
@@ -93,7 +93,7 @@ fn is_other(paging: PageLine) -> bool
 }
 
 // The turner after a line that turns pages or asks for the open page, and the place after what it printed.
-#[derive(Drop)]
+#[derive(Clone, Copy)]
 struct Paged {
     turner: Turner,
     at: usize,
@@ -171,7 +171,7 @@ fn next(n: usize) -> usize
 }
 
 // The turner after lines that turn pages or ask for the open page, how many lines were run, the place after what they printed, and after them.
-#[derive(Drop)]
+#[derive(Clone, Copy)]
 struct Turns {
     turner: Turner,
     count: usize,
@@ -222,7 +222,7 @@ fn run_turns(
 }
 
 // The desk after the lines before a place of a log, how many lines were run, and the place after what they printed.
-#[derive(Drop)]
+#[derive(Clone, Copy)]
 pub struct Logged {
     pub bench: Bench,
     pub lending: Lending,

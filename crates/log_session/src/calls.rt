@@ -73,7 +73,7 @@ fn print_adoption(answer: Answer, turner: Turner, out: &mut [u8], at: usize) -> 
 }
 
 // Calls by what they come to: a change of the record or of what is hidden; a turn by so many pages; an adoption, whose answer has the election's too.
-#[derive(Drop)]
+#[derive(Clone, Copy)]
 pub enum Kind {
     Change,
     PageTurn(i32),

@@ -19,7 +19,7 @@ use log_lent::{Lending, Setting, lent_calls};
 use record_rows::row::{ConstraintRow, EditRow};
 
 // What is lent after a line that makes no call, and the place after what it printed. Such a line hands back no bench, which is long to copy.
-#[derive(Drop)]
+#[derive(Clone, Copy)]
 pub struct Told {
     pub lending: Lending,
     pub at: usize,

@@ -18,7 +18,7 @@ use record::Record;
 use voting_count::Counted;
 
 // Whether an edit must stand, and whether it can never; 1 for yes. Neither: it is left open.
-#[derive(Drop)]
+#[derive(Clone, Copy)]
 pub struct Verdict {
     pub must: u64,
     pub never: u64,

@@ -8,21 +8,21 @@ ghost use Rattle.pages_turner.specs.Turn.{turned_answer, turn_of};
 
 use record::EDITS;
 
-#[derive(Drop)]
+#[derive(Clone, Copy)]
 pub struct Turner {
     pub opened: usize,
     pub last: usize,
 }
 
 // What a turn comes to: a page, or a refusal.
-#[derive(Drop)]
+#[derive(Clone, Copy)]
 pub enum Turned {
     To(usize),
     Refused,
 }
 
 // The number of the refusal, 0 for none, and the page that is then open.
-#[derive(Drop)]
+#[derive(Clone, Copy)]
 pub struct TurnAnswer {
     pub number: u8,
     pub opened: usize,

@@ -5,7 +5,7 @@ ghost use Rattle.pages_turner.specs.turning.Turning.{after_turn, turn_answer_of,
 use crate::{TurnAnswer, Turner};
 
 // The number of the refusal, 0 for none, and the turner after the turn.
-#[derive(Drop)]
+#[derive(Clone, Copy)]
 pub struct Turning {
     pub number: u8,
     pub turner: Turner,

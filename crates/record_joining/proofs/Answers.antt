@@ -17,7 +17,7 @@ use Rattle.record.specs.Record.{Record, written}
 use Rattle.record.specs.Stored.{stored, record_of}
 use Rattle.lists.specs.Keyed.{Ascending, inserted, united}
 use Rattle.record_rows.specs.row.Row.{Row, constraint_of}
-use Rattle.record_rows.specs.ground.Ground.{Rows}
+use Rattle.record_rows.specs.grounds.Ground.{Rows}
 use Rattle.record_tables.specs.Table.{edit_rows, constraint_rows, decoded, empty_tables, join_fault, names_of, lent_fault, add_constraint_fault, record_join_fault, edit_key, constraint_key, unite}
 use Rattle.record_tables.specs.Checked.{Checked}
 use Rattle.record_tables.proofs.Records.{empty-checked, joining-edits, joining-constraints, joined-editplaces, joined-constraintplaces, joining-editplaces, joining-constraintplaces, record-decoded}

@@ -11,7 +11,7 @@ ghost use Rattle.record_joining.specs.insertion.Insertion.{full_table, held_tabl
 use record::{CONSTRAINTS, Constraint, Record};
 
 // Rows past the count hold a filler. A row that had no place left has made it full, and then nothing else is kept.
-#[derive(Drop)]
+#[derive(Clone, Copy)]
 pub struct Constraints {
     pub rows: [Constraint; CONSTRAINTS],
     pub count: usize,

@@ -17,7 +17,7 @@ use record_rows::row;
 use record_rows::row::{CONSTRAINT_CELLS, ConstraintRow, EDIT_CELLS, EditRow};
 
 // number: 0, or that of the refusal; after: the record afterwards.
-#[derive(Drop)]
+#[derive(Clone, Copy)]
 pub struct Joined {
     pub number: u32,
     pub after: Record,

@@ -7,15 +7,15 @@ ghost use Rattle.record.specs.Record as theory;
 ghost use Rattle.record.specs.Stored.{record_of, stored, edit_limit, constraint_limit};
 ghost use Rattle.lists.specs.Keyed.{Ascending};
 ghost use Rattle.record_rows.specs.row.Row.{edit_row, constraint_row, edit_width, constraint_width};
-ghost use Rattle.record_rows.specs.ground.Ground.{table_fault};
-ghost use Rattle.record_rows.specs.ground.Walk.{PlaceOf, late_fault, step_at};
+ghost use Rattle.record_rows.specs.grounds.Ground.{table_fault};
+ghost use Rattle.record_rows.specs.grounds.Walk.{PlaceOf, late_fault, step_at};
 ghost use Rattle.record_tables.specs.Table.{edit_rows, constraint_rows, edit_kind, constraint_kind, empty_tables, lent_fault, add_edit_fault, add_constraint_fault};
 ghost use Rattle.record_tables.specs.Checked.{Checked, OrderedTables, MarksNames};
 
 use record::{CONSTRAINTS, Constraint, EDITS, Edit, Record};
-use record_rows::ground::Step;
+use record_rows::grounds::Step;
 use record_rows::row::{ConstraintRow, EditRow};
-use record_rows::{ground, row};
+use record_rows::{grounds, row};
 
 // The step of a lent row at row x of the record's table, of which at of n rows are passed, while count of limit places are taken; key: the cells of the key.
 fn step(at: usize, n: usize, x: &[u32], row: &[u32], key: usize, count: usize, limit: usize) -> Step
@@ -25,7 +25,7 @@ fn step(at: usize, n: usize, x: &[u32], row: &[u32], key: usize, count: usize, l
     let lower = row::below(x, row, key);
     let upper = row::below(row, x, key);
     let equal = row::alike(row, x, row.len());
-    ground::advance(at < n, lower, upper, equal, limit <= count)
+    grounds::advance(at < n, lower, upper, equal, limit <= count)
 }
 
 // How many of the first n edits stand before the row, whose length is ensured for callers that copy it out of a slice.
@@ -53,9 +53,9 @@ fn edit_late(a: [Edit; EDITS], n: usize, count: usize, t: &[EditRow], i: usize) 
     let row = t[i];
     let again = record_tables::edit_repeated(t, i);
     let p = edit_place(a, n, row);
-    let x = row::edit_row(a[ground::slot(p, n, EDITS)]);
+    let x = row::edit_row(a[grounds::slot(p, n, EDITS)]);
     let s = step(p, n, &x, &row, 1, count, EDITS);
-    ground::late_number(again, s.number)
+    grounds::late_number(again, s.number)
 }
 
 // The number of the first faulty row of a table of edits that joins a record.
@@ -78,7 +78,7 @@ fn edit_fault(r: Record, t: &[EditRow]) -> u32
         if !record_tables::edit_follows(t, i) {
             return edit_late(a, n, count, t, i);
         }
-        let x = row::edit_row(a[ground::slot(at, n, EDITS)]);
+        let x = row::edit_row(a[grounds::slot(at, n, EDITS)]);
         let s = step(at, n, &x, &row, 1, count, EDITS);
         if s.number != 0 {
             return s.number;
@@ -121,9 +121,9 @@ fn constraint_late(
     let row = t[i];
     let again = record_tables::constraint_repeated(t, i);
     let p = constraint_place(a, n, row);
-    let x = row::constraint_row(a[ground::slot(p, n, CONSTRAINTS)]);
+    let x = row::constraint_row(a[grounds::slot(p, n, CONSTRAINTS)]);
     let s = step(p, n, &x, &row, 3, count, CONSTRAINTS);
-    ground::late_number(again, s.number)
+    grounds::late_number(again, s.number)
 }
 
 // The number of the first faulty row of a table of constraints that joins a record, where marks are those of the edits that it knows.
@@ -146,11 +146,11 @@ fn constraint_fault(r: Record, t: &[ConstraintRow], marks: &[u8], adding: bool) 
         let further = record_tables::constraint_further(row, marks, adding);
         if !record_tables::constraint_follows(t, i) {
             let late = constraint_late(a, n, count, t, i);
-            return ground::late_further(late, further);
+            return grounds::late_further(late, further);
         }
-        let x = row::constraint_row(a[ground::slot(at, n, CONSTRAINTS)]);
+        let x = row::constraint_row(a[grounds::slot(at, n, CONSTRAINTS)]);
         let s = step(at, n, &x, &row, 3, count, CONSTRAINTS);
-        let number = ground::later_number(s, further);
+        let number = grounds::later_number(s, further);
         if number != 0 {
             return number;
         }

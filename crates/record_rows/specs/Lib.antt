@@ -1,2 +1,2 @@
-pub mod ground
+pub mod grounds
 pub mod row

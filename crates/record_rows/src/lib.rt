@@ -1,5 +1,5 @@
 // Rows of numbers, and the grounds that a row can meet.
 #![tactic(auto)]
 
-pub mod ground;
+pub mod grounds;
 pub mod row;

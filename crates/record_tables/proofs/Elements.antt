@@ -11,8 +11,8 @@ use Rattle.lists.specs.Keyed.{Ascending}
 use Rattle.lists.proofs.Union.{ascending-map}
 use Rattle.record_rows.specs.row.Row.{edit_row, constraint_row, edit_of, constraint_of}
 use Rattle.record_rows.proofs.row.Cells.{edit-wide, constraint-wide, edit-back, edit-again, constraint-back, constraint-again}
-use Rattle.record_rows.proofs.ground.Loop.{Elements}
-use Rattle.record_rows.proofs.ground.Decoded.{Coding}
+use Rattle.record_rows.proofs.grounds.Loop.{Elements}
+use Rattle.record_rows.proofs.grounds.Decoded.{Coding}
 use Rattle.record_tables.specs.Table.{edit_kind, constraint_kind, edit_key, constraint_key}
 
 abbrev pub edit_elements : Elements

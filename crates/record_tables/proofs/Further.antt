@@ -10,7 +10,7 @@ use lib.ListN.{length, get_or}
 use Rattle.lists.proofs.Lists.{by}
 use Rattle.lists.specs.Lists.{mem}
 use Rattle.record_rows.specs.row.Row.{Row, cell, constraint_cells}
-use Rattle.record_rows.proofs.ground.Small.{given-small, first_small}
+use Rattle.record_rows.proofs.grounds.Small.{given-small, first_small}
 use Rattle.record_tables.specs.Table.{unknown, pair_not_allowed, decision, constraint_further}
 use Rattle.record_tables.specs.Checked.{MarksNames}
 

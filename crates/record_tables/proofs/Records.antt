@@ -21,10 +21,10 @@ use Rattle.lists.proofs.Order.{less_one}
 use Rattle.lists.proofs.Union.{ascending-united, united-has, united-new, agree-self}
 use Rattle.record_rows.specs.row.Row.{Row, cell, is_name, edit_in_range, constraint_in_range, edit_of, constraint_of, edit_row, constraint_row}
 use Rattle.record_rows.proofs.row.Cells.{edit-in-range, edit-decoded, name-not-zero}
-use Rattle.record_rows.specs.ground.Ground.{Rows, table_fault, ◌given◌, ◌orelse◌}
-use Rattle.record_rows.proofs.ground.Grounds.{orelse-none, orelse-second, given-none}
-use Rattle.record_rows.proofs.ground.Accepted.{accepted-range}
-use Rattle.record_rows.proofs.ground.Decoded.{decoded-again, elements-accepted, lent-range, lent-further, lent-ascending, lent-within, lent-agree, lent-places}
+use Rattle.record_rows.specs.grounds.Ground.{Rows, table_fault, ◌given◌, ◌orelse◌}
+use Rattle.record_rows.proofs.grounds.Grounds.{orelse-none, orelse-second, given-none}
+use Rattle.record_rows.proofs.grounds.Accepted.{accepted-range}
+use Rattle.record_rows.proofs.grounds.Decoded.{decoded-again, elements-accepted, lent-range, lent-further, lent-ascending, lent-within, lent-agree, lent-places}
 use Rattle.record_tables.specs.Table.{unknown, pair_not_allowed, decision, constraint_further, edit_kind, constraint_kind, edit_rows, constraint_rows, decoded, empty_tables, join_fault, names_of, lent_fault, add_edit_fault, add_constraint_fault, record_join_fault, edit_key, constraint_key, unite}
 use Rattle.record_tables.specs.Checked.{Checked}
 use Rattle.record_tables.proofs.Elements.{edit_elements, constraint_elements, edit_coding, constraint_coding}

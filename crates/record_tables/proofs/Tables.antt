@@ -11,9 +11,9 @@ use Rattle.record.specs.Record.{Record, written, name_of}
 use Rattle.record.specs.Stored.{padded, record_of, stored, empty_record, filler_edit, filler_constraint}
 use Rattle.lists.proofs.Logic.{all-by}
 use Rattle.record_rows.specs.row.Row.{Row, edit_in_range, edit_row}
-use Rattle.record_rows.specs.ground.Ground.{Rows, table_fault, first_fault}
-use Rattle.record_rows.proofs.ground.Grounds.{orelse-first, orelse-second, orelse-zero}
-use Rattle.record_rows.proofs.ground.Accepted.{accepted-range}
+use Rattle.record_rows.specs.grounds.Ground.{Rows, table_fault, first_fault}
+use Rattle.record_rows.proofs.grounds.Grounds.{orelse-first, orelse-second, orelse-zero}
+use Rattle.record_rows.proofs.grounds.Accepted.{accepted-range}
 use Rattle.record_tables.specs.Table.{edit_kind, constraint_kind, edit_rows, constraint_rows, names_of, empty_tables, join_fault, lent_fault, add_edit_fault, add_constraint_fault}
 use Rattle.record_tables.specs.Checked.{Checked, OrderedTables, MarksNames}
 

@@ -7,7 +7,7 @@ use Rattle.record.specs.Record.{Record, written}
 use Rattle.lists.specs.Keyed.{united}
 use Rattle.record.specs.Stored.{edit_limit, constraint_limit}
 use Rattle.record_rows.specs.row.Row.{Row, name_cell, constraint_cells, edit_in_range, constraint_in_range, edit_of, constraint_of, edit_row, constraint_row}
-use Rattle.record_rows.specs.ground.Ground.{Rows, TableKind, table_fault, ◌given◌, ◌orelse◌}
+use Rattle.record_rows.specs.grounds.Ground.{Rows, TableKind, table_fault, ◌given◌, ◌orelse◌}
 
 -- the rows of a record's tables, and the record that two tables are
 abbrev pub edit_rows : Record → Rows

@@ -11,13 +11,13 @@ ghost use Rattle.lists.specs.Lists.{all};
 ghost use Rattle.lists.specs.Keyed.{Ascending};
 ghost use Rattle.record.specs.Stored.{edit_limit};
 ghost use Rattle.record_rows.specs.row.Row.{edit_in_range, edit_row};
-ghost use Rattle.record_rows.specs.ground.Ground.{known, misplaced};
+ghost use Rattle.record_rows.specs.grounds.Ground.{known, misplaced};
 ghost use Rattle.record_tables.specs.Table.{names_of, pair_not_allowed, decision, constraint_further};
 ghost use Rattle.record_tables.specs.Checked.{MarksNames};
 
 use record::{EDITS, Edit};
 use record_rows::row::{ConstraintRow, EditRow, NAMES};
-use record_rows::{ground, row};
+use record_rows::{grounds, row};
 
 // Whether row i is above the row before it. Pub for `record_refusal` and `text_reader`, which walk the rows.
 pub fn edit_follows(t: &[EditRow], i: usize) -> bool
@@ -145,7 +145,7 @@ pub fn mark_rows(t: &[EditRow]) -> [u8; NAMES]
     let mut i = 0;
     while i < t.len() {
         let n = numbers::index32(t[i][0]);
-        let k = ground::slot(n, NAMES, NAMES);
+        let k = grounds::slot(n, NAMES, NAMES);
         marks[k] = 1;
         i += 1;
     }
@@ -163,7 +163,7 @@ pub fn mark_edits(a: [Edit; EDITS], n: usize) -> [u8; NAMES]
     while i < n {
         let e = a[i];
         let name = e.name as usize;
-        let k = ground::slot(name, NAMES, NAMES);
+        let k = grounds::slot(name, NAMES, NAMES);
         marks[k] = 1;
         i += 1;
     }

@@ -13,7 +13,7 @@ use Rattle.lists.specs.Keyed.{united}
 use Rattle.lists.proofs.Union.{length-grown}
 use Rattle.record.proofs.Padded.{padded-begin, padded-next, padded-fits}
 use Rattle.record_rows.specs.row.Row.{Row, edit_of, constraint_of}
-use Rattle.record_rows.specs.ground.Ground.{Rows}
+use Rattle.record_rows.specs.grounds.Ground.{Rows}
 use Rattle.record_tables.specs.Table.{decoded, edit_key, constraint_key, unite}
 use Rattle.record_tables.proofs.Tables.{stored_back}
 use Rattle.record_union.specs.Union.{Unites, with_edits, with_constraints}

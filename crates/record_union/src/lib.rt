@@ -12,7 +12,7 @@ ghost use Rattle.record_union.specs.Union.{Unites, with_edits, with_constraints,
 
 use record::{Body, CONSTRAINTS, Constraint, EDITS, Edit, Record};
 use record_rows::row::{ConstraintRow, EditRow};
-use record_rows::{ground, row};
+use record_rows::{grounds, row};
 
 fn edit_filler() -> Edit
     ensures { result ≡ filler_edit }
@@ -97,7 +97,7 @@ pub fn edit_alone(row: EditRow) -> Record
 }
 
 // How far a union goes on in the record's table and in the joining one.
-#[derive(Drop)]
+#[derive(Clone, Copy)]
 pub struct Choice {
     pub own: usize,
     pub joining: usize,
@@ -160,10 +160,10 @@ fn unite_edits(joined: Record, joining: Record) -> Record
     let mut j = 0;
     let mut q = 0;
     while p + j < n + m {
-        let x = a[ground::slot(p, n, EDITS)];
-        let y = b[ground::slot(j, m, EDITS)];
+        let x = a[grounds::slot(p, n, EDITS)];
+        let y = b[grounds::slot(j, m, EDITS)];
         let choice = choose(p, n, j, m, edit_below(x, y), edit_below(y, x));
-        out[ground::slot(q, EDITS, EDITS)] = edit_either(choice.own, x, y);
+        out[grounds::slot(q, EDITS, EDITS)] = edit_either(choice.own, x, y);
         p += choice.own;
         j += choice.joining;
         q += 1;
@@ -221,10 +221,10 @@ fn unite_constraints(joined: Record, joining: Record) -> Record
     let mut j = 0;
     let mut q = 0;
     while p + j < n + m {
-        let x = a[ground::slot(p, n, CONSTRAINTS)];
-        let y = b[ground::slot(j, m, CONSTRAINTS)];
+        let x = a[grounds::slot(p, n, CONSTRAINTS)];
+        let y = b[grounds::slot(j, m, CONSTRAINTS)];
         let choice = choose(p, n, j, m, constraint_below(x, y), constraint_below(y, x));
-        out[ground::slot(q, CONSTRAINTS, CONSTRAINTS)] = constraint_either(choice.own, x, y);
+        out[grounds::slot(q, CONSTRAINTS, CONSTRAINTS)] = constraint_either(choice.own, x, y);
         p += choice.own;
         j += choice.joining;
         q += 1;

@@ -9,7 +9,7 @@ ghost use Rattle.std.specs.Prelude.{◌≤◌, length};
 use libc::{STDIN_FILENO, STDOUT_FILENO};
 
 // What reading came to: how many bytes, and whether it failed.
-#[derive(Drop)]
+#[derive(Clone, Copy)]
 pub struct Got {
     pub size: usize,
     pub failed: bool,

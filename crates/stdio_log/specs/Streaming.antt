@@ -1,6 +1,6 @@
 -- A call log that arrives in pieces, run as it comes, from whatever was run before. What was read no contract can say: it is some pieces. Assumes nothing.
 use Rattle.std.specs.Prelude.{◌≡◌, List, ℕ, take}
-use Rattle.record_rows.specs.ground.Ground.{Rows}
+use Rattle.record_rows.specs.grounds.Ground.{Rows}
 use Rattle.text_lines.specs.Lines.{lines}
 use Rattle.stream.specs.Pieces.{no_input, fed_pieces, input_of}
 use Rattle.log_session.specs.Desk.{Desk}

@@ -23,7 +23,7 @@ const LIMIT: usize = 28672;
 const MOST: usize = 4611686018427387904;
 
 // The desk after some bytes: how many lines were run, how many bytes wait for the end of their line, and whether reading or writing failed.
-#[derive(Drop)]
+#[derive(Clone, Copy)]
 struct Fed {
     bench: Bench,
     lending: Lending,

@@ -8,7 +8,7 @@ use record_rows::row;
 use record_rows::row::{ConstraintRow, EditRow};
 
 // What a pair of edits suggests: nothing, A notafter B, that and A enables B, or that they are noncommuting.
-#[derive(Drop)]
+#[derive(Clone, Copy)]
 pub enum Advice {
     Nothing,
     Notafter,
@@ -17,7 +17,7 @@ pub enum Advice {
 }
 
 // Number 0, and how many rows there are; a row that is not there holds 0. Or number 2.
-#[derive(Drop)]
+#[derive(Clone, Copy)]
 pub struct Suggested {
     pub number: u32,
     pub count: usize,

@@ -12,9 +12,9 @@ use lib.ListN.{length, length-append}
 use Rattle.lists.proofs.Lists.{by, or-no-l, or-no-r}
 use Rattle.lists.specs.Lists.{mem}
 use Rattle.record.specs.Judgement.{sound}
-use Rattle.record_rows.specs.ground.Ground.{Rows, row_fault, ◌given◌}
+use Rattle.record_rows.specs.grounds.Ground.{Rows, row_fault, ◌given◌}
 use Rattle.record_tables.specs.Table.{empty_tables, names_of, edit_kind, constraint_kind}
-use Rattle.record_rows.proofs.ground.Small.{orelse-small, given-small, row-fault-small}
+use Rattle.record_rows.proofs.grounds.Small.{orelse-small, given-small, row-fault-small}
 use Rattle.record_tables.proofs.Further.{further-small}
 use Rattle.record_tables.proofs.Records.{empty-checked, joining-editplaces, joining-constraintplaces}
 use Rattle.text_lines.specs.declared.Line.{Line}

@@ -15,9 +15,9 @@ use Rattle.lists.specs.Lists.{Has}
 use Rattle.lists.proofs.Logic.{has-mapped, all-has, all-by}
 use Rattle.record_rows.specs.row.Row.{Row, cell, edit_in_range, constraint_in_range, edit_of, constraint_of, edit_row, constraint_row}
 use Rattle.record_rows.proofs.row.Cells.{edit-back, constraint-back}
-use Rattle.record_rows.specs.ground.Ground.{Rows, row_fault}
-use Rattle.record_rows.proofs.ground.Grounds.{Clean, clean}
-use Rattle.record_rows.proofs.ground.Accepted.{accepted-range}
+use Rattle.record_rows.specs.grounds.Ground.{Rows, row_fault}
+use Rattle.record_rows.proofs.grounds.Grounds.{Clean, clean}
+use Rattle.record_rows.proofs.grounds.Accepted.{accepted-range}
 use Rattle.record_tables.specs.Table.{edit_rows, constraint_rows, decoded, empty_tables, names_of, edit_kind, constraint_kind}
 use Rattle.record_tables.specs.Checked.{Checked}
 use Rattle.record_tables.proofs.Records.{both, empty-checked, lent-checked, checked-faultless, checked-decoded}

@@ -11,8 +11,8 @@ use Rattle.lists.proofs.Lists.{clash, and_l, and_r}
 use Rattle.lists.specs.Lists.{all}
 use Rattle.record_rows.specs.row.Row.{Row, cell, body_in_range, edit_in_range, constraint_in_range}
 use Rattle.record_rows.proofs.row.Cells.{edit-in-range, constraint-in-range, name-small, constraint-bounds}
-use Rattle.record_rows.specs.ground.Ground.{Rows, TableKind, row_fault, first_fault, table_fault, ◌given◌}
-use Rattle.record_rows.proofs.ground.Grounds.{orelse-none, orelse-second, given-none, Clean, clean, clean_is}
+use Rattle.record_rows.specs.grounds.Ground.{Rows, TableKind, row_fault, first_fault, table_fault, ◌given◌}
+use Rattle.record_rows.proofs.grounds.Grounds.{orelse-none, orelse-second, given-none, Clean, clean, clean_is}
 use Rattle.record_tables.specs.Table.{empty_tables, names_of, edit_kind, constraint_kind, join_fault, lent_fault}
 use Rattle.text_lines.specs.declared.Line.{Line}
 use Rattle.text_lines.specs.Line.{fits_word, edit_line, constraint_line}

@@ -4,7 +4,7 @@ use Rattle.lists.specs.Lists.{all}
 use Rattle.record.specs.Record.{Record}
 use Rattle.record.specs.Judgement.{sound}
 use Rattle.record_rows.specs.row.Row.{Row, cell, edit_row}
-use Rattle.record_rows.specs.ground.Ground.{Rows, row_fault, ◌given◌, ◌orelse◌}
+use Rattle.record_rows.specs.grounds.Ground.{Rows, row_fault, ◌given◌, ◌orelse◌}
 use Rattle.record_tables.specs.Table.{edit_rows, constraint_rows, decoded, names_of, edit_kind, constraint_kind}
 use Rattle.text_lines.specs.declared.Line.{Line}
 use Rattle.text_lines.specs.Line.{edit_line, constraint_line, line_read, fits_word}

@@ -4,7 +4,7 @@ ghost use Rattle.text_forms.specs.decimal.Decimal.{decimal, digit_run, value_fro
 ghost use Rattle.text_forms.specs.decimal.Written.{Written};
 
 // The numeral that a text starts with: how many bytes it takes (0 where there is none), and its value, cut off at 2^32.
-#[derive(Drop)]
+#[derive(Clone, Copy)]
 pub struct Numeral {
     pub size: usize,
     pub value: u64,

@@ -15,7 +15,7 @@ ghost use Rattle.text_forms.specs.Fit.{fit_after};
 use crate::decimal::Numeral;
 
 // The numbers with which a form gives a text, cut off at 2^32, or that it does not. Places past the form's own numbers hold 0.
-#[derive(Drop)]
+#[derive(Clone, Copy)]
 pub struct Filled {
     pub numbers: [u64; 8],
     pub fits: bool,
@@ -152,7 +152,7 @@ fn number_at(numbers: &[u64], k: usize) -> u64
 }
 
 // Whether all that was counted fits a room, and how much of the room is then left.
-#[derive(Drop)]
+#[derive(Clone, Copy)]
 pub struct Fit {
     pub fits: bool,
     pub left: usize,

@@ -16,7 +16,7 @@ pub const LINE_LIMIT: usize = 101;
 
 // What a line says. Number 0: a row, an edit's or a constraint's; 1: it is not in form; 2: a number in it does not fit 32 bits.
 // Cells that say nothing hold 0.
-#[derive(Drop)]
+#[derive(Clone, Copy)]
 pub struct Line {
     pub number: u32,
     pub edit: [u32; 5],

@@ -12,9 +12,9 @@ use Rattle.lists.specs.Lists.{any}
 use Rattle.lists.specs.Keyed.{Ascending}
 use Rattle.lists.proofs.Union.{united-alone}
 use Rattle.record_rows.specs.row.Row.{Row}
-use Rattle.record_rows.specs.ground.Ground.{Rows, TableKind, known, no_place, other_body, misplaced, row_fault, ◌given◌, ◌orelse◌}
-use Rattle.record_rows.proofs.ground.Grounds.{orelse-first, orelse-second, before-none}
-use Rattle.record_rows.proofs.ground.Accepted.{row-clean}
+use Rattle.record_rows.specs.grounds.Ground.{Rows, TableKind, known, no_place, other_body, misplaced, row_fault, ◌given◌, ◌orelse◌}
+use Rattle.record_rows.proofs.grounds.Grounds.{orelse-first, orelse-second, before-none}
+use Rattle.record_rows.proofs.grounds.Accepted.{row-clean}
 
 -- 3 only where the rows above take every place
 pub reader-place-left : (limit n : ℕ) (known : Bool) → n < limit → false ≡ (not known && leb limit n)

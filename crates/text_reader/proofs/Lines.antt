@@ -12,7 +12,7 @@ use Rattle.record.specs.declared.Record as declared
 use Rattle.record.specs.Record.{Record}
 use Rattle.record.specs.Judgement.{sound}
 use Rattle.record.specs.Stored.{edit_limit, constraint_limit, empty_record, stored}
-use Rattle.record_rows.specs.ground.Ground.{Rows}
+use Rattle.record_rows.specs.grounds.Ground.{Rows}
 use Rattle.record_tables.specs.Table.{decoded}
 use Rattle.record_tables.proofs.Marks.{marks-start}
 use Rattle.text_lines.specs.declared.Line.{Line}

@@ -12,9 +12,9 @@ use lib.Seq.{length-take-le, take-set-le, take-suc-set, get_or-set_same}
 use Rattle.lists.specs.Keyed.{Ascending}
 use Rattle.lists.proofs.Union.{ascending-snoc}
 use Rattle.record_rows.specs.row.Row.{Row, cell}
-use Rattle.record_rows.specs.ground.Ground.{Rows, TableKind, misplaced, row_fault, ◌given◌, ◌orelse◌}
-use Rattle.record_rows.proofs.ground.Grounds.{orelse-first, orelse-second}
-use Rattle.record_rows.proofs.ground.Accepted.{row-clean}
+use Rattle.record_rows.specs.grounds.Ground.{Rows, TableKind, misplaced, row_fault, ◌given◌, ◌orelse◌}
+use Rattle.record_rows.proofs.grounds.Grounds.{orelse-first, orelse-second}
+use Rattle.record_rows.proofs.grounds.Accepted.{row-clean}
 use Rattle.record_tables.specs.Table.{names_of, edit_kind, constraint_kind}
 use Rattle.record_tables.proofs.Marks.{marks-more, row_small}
 use Rattle.text_lines.specs.declared.Line.{Line}

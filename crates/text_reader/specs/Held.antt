@@ -3,7 +3,7 @@ use Rattle.std.specs.Prelude.{◌≡◌, Bool, false, cond, not, List, [], ℕ, 
 use Rattle.lists.specs.Keyed.{Ascending}
 use Rattle.record.specs.Stored.{edit_limit, constraint_limit}
 use Rattle.record_rows.specs.row.Row.{Row}
-use Rattle.record_rows.specs.ground.Ground.{Rows, row_fault, ◌given◌, ◌orelse◌}
+use Rattle.record_rows.specs.grounds.Ground.{Rows, row_fault, ◌given◌, ◌orelse◌}
 use Rattle.record_tables.specs.Table.{names_of, edit_kind, constraint_kind}
 use Rattle.record_tables.specs.Checked.{MarksNames}
 use Rattle.text_lines.specs.declared.Line.{Line}

@@ -4,7 +4,7 @@
 ghost use Rattle.std.specs.Prelude.{◌≡◌, not, ◌&&◌, false, List, [], ℕ, ◌<◌, leb, length, get_or, take};
 ghost use Rattle.record.specs.Stored.{edit_limit, constraint_limit, empty_record};
 ghost use Rattle.lists.specs.Keyed.{Ascending};
-ghost use Rattle.record_rows.specs.ground.Ground.{known, row_fault};
+ghost use Rattle.record_rows.specs.grounds.Ground.{known, row_fault};
 ghost use Rattle.record_tables.specs.Table.{edit_kind, constraint_kind};
 ghost use Rattle.record_tables.specs.Checked.{MarksNames};
 ghost use Rattle.text_lines.specs.Lines.{lines};
@@ -23,7 +23,7 @@ const EDIT_ROWS: usize = EDITS + 1;
 const CONSTRAINT_ROWS: usize = CONSTRAINTS + 1;
 
 // A record that was read, or the number and the line of the first fault. Number 0 is no fault; the line is then the count of lines.
-#[derive(Drop)]
+#[derive(Clone, Copy)]
 pub struct Reading {
     pub number: u32,
     pub line: usize,

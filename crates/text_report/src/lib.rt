@@ -19,7 +19,7 @@ use text_forms::Fit;
 use text_writer::Written;
 
 // Number 0: the report's size. 12: it does not fit. Any other: the text is refused, at this line.
-#[derive(Drop)]
+#[derive(Clone, Copy)]
 pub struct Reported {
     pub number: u32,
     pub line: usize,

@@ -14,7 +14,7 @@ use record_rows::row;
 use text_forms::Fit;
 
 // Number 0: the place after the text. 12: it does not fit.
-#[derive(Drop)]
+#[derive(Clone, Copy)]
 pub struct Written {
     pub number: u32,
     pub end: usize,

@@ -11,7 +11,7 @@ use lib.Dec.{leb}
 use lib.ListN.{length}
 use Rattle.lists.specs.Lists.{filter}
 use Rattle.lists.proofs.Lists.{by}
-use Rattle.record_rows.specs.ground.Ground.{◌given◌}
+use Rattle.record_rows.specs.grounds.Ground.{◌given◌}
 use Rattle.fraction.specs.declared.Fraction.{Fraction}
 use Rattle.fraction.specs.declared.BoundedFraction.{BoundedFraction}
 use Rattle.fraction.specs.Divisor.{gcd}

@@ -9,7 +9,7 @@ use borrow.Author.Tests.{eqb-true, eqb-false, eq-eqb, ne_eqb, leb-false, lt-leb}
 use lib.Dec.{eqb, leb}
 use lib.ListN.{length, length-append}
 use Rattle.lists.proofs.Lists.{by}
-use Rattle.record_rows.specs.ground.Ground.{◌given◌, ◌orelse◌}
+use Rattle.record_rows.specs.grounds.Ground.{◌given◌, ◌orelse◌}
 use Rattle.unity_table.specs.declared.Weights.{Weights}
 use Rattle.unity_table.specs.Unity.{election_limit, out_of_range, too_wide, weights_fault, Fault, is_last, deciding_fault, NoneFaulty, FirstFaulty, summary, refused_unity, unity_by, unity_of}
 use Rattle.unity_table.proofs.Faults.{no_fault}

@@ -9,7 +9,7 @@ use borrow.Author.Tests.{eqb-true, eqb-false}
 use lib.Dec.{eqb}
 use lib.ListN.{length, length-append}
 use Rattle.lists.proofs.Lists.{by}
-use Rattle.record_rows.specs.ground.Ground.{◌given◌}
+use Rattle.record_rows.specs.grounds.Ground.{◌given◌}
 use Rattle.unity_table.specs.Unity.{Fault, deciding_fault}
 
 abbrev pub no_fault : Fault

@@ -2,7 +2,7 @@
 -- Whole numbers of any size. Assumes nothing.
 use Rattle.std.specs.Prelude.{◌≡◌, Bool, true, false, not, ◌&&◌, ◌||◌, cond, ◌≢◌, List, [], ◌∷◌, ◌++◌, map, ℕ, suc, ◌+◌, ◌*◌, leb, ltb, eqb, length, get_or}
 use Rattle.lists.specs.Lists.{filter}
-use Rattle.record_rows.specs.ground.Ground.{◌given◌, ◌orelse◌}
+use Rattle.record_rows.specs.grounds.Ground.{◌given◌, ◌orelse◌}
 use Rattle.fraction.specs.declared.Fraction.{Fraction}
 use Rattle.fraction.specs.Fraction.{lowest_terms, sum_of, no_fraction, mean, least_fraction, greatest_fraction}
 use Rattle.fraction.specs.Bounded.{fits64}

@@ -12,7 +12,7 @@ const ELECTION_LIMIT: usize = 200;
 const TOTAL_LIMIT: u64 = 524280;
 
 // What an election answers: the weight of the greatest group, the silent weight and the whole roll's total.
-#[derive(Drop)]
+#[derive(Clone, Copy)]
 pub struct Weights {
     pub greatest: u64,
     pub silent: u64,
@@ -22,7 +22,7 @@ pub struct Weights {
 // Number 0: mean, least and greatest share, how many elections are won, and how many have total 0. Any other: that of the refusal and the
 // faulty row, from 1; every other part is 0.
 #[repr(C)]
-#[derive(Drop)]
+#[derive(Clone, Copy)]
 pub struct Unity {
     pub number: u32,
     pub row: usize,
@@ -35,7 +35,7 @@ pub struct Unity {
 
 // The answers so far: how many, the sum of their shares over the least common denominator, and how many shares that are. After a faulty
 // row its number and the row are kept.
-#[derive(Drop)]
+#[derive(Clone, Copy)]
 pub struct Summed {
     pub number: u32,
     pub row: usize,

@@ -11,7 +11,7 @@ use lib.ListN.{length, get_or, length-append}
 use Rattle.lists.specs.Lists.{all}
 use Rattle.lists.proofs.Lists.{by}
 use Rattle.lists.proofs.Front.{filter-length}
-use Rattle.record_rows.proofs.ground.Small.{given-small, first_small}
+use Rattle.record_rows.proofs.grounds.Small.{given-small, first_small}
 use Rattle.fraction.specs.declared.Fraction.{Fraction}
 use Rattle.fraction.specs.Divisor.{gcd}
 use Rattle.fraction.specs.Fraction.{lowest_terms, sum_of, mean}

@@ -1,7 +1,7 @@
 -- Document 02, A9: the answers of elections as lines, one to an answer, and what is printed of them. Assumes nothing.
 use Rattle.std.specs.Prelude.{Bool, true, false, not, cond, List, [], ◌∷◌, map, ℕ, leb, ltb, eqb, length}
 use Rattle.std.proofs.Math.Option.{Option, none, some}
-use Rattle.record_rows.specs.ground.Ground.{◌given◌, ◌orelse◌}
+use Rattle.record_rows.specs.grounds.Ground.{◌given◌, ◌orelse◌}
 use Rattle.text_forms.specs.Spelling.{bytes}
 use Rattle.text_forms.specs.Form.{fill, taken}
 use Rattle.text_lines.specs.Lines.{lines}

@@ -11,7 +11,7 @@ use text_writer::Written;
 use unity_table::{Unity, Weights};
 
 // What a line says, or that it is not in form.
-#[derive(Drop)]
+#[derive(Clone, Copy)]
 struct Said {
     fits: bool,
     answer: Weights,

@@ -2,14 +2,14 @@
 #![tactic(auto)]
 
 // One row of the roll.
-#[derive(Drop)]
+#[derive(Clone, Copy)]
 pub struct RollRow {
     pub bench: u8,
     pub weight: u16,
 }
 
 // The answer of an election. On refusal every part but the number is 0.
-#[derive(Drop)]
+#[derive(Clone, Copy)]
 pub struct Election {
     pub number: u32,
     pub won: bool,

@@ -7,7 +7,7 @@ use Rattle.record.specs.Record.{written}
 use Rattle.record.specs.Stored.{padded, stored, empty_record, filler_edit, filler_constraint}
 use Rattle.record.specs.Judgement.{sound}
 use Rattle.record_rows.specs.row.Row.{is_name}
-use Rattle.record_rows.specs.ground.Ground.{Rows, ◌given◌, ◌orelse◌}
+use Rattle.record_rows.specs.grounds.Ground.{Rows, ◌given◌, ◌orelse◌}
 use Rattle.record_tables.specs.Table.{empty_tables, decoded, lent_fault}
 use Rattle.voting.specs.Bundle.{bundle, eligible}
 use Rattle.voting_bundles.specs.declared.Edits.{Edits}

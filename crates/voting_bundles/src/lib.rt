@@ -26,13 +26,13 @@ use record_rows::row::{ConstraintRow, EditRow, NAMES};
 use record_tables::lookup;
 
 // Rows past the count hold the filler.
-#[derive(Drop)]
+#[derive(Clone, Copy)]
 pub struct Edits {
     pub rows: [Edit; EDITS],
     pub count: usize,
 }
 
-#[derive(Drop)]
+#[derive(Clone, Copy)]
 pub struct Constraints {
     pub rows: [Constraint; CONSTRAINTS],
     pub count: usize,
@@ -172,7 +172,7 @@ pub fn all_settled(multilog: Record) -> bool
 }
 
 // On refusal every part but the number is 0, and the bundle the empty record.
-#[derive(Drop)]
+#[derive(Clone, Copy)]
 pub struct BundleAnswer {
     pub number: u32,
     pub eligible: bool,

@@ -12,7 +12,7 @@ use Rattle.lists.specs.Lists.{mem}
 use Rattle.record.specs.Record.{Record, written}
 use Rattle.record.specs.Stored.{stored}
 use Rattle.lists.proofs.Lists.{is-by}
-use Rattle.record_rows.specs.ground.Ground.{Rows}
+use Rattle.record_rows.specs.grounds.Ground.{Rows}
 use Rattle.record_tables.specs.Table.{empty_tables, decoded, lent_fault}
 use Rattle.voting.specs.Bundle.{bundle, eligible, vote}
 use Rattle.voting_tally.specs.declared.Vote.TheVariants.{Bundle}

@@ -13,7 +13,7 @@ use Rattle.record.specs.Record.{written, name_of}
 use Rattle.record.specs.Stored.{filler_edit}
 use Rattle.lists.proofs.Lists.{by, clash, and_l, and_r}
 use Rattle.record_rows.specs.row.Row.{Row, cell, is_name, edit_in_range, edit_of, edit_row}
-use Rattle.record_rows.specs.ground.Ground.{Rows}
+use Rattle.record_rows.specs.grounds.Ground.{Rows}
 use Rattle.record_tables.specs.Table.{names_of}
 use Rattle.lists.proofs.Front.{some_more, some-found}
 use Rattle.voting_count.specs.Count.{lent_proposals}

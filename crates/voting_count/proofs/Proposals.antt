@@ -12,8 +12,8 @@ use Rattle.lists.specs.Lists.{any, all}
 use Rattle.record.specs.Stored.{stored}
 use Rattle.lists.proofs.Lists.{and_l, and_r}
 use Rattle.record_rows.specs.row.Row.{edit_of, constraint_of}
-use Rattle.record_rows.specs.ground.Ground.{Rows}
-use Rattle.record_rows.proofs.ground.Grounds.{orelse-none}
+use Rattle.record_rows.specs.grounds.Ground.{Rows}
+use Rattle.record_rows.proofs.grounds.Grounds.{orelse-none}
 use Rattle.record_tables.specs.Table.{decoded}
 use Rattle.record_tables.specs.Checked.{Checked}
 use Rattle.record_tables.proofs.Records.{lent-checked}

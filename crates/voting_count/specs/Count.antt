@@ -1,7 +1,7 @@
 -- Document 01, "Proposals and votes": the count of an election, with the won bundle as it is stored. Assumes nothing.
 use Rattle.std.specs.Prelude.{◌≡◌, cond, List, ℕ, eqb}
 use Rattle.record.specs.Stored.{empty_record}
-use Rattle.record_rows.specs.ground.Ground.{Rows}
+use Rattle.record_rows.specs.grounds.Ground.{Rows}
 use Rattle.voting.specs.declared.RollRow.{RollRow}
 use Rattle.voting.specs.Bundle.{vote}
 use Rattle.voting.specs.Tally.{Ballot, winner}

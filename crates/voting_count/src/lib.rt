@@ -7,7 +7,7 @@ ghost use Rattle.record.specs.Record as theory;
 ghost use Rattle.lists.specs.Lists.{any, all, mem};
 ghost use Rattle.record.specs.Stored.{stored};
 ghost use Rattle.record.specs.Judgement.{sound};
-ghost use Rattle.record_rows.specs.ground.Ground.{Rows};
+ghost use Rattle.record_rows.specs.grounds.Ground.{Rows};
 ghost use Rattle.record_tables.specs.Table.{names_of};
 ghost use Rattle.record_tables.specs.Checked.{Checked};
 ghost use Rattle.voting.specs.declared.RollRow.{RollRow};
@@ -31,7 +31,7 @@ pub type LentEdits<'a> = [&'a [EditRow]; 8];
 pub type LentConstraints<'a> = [&'a [ConstraintRow]; 8];
 
 // The answer of an election and the won bundle, the empty record where there is none.
-#[derive(Drop)]
+#[derive(Clone, Copy)]
 pub struct Counted {
     pub election: Election,
     pub bundle: Record,

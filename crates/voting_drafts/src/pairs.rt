@@ -18,7 +18,7 @@ use record::{CONSTRAINTS, Constraint, Record};
 use record_rows::row::NAMES;
 
 // Nothing is said of the rows past the count.
-#[derive(Drop)]
+#[derive(Clone, Copy)]
 pub struct Pairs {
     pub rows: [Constraint; CONSTRAINTS],
     pub count: usize,

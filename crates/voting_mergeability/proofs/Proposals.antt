@@ -4,8 +4,8 @@ use mathlib.Core.Bool.{not}
 use borrow.Author.Tests.{eq-eqb, not-false}
 use Rattle.record.specs.Record.{Record}
 use Rattle.record.proofs.Judged.{sound-is}
-use Rattle.record_rows.specs.ground.Ground.{◌given◌}
-use Rattle.record_rows.proofs.ground.Grounds.{orelse-none, given-none}
+use Rattle.record_rows.specs.grounds.Ground.{◌given◌}
+use Rattle.record_rows.proofs.grounds.Grounds.{orelse-none, given-none}
 use Rattle.record_tables.specs.Table.{empty_tables, lent_fault, unite}
 use Rattle.record_tables.specs.Checked.{Checked}
 use Rattle.record_tables.proofs.Records.{checked-wellformed, lent-checked, joined-checked}

@@ -13,8 +13,8 @@ use Rattle.lists.specs.Lists.{◌within◌}
 use Rattle.record.specs.Stored.{stored, record_of}
 use Rattle.lists.proofs.Lists.{by}
 use Rattle.record_rows.specs.row.Row.{edit_row, constraint_row}
-use Rattle.record_rows.specs.ground.Ground.{Rows, ◌given◌, ◌orelse◌}
-use Rattle.record_rows.proofs.ground.Grounds.{orelse-none, orelse-first, orelse-second}
+use Rattle.record_rows.specs.grounds.Ground.{Rows, ◌given◌, ◌orelse◌}
+use Rattle.record_rows.proofs.grounds.Grounds.{orelse-none, orelse-first, orelse-second}
 use Rattle.record_tables.specs.Table.{edit_rows, constraint_rows, empty_tables, decoded, lent_fault, unite}
 use Rattle.record_tables.specs.Checked.{Checked}
 use Rattle.record_tables.proofs.Tables.{stored_back}

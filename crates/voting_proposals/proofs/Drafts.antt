@@ -12,8 +12,8 @@ use Rattle.record.specs.Record.{Record}
 use Rattle.record.specs.Stored.{stored}
 use Rattle.record.specs.Judgement.{sound}
 use Rattle.lists.specs.Keyed.{united}
-use Rattle.record_rows.specs.ground.Ground.{◌given◌, ◌orelse◌}
-use Rattle.record_rows.proofs.ground.Grounds.{orelse-none, given-none}
+use Rattle.record_rows.specs.grounds.Ground.{◌given◌, ◌orelse◌}
+use Rattle.record_rows.proofs.grounds.Grounds.{orelse-none, given-none}
 use Rattle.record_tables.specs.Table.{empty_tables, constraint_key, unite}
 use Rattle.record_tables.specs.Checked.{Checked}
 use Rattle.record_joining.specs.declared.Joined.{Joined}

@@ -6,7 +6,7 @@ use native.Mathlib.Numerals.{add-one}
 use native.Mathlib.Omega.{arith}
 use lib.ListN.{length, take, drop, get_or, set, length-map}
 use lib.Seq.{take-suc, drop-cons, set_at, length-take-le}
-use Rattle.record_rows.specs.ground.Ground.{Rows}
+use Rattle.record_rows.specs.grounds.Ground.{Rows}
 use Rattle.voting_proposals.specs.Propose.{over}
 
 module _ {A : Type 0} (f : A → List ℕ) (a : List A) (table : Rows) where

@@ -3,7 +3,7 @@
 use Rattle.std.specs.Prelude.{◌≡◌, Bool, not, ◌||◌, cond, ◌++◌, ℕ, eqb, ltb, length, drop}
 use Rattle.record.specs.Record.{Record}
 use Rattle.record.specs.Judgement.{sound}
-use Rattle.record_rows.specs.ground.Ground.{Rows, ◌given◌, ◌orelse◌}
+use Rattle.record_rows.specs.grounds.Ground.{Rows, ◌given◌, ◌orelse◌}
 use Rattle.record_tables.specs.Table.{edit_rows, constraint_rows, decoded, empty_tables, lent_fault}
 use Rattle.record_joining.specs.declared.Joined.{Joined}
 use Rattle.record_joining.specs.Join.{joined_of}

@@ -9,7 +9,7 @@ ghost use Rattle.record.specs.Stored.{stored, edit_limit, constraint_limit};
 ghost use Rattle.record_rows.specs.row.Row.{edit_row, constraint_row};
 ghost use Rattle.record_tables.specs.Table.{empty_tables, unite};
 ghost use Rattle.record_tables.specs.Checked.{Checked};
-ghost use Rattle.record_rows.specs.ground.Ground.{◌given◌, ◌orelse◌};
+ghost use Rattle.record_rows.specs.grounds.Ground.{◌given◌, ◌orelse◌};
 ghost use Rattle.record_joining.specs.Join.{joined_of};
 ghost use Rattle.voting.specs.Proposal.{proposed};
 ghost use Rattle.voting_proposals.specs.Propose.{draft_fault, unkept, new_outcome, over, Makes};
@@ -21,7 +21,7 @@ use record_rows::row::{ConstraintRow, EditRow};
 use voting_drafts::draft;
 
 // number: 0, or that of the refusal; how many rows of each table are written.
-#[derive(Drop)]
+#[derive(Clone, Copy)]
 pub struct Proposed {
     pub number: u32,
     pub editcount: usize,

@@ -9,7 +9,7 @@ ghost use Rattle.voting_roll.specs.Roll.{roll_bench, faulty_roll, roll_of, row_f
 use voting::RollRow;
 
 // At most 8 rows; rows past the count hold a filler, so that equal rolls are equal values. Every fault of a roll is 14.
-#[derive(Drop)]
+#[derive(Clone, Copy)]
 pub struct Roll {
     pub rows: [RollRow; 8],
     pub count: usize,

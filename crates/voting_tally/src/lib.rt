@@ -14,27 +14,27 @@ use voting::Election;
 use voting_bundles::equality;
 
 // A vote is silent or a bundle. A bundle's record stands beside it, in Cast.
-#[derive(Drop)]
+#[derive(Clone, Copy)]
 pub enum Vote {
     Silent,
     Bundle,
 }
 
-#[derive(Drop)]
+#[derive(Clone, Copy)]
 pub struct Cast {
     pub vote: Vote,
     pub bundle: Record,
 }
 
 // Equal bundles and the weight of their votes.
-#[derive(Drop)]
+#[derive(Clone, Copy)]
 pub struct Group {
     pub bundle: Record,
     pub weight: u32,
 }
 
 // The groups in the order of their first votes, and the answer so far. Groups past the count hold a filler.
-#[derive(Drop)]
+#[derive(Clone, Copy)]
 pub struct Tally {
     pub groups: [Group; 8],
     pub count: usize,

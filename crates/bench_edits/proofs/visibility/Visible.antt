@@ -12,8 +12,8 @@ use Rattle.record.specs.Record.{names, written}
 use Rattle.record.specs.Judgement.{must}
 use Rattle.lists.proofs.Lists.{by, is-by, clash, or_l, or_r, same_by, mem_index, mem-head, cons-within, filter-mem, mem-filter, position-none, position_some}
 use Rattle.record_rows.specs.row.Row.{is_name}
-use Rattle.record_rows.specs.ground.Ground.{◌given◌, ◌orelse◌}
-use Rattle.record_rows.proofs.ground.Grounds.{orelse-none, orelse-first, orelse-second, orelse-assoc, given-none}
+use Rattle.record_rows.specs.grounds.Ground.{◌given◌, ◌orelse◌}
+use Rattle.record_rows.proofs.grounds.Grounds.{orelse-none, orelse-first, orelse-second, orelse-assoc, given-none}
 use Rattle.graph.specs.links.Marks.{marks_of}
 use Rattle.graph.proofs.links.Names.{get_or-place}
 use Rattle.graph.proofs.links.Marks.{marks-at}

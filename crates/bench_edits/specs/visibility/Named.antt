@@ -3,7 +3,7 @@ use Rattle.std.specs.Prelude.{Bool, true, false, not, List, ℕ, eqb, get_or}
 use Rattle.lists.specs.Lists.{mem}
 use Rattle.record.specs.Record.{Record, written}
 use Rattle.record_rows.specs.row.Row.{is_name}
-use Rattle.record_rows.specs.ground.Ground.{◌given◌, ◌orelse◌}
+use Rattle.record_rows.specs.grounds.Ground.{◌given◌, ◌orelse◌}
 use Rattle.ledger.specs.Ledger.{Call, hide, show}
 
 -- the number of the ground on which an edit of this name is turned away, 0 for none

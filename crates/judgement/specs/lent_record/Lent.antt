@@ -6,7 +6,7 @@ use Rattle.record.specs.declared.Record as declared
 use Rattle.record.specs.Stored.{filler_edit, edit_limit, stored}
 use Rattle.graph.specs.links.Marks.{mark_limit}
 use Rattle.record.specs.Judgement.{sound, sound_row}
-use Rattle.record_rows.specs.ground.Ground.{Rows, ◌given◌, ◌orelse◌}
+use Rattle.record_rows.specs.grounds.Ground.{Rows, ◌given◌, ◌orelse◌}
 use Rattle.record_tables.specs.Table.{empty_tables, decoded, lent_fault}
 use Rattle.record_tables.specs.Checked.{Checked}
 use Rattle.judgement.specs.Judged.{judged_of, stored_schedule}

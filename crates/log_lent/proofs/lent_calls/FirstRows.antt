@@ -10,7 +10,7 @@ use lib.Seq.{take_all, length-take-le}
 use borrow.Author.Tests.{lt-ltb, ne_eqb, eq-eqb}
 use Rattle.lists.specs.Lists.{all, distinct}
 use Rattle.lists.proofs.Lists.{by, clash, le-by}
-use Rattle.record_rows.proofs.ground.Grounds.{orelse-first}
+use Rattle.record_rows.proofs.grounds.Grounds.{orelse-first}
 use Rattle.voting.specs.declared.RollRow.{RollRow}
 use Rattle.voting.specs.Tally.{winner}
 use Rattle.voting_roll.specs.Roll.{roll_bench, is_bench, roll_faulty}

@@ -8,7 +8,7 @@ use lib.Dec.{ltb}
 use lib.ListN.{take}
 use borrow.Author.Tests.{lt-ltb, le-ltb}
 use Rattle.record.specs.Stored.{empty_record}
-use Rattle.record_rows.specs.ground.Ground.{Rows}
+use Rattle.record_rows.specs.grounds.Ground.{Rows}
 use Rattle.voting.specs.declared.RollRow.{RollRow}
 use Rattle.voting_roll.specs.Election.{benches}
 use Rattle.voting_count.specs.declared.Counted.{Counted}

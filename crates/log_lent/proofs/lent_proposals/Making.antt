@@ -8,8 +8,8 @@ use lib.Dec.{eqb, ltb}
 use lib.ListN.{length, length-replicate}
 use borrow.Author.Tests.{lt-ltb, le-ltb, ne_eqb}
 use Rattle.record.specs.Stored.{stored}
-use Rattle.record_rows.specs.ground.Ground.{Rows}
-use Rattle.record_rows.proofs.ground.Grounds.{orelse-first, orelse-second}
+use Rattle.record_rows.specs.grounds.Ground.{Rows}
+use Rattle.record_rows.proofs.grounds.Grounds.{orelse-first, orelse-second}
 use Rattle.record_tables.specs.Table.{empty_tables}
 use Rattle.record_joining.specs.declared.Joined.{Joined}
 use Rattle.voting_proposals.specs.Propose as proposal

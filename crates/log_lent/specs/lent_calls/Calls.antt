@@ -4,7 +4,7 @@ use Rattle.lists.specs.Lists.{mem}
 use Rattle.record.specs.Record.{Record, written}
 use Rattle.record.specs.Stored.{edit_named}
 use Rattle.record_rows.specs.row.Row.{is_name, edit_row}
-use Rattle.record_rows.specs.ground.Ground.{◌given◌, ◌orelse◌}
+use Rattle.record_rows.specs.grounds.Ground.{◌given◌, ◌orelse◌}
 use Rattle.voting_roll.specs.Election.{Proposals, benches}
 use Rattle.voting_count.specs.Count.{lent_proposals}
 use Rattle.voting_bundles.specs.declared.BundleAnswer.{BundleAnswer}

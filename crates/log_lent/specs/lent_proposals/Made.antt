@@ -1,7 +1,7 @@
 -- A proposal made from the records that the lines of a call log lend. Assumes nothing.
 use Rattle.std.specs.Prelude.{◌&&◌, cond, [], ℕ, replicate}
 use Rattle.record.specs.Stored.{stored}
-use Rattle.record_rows.specs.ground.Ground.{Rows}
+use Rattle.record_rows.specs.grounds.Ground.{Rows}
 use Rattle.record_tables.specs.Table.{empty_tables}
 use Rattle.record_joining.specs.declared.Joined.{Joined}
 use Rattle.voting_proposals.specs.Propose as proposal

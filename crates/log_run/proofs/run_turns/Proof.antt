@@ -7,7 +7,7 @@ use native.Mathlib.Omega.{arith}
 use borrow.Author.Rules.{rules}
 use borrow.Author.Tests.{leb-true, leb-false}
 use Rattle.lists.proofs.Lists.{is-by}
-use Rattle.record_rows.specs.ground.Ground.{Rows}
+use Rattle.record_rows.specs.grounds.Ground.{Rows}
 use Rattle.pages_turner.specs.declared.Turner.{Turner}
 use Rattle.ledger.specs.declared.Bench.{Bench}
 use Rattle.log_lent.specs.declared.Lending.{Lending}

@@ -11,8 +11,8 @@ use Rattle.record.specs.declared.Record as declared
 use Rattle.record.specs.Record.{Record}
 use Rattle.record.specs.Stored.{stored, record_of}
 use Rattle.lists.proofs.Lists.{by}
-use Rattle.record_rows.specs.ground.Ground.{Rows}
-use Rattle.record_rows.proofs.ground.Grounds.{orelse-none}
+use Rattle.record_rows.specs.grounds.Ground.{Rows}
+use Rattle.record_rows.proofs.grounds.Grounds.{orelse-none}
 use Rattle.record_tables.proofs.Tables.{stored_back}
 use Rattle.record_joining.specs.declared.Joined.{Joined}
 use Rattle.voting_proposals.specs.Propose as proposal

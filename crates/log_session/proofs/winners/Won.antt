@@ -19,8 +19,8 @@ use Rattle.record.specs.Judgement.{sound, must, never, serialised, settled}
 use Rattle.record.proofs.Records.{written-names}
 use Rattle.record.proofs.Judged.{sound-no-both}
 use Rattle.record_rows.specs.row.Row.{is_name}
-use Rattle.record_rows.specs.ground.Ground.{◌given◌, ◌orelse◌}
-use Rattle.record_rows.proofs.ground.Grounds.{orelse-none, given-none}
+use Rattle.record_rows.specs.grounds.Ground.{◌given◌, ◌orelse◌}
+use Rattle.record_rows.proofs.grounds.Grounds.{orelse-none, given-none}
 use Rattle.record_tables.specs.Checked.{Checked}
 use Rattle.record_tables.proofs.Tables.{stored_back}
 use Rattle.graph.specs.links.Marks.{marks_of, place_in}

@@ -6,7 +6,7 @@ use lib.ListN.{length, take}
 use native.Mathlib.Omega.{arith}
 use borrow.Author.Tests.{not-true, not-false}
 use Rattle.lists.proofs.Lists.{length-mapped}
-use Rattle.record_rows.proofs.ground.Loop.{State, state-start, state-end, state-outside, state-late, state-goes, state-stops}
+use Rattle.record_rows.proofs.grounds.Loop.{State, state-start, state-end, state-outside, state-late, state-goes, state-stops}
 use Rattle.record_tables.specs.Checked.{MarksNames}
 use Rattle.record_tables.proofs.Elements.{constraint_elements, constraint-rows-ascend}
 use borrow.Author.Rules.{rules}

@@ -1,7 +1,7 @@
 -- `refusal::constraint_late` meets its contract. Assumes nothing.
 use mathlib.Core.Bool.{false}
 use mathlib.Core.List.{[]}
-use Rattle.record_rows.proofs.ground.Loop.{late-fault-is}
+use Rattle.record_rows.proofs.grounds.Loop.{late-fault-is}
 use Rattle.record_tables.proofs.Elements.{constraint_elements}
 use borrow.Author.Rules.{rules}
 use Rattle.record_refusal.proofs.constraint_late.Statement.{statement}

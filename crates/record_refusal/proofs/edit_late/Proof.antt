@@ -1,5 +1,5 @@
 -- `refusal::edit_late` meets its contract. Assumes nothing.
-use Rattle.record_rows.proofs.ground.Loop.{late-fault-is}
+use Rattle.record_rows.proofs.grounds.Loop.{late-fault-is}
 use Rattle.record_tables.proofs.Elements.{edit_elements}
 use borrow.Author.Rules.{rules}
 use Rattle.record_refusal.proofs.edit_late.Statement.{statement}

@@ -6,9 +6,9 @@ use lib.ListN.{take}
 use mathlib.Core.Bool.{false}
 use borrow.Author.Tests.{not-true, not-false}
 use Rattle.record_rows.specs.row.Row.{edit_row}
-use Rattle.record_rows.specs.ground.Ground.{misplaced}
-use Rattle.record_rows.proofs.ground.Lates.{place-first, place-next, place_here, place-last}
-use Rattle.record_rows.proofs.ground.Loop.{compared}
+use Rattle.record_rows.specs.grounds.Ground.{misplaced}
+use Rattle.record_rows.proofs.grounds.Lates.{place-first, place-next, place_here, place-last}
+use Rattle.record_rows.proofs.grounds.Loop.{compared}
 use borrow.Author.Rules.{rules}
 use Rattle.record_refusal.proofs.edit_place.Statement.{statement}
 use Rattle.record_refusal.proofs.edit_place.Tie as tie

@@ -1,5 +1,5 @@
 -- `refusal::step` meets its contract. Assumes nothing.
-use Rattle.record_rows.proofs.ground.Loop.{step_of}
+use Rattle.record_rows.proofs.grounds.Loop.{step_of}
 use borrow.Author.Rules.{rules}
 use Rattle.record_refusal.proofs.step.Statement.{statement}
 use Rattle.record_refusal.proofs.step.Tie as tie

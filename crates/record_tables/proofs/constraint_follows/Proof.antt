@@ -1,5 +1,5 @@
 -- `constraint_follows` meets its contract. Assumes nothing.
-use Rattle.record_rows.proofs.ground.Lates.{follows-first, follows_is}
+use Rattle.record_rows.proofs.grounds.Lates.{follows-first, follows_is}
 use borrow.Author.Rules.{rules}
 use Rattle.record_tables.proofs.constraint_follows.Statement.{statement}
 use Rattle.record_tables.proofs.constraint_follows.Tie as tie

@@ -4,8 +4,8 @@ use mathlib.Core.Path.{◌≡◌, refl, sym, ◌∙◌}
 use mathlib.Core.List.{[]}
 use lib.ListN.{length, get_or, take, drop}
 use Rattle.lists.specs.Lists.{any}
-use Rattle.record_rows.specs.ground.Ground.{alike, known}
-use Rattle.record_rows.proofs.ground.Lates.{some-hit, some-miss, some_end}
+use Rattle.record_rows.specs.grounds.Ground.{alike, known}
+use Rattle.record_rows.proofs.grounds.Lates.{some-hit, some-miss, some_end}
 use borrow.Author.Rules.{rules}
 use Rattle.record_tables.proofs.constraint_repeated.Statement.{statement}
 use Rattle.record_tables.proofs.constraint_repeated.Tie as tie

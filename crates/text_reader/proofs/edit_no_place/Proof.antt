@@ -1,7 +1,7 @@
 -- `edit_no_place` meets its contract. Assumes nothing.
 use Rattle.text_reader.proofs.Faults.{reader-place-left, reader-place-none}
 use Rattle.record.specs.Stored.{edit_limit}
-use Rattle.record_rows.specs.ground.Ground.{known}
+use Rattle.record_rows.specs.grounds.Ground.{known}
 use mathlib.Core.List.{[]}
 use lib.ListN.{get_or, take}
 use borrow.Author.Rules.{rules}

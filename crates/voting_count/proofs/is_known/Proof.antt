@@ -7,7 +7,7 @@ use lib.ListN.{take}
 use borrow.Author.Rules.{rules}
 use Rattle.record.specs.Record.{written}
 use Rattle.lists.specs.Lists.{any, mem}
-use Rattle.record_rows.specs.ground.Ground.{Rows}
+use Rattle.record_rows.specs.grounds.Ground.{Rows}
 use Rattle.voting_count.specs.Count.{lent_proposals, Faultless}
 use Rattle.voting_count.proofs.Proposals.{bench-faultless, some-bench, no-bench, benches-end}
 use Rattle.voting_count.proofs.Known.{held-named}

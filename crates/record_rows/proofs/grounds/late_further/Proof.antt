@@ -1,7 +1,7 @@
--- `ground::late_further` meets its contract. Assumes nothing.
+-- `grounds::late_further` meets its contract. Assumes nothing.
 use borrow.Author.Tests.{eq-eqb, ne_eqb}
-use Rattle.record_rows.proofs.ground.late_further.Statement.{statement}
-use Rattle.record_rows.proofs.ground.late_further.Tie as tie
+use Rattle.record_rows.proofs.grounds.late_further.Statement.{statement}
+use Rattle.record_rows.proofs.grounds.late_further.Tie as tie
 
 returns : tie.Need-returns
 returns c = rw (ne_eqb _ 13 c.if1.true)

@@ -18,7 +18,7 @@ use Rattle.lists.proofs.Order.{less-trans}
 use Rattle.lists.proofs.Union.{late, late-has, below-has}
 use Rattle.record_rows.specs.row.Row.{Row, same}
 use Rattle.record_rows.proofs.row.Compared.{same-eq, less_other, more-other}
-use Rattle.record_rows.specs.ground.Ground.{Rows, alike, known, first_fault, ◌given◌, ◌orelse◌}
+use Rattle.record_rows.specs.grounds.Ground.{Rows, alike, known, first_fault, ◌given◌, ◌orelse◌}
 
 -- a number other than 0, given or not, ahead of another
 pub given-orelse : (n : ℕ) (b : Bool) (m : ℕ) → suc n given b orelse m ≡ cond b (suc n) m

@@ -1,9 +1,9 @@
--- `ground::as_new` meets its contract. Assumes nothing.
+-- `grounds::as_new` meets its contract. Assumes nothing.
 use mathlib.Core.Path.{◌∙◌}
-use Rattle.record_rows.proofs.ground.Steps.{new-full, new-fits}
+use Rattle.record_rows.proofs.grounds.Steps.{new-full, new-fits}
 use borrow.Author.Rules.{rules}
-use Rattle.record_rows.proofs.ground.as_new.Statement.{statement}
-use Rattle.record_rows.proofs.ground.as_new.Tie as tie
+use Rattle.record_rows.proofs.grounds.as_new.Statement.{statement}
+use Rattle.record_rows.proofs.grounds.as_new.Tie as tie
 
 returns : tie.Need-returns
 returns c = c.refused.ensures ∙ new-full c.before.if1.true

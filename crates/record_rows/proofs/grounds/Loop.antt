@@ -14,11 +14,11 @@ use Rattle.lists.specs.Keyed.{precedes, Ascending, united}
 use Rattle.lists.proofs.Logic.{has-mapped}
 use Rattle.record_rows.specs.row.Row.{Row, same}
 use Rattle.record_rows.specs.declared.ground.Step.{Step}
-use Rattle.record_rows.specs.ground.Ground.{Rows, TableKind, alike, known, no_place, other_body, misplaced, row_fault, first_fault, table_fault, ◌given◌, ◌orelse◌}
-use Rattle.record_rows.specs.ground.Walk.{stepped, step_at, late_number, later_number, PlaceOf, late_fault, late_further}
-use Rattle.record_rows.proofs.ground.Grounds.{given-orelse, scan-here, scan-end, orelse-zero}
-use Rattle.record_rows.proofs.ground.Walks.{Walk, StepTold, told, walk_start, bounds}
-use Rattle.record_rows.proofs.ground.Lates.{table-length, table_at, late-number, walk-goes, walk-stops}
+use Rattle.record_rows.specs.grounds.Ground.{Rows, TableKind, alike, known, no_place, other_body, misplaced, row_fault, first_fault, table_fault, ◌given◌, ◌orelse◌}
+use Rattle.record_rows.specs.grounds.Walk.{stepped, step_at, late_number, later_number, PlaceOf, late_fault, late_further}
+use Rattle.record_rows.proofs.grounds.Grounds.{given-orelse, scan-here, scan-end, orelse-zero}
+use Rattle.record_rows.proofs.grounds.Walks.{Walk, StepTold, told, walk_start, bounds}
+use Rattle.record_rows.proofs.grounds.Lates.{table-length, table_at, late-number, walk-goes, walk-stops}
 
 -- a comparison, of the rows that the compared values are
 pub compared : {x y : List ℕ} {b v : Bool} (k : ℕ) (row : List ℕ) → x ≡ y → b ≡ precedes (take k x) (take k row) → b ≡ v → precedes (take k y) (take k row) ≡ v

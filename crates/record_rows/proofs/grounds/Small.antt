@@ -7,7 +7,7 @@ use native.Mathlib.Omega.{arith}
 use lib.Dec.{eqb}
 use Rattle.lists.proofs.Lists.{by}
 use Rattle.record_rows.specs.row.Row.{Row}
-use Rattle.record_rows.specs.ground.Ground.{Rows, TableKind, no_place, other_body, misplaced, row_fault, first_fault, ◌given◌, ◌orelse◌}
+use Rattle.record_rows.specs.grounds.Ground.{Rows, TableKind, no_place, other_body, misplaced, row_fault, first_fault, ◌given◌, ◌orelse◌}
 
 module _ (m : ℕ) where
   pub orelse-small : (a b : ℕ) → a ≤ m → b ≤ m → (a orelse b) ≤ m

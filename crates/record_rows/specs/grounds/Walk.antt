@@ -4,7 +4,7 @@ use Rattle.lists.specs.Lists.{any}
 use Rattle.lists.specs.Keyed.{precedes}
 use Rattle.record_rows.specs.row.Row.{Row, same}
 use Rattle.record_rows.specs.declared.ground.Step.{Step}
-use Rattle.record_rows.specs.ground.Ground.{Rows, alike, known, misplaced, ◌given◌, ◌orelse◌}
+use Rattle.record_rows.specs.grounds.Ground.{Rows, alike, known, misplaced, ◌given◌, ◌orelse◌}
 
 -- a row of the joined table is passed; a lent row is known there, or new, or refused
 abbrev pub passed_row : Step

@@ -1,8 +1,8 @@
--- `ground::later_number` meets its contract. Assumes nothing.
+-- `grounds::later_number` meets its contract. Assumes nothing.
 use native.Mathlib.Omega.{arith}
 use borrow.Author.Tests.{eq-eqb, ne_eqb}
-use Rattle.record_rows.proofs.ground.later_number.Statement.{statement}
-use Rattle.record_rows.proofs.ground.later_number.Tie as tie
+use Rattle.record_rows.proofs.grounds.later_number.Statement.{statement}
+use Rattle.record_rows.proofs.grounds.later_number.Tie as tie
 
 returns : tie.Need-returns
 returns c = (rw (ne_eqb _ 0 c.if1.true), omega arith)

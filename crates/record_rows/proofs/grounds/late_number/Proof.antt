@@ -1,8 +1,8 @@
--- `ground::late_number` meets its contract. Assumes nothing.
+-- `grounds::late_number` meets its contract. Assumes nothing.
 use borrow.Author.Tests.{eq-eqb, ne_eqb}
 use borrow.Author.Rules.{rules}
-use Rattle.record_rows.proofs.ground.late_number.Statement.{statement}
-use Rattle.record_rows.proofs.ground.late_number.Tie as tie
+use Rattle.record_rows.proofs.grounds.late_number.Statement.{statement}
+use Rattle.record_rows.proofs.grounds.late_number.Tie as tie
 
 returns-2 : tie.Need-returns-2
 returns-2 c = rw (c.before.if1.false, eq-eqb _ 0 c.if2.true)

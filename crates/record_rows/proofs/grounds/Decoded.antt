@@ -12,9 +12,9 @@ use Rattle.lists.proofs.Logic.{has-map, has-mapped}
 use Rattle.lists.proofs.Union.{ascending-map, map-united, Agree, united-comm, length-grown}
 use Rattle.record_rows.specs.row.Row.{Row, same}
 use Rattle.record_rows.proofs.row.Compared.{neither-same}
-use Rattle.record_rows.specs.ground.Ground.{Rows, table_fault}
-use Rattle.record_rows.proofs.ground.Loop.{Elements, key-wide}
-use Rattle.record_rows.proofs.ground.Accepted.{accepted-range, accepted-further, accepted-ascending, accepted-within, accepted-alike, accepted-alone}
+use Rattle.record_rows.specs.grounds.Ground.{Rows, table_fault}
+use Rattle.record_rows.proofs.grounds.Loop.{Elements, key-wide}
+use Rattle.record_rows.proofs.grounds.Accepted.{accepted-range, accepted-further, accepted-ascending, accepted-within, accepted-alike, accepted-alone}
 
 -- the elements of a kind of table, with their key and the element that a row is
 pub record Coding (K : Elements) : Type 0 where

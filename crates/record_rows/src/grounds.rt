@@ -1,11 +1,11 @@
 // Grounds for refusing a row (document 01, "What is turned away"), for tables of any kind: the definitions and their laws, and the steps of the walk
 // that finds the first faulty row. The functions are pub for the crates of this workspace that walk tables.
 ghost use Rattle.std.specs.Prelude.{◌≡◌, ◌≤◌, ◌<◌};
-ghost use Rattle.record_rows.specs.ground.Walk as walk;
-ghost use Rattle.record_rows.specs.ground.Walk.{as_new, stepped, late_number, later_number, late_further};
+ghost use Rattle.record_rows.specs.grounds.Walk as walk;
+ghost use Rattle.record_rows.specs.grounds.Walk.{as_new, stepped, late_number, later_number, late_further};
 
 // A step of the walk through a table in order and the lent rows that join it: a fault, or how far it goes on in the table, in the places taken and in the rows.
-#[derive(Drop)]
+#[derive(Clone, Copy)]
 pub struct Step {
     pub number: u32,
     pub passed: usize,

@@ -16,8 +16,8 @@ use Rattle.lists.proofs.Logic.{any-no, any-by}
 use Rattle.lists.proofs.Union.{late, ascending-last, ascending-snoc, ascending-united, united-snoc, united-old, united-alone, inserted-known, length_inserted}
 use Rattle.record_rows.specs.row.Row.{Row, same}
 use Rattle.record_rows.proofs.row.Compared.{same-eq}
-use Rattle.record_rows.specs.ground.Ground.{Rows, TableKind, alike, known, no_place, other_body, misplaced, row_fault, table_fault, ◌given◌, ◌orelse◌}
-use Rattle.record_rows.proofs.ground.Grounds.{orelse-none, given-none, Clean, clean, clean_is, before-none, clashes}
+use Rattle.record_rows.specs.grounds.Ground.{Rows, TableKind, alike, known, no_place, other_body, misplaced, row_fault, table_fault, ◌given◌, ◌orelse◌}
+use Rattle.record_rows.proofs.grounds.Grounds.{orelse-none, given-none, Clean, clean, clean_is, before-none, clashes}
 
 -- a row without fault
 pub record RowClean (K : TableKind) (joined above : Rows) (row : Row) : Type 0 where

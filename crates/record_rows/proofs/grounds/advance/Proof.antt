@@ -1,10 +1,10 @@
--- `ground::advance` meets its contract. Assumes nothing.
+-- `grounds::advance` meets its contract. Assumes nothing.
 use mathlib.Core.Path.{◌∙◌}
-use Rattle.record_rows.proofs.ground.Steps.{stepped-none, stepped-passed, stepped-new, stepped-known, stepped-other}
+use Rattle.record_rows.proofs.grounds.Steps.{stepped-none, stepped-passed, stepped-new, stepped-known, stepped-other}
 use borrow.Author.Tests.{not-true, not-false}
 use borrow.Author.Rules.{rules}
-use Rattle.record_rows.proofs.ground.advance.Statement.{statement}
-use Rattle.record_rows.proofs.ground.advance.Tie as tie
+use Rattle.record_rows.proofs.grounds.advance.Statement.{statement}
+use Rattle.record_rows.proofs.grounds.advance.Tie as tie
 
 returns : tie.Need-returns
 returns c = let s = c.before.before in stepped-none s.args.there s.args.lower s.args.upper s.args.equal s.args.full (not-true _ c.before.if1.true) c.as-new.ensures

@@ -18,9 +18,9 @@ use Rattle.lists.proofs.Union.{late, late-snoc, late-last, late-more, late-has, 
 use Rattle.record_rows.specs.row.Row.{same}
 use Rattle.record_rows.proofs.row.Compared.{same-eq, neither-same}
 use Rattle.record_rows.specs.declared.ground.Step.{Step}
-use Rattle.record_rows.specs.ground.Ground.{Rows, alike, known, no_place, other_body}
-use Rattle.record_rows.specs.ground.Walk.{stepped, step_at, passed_row, known_row, new_row, refused_step, as_new}
-use Rattle.record_rows.proofs.ground.Grounds.{clashes, before-none, place_end, place-new, row-place-known}
+use Rattle.record_rows.specs.grounds.Ground.{Rows, alike, known, no_place, other_body}
+use Rattle.record_rows.specs.grounds.Walk.{stepped, step_at, passed_row, known_row, new_row, refused_step, as_new}
+use Rattle.record_rows.proofs.grounds.Grounds.{clashes, before-none, place_end, place-new, row-place-known}
 
 -- i rows are judged, at rows of the joined table are passed, count places are taken
 pub record Walk (k : ℕ) (joined t : Rows) (at count i : ℕ) : Type 0 where
