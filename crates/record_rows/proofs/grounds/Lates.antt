@@ -17,7 +17,7 @@ use Rattle.lists.proofs.Logic.{has_get_d}
 use Rattle.lists.proofs.Union.{late, late-snoc, late_is}
 use Rattle.record_rows.specs.row.Row.{same}
 use Rattle.record_rows.proofs.row.Compared.{neither-same}
-use Rattle.record_rows.specs.declared.ground.Step.{Step}
+use Rattle.record_rows.specs.declared.grounds.Step.{Step}
 use Rattle.record_rows.specs.grounds.Ground.{Rows, known, no_place, other_body, misplaced, first_fault}
 use Rattle.record_rows.specs.grounds.Walk.{stepped, step_at, as_new, late_number, later_number, PlaceOf, late_fault}
 use Rattle.record_rows.proofs.grounds.Grounds.{clashes, place_end, place-new, row-place-known, scan-here, scan-more}

@@ -13,7 +13,7 @@ use Rattle.lists.specs.Lists.{any, Has}
 use Rattle.lists.specs.Keyed.{precedes, Ascending, united}
 use Rattle.lists.proofs.Logic.{has-mapped}
 use Rattle.record_rows.specs.row.Row.{Row, same}
-use Rattle.record_rows.specs.declared.ground.Step.{Step}
+use Rattle.record_rows.specs.declared.grounds.Step.{Step}
 use Rattle.record_rows.specs.grounds.Ground.{Rows, TableKind, alike, known, no_place, other_body, misplaced, row_fault, first_fault, table_fault, ◌given◌, ◌orelse◌}
 use Rattle.record_rows.specs.grounds.Walk.{stepped, step_at, late_number, later_number, PlaceOf, late_fault, late_further}
 use Rattle.record_rows.proofs.grounds.Grounds.{given-orelse, scan-here, scan-end, orelse-zero}

@@ -1,7 +1,7 @@
 -- The step of the walk, by its tests. Assumes nothing.
 use mathlib.Core.Path.{◌≡◌}
 use mathlib.Core.Bool.{Bool, true, false}
-use Rattle.record_rows.specs.declared.ground.Step.{Step}
+use Rattle.record_rows.specs.declared.grounds.Step.{Step}
 use Rattle.record_rows.specs.grounds.Walk.{stepped, passed_row, known_row, new_row, refused_step, as_new}
 
 pub new-full : {f : Bool} → f ≡ true → refused_step 3 ≡ as_new f

@@ -17,7 +17,7 @@ use Rattle.lists.proofs.Logic.{has_get_d, any-no}
 use Rattle.lists.proofs.Union.{late, late-snoc, late-last, late-more, late-has, ascending-snoc, ascending-united, united-snoc, united-has, united-old, inserted-known, length-new}
 use Rattle.record_rows.specs.row.Row.{same}
 use Rattle.record_rows.proofs.row.Compared.{same-eq, neither-same}
-use Rattle.record_rows.specs.declared.ground.Step.{Step}
+use Rattle.record_rows.specs.declared.grounds.Step.{Step}
 use Rattle.record_rows.specs.grounds.Ground.{Rows, alike, known, no_place, other_body}
 use Rattle.record_rows.specs.grounds.Walk.{stepped, step_at, passed_row, known_row, new_row, refused_step, as_new}
 use Rattle.record_rows.proofs.grounds.Grounds.{clashes, before-none, place_end, place-new, row-place-known}

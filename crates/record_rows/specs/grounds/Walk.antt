@@ -3,7 +3,7 @@ use Rattle.std.specs.Prelude.{◌≡◌, Bool, true, false, cond, not, ◌&&◌,
 use Rattle.lists.specs.Lists.{any}
 use Rattle.lists.specs.Keyed.{precedes}
 use Rattle.record_rows.specs.row.Row.{Row, same}
-use Rattle.record_rows.specs.declared.ground.Step.{Step}
+use Rattle.record_rows.specs.declared.grounds.Step.{Step}
 use Rattle.record_rows.specs.grounds.Ground.{Rows, alike, known, misplaced, ◌given◌, ◌orelse◌}
 
 -- a row of the joined table is passed; a lent row is known there, or new, or refused
