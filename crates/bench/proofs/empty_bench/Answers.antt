@@ -1,0 +1,13 @@
+use borrow.Author.Rules.{rules}
+use Rattle.lists.specs.Lists.{mem}
+use Rattle.record.specs.Record.{names, written}
+use Rattle.record.specs.Stored.{padded}
+use Rattle.graph.specs.links.Marks.{values_of, marks_of}
+use Rattle.catalogue.specs.Chips.{schedule_of}
+use Rattle.ledger.specs.Ledger.{start, pages, last}
+use Rattle.ledger.specs.Bench.{bench_of, page_edits, open_edits}
+use Rattle.bench.proofs.empty_bench.Goals as goal
+
+pub returns : goal.returns
+unfolding bench_of start padded marks_of values_of schedule_of last pages page_edits open_edits names written mem
+returns c = rw (c.empty-multilog.ensures, c.empty_view.ensures)

@@ -1,0 +1,6 @@
+use borrow.Author.Rules.{rules}
+use Rattle.bench.proofs.Moves.{opens}
+use Rattle.bench.proofs.open_at.Goals as goal
+
+pub returns : goal.returns
+returns c = opens _ _ _ c.turn_to-moved.ensures.1

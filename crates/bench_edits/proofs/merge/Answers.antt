@@ -1,0 +1,7 @@
+use borrow.Author.Rules.{rules}
+use Rattle.bench_edits.proofs.Rows.{merged}
+use Rattle.bench_edits.proofs.merge.Goals as goal
+
+pub returns : goal.returns
+returns c =
+    merged c.args.bench c.merge-joined.result c.no_election.result c.no_election.ensures _ c.joined_bench.ensures _ _ c.merge-joined.ensures

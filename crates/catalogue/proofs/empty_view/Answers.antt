@@ -1,0 +1,7 @@
+-- `empty_view` meets its contract.
+use borrow.Author.Rules.{rules}
+use Rattle.catalogue.proofs.Entries.{empty-view-stored}
+use Rattle.catalogue.proofs.empty_view.Goals as goal
+
+pub returns : goal.returns
+returns c = empty-view-stored _ c.absent_entry-absent.ensures

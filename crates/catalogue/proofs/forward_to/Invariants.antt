@@ -1,0 +1,16 @@
+use Prim.Native.Nat.{◌-◌, ◌≤◌}
+use mathlib.Core.Path.{◌≡◌, refl, ap}
+use lib.ListN.{length}
+use native.Mathlib.Omega.{arith}
+use Rattle.lists.proofs.Lists.{length-mapped}
+use Rattle.catalogue.specs.Chips.{cells, places, rows, stored_view}
+use Rattle.catalogue.proofs.Loops.{LeftToRun, run-within, run_past, pages-run-end}
+use Rattle.catalogue.proofs.forward_to.Given as goal
+
+abbrev pub invariant-loop-page : goal.invariant-loop-page
+invariant-loop-page l =
+    LeftToRun cells places rows l.schedule.edits l.initial.page l.end (record { l.catalogue = l.initial.catalogue.entries; l.journal = l.initial.journal.rows }) l.page
+    (record { l.catalogue = l.catalogue.entries; l.journal = l.journal.rows })
+
+abbrev pub decreases-loop-page : goal.decreases-loop-page
+decreases-loop-page l = l.end - l.page

@@ -1,0 +1,23 @@
+-- `gcd` meets its contract: Euclid's step leaves the greatest common divisor. Assumes nothing.
+use mathlib.Core.Path.{◌≡◌, refl, ap, sym, ◌∙◌}
+use native.Mathlib.Omega.{arith}
+use native.Mathlib.Nat.{mod-lt}
+use borrow.Author.Rules.{rules}
+use Rattle.fraction.specs.Divisor.{gcd}
+use Rattle.fraction.proofs.Divisors.{gcd-step, gcd-none}
+use Rattle.fraction.proofs.gcd.Goals as goal
+
+pub loop-y-init : goal.loop-y-init
+loop-y-init c = refl
+
+pub loop-y-smaller : goal.loop-y-smaller
+loop-y-smaller c = mod-lt c.loop-y.x (omega arith)
+
+pub loop-y-preserved : goal.loop-y-preserved
+loop-y-preserved c = sym (gcd-step c.loop-y.x c.loop-y.y) ∙ c.loop-y.invariant
+
+pub returns : goal.returns
+returns c =
+    let x = c.loop-y.x in
+    let z : c.loop-y.y ≡ 0 = omega arith in
+    sym (gcd-none x) ∙ ap (gcd x) (sym z) ∙ c.loop-y.invariant

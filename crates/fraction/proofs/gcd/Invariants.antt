@@ -1,0 +1,12 @@
+use mathlib.Core.Path.{◌≡◌, refl, ap, sym, ◌∙◌}
+use native.Mathlib.Omega.{arith}
+use native.Mathlib.Nat.{mod-lt}
+use Rattle.fraction.specs.Divisor.{gcd}
+use Rattle.fraction.proofs.Divisors.{gcd-step, gcd-none}
+use Rattle.fraction.proofs.gcd.Given as goal
+
+abbrev pub invariant-loop-y : goal.invariant-loop-y
+invariant-loop-y l = gcd l.x l.y ≡ gcd l.a l.b
+
+abbrev pub decreases-loop-y : goal.decreases-loop-y
+decreases-loop-y l = l.y

@@ -1,0 +1,7 @@
+-- `least_common_multiple` meets its contract. Assumes nothing.
+use borrow.Author.Rules.{rules}
+use Rattle.fraction.proofs.Bounds.{multiple-is}
+use Rattle.fraction.proofs.least_common_multiple.Goals as goal
+
+pub returns : goal.returns
+returns c = multiple-is c.args.a c.args.b c.lowest_terms-parts.result c.product.result c.lowest_terms-parts.ensures c.product.ensures

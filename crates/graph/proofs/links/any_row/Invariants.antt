@@ -1,0 +1,14 @@
+use Prim.Native.Nat.{◌≤◌}
+use mathlib.Core.Path.{◌≡◌, refl}
+use lib.ListN.{get_or}
+use native.Mathlib.Omega.{arith}
+use Rattle.graph.proofs.links.Links.{Looking, looking-start, looking-step, some-row, no_row}
+use Rattle.lists.proofs.Lists.{clash}
+use Rattle.graph.specs.links.Links.{left_at}
+use Rattle.graph.proofs.links.any_row.Given as goal
+
+abbrev pub invariant-loop-j : goal.invariant-loop-j
+invariant-loop-j l = (l.j ≤ 1024) × Looking l.rows l.key (λ i. get_or l.marks (left_at l.rows i) 0 ≡ l.mark → ⊥) l.j
+
+abbrev pub decreases-loop-j : goal.decreases-loop-j
+decreases-loop-j l = l.j

@@ -1,0 +1,32 @@
+-- `links::has_new_ring` meets its contract. Assumes nothing.
+use Prim.Native.Nat.{◌-◌, ◌≤◌}
+use mathlib.Core.Path.{◌∙◌}
+use native.Mathlib.Omega.{arith}
+use Rattle.graph.proofs.links.Rings.{ring-found, ring-none, ring-low}
+use Rattle.graph.proofs.links.Search.{Searching, search-start, search-step, search-ring}
+use borrow.Author.Rules.{rules}
+use Rattle.graph.proofs.links.has_new_ring.Goals as goal
+
+pub loop-x-init : goal.loop-x-init
+loop-x-init c = (omega arith, search-start c.args.rows.now c.args.old.now _)
+
+pub visit_new-requires : goal.visit_new-requires
+visit_new-requires c =
+    let l = c.loop-x in
+    (c.requires.0, omega arith, l.invariant.1.same.size ∙ c.requires.2)
+
+pub returns-then-visit_new : goal.returns-then-visit_new
+returns-then-visit_new c =
+    let l = c.loop-x in
+    λ R u t g q sub o calm e. ring-found R t _ c.args.rows.now g sub e
+    (search-ring c.args.rows.now c.args.old.now _ l.x l.states _ c.visit_new.result c.if-visit_new.true l.invariant.1 c.visit_new.ensures g.keys g.linked (ring-low R t _ c.args.rows.now g sub e))
+
+pub loop-x-preserved : goal.loop-x-preserved
+loop-x-preserved c =
+    let l = c.loop-x in
+    (omega arith, search-step c.args.rows.now c.args.old.now _ l.x l.states _ c.visit_new.result c.if-visit_new.false l.invariant.1 c.visit_new.ensures)
+
+pub returns : goal.returns
+returns c =
+    let l = c.loop-x in
+    λ R u t g q sub o calm e. ring-none R t _ c.args.rows.now g sub e u c.args.old.now l.x l.states (omega (arith, q)) o calm l.invariant.1

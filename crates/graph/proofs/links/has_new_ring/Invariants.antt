@@ -1,0 +1,12 @@
+use Prim.Native.Nat.{◌-◌, ◌≤◌}
+use mathlib.Core.Path.{◌∙◌}
+use native.Mathlib.Omega.{arith}
+use Rattle.graph.proofs.links.Rings.{ring-found, ring-none, ring-low}
+use Rattle.graph.proofs.links.Search.{Searching, search-start, search-step, search-ring}
+use Rattle.graph.proofs.links.has_new_ring.Given as goal
+
+abbrev pub invariant-loop-x : goal.invariant-loop-x
+invariant-loop-x l = (l.x ≤ l.n) × Searching l.rows l.old l.initial.states l.x l.states
+
+abbrev pub decreases-loop-x : goal.decreases-loop-x
+decreases-loop-x l = l.n - l.x

@@ -1,0 +1,10 @@
+use Prim.Native.Nat.{◌≤◌}
+use native.Mathlib.Omega.{arith}
+use Rattle.graph.proofs.links.Reversing.{Noter, noter-start, noter-step, noter-end}
+use Rattle.graph.proofs.links.reverse_rows.Given as goal
+
+abbrev pub invariant-loop-j : goal.invariant-loop-j
+invariant-loop-j l = (l.j ≤ 1024) × Noter l.rows l.b l.initial.lefts l.initial.rights l.j l.lefts l.rights
+
+abbrev pub decreases-loop-j : goal.decreases-loop-j
+decreases-loop-j l = l.j

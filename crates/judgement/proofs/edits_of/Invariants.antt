@@ -1,0 +1,19 @@
+use Prim.Native.Nat.{ℕ, ◌-◌, ◌≤◌, ◌<◌}
+use mathlib.Core.Path.{◌≡◌, refl, sym, ◌∙◌}
+use mathlib.Core.List.{List}
+use lib.ListN.{length, length-set}
+use native.Mathlib.Omega.{arith}
+use Rattle.judgement.proofs.Listing.{Listing, listing_start, listing-init, listing_step, listing-end}
+use Rattle.graph.specs.indexes.Fit.{Fit}
+use Rattle.judgement_marks.specs.schedules.Rows.{RowIs}
+use Rattle.record.specs.Record.{Record}
+use Rattle.record.specs.Schedule.{schedule}
+use Rattle.record.specs.Stored.{stored}
+use Rattle.judgement.proofs.edits_of.Given as goal
+
+abbrev pub invariant-loop-q : goal.invariant-loop-q
+invariant-loop-q l =
+    (1 ≤ l.q) × (l.q - 1 ≤ l.row.count - 1) × (length l.edits ≡ 127) × ((R : Record) (hidden : List ℕ) → l.multilog ≡ stored R → Fit R → RowIs R l.row (schedule R hidden) → Listing R (schedule R hidden) l.edits l.q)
+
+abbrev pub decreases-loop-q : goal.decreases-loop-q
+decreases-loop-q l = l.row.count - l.q

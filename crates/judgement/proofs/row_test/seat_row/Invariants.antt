@@ -1,0 +1,17 @@
+use Prim.Native.Nat.{◌-◌, ◌≤◌, ◌+◌}
+use mathlib.Core.Path.{◌≡◌, refl, ◌∙◌}
+use lib.ListN.{length, length-set}
+use native.Mathlib.Omega.{arith}
+use Rattle.judgement.specs.row_test.Seats.{Indexed}
+use Rattle.judgement.proofs.row_test.Seating.{Seating, seating-start, unknown-not, repeated-not, seating-step, seating-end, row-index-unknown, row-index-known}
+use Rattle.graph.specs.indexes.Fit.{Fit}
+use Rattle.record.specs.Record.{Record}
+use Rattle.lists.proofs.Lists.{clash}
+use Rattle.judgement.proofs.row_test.seat_row.Given as goal
+
+abbrev pub invariant-loop-q : goal.invariant-loop-q
+invariant-loop-q l =
+    (l.q ≤ length l.row) × (length l.places ≡ 128) × ((R : Record) → Fit R → Indexed R l.table → Seating R l.row l.places l.q)
+
+abbrev pub decreases-loop-q : goal.decreases-loop-q
+decreases-loop-q l = length l.row - l.q

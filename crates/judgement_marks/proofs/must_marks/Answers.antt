@@ -1,0 +1,16 @@
+-- `must_marks` meets its contract. Assumes nothing.
+use mathlib.Core.Path.{◌∙◌}
+use mathlib.Core.List.{[]}
+use borrow.Author.Rules.{rules}
+use Rattle.judgement_marks.proofs.Standing.{none-closed, must-closure, names-some}
+use Rattle.graph.proofs.links.Marks.{none-marked}
+use Rattle.record.specs.Record.{names, enables}
+use Rattle.lists.proofs.Lists.{nil-within}
+use Rattle.record.proofs.Records.{enabler-known}
+use Rattle.judgement_marks.proofs.must_marks.Goals as goal
+
+pub returns : goal.returns
+returns c = (
+  c.closed.ensures.0,
+  λ R g. c.closed.ensures.1 (enables R) R (names R) [] g.enablers (enabler-known g.formed) (none-closed R) (names-some R) (nil-within (names R)) (none-marked R g.enablers.few) ∙ must-closure R,
+)

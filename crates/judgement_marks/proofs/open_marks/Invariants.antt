@@ -1,0 +1,17 @@
+use Prim.Native.Nat.{◌-◌, ◌≤◌, ◌<◌}
+use mathlib.Core.Path.{◌≡◌, refl}
+use lib.ListN.{length}
+use native.Mathlib.Omega.{arith}
+use Rattle.graph.specs.links.Resolved.{Resolved}
+use Rattle.judgement_marks.proofs.Opening.{Openings, openings-start, openings-step, openings-end}
+use Rattle.graph.specs.links.Marks.{marks_of}
+use Rattle.record.specs.Judgement.{never}
+use Rattle.record.specs.Record.{Record, names}
+use Rattle.judgement_marks.proofs.open_marks.Given as goal
+
+abbrev pub invariant-loop-b : goal.invariant-loop-b
+invariant-loop-b l =
+    (l.b ≤ l.n) × (length l.openmarks ≡ 128) × ((R : Record) → Resolved R l.rows → l.n ≡ length (names R) → l.nevermarks ≡ marks_of R (never R) → Openings R l.b l.openmarks)
+
+abbrev pub decreases-loop-b : goal.decreases-loop-b
+decreases-loop-b l = l.n - l.b

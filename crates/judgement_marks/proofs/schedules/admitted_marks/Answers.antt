@@ -1,0 +1,37 @@
+-- `schedules::admitted_marks` meets its contract. Assumes nothing.
+use Prim.Native.Nat.{ℕ, ◌-◌, ◌≤◌}
+use mathlib.Core.Path.{◌≡◌}
+use mathlib.Core.Bool.{false}
+use mathlib.Core.List.{List}
+use lib.ListN.{length}
+use native.Mathlib.Omega.{arith}
+use borrow.Author.Rules.{rules}
+use Rattle.judgement_marks.specs.schedules.Rows.{Hides}
+use Rattle.judgement_marks.proofs.schedules.Admitting.{Admitting, admitting-start, admitting-step, admitting-end}
+use Rattle.graph.specs.links.Resolved.{Resolved}
+use Rattle.graph.specs.links.Marks.{marks_of}
+use Rattle.graph.specs.links.Reversed.{Reversed}
+use Rattle.record.specs.Judgement.{must}
+use Rattle.lists.specs.Lists.{any}
+use Rattle.record.specs.Record.{Record, names}
+use Rattle.record.specs.Schedule.{musts, ring, bars}
+use Rattle.judgement_marks.proofs.schedules.admitted_marks.Goals as goal
+
+pub loop-x-init : goal.loop-x-init
+loop-x-init c =
+    (omega arith, c.requires.3, λ R h g f q m i b r calm. admitting-start R g.formed h _ calm m)
+
+pub admitted-more-requires : goal.admitted-more-requires
+admitted-more-requires c =
+    let l = c.loop-x in
+    (c.requires.0, c.requires.1, c.requires.2, omega arith, c.requires.3, l.invariant.1)
+
+pub loop-x-preserved : goal.loop-x-preserved
+loop-x-preserved c =
+    let l = c.loop-x in
+    (omega arith, c.admitted-more.ensures.0, λ R h g f q m i b r calm. admitting-step R g.formed h l.marks _ l.x (omega arith) (λ t k z o e. c.admitted-more.ensures.1 R h t g f q (omega arith) m i b r k z o e) (l.invariant.2 R h g f q m i b r calm))
+
+pub returns : goal.returns
+returns c =
+    let l = c.loop-x in
+    (l.invariant.1, λ R h g f q m i b r calm. admitting-end R h l.marks l.x (omega arith) (l.invariant.2 R h g f q m i b r calm))

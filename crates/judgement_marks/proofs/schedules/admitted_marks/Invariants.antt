@@ -1,0 +1,23 @@
+use Prim.Native.Nat.{ℕ, ◌-◌, ◌≤◌}
+use mathlib.Core.Path.{◌≡◌}
+use mathlib.Core.Bool.{false}
+use mathlib.Core.List.{List}
+use lib.ListN.{length}
+use native.Mathlib.Omega.{arith}
+use Rattle.judgement_marks.specs.schedules.Rows.{Hides}
+use Rattle.judgement_marks.proofs.schedules.Admitting.{Admitting, admitting-start, admitting-step, admitting-end}
+use Rattle.graph.specs.links.Resolved.{Resolved}
+use Rattle.graph.specs.links.Marks.{marks_of}
+use Rattle.graph.specs.links.Reversed.{Reversed}
+use Rattle.record.specs.Judgement.{must}
+use Rattle.lists.specs.Lists.{any}
+use Rattle.record.specs.Record.{Record, names}
+use Rattle.record.specs.Schedule.{musts, ring, bars}
+use Rattle.judgement_marks.proofs.schedules.admitted_marks.Given as goal
+
+abbrev pub invariant-loop-x : goal.invariant-loop-x
+invariant-loop-x l =
+    (1 ≤ l.x) × (length l.marks ≡ 128) × ((R : Record) (hiddens : List ℕ) → Resolved R l.rows → Reversed R l.reversed → l.whole.n ≡ length (names R) → l.mustmarks ≡ marks_of R (must R) → Hides R l.hidden hiddens → l.whole.barring ≡ any (bars R hiddens) (names R) → l.whole.ringed ≡ ring R (names R) → ring R (musts R) ≡ false → Admitting R hiddens l.marks l.x)
+
+abbrev pub decreases-loop-x : goal.decreases-loop-x
+decreases-loop-x l = l.whole.n - l.x

@@ -1,0 +1,22 @@
+use Prim.Native.Nat.{ℕ, ◌-◌, ◌≤◌, ◌<◌}
+use mathlib.Core.Path.{◌≡◌, sym, ◌∙◌}
+use mathlib.Core.Bool.{false, ◌&&◌}
+use mathlib.Core.List.{List}
+use lib.ListN.{length}
+use native.Mathlib.Omega.{arith}
+use borrow.Author.Count.{below_more}
+use Rattle.record.specs.Schedule.{bars}
+use Rattle.judgement_marks.specs.schedules.Rows.{Hides}
+use Rattle.judgement_marks.proofs.schedules.Admitting.{any-bars, none-bars}
+use Rattle.graph.specs.links.Marks.{name_at, marks_of}
+use Rattle.record.specs.Judgement.{must}
+use Rattle.lists.specs.Lists.{mem}
+use Rattle.record.specs.Record.{Record, names}
+use Rattle.judgement_marks.proofs.schedules.any_barred.Given as goal
+
+abbrev pub invariant-loop-x : goal.invariant-loop-x
+invariant-loop-x l =
+    (l.x ≤ l.n) × ((R : Record) (hiddens t : List ℕ) → l.n ≡ length (names R) → l.marks ≡ marks_of R (λ y. mem y t) → l.mustmarks ≡ marks_of R (must R) → Hides R l.hidden hiddens → (y : ℕ) → y < l.x → (mem (name_at R y) t && bars R hiddens (name_at R y)) ≡ false)
+
+abbrev pub decreases-loop-x : goal.decreases-loop-x
+decreases-loop-x l = l.n - l.x

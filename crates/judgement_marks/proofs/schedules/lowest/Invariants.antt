@@ -1,0 +1,19 @@
+use Prim.Native.Nat.{ℕ, ◌-◌, ◌≤◌, ◌<◌}
+use mathlib.Core.Path.{◌≡◌, sym, ◌∙◌}
+use mathlib.Core.Bool.{Bool, false}
+use lib.ListN.{length}
+use native.Mathlib.Omega.{arith}
+use borrow.Author.Count.{below_more}
+use Rattle.judgement_marks.specs.schedules.Rows.{free}
+use Rattle.judgement_marks.proofs.schedules.Ordering.{lowest-found, lowest-free-none}
+use Rattle.graph.specs.links.Resolved.{Resolved}
+use Rattle.graph.specs.links.Marks.{name_at, marks_of}
+use Rattle.record.specs.Record.{Record, names}
+use Rattle.judgement_marks.proofs.schedules.lowest.Given as goal
+
+abbrev pub invariant-loop-x : goal.invariant-loop-x
+invariant-loop-x l =
+    (l.x ≤ l.n) × ((R : Record) (test : ℕ → Bool) → Resolved R l.rows → l.n ≡ length (names R) → l.waits ≡ marks_of R test → ((y : ℕ) → y < l.from → free R test (name_at R y) ≡ false) → (y : ℕ) → y < l.x → free R test (name_at R y) ≡ false)
+
+abbrev pub decreases-loop-x : goal.decreases-loop-x
+decreases-loop-x l = l.n - l.x

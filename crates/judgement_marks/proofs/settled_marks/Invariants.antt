@@ -1,0 +1,19 @@
+use Prim.Native.Nat.{◌-◌, ◌≤◌}
+use mathlib.Core.Path.{◌≡◌, refl, ap, ◌∙◌}
+use mathlib.Core.Bool.{cond}
+use lib.ListN.{length, length-set}
+use native.Mathlib.Omega.{arith}
+use Rattle.graph.specs.links.Resolved.{Resolved}
+use Rattle.judgement_marks.proofs.Standing.{marks-values, settled-is-by}
+use Rattle.graph.specs.links.Marks.{marks_of}
+use Rattle.graph.proofs.links.Marks.{Filled, filled-start, filled-step, filled-end}
+use Rattle.record.specs.Judgement.{must, never, settled}
+use Rattle.record.specs.Record.{Record, names}
+use Rattle.judgement_marks.proofs.settled_marks.Given as goal
+
+abbrev pub invariant-loop-x : goal.invariant-loop-x
+invariant-loop-x l =
+    (l.x ≤ l.n) × (length l.marks ≡ 128) × ((R : Record) → Resolved R l.rows → l.n ≡ length (names R) → l.mustmarks ≡ marks_of R (must R) → l.nevermarks ≡ marks_of R (never R) → Filled R (λ e. cond (settled R e) 1 0) l.x l.marks)
+
+abbrev pub decreases-loop-x : goal.decreases-loop-x
+decreases-loop-x l = l.n - l.x

@@ -1,0 +1,20 @@
+use Prim.Native.Nat.{◌-◌, ◌≤◌}
+use mathlib.Core.Path.{◌≡◌, refl, ap, ◌∙◌}
+use mathlib.Core.Bool.{false, cond}
+use lib.ListN.{length, length-set}
+use native.Mathlib.Omega.{arith}
+use Rattle.graph.specs.links.Resolved.{Resolved}
+use Rattle.judgement_marks.proofs.Standing.{marks-values}
+use Rattle.graph.specs.links.Marks.{marks_of}
+use Rattle.graph.proofs.links.Marks.{Filled, filled-start, filled-step, filled-end}
+use Rattle.record.specs.Judgement.{must, never}
+use Rattle.record.specs.Record.{Record, names}
+use Rattle.record.specs.Schedule.{musts, ring}
+use Rattle.judgement_marks.proofs.sound_nevers.Given as goal
+
+abbrev pub invariant-loop-x : goal.invariant-loop-x
+invariant-loop-x l =
+    (l.x ≤ l.n) × (length l.marks ≡ 128) × ((R : Record) → Resolved R l.rows → l.n ≡ length (names R) → l.mustmarks ≡ marks_of R (must R) → ring R (musts R) ≡ false → Filled R (λ e. cond (never R e) 1 0) l.x l.marks)
+
+abbrev pub decreases-loop-x : goal.decreases-loop-x
+decreases-loop-x l = l.n - l.x

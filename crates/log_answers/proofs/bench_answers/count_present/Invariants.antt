@@ -1,0 +1,16 @@
+use native.Mathlib.Omega.{arith}
+use Prim.Native.Nat.{◌-◌}
+use mathlib.Core.Path.{◌≡◌, ◌∙◌, ap}
+use lib.ListN.{length}
+use Rattle.lists.proofs.Lists.{length-mapped}
+use Rattle.log_answers.proofs.bench_answers.Counts.{ChipCounting, chip-counting-start, counting-next, chip-counting-end}
+use Rattle.log_answers.specs.bench_answers.Asks.{is_present}
+use Rattle.log_answers.proofs.bench_answers.Questions.{all_of}
+use Rattle.lists.specs.Lists.{filter}
+use Rattle.log_answers.proofs.bench_answers.count_present.Given as goal
+
+abbrev pub invariant-loop-i : goal.invariant-loop-i
+invariant-loop-i l = ChipCounting is_present l.entries 64 l.count l.i
+
+abbrev pub decreases-loop-i : goal.decreases-loop-i
+decreases-loop-i l = 64 - l.i

@@ -1,0 +1,11 @@
+-- `bench_answers::print_catalogue` meets its contract. Assumes nothing.
+use borrow.Author.Rules.{rules}
+use mathlib.Core.Path.{◌∙◌}
+use Rattle.text_forms.specs.Spelling.{bytes}
+use Rattle.log_forms.proofs.Printing.{printed-length}
+use Rattle.log_answers.proofs.bench_answers.Questions.{catalogue-printed}
+use Rattle.log_answers.proofs.bench_answers.print_catalogue.Goals as goal
+
+pub returns : goal.returns
+unfolding bytes
+returns c = let s = c.args in catalogue-printed s.out.now s.at s.bench.view.catalogue.entries c.count_present-count.ensures c.print-place.ensures c.print_entries.ensures

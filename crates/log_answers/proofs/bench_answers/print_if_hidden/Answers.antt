@@ -1,0 +1,15 @@
+-- `bench_answers::print_if_hidden` meets its contract. Assumes nothing.
+use borrow.Author.Rules.{rules}
+use mathlib.Core.List.{[], ◌∷◌}
+use Rattle.text_forms.specs.Spelling.{bytes}
+use Rattle.log_answers.proofs.bench_answers.Questions.{printed-not, printed-so, not_hidden, is_hidden}
+use Rattle.log_answers.specs.Answers.{answer_line}
+use Rattle.log_answers.specs.bench_answers.Asks.{hides}
+use Rattle.log_answers.proofs.bench_answers.print_if_hidden.Goals as goal
+
+pub returns-then-mark-ne1 : goal.returns-then-mark-ne1
+returns-then-mark-ne1 c = let s = c.args in printed-not (hides s.mark) (answer_line "edit=@\n" (s.name ∷ [])) s.out.now s.at (not_hidden s.mark c.if-mark-ne1.true)
+
+pub returns : goal.returns
+unfolding bytes
+returns c = let s = c.args in printed-so (hides s.mark) (answer_line "edit=@\n" (s.name ∷ [])) s.out.now s.at (is_hidden s.mark c.if-mark-ne1.false) c.print.ensures

@@ -1,0 +1,32 @@
+-- `read_rows` meets its contract. Assumes nothing.
+use mathlib.Core.Path.{refl}
+use native.Mathlib.Omega.{arith}
+use borrow.Author.Rules.{rules}
+use Rattle.lists.specs.Lists.{filter, mem}
+use Rattle.text_forms.specs.Spelling.{bytes, starts_with, number_spelling}
+use Rattle.text_forms.specs.Form.{is_mark, spelling}
+use Rattle.text_forms.proofs.Forms.{slots}
+use Rattle.text_lines.specs.Line.{set_form, edit_form, rule_form, set_shapes, rule_shapes, shapes}
+use Rattle.text_lines.proofs.Signs.{line-ends, otherwise, ruled_out, name-near}
+use Rattle.log_forms.specs.productions.Productions.{parse}
+use Rattle.log_forms.specs.productions.Words.{starting}
+use Rattle.log_forms.proofs.productions.Choosing.{letter_other, letter_among}
+use Rattle.log_commands.specs.Grammar.{command_forms, grammar}
+use Rattle.log_commands.specs.Groups.{read_starting}
+use Rattle.log_commands.proofs.Arms.{arm, no-form, rows-letter}
+use Rattle.log_commands.proofs.read_rows.Goals as goal
+
+pub overflow_add-number : goal.overflow_add-number
+overflow_add-number c = omega (arith, name-near c.args.bytes.now c.args.number c.requires.0 c.requires.1)
+
+pub returns-in-110 : goal.returns-in-110
+unfolding command_forms grammar shapes set_shapes rule_shapes set_form edit_form rule_form read_starting starting parse filter mem bytes starts_with is_mark spelling number_spelling slots letter_other letter_among ruled_out otherwise line-ends
+returns-in-110 c = arm "lent=# rows=" c.args.bytes.now (rows-letter c.args.bytes.now c.requires.1 c.byte_at-letter.ensures) 110 c.in-110.is refl c.read_words-w.ensures c.unless_refused.ensures
+
+pub returns-in-98 : goal.returns-in-98
+unfolding command_forms grammar shapes set_shapes rule_shapes set_form edit_form rule_form read_starting starting parse filter mem bytes starts_with is_mark spelling number_spelling slots letter_other letter_among ruled_out otherwise line-ends
+returns-in-98 c = arm "lent=# rows=" c.args.bytes.now (rows-letter c.args.bytes.now c.requires.1 c.byte_at-letter.ensures) 98 c.in-98.is refl c.read_words-w-in-98.ensures c.unless_refused-in-98.ensures
+
+pub returns-in_default : goal.returns-in_default
+unfolding command_forms grammar shapes set_shapes rule_shapes set_form edit_form rule_form read_starting starting parse filter mem bytes starts_with is_mark spelling number_spelling slots letter_other letter_among ruled_out otherwise line-ends
+returns-in_default c = no-form "lent=# rows=" c.args.bytes.now (rows-letter c.args.bytes.now c.requires.1 c.byte_at-letter.ensures) (bytes "bn") c.in_default.rest refl

@@ -1,0 +1,7 @@
+-- `constraints_of` meets its contract. Assumes nothing.
+use mathlib.Core.Path.{refl}
+use borrow.Author.Rules.{rules}
+use Rattle.log_lent.proofs.constraints_of.Goals as goal
+
+pub returns : goal.returns
+returns c = λ tables T h. c.part_of-part.ensures.2 tables _ T refl h

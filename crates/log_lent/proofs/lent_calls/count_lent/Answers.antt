@@ -1,0 +1,7 @@
+-- `lent_calls::count_lent` meets its contract. Assumes nothing.
+use borrow.Author.Rules.{rules}
+use Rattle.log_lent.proofs.lent_calls.Given.{count-given}
+use Rattle.log_lent.proofs.lent_calls.count_lent.Goals as goal
+
+pub returns : goal.returns
+returns c = λ L K. count-given L _ (c.proposed_edits.ensures L.edits K.edits) (c.proposed_constraints.ensures L.constraints K.constraints) K.roll.rows c.count.ensures

@@ -1,0 +1,23 @@
+-- `paging_of` meets its contract. Assumes nothing.
+use mathlib.Core.Path.{ap, sym, ◌∙◌}
+use borrow.Author.Rules.{rules}
+use Rattle.log_run.specs.Branches.{turn_told, paging_of}
+use Rattle.log_run.proofs.paging_of.Goals as goal
+
+pub returns-in-Refused : goal.returns-in-Refused
+returns-in-Refused c = sym (ap paging_of c.enum_told-1.given.1)
+
+pub returns-in-Lend : goal.returns-in-Lend
+returns-in-Lend c = sym (ap paging_of c.enum_told-in-Lend-1.given.1)
+
+pub returns-in-Propose : goal.returns-in-Propose
+returns-in-Propose c = sym (ap paging_of c.enum_told-in-Propose-1.given.1)
+
+pub returns-in-Call : goal.returns-in-Call
+returns-in-Call c = c.turn_of.ensures ∙ (ap turn_told c.kind_of.ensures ∙ sym (ap paging_of c.command-1.given.1))
+
+pub returns-in-Vote : goal.returns-in-Vote
+returns-in-Vote c = sym (ap paging_of c.enum_told-in-Vote-1.given.1)
+
+pub returns-in-Ask : goal.returns-in-Ask
+returns-in-Ask c = c.question_of.ensures ∙ sym (ap paging_of c.command-in-Ask-1.given.1)

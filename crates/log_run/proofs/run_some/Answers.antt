@@ -1,0 +1,172 @@
+-- `run_some` meets its contract. Assumes nothing.
+use Prim.Native.Nat.{◌+◌, ◌-◌, ◌≤◌}
+use mathlib.Core.Path.{◌≡◌, refl}
+use lib.ListN.{length}
+use native.Mathlib.Omega.{arith}
+use borrow.Author.Rules.{rules}
+use borrow.Author.Tests.{leb-true, leb-false}
+use Rattle.text_lines.proofs.Ends.{next-line}
+use Rattle.log_session.specs.Desk.{Desk}
+use Rattle.log_session.specs.calls.Lines.{Holds}
+use Rattle.log_run.specs.Running.{Running}
+use Rattle.log_run.proofs.Performed.{refusal-performed, lend-performed, proposal-performed, call-performed, kind-printed, vote-performed, ask-performed}
+use Rattle.log_run.proofs.Running.{running-start, running-few, running-next, stopped-above, stopped-end}
+use Rattle.log_run.proofs.Paging.{first-turn, opened-there}
+use Rattle.log_run.proofs.run_some.Goals as goal
+
+pub loop-from-init : goal.loop-from-init
+loop-from-init c = (search rules, search rules, search rules, search rules, λ e. refl, λ D H k. running-start _ D _ _ _ H)
+
+pub slice_bounds-read_command-count : goal.slice_bounds-read_command-count
+slice_bounds-read_command-count c = let x = next-line c.args.log.now c.loop-from.from c.loop-from-test.true c.line_end-end.ensures in omega (arith, x.forward)
+
+pub slice_bounds-read_command-start : goal.slice_bounds-read_command-start
+slice_bounds-read_command-start c = let x = next-line c.args.log.now c.loop-from.from c.loop-from-test.true c.line_end-end.ensures in omega (arith, x.forward, x.inside)
+
+pub slice_bounds-read_command-end : goal.slice_bounds-read_command-end
+slice_bounds-read_command-end c = let x = next-line c.args.log.now c.loop-from.from c.loop-from-test.true c.line_end-end.ensures in omega (arith, x.inside)
+
+pub run_turns-turns-requires : goal.run_turns-turns-requires
+run_turns-turns-requires c =
+    (c.loop-from-test.true, search rules, first-turn _ _ c.line_end-end.ensures _ c.read_command-command.ensures c.paging_of.ensures c.is_turn.ensures c.if-is_turn.true)
+
+pub loop-from-smaller-then-is_turn : goal.loop-from-smaller-then-is_turn
+loop-from-smaller-then-is_turn c = let t = c.run_turns-turns.ensures in omega (arith, t.0, t.1)
+
+pub loop-from-preserved-then-is_turn : goal.loop-from-preserved-then-is_turn
+loop-from-preserved-then-is_turn c =
+    let t = c.run_turns-turns.ensures in
+    let v = c.loop-from.invariant in (
+      t.1,
+      search rules,
+      search rules,
+      search rules,
+      λ e. absurd (omega (arith, t.0)),
+      λ D H k. let R = v.5 D H k in opened-there _ D _ _ _ _ R (t.2 D _ _ _ _ _ _ _ R refl k) c.open_at-opened.ensures,
+    )
+
+pub loop-from-smaller-in-Refused : goal.loop-from-smaller-in-Refused
+loop-from-smaller-in-Refused c =
+    let x = next-line c.args.log.now c.loop-from.from c.loop-from-test.true c.line_end-end.ensures in
+    omega (arith, x.forward, x.inside)
+
+pub loop-from-preserved-in-Refused : goal.loop-from-preserved-in-Refused
+loop-from-preserved-in-Refused c =
+    let h = c.loop-from-test.true in
+    let x = next-line c.args.log.now c.loop-from.from h c.line_end-end.ensures in (
+      x.inside,
+      search rules,
+      search rules,
+      search rules,
+      λ e. absurd (omega (arith, x.forward)),
+      λ D H q.
+          let R = c.loop-from.invariant.5 D H q in
+          running-next _ D _ _ _ R h (leb-true _ _ c.if-place-limit.true) c.line_end-end.ensures (c.next-n.ensures (running-few _ D _ _ _ R h q)) c.read_command-command.ensures
+          (λ E G. refusal-performed E _ _ c.command-1.given.1 G c.print_refused-place.ensures),
+    )
+
+pub loop-from-smaller-in-Lend : goal.loop-from-smaller-in-Lend
+loop-from-smaller-in-Lend c =
+    let x = next-line c.args.log.now c.loop-from.from c.loop-from-test.true c.line_end-end.ensures in
+    omega (arith, x.forward, x.inside)
+
+pub loop-from-preserved-in-Lend : goal.loop-from-preserved-in-Lend
+loop-from-preserved-in-Lend c =
+    let h = c.loop-from-test.true in
+    let x = next-line c.args.log.now c.loop-from.from h c.line_end-end.ensures in (
+      x.inside,
+      search rules,
+      search rules,
+      search rules,
+      λ e. absurd (omega (arith, x.forward)),
+      λ D H q.
+          let R = c.loop-from.invariant.5 D H q in
+          running-next _ D _ _ _ R h (leb-true _ _ c.if-place-limit.true) c.line_end-end.ensures (c.next-n.ensures (running-few _ D _ _ _ R h q)) c.read_command-command.ensures
+          (λ E G. lend-performed E _ _ c.command-in-Lend-1.given.1 (c.run_lend-told.ensures E G)),
+    )
+
+pub loop-from-smaller-in-Propose : goal.loop-from-smaller-in-Propose
+loop-from-smaller-in-Propose c =
+    let x = next-line c.args.log.now c.loop-from.from c.loop-from-test.true c.line_end-end.ensures in
+    omega (arith, x.forward, x.inside)
+
+pub loop-from-preserved-in-Propose : goal.loop-from-preserved-in-Propose
+loop-from-preserved-in-Propose c =
+    let h = c.loop-from-test.true in
+    let x = next-line c.args.log.now c.loop-from.from h c.line_end-end.ensures in (
+      x.inside,
+      search rules,
+      search rules,
+      search rules,
+      λ e. absurd (omega (arith, x.forward)),
+      λ D H q.
+          let R = c.loop-from.invariant.5 D H q in
+          running-next _ D _ _ _ R h (leb-true _ _ c.if-place-limit.true) c.line_end-end.ensures (c.next-n.ensures (running-few _ D _ _ _ R h q)) c.read_command-command.ensures
+          (λ E G. proposal-performed E _ _ c.command-in-Propose-1.given.1 G.benched (c.print_proposal-told.ensures E G.kept)),
+    )
+
+pub loop-from-smaller-in-Call : goal.loop-from-smaller-in-Call
+loop-from-smaller-in-Call c =
+    let x = next-line c.args.log.now c.loop-from.from c.loop-from-test.true c.line_end-end.ensures in
+    omega (arith, x.forward, x.inside)
+
+pub loop-from-preserved-in-Call : goal.loop-from-preserved-in-Call
+loop-from-preserved-in-Call c =
+    let h = c.loop-from-test.true in
+    let x = next-line c.args.log.now c.loop-from.from h c.line_end-end.ensures in (
+      x.inside,
+      search rules,
+      search rules,
+      search rules,
+      λ e. absurd (omega (arith, x.forward)),
+      λ D H q.
+          let R = c.loop-from.invariant.5 D H q in
+          running-next _ D _ _ _ R h (leb-true _ _ c.if-place-limit.true) c.line_end-end.ensures (c.next-n.ensures (running-few _ D _ _ _ R h q)) c.read_command-command.ensures
+          (λ E G. call-performed E _ _ c.command-in-Call-1.given.1 _ (c.make_call-outcome.ensures E G.benched G.kept) (kind-printed _ _ _ c.kind_of-kind.ensures _ c.print_outcome-place.ensures) G),
+    )
+
+pub loop-from-smaller-in-Vote : goal.loop-from-smaller-in-Vote
+loop-from-smaller-in-Vote c =
+    let x = next-line c.args.log.now c.loop-from.from c.loop-from-test.true c.line_end-end.ensures in
+    omega (arith, x.forward, x.inside)
+
+pub loop-from-preserved-in-Vote : goal.loop-from-preserved-in-Vote
+loop-from-preserved-in-Vote c =
+    let h = c.loop-from-test.true in
+    let x = next-line c.args.log.now c.loop-from.from h c.line_end-end.ensures in (
+      x.inside,
+      search rules,
+      search rules,
+      search rules,
+      λ e. absurd (omega (arith, x.forward)),
+      λ D H q.
+          let R = c.loop-from.invariant.5 D H q in
+          running-next _ D _ _ _ R h (leb-true _ _ c.if-place-limit.true) c.line_end-end.ensures (c.next-n.ensures (running-few _ D _ _ _ R h q)) c.read_command-command.ensures
+          (λ E G. vote-performed E _ _ c.command-in-Vote-1.given.1 G (c.print_vote-place.ensures E G)),
+    )
+
+pub loop-from-smaller : goal.loop-from-smaller
+loop-from-smaller c =
+    let x = next-line c.args.log.now c.loop-from.from c.loop-from-test.true c.line_end-end.ensures in
+    omega (arith, x.forward, x.inside)
+
+pub loop-from-preserved : goal.loop-from-preserved
+loop-from-preserved c =
+    let h = c.loop-from-test.true in
+    let x = next-line c.args.log.now c.loop-from.from h c.line_end-end.ensures in (
+      x.inside,
+      search rules,
+      search rules,
+      search rules,
+      λ e. absurd (omega (arith, x.forward)),
+      λ D H q.
+          let R = c.loop-from.invariant.5 D H q in
+          running-next _ D _ _ _ R h (leb-true _ _ c.if-place-limit.true) c.line_end-end.ensures (c.next-n.ensures (running-few _ D _ _ _ R h q)) c.read_command-command.ensures
+          (λ E G. ask-performed E _ _ c.command-in-Ask-1.given.1 G (c.print_ask-place.ensures E G.benched)),
+    )
+
+pub returns-else-place-limit : goal.returns-else-place-limit
+returns-else-place-limit c = let v = c.loop-from.invariant in (stopped-above _ _ v.0 v.4 (omega (arith, leb-false, c.if-place-limit.false)), v.5)
+
+pub returns-after-loop-from : goal.returns-after-loop-from
+returns-after-loop-from c = let v = c.loop-from.invariant in (stopped-end _ _ v.0 c.loop-from-test.false, v.5)

@@ -1,0 +1,23 @@
+use Prim.Native.Nat.{◌+◌, ◌-◌, ◌≤◌}
+use mathlib.Core.Path.{◌≡◌, refl}
+use lib.ListN.{length}
+use native.Mathlib.Omega.{arith}
+use borrow.Author.Tests.{leb-true, leb-false}
+use Rattle.text_lines.proofs.Ends.{next-line}
+use Rattle.log_session.specs.Desk.{Desk}
+use Rattle.log_session.specs.calls.Lines.{Holds}
+use Rattle.log_run.specs.Running.{Running}
+use Rattle.log_run.proofs.Performed.{refusal-performed, lend-performed, proposal-performed, call-performed, kind-printed, vote-performed, ask-performed}
+use Rattle.log_run.proofs.Running.{running-start, running-few, running-next, stopped-above, stopped-end}
+use Rattle.log_run.proofs.Paging.{first-turn, opened-there}
+use Rattle.log_run.proofs.run_some.Given as goal
+
+abbrev pub invariant-loop-from : goal.invariant-loop-from
+invariant-loop-from l =
+    (l.from ≤ length l.log) × (length l.edits ≡ length l.initial.edits) × (length l.constraints ≡ length l.initial.constraints) × (length l.out ≡ length l.initial.out) × (l.from ≡ 0 → l.place ≡ l.initial.place)
+    × ((D : Desk) → Holds D l.initial.held l.initial.lent l.initial.edits l.initial.constraints → l.initial.n + length l.log ≤ 4611686018427387904
+    → Running l.log D l.initial.n l.initial.out l.initial.place l.from l.held l.lent l.edits l.constraints l.n l.out l.place l.limit)
+
+abbrev pub decreases-loop-from : goal.decreases-loop-from
+decreases-loop-from l =
+    length l.log - l.from

@@ -1,0 +1,7 @@
+-- `calls::run_lend` meets its contract. Assumes nothing.
+use Rattle.log_session.proofs.calls.Telling.{lend-holds, lend-printed}
+use borrow.Author.Rules.{rules}
+use Rattle.log_session.proofs.calls.run_lend.Goals as goal
+
+pub returns : goal.returns
+returns c = λ D H. let q = c.lend_line-setting.ensures D H.kept H.benched in (lend-holds D _ 0 H.benched q.1, lend-printed D _ _ H.benched q.0 c.print_refused-place.ensures)

@@ -1,0 +1,12 @@
+-- `votes::print_election` meets its contract. Assumes nothing.
+use borrow.Author.Rules.{rules}
+use Rattle.text_forms.specs.Spelling.{bytes}
+use Rattle.log_session.proofs.votes.Answered.{refused-so, election-answered}
+use Rattle.log_session.proofs.votes.print_election.Goals as goal
+
+pub returns-then-election-ne0 : goal.returns-then-election-ne0
+returns-then-election-ne0 c = refused-so _ _ _ _ _ c.if-election-ne0.true c.print_refusal.ensures
+
+pub returns : goal.returns
+unfolding bytes
+returns c = let s = c.args in election-answered s.line s.out.now s.at s.election c.if-election-ne0.false c.bit-won.ensures c.print.ensures

@@ -1,0 +1,19 @@
+-- `edit_rows` meets its contract. Assumes nothing.
+use Prim.Native.Nat.{◌-◌, ◌≤◌}
+use mathlib.Core.Path.{◌≡◌, refl}
+use mathlib.Core.List.{map}
+use lib.ListN.{length, take}
+use Rattle.record_rows.specs.row.Row.{edit_row}
+use Rattle.record_joining.proofs.Answers.{rows_next, rows_end}
+use borrow.Author.Rules.{rules}
+use Rattle.record_joining.proofs.edit_rows.Goals as goal
+
+pub loop-i-init : goal.loop-i-init
+loop-i-init c = (search rules, search rules, search rules, search rules, refl)
+
+pub loop-i-preserved : goal.loop-i-preserved
+loop-i-preserved c =
+    (search rules, search rules, search rules, search rules, rows_next edit_row c.args.t1 c.loop-i.out c.loop-i.i _ (search rules) (search rules) c.loop-i.invariant.4 c.edit_row.ensures)
+
+pub returns : goal.returns
+returns c = rows_end edit_row c.args.t1 c.loop-i.out c.loop-i.i c.args.n c.loop-i.invariant.0 c.loop-i-test.false c.loop-i.invariant.4

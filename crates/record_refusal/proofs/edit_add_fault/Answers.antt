@@ -1,0 +1,7 @@
+-- `refusal::edit_add_fault` meets its contract. Assumes nothing.
+use Rattle.record_tables.proofs.Tables.{add-edit}
+use borrow.Author.Rules.{rules}
+use Rattle.record_refusal.proofs.edit_add_fault.Goals as goal
+
+pub returns : goal.returns
+returns c = λ R e k. add-edit c.args.joined R e k _ c.edit_fault.ensures

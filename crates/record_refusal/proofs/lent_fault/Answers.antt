@@ -1,0 +1,10 @@
+-- `refusal::lent_fault` meets its contract. Assumes nothing.
+use mathlib.Core.Path.{◌∙◌}
+use Rattle.record_tables.specs.Table.{empty_tables}
+use Rattle.record_tables.proofs.Tables.{empty-stored}
+use Rattle.record_tables.proofs.Records.{empty-checked}
+use borrow.Author.Rules.{rules}
+use Rattle.record_refusal.proofs.lent_fault.Goals as goal
+
+pub returns : goal.returns
+returns c = c.fault.ensures empty_tables (c.empty.ensures ∙ empty-stored) empty-checked

@@ -1,0 +1,12 @@
+use Prim.Native.Nat.{◌-◌, ◌≤◌}
+use mathlib.Core.Path.{◌≡◌, refl, sym, ◌∙◌}
+use lib.ListN.{length, take, drop}
+use Rattle.lists.specs.Keyed.{precedes}
+use Rattle.record_rows.proofs.row.Compared.{less-here, less-not, less-more, less-end}
+use Rattle.record_rows.proofs.row.below.Given as goal
+
+abbrev pub invariant-loop-j : goal.invariant-loop-j
+invariant-loop-j l = (l.j ≤ l.k) × (l.k ≤ length l.a) × (l.k ≤ length l.b) × (precedes (take l.k l.a) (take l.k l.b) ≡ precedes (drop l.j (take l.k l.a)) (drop l.j (take l.k l.b)))
+
+abbrev pub decreases-loop-j : goal.decreases-loop-j
+decreases-loop-j l = l.k - l.j

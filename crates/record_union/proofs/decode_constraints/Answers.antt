@@ -1,0 +1,21 @@
+-- `decode_constraints` meets its contract. Assumes nothing.
+use Prim.Native.Nat.{◌-◌, ◌≤◌}
+use mathlib.Core.Path.{◌≡◌}
+use mathlib.Core.List.{[], map}
+use lib.ListN.{length, take}
+use Rattle.record.specs.Stored.{padded, filler_constraint}
+use Rattle.record_rows.specs.row.Row.{constraint_of}
+use Rattle.record_union.proofs.Joining.{decode-next, decode-end}
+use borrow.Author.Rules.{rules}
+use Rattle.record.proofs.Padded.{padded-begin}
+use Rattle.record_union.proofs.decode_constraints.Goals as goal
+
+pub loop-i-init : goal.loop-i-init
+loop-i-init c = (search rules, search rules, search rules, padded-begin 512 filler_constraint c.constraint_filler-filler.ensures)
+
+pub loop-i-preserved : goal.loop-i-preserved
+loop-i-preserved c =
+    (search rules, search rules, search rules, decode-next 512 filler_constraint constraint_of c.args.t.now c.loop-i.out c.loop-i.i [] c.loop-i-test.true c.loop-i.invariant.1 c.loop-i.invariant.3 c.constraint_of.ensures)
+
+pub returns : goal.returns
+returns c = decode-end 512 filler_constraint constraint_of c.args.t.now c.loop-i.out c.loop-i.i c.loop-i-test.false c.loop-i.invariant.3

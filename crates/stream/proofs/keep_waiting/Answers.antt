@@ -1,0 +1,14 @@
+-- `keep_waiting` meets its contract. Assumes nothing.
+use borrow.Author.Rules.{rules}
+use Rattle.stream.proofs.Front.{whole-inside, rest-inside, waits_front}
+use Rattle.stream.proofs.keep_waiting.Goals as goal
+
+pub overflow_sub-size : goal.overflow_sub-size
+overflow_sub-size c = whole-inside c.args.bytes.now c.args.filled c.lesser-size.ensures c.last_end-whole.ensures
+
+pub move_front-requires : goal.move_front-requires
+move_front-requires c = rest-inside c.args.bytes.now c.args.filled c.lesser-size.ensures c.last_end-whole.ensures c.lesser-rest.ensures
+
+pub returns : goal.returns
+returns c =
+    waits_front c.args.bytes.now c.args.filled c.lesser-size.ensures c.last_end-whole.ensures c.lesser-rest.ensures c.move_front.ensures

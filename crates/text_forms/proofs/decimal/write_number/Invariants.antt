@@ -1,0 +1,8 @@
+use Rattle.text_forms.proofs.decimal.Laws.{Writing, writing_start, writing-next, writing-end}
+use Rattle.text_forms.proofs.decimal.write_number.Given as goal
+
+abbrev pub invariant-loop-i : goal.invariant-loop-i
+invariant-loop-i l = Writing l.n l.initial.out l.i l.rest l.out
+
+abbrev pub decreases-loop-i : goal.decreases-loop-i
+decreases-loop-i l = l.i

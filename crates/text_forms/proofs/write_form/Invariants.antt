@@ -1,0 +1,12 @@
+use Prim.Native.Nat.{◌-◌}
+use mathlib.Core.Path.{sym, ◌∙◌}
+use lib.ListN.{length}
+use native.Mathlib.Omega.{arith}
+use Rattle.text_forms.proofs.Filling.{Writing, writing_start, mark-fits, writing-mark, byte-room, writing-byte, writing-end}
+use Rattle.text_forms.proofs.write_form.Given as goal
+
+abbrev pub invariant-loop-i : goal.invariant-loop-i
+invariant-loop-i l = Writing l.form l.numbers l.initial.out l.out l.at l.i l.k
+
+abbrev pub decreases-loop-i : goal.decreases-loop-i
+decreases-loop-i l = length l.form - l.i

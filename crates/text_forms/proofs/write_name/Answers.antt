@@ -1,0 +1,12 @@
+-- `write_name` meets its contract. Assumes nothing.
+use borrow.Author.Rules.{rules}
+use Rattle.text_forms.specs.Spelling.{number_spelling, name_spelling}
+use Rattle.text_forms.proofs.write_name.Goals as goal
+
+pub write_number-requires : goal.write_number-requires
+unfolding name_spelling number_spelling
+write_number-requires c = c.requires
+
+pub returns : goal.returns
+unfolding name_spelling number_spelling
+returns c = c.write_number.ensures

@@ -1,0 +1,15 @@
+-- `set_length` meets its contract. Assumes nothing.
+use native.Mathlib.Omega.{arith}
+use borrow.Author.Rules.{rules}
+use Rattle.text_forms.proofs.decimal.Laws.{decimal-twenty}
+use Rattle.text_lines.proofs.Puts.{set-length-is}
+use Rattle.text_lines.proofs.set_length.Goals as goal
+
+pub overflow_add-result : goal.overflow_add-result
+overflow_add-result c = omega (arith, decimal-twenty c.args.name c.ranges.name.fits, c.number_length.ensures)
+
+pub overflow_add-result-2 : goal.overflow_add-result-2
+overflow_add-result-2 c = omega (arith, decimal-twenty c.args.name c.ranges.name.fits, c.number_length.ensures, c.field_length.ensures.1)
+
+pub returns : goal.returns
+returns c = let a = c.args in omega (arith, c.number_length.ensures, set-length-is a.field a.name a.place a.value c.field_length.ensures.0)

@@ -1,0 +1,13 @@
+use mathlib.Core.Bool.{not}
+use Rattle.text_reader.proofs.Lines.{Upto, upto-start, upto-refused, upto_next, upto-end, row-least}
+use Rattle.text_lines.proofs.Ends.{next-line}
+use Prim.Native.Nat.{◌-◌}
+use lib.ListN.{length}
+use native.Mathlib.Omega.{arith}
+use Rattle.text_reader.proofs.read_rows.Given as goal
+
+abbrev pub invariant-loop-at : goal.invariant-loop-at
+invariant-loop-at l = Upto l.text l.edits l.constraints l.marks l.n l.m l.at
+
+abbrev pub decreases-loop-at : goal.decreases-loop-at
+decreases-loop-at l = length l.text - l.at

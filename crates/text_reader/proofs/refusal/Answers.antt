@@ -1,0 +1,6 @@
+-- `refusal` meets its contract. Assumes nothing.
+use borrow.Author.Rules.{rules}
+use Rattle.text_reader.proofs.refusal.Goals as goal
+
+pub returns : goal.returns
+returns c = rw c.empty.ensures

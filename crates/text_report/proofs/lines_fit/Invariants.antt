@@ -1,0 +1,17 @@
+use Prim.Native.Nat.{ℕ, ◌-◌}
+use mathlib.Core.Path.{refl, ap, ◌∙◌}
+use mathlib.Core.List.{List, []}
+use lib.ListN.{length}
+use native.Mathlib.Omega.{arith}
+use Rattle.text_forms.specs.Form.{fill}
+use Rattle.text_forms.specs.Fit.{fit_after}
+use Rattle.text_writer.proofs.Writing.{Leaves, leaves_all, leaves-next, leaves-end}
+use Rattle.text_report.specs.Report.{report_form}
+use Rattle.text_report.proofs.Room.{all_lines}
+use Rattle.text_report.proofs.lines_fit.Given as goal
+
+abbrev pub invariant-loop-i : goal.invariant-loop-i
+invariant-loop-i l = Leaves (fill report_form) l.rows (length l.rows) l.initial.rest l.rest l.i
+
+abbrev pub decreases-loop-i : goal.decreases-loop-i
+decreases-loop-i l = length l.rows - l.i

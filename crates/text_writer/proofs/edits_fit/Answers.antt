@@ -1,0 +1,21 @@
+-- `edits_fit` meets its contract. Assumes nothing.
+use Rattle.text_writer.proofs.Writing.{Leaves, leaves_all, leaves-next, leaves-end}
+use Rattle.text_writer.specs.Placed.{edit_text}
+use Rattle.text_lines.specs.Line.{edit_line}
+use Prim.Native.Nat.{ℕ, ◌-◌}
+use mathlib.Core.Path.{ap, ◌∙◌}
+use mathlib.Core.List.{List}
+use lib.ListN.{length}
+use borrow.Author.Rules.{rules}
+use Rattle.text_writer.proofs.edits_fit.Goals as goal
+
+pub loop-i-init : goal.loop-i-init
+loop-i-init c = let s = c.args in leaves_all edit_text s.t2 s.n s.fit (search rules)
+
+pub loop-i-preserved : goal.loop-i-preserved
+loop-i-preserved c =
+    let s = c.args in
+    leaves-next edit_text s.t2 s.n s.fit c.loop-i.invariant _ c.loop-i-test.true (c.edit_line_length.ensures ∙ ap (λ (r : List ℕ). length (edit_line r)) c.edit_row.ensures) c.fit_more-rest.ensures
+
+pub returns : goal.returns
+returns c = let s = c.args in leaves-end edit_text s.t2 s.n s.fit c.loop-i.invariant c.loop-i-test.false

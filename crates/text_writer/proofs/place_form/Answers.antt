@@ -1,0 +1,15 @@
+-- `place_form` meets its contract. Assumes nothing.
+use Rattle.text_writer.proofs.Placing.{start_none, start-room, start-written}
+use Rattle.text_forms.specs.Form.{fill}
+use borrow.Author.Tests.{not-true, not-false}
+use borrow.Author.Rules.{rules}
+use Rattle.text_writer.proofs.place_form.Goals as goal
+
+pub returns-then-not-form_fits : goal.returns-then-not-form_fits
+returns-then-not-form_fits c = let s = c.args in start_none (fill s.form.now s.numbers.now) s.out.now c.form_fits.ensures (not-true _ c.if-not-form_fits.true)
+
+pub write_form-size-requires : goal.write_form-size-requires
+write_form-size-requires c = let s = c.args in start-room (fill s.form.now s.numbers.now) s.out.now c.form_fits.ensures (not-false _ c.if-not-form_fits.false)
+
+pub returns : goal.returns
+returns c = let s = c.args in start-written (fill s.form.now s.numbers.now) s.out.now c.form_fits.ensures (not-false _ c.if-not-form_fits.false) c.write_form-size.ensures

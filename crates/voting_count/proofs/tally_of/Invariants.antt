@@ -1,0 +1,19 @@
+use mathlib.Core.Path.{◌≡◌}
+use mathlib.Core.Bool.{false}
+use mathlib.Core.List.{map, List}
+use Prim.Native.Nat.{◌-◌, ◌≤◌}
+use lib.ListN.{get_or}
+use native.Mathlib.Omega.{arith}
+use Rattle.voting.specs.declared.RollRow.{RollRow}
+use Rattle.voting_roll.specs.Roll.{roll_faulty, roll_of, filler_row}
+use Rattle.voting_count.specs.Count.{lent_proposals, Faultless}
+use Rattle.voting_count.proofs.Proposals.{proposal-bench-low}
+use Rattle.voting_count.proofs.Rolled.{rows-counted, rows_few, RollCounting, roll-counting-start, counting-step, roll-counting-end, by_rows}
+use Rattle.voting_count.proofs.tally_of.Given as goal
+
+abbrev pub invariant-loop-i : goal.invariant-loop-i
+invariant-loop-i l = (l.i ≤ l.n) × (l.n ≤ 8) × ((l : List RollRow) → Faultless (lent_proposals (map (λ x. x.now) l.edits) (map (λ x. x.now) l.constraints)) → (e : record { l.rows = l.rows; count = l.n; faulty = false } ≡ roll_of l) → (f : roll_faulty l ≡ false)
+    → RollCounting (record { l.rows = l.rows; count = l.n; faulty = false }) l e f l.name (lent_proposals (map (λ x. x.now) l.edits) (map (λ x. x.now) l.constraints)) l.i l.tally)
+
+abbrev pub decreases-loop-i : goal.decreases-loop-i
+decreases-loop-i l = l.n - l.i

@@ -1,0 +1,29 @@
+-- `decisions::finished` meets its contract. Assumes nothing.
+use Prim.Native.Nat.{ℕ}
+use mathlib.Core.Path.{ap, ◌∙◌}
+use mathlib.Core.List.{List, ◌∷◌}
+use Rattle.record.specs.declared.Constraint.{Constraint}
+use Rattle.record.specs.Record.{written}
+use Rattle.lists.specs.Keyed.{united}
+use Rattle.lists.proofs.Union.{ascending-united}
+use Rattle.record_tables.specs.Table.{constraint_key}
+use Rattle.voting.specs.Proposal.{decisions}
+use Rattle.graph.specs.links.Marks.{values_of, place_in}
+use Rattle.record_joining.specs.insertion.Insertion.{held_table}
+use Rattle.graph.proofs.indexes.Fit.{checked-fit}
+use Rattle.voting_decisions.specs.Decisions.{Paged}
+use Rattle.voting_drafts.specs.ranking.Ranking.{flat_map, rank_of, pair_order}
+use Rattle.voting_decisions.proofs.Paging.{orders-by-page, scheduled-rest, finished-is}
+use borrow.Author.Rules.{rules}
+use Rattle.voting_decisions.proofs.finished.Goals as goal
+
+pub returns : goal.returns
+returns c =
+    λ R e k h.
+    let i = checked-fit R k in
+    let w = scheduled-rest R i.formed h in
+    let g : Paged R w.0 c.index_table-index.result c.pages-paged.result = record { formed = i.formed; indexed = c.index_table-index.ensures.2 R e i; paged = c.pages-paged.ensures.1 R e i ∙ ap (λ (row : List ℕ). values_of R (place_in row)) w.1 } in
+    let d = united constraint_key R.constraints (decisions (0 ∷ w.0) (written R)) in
+    let q = ap (flat_map (pair_order (rank_of c.index_table-index.result c.pages-paged.result))) (c.unordered_pairs-pairs.ensures.2 R e i) ∙ orders-by-page R w.0 _ _ g i.paired in
+    c.with_orders.ensures d (c.decided_table-table.ensures R w.0 _ e k g) (ascending-united constraint_key R.constraints (decisions (0 ∷ w.0) (written R)) k.constraintorder)
+    ∙ ap (λ (l : List Constraint). held_table (united constraint_key d l)) q ∙ ap held_table (finished-is R w.0 w.1)

@@ -1,0 +1,15 @@
+use Prim.Native.Nat.{◌-◌, ◌≤◌}
+use mathlib.Core.Path.{◌≡◌, refl}
+use lib.ListN.{length}
+use native.Mathlib.Omega.{arith}
+use Rattle.lists.proofs.Lists.{length-mapped}
+use Rattle.record.specs.Stored.{filler_constraint}
+use Rattle.record_rows.specs.row.Row.{constraint_row}
+use Rattle.voting_proposals.proofs.Written.{written, written_next, written-end}
+use Rattle.voting_proposals.proofs.write_constraints.Given as goal
+
+abbrev pub invariant-loop-i : goal.invariant-loop-i
+invariant-loop-i l = (l.i ≤ l.n) × (l.n ≤ 512) × (length l.constraints ≡ 512) × (l.n ≤ length l.initial.table) × (length l.table ≡ length l.initial.table) × (l.table ≡ written constraint_row l.constraints l.initial.table l.i)
+
+abbrev pub decreases-loop-i : goal.decreases-loop-i
+decreases-loop-i l = l.n - l.i

@@ -1,0 +1,15 @@
+use Prim.Native.Nat.{◌-◌, ◌≤◌}
+use mathlib.Core.Path.{◌≡◌, refl}
+use lib.ListN.{length}
+use native.Mathlib.Omega.{arith}
+use Rattle.lists.proofs.Lists.{length-mapped}
+use Rattle.record.specs.Stored.{filler_edit}
+use Rattle.record_rows.specs.row.Row.{edit_row}
+use Rattle.voting_proposals.proofs.Written.{written, written_next, written-end}
+use Rattle.voting_proposals.proofs.write_edits.Given as goal
+
+abbrev pub invariant-loop-i : goal.invariant-loop-i
+invariant-loop-i l = (l.i ≤ l.n) × (l.n ≤ 127) × (length l.edits ≡ 127) × (l.n ≤ length l.initial.table) × (length l.table ≡ length l.initial.table) × (l.table ≡ written edit_row l.edits l.initial.table l.i)
+
+abbrev pub decreases-loop-i : goal.decreases-loop-i
+decreases-loop-i l = l.n - l.i

@@ -1,0 +1,16 @@
+use mathlib.Core.Path.{◌≡◌}
+use mathlib.Core.Bool.{false}
+use Prim.Native.Nat.{ℕ, ◌-◌, ◌*◌, ◌≤◌, ◌<◌}
+use native.Mathlib.Omega.{arith}
+use lib.Dec.{ltb}
+use lib.ListN.{length, get_or}
+use Rattle.lists.proofs.Lists.{length-mapped}
+use Rattle.voting_tally.specs.Groups.{filler_group}
+use Rattle.voting_tally.proofs.Winners.{winning-hit, winning-miss, winning-end}
+use Rattle.voting_tally.proofs.winning_place.Given as goal
+
+abbrev pub invariant-loop-i : goal.invariant-loop-i
+invariant-loop-i l = (l.i ≤ l.n) × (l.n ≤ 8) × ((j : ℕ) → j < l.i → ltb l.whole (2 * (get_or l.groups j filler_group).weight) ≡ false)
+
+abbrev pub decreases-loop-i : goal.decreases-loop-i
+decreases-loop-i l = l.n - l.i
