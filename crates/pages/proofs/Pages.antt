@@ -30,6 +30,7 @@ module _ (K : Shelf) where
   pub kept_at : (c : List K.Entry) (xs : List K.Edit) (i : ℕ) (d : K.Entry) (e : K.Edit) → i < length xs
       → get_or (kept K c xs) i d ≡ touched K (run K c (take i xs)) (get_or xs i e)
   unfolding kept run
+  kept_at c [] i d e h = elim h [ ]
   kept_at c (x ∷ xs) zero d e h = refl
   kept_at c (x ∷ xs) (suc i) d e (suc-le-suc h) = kept_at (run_edit K c x) xs i d e h
 

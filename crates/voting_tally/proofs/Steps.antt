@@ -67,7 +67,7 @@ module _ (l : List Ballot) (w : ℕ) (C : Record) where
       by (same_bundle C B)
       (λ e. let q : C ≡ B = (same-is C B).0 e in
       let n : any (same_bundle C) s ≡ false = rw q (not-true (any (same_bundle B) s) (and_l (not (any (same_bundle B) s)) (distinct_bundles s) a)) in
-      rw (e, q) (ap (λ t. group_in (more_ballots l w (some B)) B ∷ t) (sym (rw q at (groups-kept s n)))))
+      rw e (ap (λ x. group_in (more_ballots l w (some C)) x ∷ map (group_in l) s) q ∙ ap (λ t. group_in (more_ballots l w (some C)) B ∷ t) (sym (groups-kept s n))))
       (λ e. rw (e, group-kept l w (some C) B (same-turned C B e)) (ap (λ t. group_in l B ∷ t) (groups-raised s (and_r (not (any (same_bundle B) s)) (distinct_bundles s) a) (rw e at h))))
 
   -- the groups with the bundle's raised or new one

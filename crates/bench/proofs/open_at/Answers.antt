@@ -3,4 +3,4 @@ use Rattle.bench.proofs.Moves.{opens}
 use Rattle.bench.proofs.open_at.Goals as goal
 
 pub returns : goal.returns
-returns c = opens _ _ _ c.turn_to-moved.ensures.1
+returns c = opens _ _ _ c.turn_to-moved.ensures.opens

@@ -18,23 +18,23 @@ loop-page-init c =
 
 pub loop-page-preserved-then-place-lt-PLACES : goal.loop-page-preserved-then-place-lt-PLACES
 loop-page-preserved-then-place-lt-PLACES c =
-    let g : length c.args.t2.edits ≡ rows = search (rules, length-mapped) in
-    let r : c.loop-page.page ≤ length c.args.t2.edits = omega arith in (
-      undo-within cells places rows c.args.t2.edits _ _ _ _ _ _ _ c.loop-page.invariant.0 c.loop-page-test.true r c.loop-page.invariant.1 c.place_of-place.ensures
+    let g : length c.args.schedule.edits ≡ rows = search (rules, length-mapped) in
+    let r : c.loop-page.page ≤ length c.args.schedule.edits = omega arith in (
+      undo-within cells places rows c.args.schedule.edits _ _ _ _ _ _ _ c.loop-page.invariant.0 c.loop-page-test.true r c.loop-page.invariant.1 c.place_of-place.ensures
           _ _ c.absent_entry-absent.ensures,
       omega arith,
     )
 
 pub loop-page-preserved : goal.loop-page-preserved
 loop-page-preserved c =
-    let g : length c.args.t2.edits ≡ rows = search (rules, length-mapped) in
-    let r : c.loop-page.page ≤ length c.args.t2.edits = omega arith in (
-      undo-past cells places rows c.args.t2.edits _ _ _ _ _ _ _ c.loop-page.invariant.0 c.loop-page-test.true r c.loop-page.invariant.1 c.place_of-place.ensures
+    let g : length c.args.schedule.edits ≡ rows = search (rules, length-mapped) in
+    let r : c.loop-page.page ≤ length c.args.schedule.edits = omega arith in (
+      undo-past cells places rows c.args.schedule.edits _ _ _ _ _ _ _ c.loop-page.invariant.0 c.loop-page-test.true r c.loop-page.invariant.1 c.place_of-place.ensures
           (absent_entry cells) _ c.absent_entry-absent.ensures c.if-place-lt-PLACES.false,
       omega arith,
     )
 
 pub returns : goal.returns
 returns c =
-    let g : length c.args.t2.edits ≡ rows = search (rules, length-mapped) in
-    ap stored_view (undo-end cells places rows c.args.t2.edits g _ _ _ _ _ _ c.loop-page.invariant.0 c.loop-page-test.false c.lesser-page.ensures)
+    let g : length c.args.schedule.edits ≡ rows = search (rules, length-mapped) in
+    ap stored_view (undo-end cells places rows c.args.schedule.edits g _ _ _ _ _ _ c.loop-page.invariant.0 c.loop-page-test.false c.lesser-page.ensures)

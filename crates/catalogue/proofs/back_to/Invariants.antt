@@ -10,8 +10,8 @@ use Rattle.catalogue.proofs.back_to.Given as goal
 
 abbrev pub invariant-loop-page : goal.invariant-loop-page
 invariant-loop-page l =
-    Undoing cells places rows l.schedule.edits l.to l.initial.page (record { l.catalogue = l.initial.catalogue.entries; l.journal = l.initial.journal.rows }) l.page
-    (record { l.catalogue = l.catalogue.entries; l.journal = l.journal.rows })
+    Undoing cells places rows l.schedule.edits l.to l.initial.page (record { catalogue = l.initial.catalogue.entries; journal = l.initial.journal.rows }) l.page
+    (record { catalogue = l.catalogue.entries; journal = l.journal.rows })
     × (l.page ≤ rows)
 
 abbrev pub decreases-loop-page : goal.decreases-loop-page

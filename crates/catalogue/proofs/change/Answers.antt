@@ -17,4 +17,4 @@ overflow_sub-result-2 c =
 pub returns : goal.returns
 returns c =
     let e = change-moves c.args.view c.args.old c.args.opened c.args.new _ _ _ c.common_beginning-common.ensures c.back_to-undone.ensures c.forward_to.ensures in
-    (e, change-opens c.args.view c.args.old c.args.opened c.args.new _ e)
+    record { moves = e; opens = change-opens c.args.view c.args.old c.args.opened c.args.new _ e }

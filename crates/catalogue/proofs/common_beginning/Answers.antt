@@ -16,17 +16,17 @@ loop-same-init c = (omega arith, below_none _)
 
 pub returns-then-before-after : goal.returns-then-before-after
 returns-then-before-after c =
-    let g : length c.args.t1.edits ≡ rows = search (rules, length-mapped) in
-    let h : length c.args.t3.edits ≡ rows = search (rules, length-mapped) in
+    let g : length c.args.old.edits ≡ rows = search (rules, length-mapped) in
+    let h : length c.args.new.edits ≡ rows = search (rules, length-mapped) in
     let e = c.lesser-end.ensures ∙ ap (λ (n : ℕ). min n rows) c.lesser.ensures in
-    common-stops c.args.t1.edits c.args.t3.edits _ _ _ _ g h e c.loop-same.invariant.0 c.loop-same.invariant.1 (λ _. c.if-before-after.true)
+    common-stops c.args.old.edits c.args.new.edits _ _ _ _ g h e c.loop-same.invariant.0 c.loop-same.invariant.1 (λ _. c.if-before-after.true)
 
 pub loop-same-preserved : goal.loop-same-preserved
 loop-same-preserved c = (omega arith, below_more _ _ c.loop-same.invariant.1 c.if-before-after.false)
 
 pub returns : goal.returns
 returns c =
-    let g : length c.args.t1.edits ≡ rows = search (rules, length-mapped) in
-    let h : length c.args.t3.edits ≡ rows = search (rules, length-mapped) in
+    let g : length c.args.old.edits ≡ rows = search (rules, length-mapped) in
+    let h : length c.args.new.edits ≡ rows = search (rules, length-mapped) in
     let e = c.lesser-end.ensures ∙ ap (λ (n : ℕ). min n rows) c.lesser.ensures in
-    common-stops c.args.t1.edits c.args.t3.edits _ _ _ _ g h e c.loop-same.invariant.0 c.loop-same.invariant.1 (λ k. absurd (omega arith))
+    common-stops c.args.old.edits c.args.new.edits _ _ _ _ g h e c.loop-same.invariant.0 c.loop-same.invariant.1 (λ k. absurd (omega arith))

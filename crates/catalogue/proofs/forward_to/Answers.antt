@@ -17,19 +17,19 @@ loop-page-init c =
 
 pub loop-page-preserved-then-place-lt-PLACES : goal.loop-page-preserved-then-place-lt-PLACES
 loop-page-preserved-then-place-lt-PLACES c =
-    let g : length c.args.t2.edits ≡ rows = search (rules, length-mapped) in
-    let r : c.lesser-end.result ≤ length c.args.t2.edits = omega arith in
-    run-within cells places rows c.args.t2.edits _ _ _ _ _ _ _ c.loop-page.invariant c.loop-page-test.true r c.place_of-place.ensures
+    let g : length c.args.schedule.edits ≡ rows = search (rules, length-mapped) in
+    let r : c.lesser-end.result ≤ length c.args.schedule.edits = omega arith in
+    run-within cells places rows c.args.schedule.edits _ _ _ _ _ _ _ c.loop-page.invariant c.loop-page-test.true r c.place_of-place.ensures
     _ _ c.if-place-lt-PLACES.true c.run_entry-made.ensures
 
 pub loop-page-preserved : goal.loop-page-preserved
 loop-page-preserved c =
-    let g : length c.args.t2.edits ≡ rows = search (rules, length-mapped) in
-    let r : c.lesser-end.result ≤ length c.args.t2.edits = omega arith in
-    run_past cells places rows c.args.t2.edits _ _ _ _ _ _ _ c.loop-page.invariant c.loop-page-test.true r c.place_of-place.ensures
+    let g : length c.args.schedule.edits ≡ rows = search (rules, length-mapped) in
+    let r : c.lesser-end.result ≤ length c.args.schedule.edits = omega arith in
+    run_past cells places rows c.args.schedule.edits _ _ _ _ _ _ _ c.loop-page.invariant c.loop-page-test.true r c.place_of-place.ensures
     _ c.if-place-lt-PLACES.false c.absent_entry-absent.ensures
 
 pub returns : goal.returns
 returns c =
-    let g : length c.args.t2.edits ≡ rows = search (rules, length-mapped) in
-    ap stored_view (pages-run-end cells places rows c.args.t2.edits g _ _ _ _ _ _ c.loop-page.invariant c.loop-page-test.false c.lesser-end.ensures)
+    let g : length c.args.schedule.edits ≡ rows = search (rules, length-mapped) in
+    ap stored_view (pages-run-end cells places rows c.args.schedule.edits g _ _ _ _ _ _ c.loop-page.invariant c.loop-page-test.false c.lesser-end.ensures)

@@ -19,7 +19,7 @@ loop-q-init c = (omega arith, omega arith, refl, λ R h e f g. listing_start R (
 pub returns-then-index-eq0 : goal.returns-then-index-eq0
 returns-then-index-eq0 c =
     let l = c.loop-q in
-    λ R h e f g. listing-init R f c.args.t1 e c.args.t2 c.requires.0 c.requires.1 h g l.q (omega arith) (omega arith) (sym c.index8-index.ensures ∙ c.if-index-eq0.true)
+    λ R h e f g. listing-init R f c.args.multilog e c.args.row c.requires.0 c.requires.1 h g l.q (omega arith) (omega arith) (sym c.index8-index.ensures ∙ c.if-index-eq0.true)
 
 pub overflow_sub-next : goal.overflow_sub-next
 overflow_sub-next c = omega (arith, c.if-index-eq0.false)
@@ -41,10 +41,10 @@ loop-q-preserved c =
       omega arith,
       omega arith,
       length-set l.edits (l.q - 1) _ ∙ l.invariant.2,
-      λ R h e f g. rw c.index8-index.ensures (listing_step R f c.args.t1 e c.args.t2 c.requires.0 c.requires.1 h g l.edits l.q _ (omega arith) (omega arith) (omega (arith, c.if-index-eq0.false, c.index8-index.ensures)) (l.invariant.3 R h e f g)),
+      λ R h e f g. rw c.index8-index.ensures (listing_step R f c.args.multilog e c.args.row c.requires.0 c.requires.1 h g l.edits l.q _ (omega arith) (omega arith) (omega (arith, c.if-index-eq0.false, c.index8-index.ensures)) (l.invariant.3 R h e f g)),
     )
 
 pub returns : goal.returns
 returns c =
     let l = c.loop-q in
-    λ R h e f g. listing-end R f c.args.t1 e c.args.t2 c.requires.0 c.requires.1 h g l.edits l.q (omega arith) (l.invariant.3 R h e f g)
+    λ R h e f g. listing-end R f c.args.multilog e c.args.row c.requires.0 c.requires.1 h g l.edits l.q (omega arith) (l.invariant.3 R h e f g)

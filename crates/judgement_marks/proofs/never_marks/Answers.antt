@@ -12,7 +12,7 @@ pub returns-then-not-ringed : goal.returns-then-not-ringed
 returns-then-not-ringed c = (
   refl,
   λ R g q e. none-marked R g.notafters.few ∙ never-nowhere g.formed g.notafters.few
-      (sym (c.has_ring-ringed.ensures R (names R) g.notafters q (λ x k. k) (c.all_marks-all.ensures.1 R q)) ∙ not-true _ c.if-not-ringed.true),
+      (sym (c.has_ring-ringed.ensures R (names R) g.notafters q (λ x k. k) (c.all_marks-all.ensures.1 R q)) ∙ c.if-not-ringed.true),
 )
 
 pub returns-then-has_ring : goal.returns-then-has_ring

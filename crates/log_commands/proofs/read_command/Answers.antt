@@ -49,4 +49,4 @@ returns-in-119 c = group c.args.bytes.now c.if-bytes-gt-LINE_LIMIT.false c.byte_
 
 pub returns-in_default : goal.returns-in_default
 unfolding command_forms grammar shapes set_shapes rule_shapes set_form edit_form rule_form read_starting starting parse filter mem bytes starts_with is_mark spelling number_spelling slots letter_other letter_among ruled_out otherwise line-ends
-returns-in_default c = other-group c.args.bytes.now c.if-bytes-gt-LINE_LIMIT.false c.byte_at-third.ensures (bytes "wlk=nfi") c.in_default.rest refl
+returns-in_default c = other-group c.args.bytes.now c.if-bytes-gt-LINE_LIMIT.false c.byte_at-third.ensures (bytes "wlk=nfi") c.in_default.in_default-own.rest refl

@@ -53,4 +53,4 @@ returns-in-119 c = arm "do=" c.args.bytes.now c.byte_at-letter.ensures 119 c.in-
 
 pub returns-in_default : goal.returns-in_default
 unfolding command_forms grammar shapes set_shapes rule_shapes set_form edit_form rule_form read_starting starting parse filter mem bytes starts_with is_mark spelling number_spelling slots letter_other letter_among ruled_out otherwise line-ends
-returns-in_default c = no-form "do=" c.args.bytes.now c.byte_at-letter.ensures (bytes "wpbeatshm") c.in_default.rest refl
+returns-in_default c = no-form "do=" c.args.bytes.now c.byte_at-letter.ensures (bytes "wpbeatshm") c.in_default.in_default-own.rest refl

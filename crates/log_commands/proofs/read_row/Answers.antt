@@ -21,4 +21,4 @@ returns-in-110 c = arm "row=" c.args.bytes.now c.byte_at-letter.ensures 110 c.in
 
 pub returns-in_default : goal.returns-in_default
 unfolding command_forms grammar shapes set_shapes rule_shapes set_form edit_form rule_form read_starting starting parse filter mem bytes starts_with is_mark spelling number_spelling slots letter_other letter_among ruled_out otherwise line-ends
-returns-in_default c = last "row=" c.args.bytes.now c.byte_at-letter.ensures (bytes "n") c.in_default.rest refl c.read_words-w-in_default.ensures c.unless_refused-in_default.ensures
+returns-in_default c = last "row=" c.args.bytes.now c.byte_at-letter.ensures (bytes "n") c.in_default.in_default-own.rest refl c.read_words-w-in_default.ensures c.unless_refused-in_default.ensures

@@ -11,13 +11,13 @@ pub returns-then-size-at : goal.returns-then-size-at
 returns-then-size-at c = let s = c.args in printed-past (fill s.form.now s.numbers.now) s.out.now s.at c.if-size-at.true
 
 pub returns-then-not-form_fits : goal.returns-then-not-form_fits
-returns-then-not-form_fits c = let s = c.args in printed-none (fill s.form.now s.numbers.now) s.out.now s.at c.if-size-at.false (sym c.form_fits.ensures ∙ not-true _ c.if-not-form_fits.true)
+returns-then-not-form_fits c = let s = c.args in printed-none (fill s.form.now s.numbers.now) s.out.now s.at c.if-size-at.false (sym c.form_fits.ensures ∙ c.if-not-form_fits.true)
 
 pub write_form-requires : goal.write_form-requires
-write_form-requires c = let s = c.args in printed-room (fill s.form.now s.numbers.now) s.out.now s.at c.if-size-at.false (sym c.form_fits.ensures ∙ not-false _ c.if-not-form_fits.false)
+write_form-requires c = let s = c.args in printed-room (fill s.form.now s.numbers.now) s.out.now s.at c.if-size-at.false (sym c.form_fits.ensures ∙ c.if-not-form_fits.false)
 
 pub overflow_add-result-2 : goal.overflow_add-result-2
-overflow_add-result-2 c = let s = c.args in omega (arith, printed-at (fill s.form.now s.numbers.now) s.out.now s.at c.if-size-at.false (sym c.form_fits.ensures ∙ not-false _ c.if-not-form_fits.false) c.write_form.ensures)
+overflow_add-result-2 c = let s = c.args in omega (arith, printed-at (fill s.form.now s.numbers.now) s.out.now s.at c.if-size-at.false (sym c.form_fits.ensures ∙ c.if-not-form_fits.false) c.write_form.ensures)
 
 pub returns : goal.returns
-returns c = let s = c.args in printed-there (fill s.form.now s.numbers.now) s.out.now s.at c.if-size-at.false (sym c.form_fits.ensures ∙ not-false _ c.if-not-form_fits.false) c.write_form.ensures
+returns c = let s = c.args in printed-there (fill s.form.now s.numbers.now) s.out.now s.at c.if-size-at.false (sym c.form_fits.ensures ∙ c.if-not-form_fits.false) c.write_form.ensures

@@ -61,8 +61,8 @@ loop-from-preserved-in-Refused c =
       λ e. absurd (omega (arith, x.forward)),
       λ D H q.
           let R = c.loop-from.invariant.5 D H q in
-          running-next _ D _ _ _ R h (leb-true _ _ c.if-place-limit.true) c.line_end-end.ensures (c.next-n.ensures (running-few _ D _ _ _ R h q)) c.read_command-command.ensures
-          (λ E G. refusal-performed E _ _ c.command-1.given.1 G c.print_refused-place.ensures),
+          running-next _ D _ _ _ R h c.if-place-limit.true c.line_end-end.ensures (c.next-n.ensures (running-few _ D _ _ _ R h q)) c.read_command-command.ensures
+          (λ E G. refusal-performed E _ _ c.in-Refused.is G c.print_refused-place.ensures),
     )
 
 pub loop-from-smaller-in-Lend : goal.loop-from-smaller-in-Lend
@@ -81,8 +81,8 @@ loop-from-preserved-in-Lend c =
       λ e. absurd (omega (arith, x.forward)),
       λ D H q.
           let R = c.loop-from.invariant.5 D H q in
-          running-next _ D _ _ _ R h (leb-true _ _ c.if-place-limit.true) c.line_end-end.ensures (c.next-n.ensures (running-few _ D _ _ _ R h q)) c.read_command-command.ensures
-          (λ E G. lend-performed E _ _ c.command-in-Lend-1.given.1 (c.run_lend-told.ensures E G)),
+          running-next _ D _ _ _ R h c.if-place-limit.true c.line_end-end.ensures (c.next-n.ensures (running-few _ D _ _ _ R h q)) c.read_command-command.ensures
+          (λ E G. lend-performed E _ _ c.in-Lend.is (c.run_lend-told.ensures E G)),
     )
 
 pub loop-from-smaller-in-Propose : goal.loop-from-smaller-in-Propose
@@ -101,8 +101,8 @@ loop-from-preserved-in-Propose c =
       λ e. absurd (omega (arith, x.forward)),
       λ D H q.
           let R = c.loop-from.invariant.5 D H q in
-          running-next _ D _ _ _ R h (leb-true _ _ c.if-place-limit.true) c.line_end-end.ensures (c.next-n.ensures (running-few _ D _ _ _ R h q)) c.read_command-command.ensures
-          (λ E G. proposal-performed E _ _ c.command-in-Propose-1.given.1 G.benched (c.print_proposal-told.ensures E G.kept)),
+          running-next _ D _ _ _ R h c.if-place-limit.true c.line_end-end.ensures (c.next-n.ensures (running-few _ D _ _ _ R h q)) c.read_command-command.ensures
+          (λ E G. proposal-performed E _ _ c.in-Propose.is G.benched (c.print_proposal-told.ensures E G.kept)),
     )
 
 pub loop-from-smaller-in-Call : goal.loop-from-smaller-in-Call
@@ -121,8 +121,8 @@ loop-from-preserved-in-Call c =
       λ e. absurd (omega (arith, x.forward)),
       λ D H q.
           let R = c.loop-from.invariant.5 D H q in
-          running-next _ D _ _ _ R h (leb-true _ _ c.if-place-limit.true) c.line_end-end.ensures (c.next-n.ensures (running-few _ D _ _ _ R h q)) c.read_command-command.ensures
-          (λ E G. call-performed E _ _ c.command-in-Call-1.given.1 _ (c.make_call-outcome.ensures E G.benched G.kept) (kind-printed _ _ _ c.kind_of-kind.ensures _ c.print_outcome-place.ensures) G),
+          running-next _ D _ _ _ R h c.if-place-limit.true c.line_end-end.ensures (c.next-n.ensures (running-few _ D _ _ _ R h q)) c.read_command-command.ensures
+          (λ E G. call-performed E _ _ c.in-Call.is _ (c.make_call-outcome.ensures E G.benched G.kept) (kind-printed _ _ _ c.kind_of-kind.ensures _ c.print_outcome-place.ensures) G),
     )
 
 pub loop-from-smaller-in-Vote : goal.loop-from-smaller-in-Vote
@@ -141,8 +141,8 @@ loop-from-preserved-in-Vote c =
       λ e. absurd (omega (arith, x.forward)),
       λ D H q.
           let R = c.loop-from.invariant.5 D H q in
-          running-next _ D _ _ _ R h (leb-true _ _ c.if-place-limit.true) c.line_end-end.ensures (c.next-n.ensures (running-few _ D _ _ _ R h q)) c.read_command-command.ensures
-          (λ E G. vote-performed E _ _ c.command-in-Vote-1.given.1 G (c.print_vote-place.ensures E G)),
+          running-next _ D _ _ _ R h c.if-place-limit.true c.line_end-end.ensures (c.next-n.ensures (running-few _ D _ _ _ R h q)) c.read_command-command.ensures
+          (λ E G. vote-performed E _ _ c.in-Vote.is G (c.print_vote-place.ensures E G)),
     )
 
 pub loop-from-smaller : goal.loop-from-smaller
@@ -161,8 +161,8 @@ loop-from-preserved c =
       λ e. absurd (omega (arith, x.forward)),
       λ D H q.
           let R = c.loop-from.invariant.5 D H q in
-          running-next _ D _ _ _ R h (leb-true _ _ c.if-place-limit.true) c.line_end-end.ensures (c.next-n.ensures (running-few _ D _ _ _ R h q)) c.read_command-command.ensures
-          (λ E G. ask-performed E _ _ c.command-in-Ask-1.given.1 G (c.print_ask-place.ensures E G.benched)),
+          running-next _ D _ _ _ R h c.if-place-limit.true c.line_end-end.ensures (c.next-n.ensures (running-few _ D _ _ _ R h q)) c.read_command-command.ensures
+          (λ E G. ask-performed E _ _ c.in-Ask.is G (c.print_ask-place.ensures E G.benched)),
     )
 
 pub returns-else-place-limit : goal.returns-else-place-limit

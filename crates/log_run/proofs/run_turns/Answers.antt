@@ -51,7 +51,7 @@ loop-from-preserved c =
       r.0 ∙ v.4,
       λ D first before begin bench lending edits constraints R t k.
           let S = v.5 D first before begin bench lending edits constraints R t k in
-          paged-next _ D first before begin bench _ S (ap (λ (u : Turner). u.last) t ∙ sym v.4) h (leb-true _ _ c.if-place-limit.true) c.line_end-end.ensures (c.next-n.ensures (running-few _ D first before begin S h k))
+          paged-next _ D first before begin bench _ S (ap (λ (u : Turner). u.last) t ∙ sym v.4) h c.if-place-limit.true c.line_end-end.ensures (c.next-n.ensures (running-few _ D first before begin S h k))
           c.read_command-command.ensures
           _ (λ E b l e k H q. r.1 E _ b l e k H q (sym c.paging_of-paging.ensures) (sym c.is_other.ensures ∙ c.if-is_other.false)),
     )

@@ -8,27 +8,27 @@ use Rattle.log_session.proofs.make_call.Goals as goal
 
 pub returns-in-AddEdit : goal.returns-in-AddEdit
 unfolding request_of
-returns-in-AddEdit c = λ D e K. call-reply D _ _ e c.call-1.given.1 _ refl (ap add_edit c.edit_row.ensures) c.add_edit.ensures
+returns-in-AddEdit c = λ D e K. call-reply D _ _ e c.in-AddEdit.is _ refl (ap add_edit c.edit_row.ensures) c.add_edit.ensures
 
 pub returns-in-AddConstraint : goal.returns-in-AddConstraint
 unfolding request_of
-returns-in-AddConstraint c = λ D e K. call-reply D _ _ e c.call-in-AddConstraint-1.given.1 _ refl (ap add_constraint c.constraint_row.ensures) c.add_constraint.ensures
+returns-in-AddConstraint c = λ D e K. call-reply D _ _ e c.in-AddConstraint.is _ refl (ap add_constraint c.constraint_row.ensures) c.add_constraint.ensures
 
 pub returns-in-Merge : goal.returns-in-Merge
-returns-in-Merge c = λ D e K. merge-reply D _ _ e _ c.call-in-Merge-1.given.1 c.merge_lent.ensures.0 (λ h. c.merge_lent.ensures.1 D.lent K h)
+returns-in-Merge c = λ D e K. merge-reply D _ _ e _ c.in-Merge.is c.merge_lent.ensures.0 (λ h. c.merge_lent.ensures.1 D.lent K h)
 
 pub returns-in-Hide : goal.returns-in-Hide
 unfolding request_of
-returns-in-Hide c = λ D e K. call-reply D _ _ e c.call-in-Hide-1.given.1 _ refl (refl) c.hide.ensures
+returns-in-Hide c = λ D e K. call-reply D _ _ e c.in-Hide.is _ refl (refl) c.hide.ensures
 
 pub returns-in-Show : goal.returns-in-Show
 unfolding request_of
-returns-in-Show c = λ D e K. call-reply D _ _ e c.call-in-Show-1.given.1 _ refl (refl) c.show.ensures
+returns-in-Show c = λ D e K. call-reply D _ _ e c.in-Show.is _ refl (refl) c.show.ensures
 
 pub returns-in-Turn : goal.returns-in-Turn
 unfolding request_of
-returns-in-Turn c = λ D e K. call-reply D _ _ e c.call-in-Turn-1.given.1 _ refl (ap turn (search rules)) c.turn.ensures
+returns-in-Turn c = λ D e K. call-reply D _ _ e c.in-Turn.is _ refl (ap turn (search rules)) c.turn.ensures
 
 pub returns-in-Adopt : goal.returns-in-Adopt
 unfolding request_of
-returns-in-Adopt c = λ D e K. call-reply D _ _ e c.call-in-Adopt-1.given.1 _ refl refl (c.adopt_lent.ensures D.lent K)
+returns-in-Adopt c = λ D e K. call-reply D _ _ e c.in-Adopt.is _ refl refl (c.adopt_lent.ensures D.lent K)

@@ -13,7 +13,7 @@ loop-i-init c = (search rules, search rules, search rules, search rules, refl)
 
 pub loop-i-preserved : goal.loop-i-preserved
 loop-i-preserved c =
-    (search rules, search rules, search rules, search rules, rows_next edit_row c.args.t1 c.loop-i.out c.loop-i.i _ (search rules) (search rules) c.loop-i.invariant.4 c.edit_row.ensures)
+    (search rules, search rules, search rules, search rules, rows_next edit_row c.args.a c.loop-i.out c.loop-i.i _ (search rules) (search rules) c.loop-i.invariant.4 c.edit_row.ensures)
 
 pub returns : goal.returns
-returns c = rows_end edit_row c.args.t1 c.loop-i.out c.loop-i.i c.args.n c.loop-i.invariant.0 c.loop-i-test.false c.loop-i.invariant.4
+returns c = rows_end edit_row c.args.a c.loop-i.out c.loop-i.i c.args.n c.loop-i.invariant.0 c.loop-i-test.false c.loop-i.invariant.4

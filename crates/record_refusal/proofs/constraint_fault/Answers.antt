@@ -24,18 +24,18 @@ loop-i-init c =
 pub returns-then-not-constraint_in_range : goal.returns-then-not-constraint_in_range
 returns-then-not-constraint_in_range c = λ names k o.
     let s = c.args in
-    state-outside (constraint_elements names s.adding) s.r.constraints s.r.constraintcount s.t.now (omega arith) c.loop-i.at c.loop-i.count c.loop-i.i (c.loop-i.invariant.5 names k) c.loop-i-test.true c.constraint_in_range.ensures.0 (not-true _ c.if-not-constraint_in_range.true) (constraint-rows-ascend (take s.r.constraintcount s.r.constraints) o.constraintorder)
+    state-outside (constraint_elements names s.adding) s.r.constraints s.r.constraintcount s.t.now (omega arith) c.loop-i.at c.loop-i.count c.loop-i.i (c.loop-i.invariant.5 names k) c.loop-i-test.true c.constraint_in_range.ensures.0 c.if-not-constraint_in_range.true (constraint-rows-ascend (take s.r.constraintcount s.r.constraints) o.constraintorder)
 
 pub returns-then-not-constraint_follows : goal.returns-then-not-constraint_follows
 returns-then-not-constraint_follows c = λ names k o.
     let s = c.args in
-    state-late (constraint_elements names s.adding) s.r.constraints s.r.constraintcount s.t.now (omega arith) c.loop-i.at c.loop-i.count c.loop-i.i (c.loop-i.invariant.5 names k) c.loop-i-test.true c.constraint_in_range.ensures.0 (not-false _ c.if-not-constraint_in_range.false) c.constraint_follows.result c.constraint_follows.ensures (not-true _ c.if-not-constraint_follows.true)
+    state-late (constraint_elements names s.adding) s.r.constraints s.r.constraintcount s.t.now (omega arith) c.loop-i.at c.loop-i.count c.loop-i.i (c.loop-i.invariant.5 names k) c.loop-i-test.true c.constraint_in_range.ensures.0 c.if-not-constraint_in_range.false c.constraint_follows.result c.constraint_follows.ensures c.if-not-constraint_follows.true
     c.constraint_late-late.ensures (c.constraint_further-further.ensures names k) c.late_further.ensures (constraint-rows-ascend (take s.r.constraintcount s.r.constraints) o.constraintorder)
 
 pub returns-then-number-ne0 : goal.returns-then-number-ne0
 returns-then-number-ne0 c = λ names k o.
     let s = c.args in
-    state-stops (constraint_elements names s.adding) s.r.constraints s.r.constraintcount s.t.now (omega arith) c.loop-i.at c.loop-i.count c.loop-i.i (c.loop-i.invariant.5 names k) c.loop-i-test.true c.constraint_in_range.ensures.0 (not-false _ c.if-not-constraint_in_range.false) c.constraint_follows.result c.constraint_follows.ensures c.constraint_in_range.ensures.1 (not-false _ c.if-not-constraint_follows.false)
+    state-stops (constraint_elements names s.adding) s.r.constraints s.r.constraintcount s.t.now (omega arith) c.loop-i.at c.loop-i.count c.loop-i.i (c.loop-i.invariant.5 names k) c.loop-i-test.true c.constraint_in_range.ensures.0 c.if-not-constraint_in_range.false c.constraint_follows.result c.constraint_follows.ensures c.constraint_in_range.ensures.1 c.if-not-constraint_follows.false
     c.slot.result _ c.slot.ensures.1 c.constraint_row-x.ensures c.step-s.result c.step-s.ensures.0 _ (c.constraint_further-further.ensures names k)
     (λ y. c.if-number-ne0.true (c.later_number-number.ensures.0 ∙ y)) c.later_number-number.ensures.0 (constraint-rows-ascend (take s.r.constraintcount s.r.constraints) o.constraintorder)
 
@@ -61,7 +61,7 @@ loop-i-preserved c =
       search rules,
       search rules,
       search rules,
-      λ names k. state-goes (constraint_elements names s.adding) s.r.constraints s.r.constraintcount s.t.now (omega arith) c.loop-i.at c.loop-i.count c.loop-i.i (c.loop-i.invariant.5 names k) c.loop-i-test.true c.constraint_in_range.ensures.0 (not-false _ c.if-not-constraint_in_range.false) c.constraint_follows.result c.constraint_follows.ensures c.constraint_in_range.ensures.1 (not-false _ c.if-not-constraint_follows.false)
+      λ names k. state-goes (constraint_elements names s.adding) s.r.constraints s.r.constraintcount s.t.now (omega arith) c.loop-i.at c.loop-i.count c.loop-i.i (c.loop-i.invariant.5 names k) c.loop-i-test.true c.constraint_in_range.ensures.0 c.if-not-constraint_in_range.false c.constraint_follows.result c.constraint_follows.ensures c.constraint_in_range.ensures.1 c.if-not-constraint_follows.false
           c.slot.result _ c.slot.ensures.1 c.constraint_row-x.ensures c.step-s.result c.step-s.ensures.0 _ (c.constraint_further-further.ensures names k) (sym c.later_number-number.ensures.0 ∙ c.if-number-ne0.false),
     )
 

@@ -9,5 +9,5 @@ use Rattle.record_refusal.proofs.constraint_late.Goals as goal
 pub returns : goal.returns
 returns c = λ a.
     let m = c.step-s in
-    late-fault-is (constraint_elements [] false) c.args.t1 c.args.n c.args.t.now (search rules) c.args.count c.args.i c.constraint_place-p.ensures.1 a c.constraint_place-p.result c.constraint_place-p.ensures.2 c.slot.result _ c.slot.ensures.1 c.constraint_row-x.ensures
+    late-fault-is (constraint_elements [] false) c.args.a c.args.n c.args.t.now (search rules) c.args.count c.args.i c.constraint_place-p.ensures.1 a c.constraint_place-p.result c.constraint_place-p.ensures.2 c.slot.result _ c.slot.ensures.1 c.constraint_row-x.ensures
     m.result m.ensures.0 c.constraint_repeated-again.result c.constraint_repeated-again.ensures c.late_number.ensures

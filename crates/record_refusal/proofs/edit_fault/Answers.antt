@@ -22,18 +22,18 @@ loop-i-init c =
 pub returns-then-not-edit_in_range : goal.returns-then-not-edit_in_range
 returns-then-not-edit_in_range c = λ o.
     let s = c.args in
-    state-outside edit_elements s.r.edits s.r.editcount s.t.now (omega arith) c.loop-i.at c.loop-i.count c.loop-i.i c.loop-i.invariant.5 c.loop-i-test.true c.edit_in_range.ensures.0 (not-true _ c.if-not-edit_in_range.true) (edit-rows-ascend (take s.r.editcount s.r.edits) o.editorder)
+    state-outside edit_elements s.r.edits s.r.editcount s.t.now (omega arith) c.loop-i.at c.loop-i.count c.loop-i.i c.loop-i.invariant.5 c.loop-i-test.true c.edit_in_range.ensures.0 c.if-not-edit_in_range.true (edit-rows-ascend (take s.r.editcount s.r.edits) o.editorder)
 
 pub returns-then-not-edit_follows : goal.returns-then-not-edit_follows
 returns-then-not-edit_follows c = λ o.
     let s = c.args in
-    state-late edit_elements s.r.edits s.r.editcount s.t.now (omega arith) c.loop-i.at c.loop-i.count c.loop-i.i c.loop-i.invariant.5 c.loop-i-test.true c.edit_in_range.ensures.0 (not-false _ c.if-not-edit_in_range.false) c.edit_follows.result c.edit_follows.ensures (not-true _ c.if-not-edit_follows.true)
+    state-late edit_elements s.r.edits s.r.editcount s.t.now (omega arith) c.loop-i.at c.loop-i.count c.loop-i.i c.loop-i.invariant.5 c.loop-i-test.true c.edit_in_range.ensures.0 c.if-not-edit_in_range.false c.edit_follows.result c.edit_follows.ensures c.if-not-edit_follows.true
     c.edit_late.ensures refl (sym (late-zero c.edit_late.result)) (edit-rows-ascend (take s.r.editcount s.r.edits) o.editorder)
 
 pub returns-then-s-ne0 : goal.returns-then-s-ne0
 returns-then-s-ne0 c = λ o.
     let s = c.args in
-    state-stops edit_elements s.r.edits s.r.editcount s.t.now (omega arith) c.loop-i.at c.loop-i.count c.loop-i.i c.loop-i.invariant.5 c.loop-i-test.true c.edit_in_range.ensures.0 (not-false _ c.if-not-edit_in_range.false) c.edit_follows.result c.edit_follows.ensures c.edit_in_range.ensures.1 (not-false _ c.if-not-edit_follows.false)
+    state-stops edit_elements s.r.edits s.r.editcount s.t.now (omega arith) c.loop-i.at c.loop-i.count c.loop-i.i c.loop-i.invariant.5 c.loop-i-test.true c.edit_in_range.ensures.0 c.if-not-edit_in_range.false c.edit_follows.result c.edit_follows.ensures c.edit_in_range.ensures.1 c.if-not-edit_follows.false
     c.slot.result _ c.slot.ensures.1 c.edit_row-x.ensures c.step-s.result c.step-s.ensures.0 0 refl
     (λ y. c.if-s-ne0.true (sym (later-zero c.step-s.result) ∙ y)) (sym (later-zero c.step-s.result)) (edit-rows-ascend (take s.r.editcount s.r.edits) o.editorder)
 
@@ -59,7 +59,7 @@ loop-i-preserved c =
       search rules,
       search rules,
       search rules,
-      state-goes edit_elements s.r.edits s.r.editcount s.t.now (omega arith) c.loop-i.at c.loop-i.count c.loop-i.i c.loop-i.invariant.5 c.loop-i-test.true c.edit_in_range.ensures.0 (not-false _ c.if-not-edit_in_range.false) c.edit_follows.result c.edit_follows.ensures c.edit_in_range.ensures.1 (not-false _ c.if-not-edit_follows.false)
+      state-goes edit_elements s.r.edits s.r.editcount s.t.now (omega arith) c.loop-i.at c.loop-i.count c.loop-i.i c.loop-i.invariant.5 c.loop-i-test.true c.edit_in_range.ensures.0 c.if-not-edit_in_range.false c.edit_follows.result c.edit_follows.ensures c.edit_in_range.ensures.1 c.if-not-edit_follows.false
           c.slot.result _ c.slot.ensures.1 c.edit_row-x.ensures c.step-s.result c.step-s.ensures.0 0 refl (later-zero c.step-s.result ∙ c.if-s-ne0.false),
     )
 

@@ -19,15 +19,15 @@ loop-i-init c = (search rules, search rules, search rules, λ f. marks-start 230
 
 pub loop-i-preserved : goal.loop-i-preserved
 loop-i-preserved c =
-    let z : length c.args.t1 ≡ 127 = search rules in (
+    let z : length c.args.a ≡ 127 = search rules in (
       search rules,
       search rules,
       search rules,
-      marks-front name_of (λ e. edit_in_range (edit_row e)) 2304 edit-small c.args.t1 c.args.n (omega arith) c.loop-i.marks c.loop-i.i c.slot-k.result _ c.loop-i-test.true c.loop-i.invariant.2
+      marks-front name_of (λ e. edit_in_range (edit_row e)) 2304 edit-small c.args.a c.args.n (omega arith) c.loop-i.marks c.loop-i.i c.slot-k.result _ c.loop-i-test.true c.loop-i.invariant.2
           c.slot-k.ensures.1 c.loop-i.invariant.3,
     )
 
 pub returns : goal.returns
 returns c = λ f.
-    let z : length c.args.t1 ≡ 127 = search rules in
-    marks-end name_of (λ e. edit_in_range (edit_row e)) 2304 edit-small (take c.args.n c.args.t1) c.loop-i.marks c.loop-i.i (omega (arith, length-take-le c.args.n c.args.t1 (omega arith))) (c.loop-i.invariant.3 f)
+    let z : length c.args.a ≡ 127 = search rules in
+    marks-end name_of (λ e. edit_in_range (edit_row e)) 2304 edit-small (take c.args.n c.args.a) c.loop-i.marks c.loop-i.i (omega (arith, length-take-le c.args.n c.args.a (omega arith))) (c.loop-i.invariant.3 f)

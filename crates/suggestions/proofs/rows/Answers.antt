@@ -4,13 +4,13 @@ use Rattle.suggestions.proofs.Advised.{rows-nothing, rows-notafter, rows-enables
 use Rattle.suggestions.proofs.rows.Goals as goal
 
 pub returns-in-Nothing : goal.returns-in-Nothing
-returns-in-Nothing c = rows-nothing c.args.a c.args.b c.enum_told-1.given.1
+returns-in-Nothing c = rows-nothing c.args.a c.args.b c.in-Nothing.is
 
 pub returns-in-Notafter : goal.returns-in-Notafter
-returns-in-Notafter c = rows-notafter c.args.a c.args.b c.enum_told-in-Notafter-1.given.1
+returns-in-Notafter c = rows-notafter c.args.a c.args.b c.in-Notafter.is
 
 pub returns-in-NotafterEnables : goal.returns-in-NotafterEnables
-returns-in-NotafterEnables c = rows-enables c.args.a c.args.b c.enum_told-in-NotafterEnables-1.given.1
+returns-in-NotafterEnables c = rows-enables c.args.a c.args.b c.in-NotafterEnables.is
 
 pub returns-in-Noncommuting : goal.returns-in-Noncommuting
-returns-in-Noncommuting c = rows-noncommuting c.args.a c.args.b c.enum_told-in-Noncommuting-1.given.1 c.lower.ensures c.higher.ensures
+returns-in-Noncommuting c = rows-noncommuting c.args.a c.args.b c.in-Noncommuting.is c.lower.ensures c.higher.ensures

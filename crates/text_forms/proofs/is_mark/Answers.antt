@@ -15,4 +15,4 @@ pub returns-in-63 : goal.returns-in-63
 returns-in-63 c = mark-answer c.args.c c.in-63.is
 
 pub returns-in_default : goal.returns-in_default
-returns-in_default c = mark-none c.args.c c.in_default.rest.0.0.1 c.in_default.rest.0.1 c.in_default.rest.1
+returns-in_default c = mark-none c.args.c c.in_default.in_default-own.rest.0.0.1 c.in_default.in_default-own.rest.0.1 c.in_default.in_default-own.rest.1

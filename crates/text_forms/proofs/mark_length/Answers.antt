@@ -12,4 +12,4 @@ returns-in-64 c = length-as c.args.mark c.args.n (spells-names c.args.mark c.in-
 
 pub returns-in_default : goal.returns-in_default
 unfolding number_spelling
-returns-in_default c = length-as c.args.mark c.args.n (spells-numbers c.args.mark c.in_default.rest.0.1 c.in_default.rest.1) c.ranges.n.fits c.number_length.ensures
+returns-in_default c = length-as c.args.mark c.args.n (spells-numbers c.args.mark c.in_default.in_default-own.rest.0.1 c.in_default.in_default-own.rest.1) c.ranges.n.fits c.number_length.ensures

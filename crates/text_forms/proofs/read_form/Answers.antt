@@ -17,7 +17,7 @@ pub store-requires : goal.store-requires
 store-requires c = c.loop-i.invariant.eight
 
 pub overflow_add-at : goal.overflow_add-at
-overflow_add-at c = omega (arith, mark-inside c.args.form.now c.args.bytes.now c.loop-i.numbers c.loop-i.at c.loop-i.i c.loop-i.k c.loop-i.invariant c.loop-i-test.true (sym c.is_mark.ensures ∙ c.if-is_mark.true) c.read_mark-numeral.ensures, c.type_inv.1.0)
+overflow_add-at c = omega (arith, mark-inside c.args.form.now c.args.bytes.now c.loop-i.numbers c.loop-i.at c.loop-i.i c.loop-i.k c.loop-i.invariant c.loop-i-test.true (sym c.is_mark.ensures ∙ c.if-is_mark.true) c.read_mark-numeral.ensures, c.type_inv.bytes)
 
 pub overflow_add-k : goal.overflow_add-k
 overflow_add-k c = omega (arith, c.loop-i.invariant.within, c.loop-i.invariant.used, c.loop-i-test.true)

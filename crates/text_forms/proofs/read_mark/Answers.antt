@@ -12,4 +12,4 @@ returns-in-64 c = numeral-as c.args.mark c.args.bytes.now (spells-names c.args.m
 
 pub returns-in_default : goal.returns-in_default
 unfolding number_spelling
-returns-in_default c = numeral-as c.args.mark c.args.bytes.now (spells-numbers c.args.mark c.in_default.rest.0.1 c.in_default.rest.1) c.read_number.ensures
+returns-in_default c = numeral-as c.args.mark c.args.bytes.now (spells-numbers c.args.mark c.in_default.in_default-own.rest.0.1 c.in_default.in_default-own.rest.1) c.read_number.ensures

@@ -14,7 +14,7 @@ pub write_mark-at-requires : goal.write_mark-at-requires
 write_mark-at-requires c = mark-fits c.args.form.now c.args.numbers.now c.args.out.now c.loop-i.out c.loop-i.at c.loop-i.i c.loop-i.k c.loop-i.invariant c.loop-i-test.true (sym c.is_mark.ensures ∙ c.if-is_mark.true) c.number_at-n.ensures
 
 pub overflow_add-at : goal.overflow_add-at
-overflow_add-at c = let w = writing-mark c.args.form.now c.args.numbers.now c.args.out.now c.loop-i.out c.loop-i.at c.loop-i.i c.loop-i.k c.loop-i.invariant c.loop-i-test.true (sym c.is_mark.ensures ∙ c.if-is_mark.true) c.number_at-n.ensures c.write_mark-at.ensures in omega (arith, w.inside, w.same, c.type_inv.0)
+overflow_add-at c = let w = writing-mark c.args.form.now c.args.numbers.now c.args.out.now c.loop-i.out c.loop-i.at c.loop-i.i c.loop-i.k c.loop-i.invariant c.loop-i-test.true (sym c.is_mark.ensures ∙ c.if-is_mark.true) c.number_at-n.ensures c.write_mark-at.ensures in omega (arith, w.inside, w.same, c.type_inv.out)
 
 pub overflow_add-k : goal.overflow_add-k
 overflow_add-k c = omega (arith, c.loop-i.invariant.within, c.loop-i.invariant.used, c.loop-i-test.true)

@@ -23,4 +23,4 @@ returns-in-2 c = let a = c.args in (words-length (bytes " do=set chip=") (bytes 
 
 pub returns-in_default : goal.returns-in_default
 unfolding bytes
-returns-in_default c = let a = c.args in (words-length (bytes " do=set chip=") (bytes " field=page value=") a.place a.value (fill-as _ _ _ (ap (drop 6) (set_rest a.field c.in_default.rest.0.0.1 c.in_default.rest.0.1 c.in_default.rest.1)) ∙ field-words _ _ 3) refl c.pair_length-in_default.ensures.0, c.pair_length-in_default.ensures.1)
+returns-in_default c = let a = c.args in (words-length (bytes " do=set chip=") (bytes " field=page value=") a.place a.value (fill-as _ _ _ (ap (drop 6) (set_rest a.field c.in_default.in_default-own.rest.0.0.1 c.in_default.in_default-own.rest.0.1 c.in_default.in_default-own.rest.1)) ∙ field-words _ _ 3) refl c.pair_length-in_default.ensures.0, c.pair_length-in_default.ensures.1)

@@ -17,4 +17,4 @@ returns-in-1 c = filled-as (edit_form c.args.kind c.args.field) (set_form c.args
 
 pub returns-in_default : goal.returns-in_default
 unfolding edit_form bytes
-returns-in_default c = filled-as (edit_form c.args.kind c.args.field) (edit_form 2 c.args.field) c.args.bytes.now (kind-rest c.args.kind c.args.field c.in_default.rest.0.1 c.in_default.rest.1) c.read_form-in_default.ensures
+returns-in_default c = filled-as (edit_form c.args.kind c.args.field) (edit_form 2 c.args.field) c.args.bytes.now (kind-rest c.args.kind c.args.field c.in_default.in_default-own.rest.0.1 c.in_default.in_default-own.rest.1) c.read_form-in_default.ensures

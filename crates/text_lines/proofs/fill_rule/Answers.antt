@@ -16,4 +16,4 @@ returns-in-1 c = filled-as (rule_form c.args.rule) (rule_form 1) c.args.bytes.no
 
 pub returns-in_default : goal.returns-in_default
 unfolding rule_form bytes
-returns-in_default c = filled-as (rule_form c.args.rule) (rule_form 2) c.args.bytes.now (rule-rest c.args.rule c.in_default.rest.0.1 c.in_default.rest.1) c.read_form-in_default.ensures
+returns-in_default c = filled-as (rule_form c.args.rule) (rule_form 2) c.args.bytes.now (rule-rest c.args.rule c.in_default.in_default-own.rest.0.1 c.in_default.in_default-own.rest.1) c.read_form-in_default.ensures

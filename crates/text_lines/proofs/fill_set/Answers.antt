@@ -20,4 +20,4 @@ returns-in-2 c = filled-as (set_form c.args.field) (set_form 2) c.args.bytes.now
 
 pub returns-in_default : goal.returns-in_default
 unfolding set_form bytes
-returns-in_default c = filled-as (set_form c.args.field) (set_form 3) c.args.bytes.now (set_rest c.args.field c.in_default.rest.0.0.1 c.in_default.rest.0.1 c.in_default.rest.1) c.read_form-in_default.ensures
+returns-in_default c = filled-as (set_form c.args.field) (set_form 3) c.args.bytes.now (set_rest c.args.field c.in_default.in_default-own.rest.0.0.1 c.in_default.in_default-own.rest.0.1 c.in_default.in_default-own.rest.1) c.read_form-in_default.ensures

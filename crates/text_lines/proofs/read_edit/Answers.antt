@@ -21,4 +21,4 @@ pub returns-in-115 : goal.returns-in-115
 returns-in-115 c = c.read_set.ensures
 
 pub returns-in_default : goal.returns-in_default
-returns-in_default c = no_kind c.args.bytes.now c.number_end-name.result c.requires.1 c.number_end-name.ensures.0 c.byte_at-letter.ensures c.in_default.rest.0.0.1 c.in_default.rest.0.1 c.in_default.rest.1 c.fault.ensures
+returns-in_default c = no_kind c.args.bytes.now c.number_end-name.result c.requires.1 c.number_end-name.ensures.0 c.byte_at-letter.ensures c.in_default.in_default-own.rest.0.0.1 c.in_default.in_default-own.rest.0.1 c.in_default.in_default-own.rest.1 c.fault.ensures

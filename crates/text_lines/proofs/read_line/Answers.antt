@@ -20,4 +20,4 @@ pub returns-in-102 : goal.returns-in-102
 returns-in-102 c = whole c.args.bytes.now c.if-bytes-gt-LINE_LIMIT.false c.read_rule.ensures
 
 pub returns-in_default : goal.returns-in_default
-returns-in_default c = whole c.args.bytes.now c.if-bytes-gt-LINE_LIMIT.false (no_line c.args.bytes.now c.byte_at-third.ensures c.in_default.rest.0.1 c.in_default.rest.1 c.fault-in_default.ensures)
+returns-in_default c = whole c.args.bytes.now c.if-bytes-gt-LINE_LIMIT.false (no_line c.args.bytes.now c.byte_at-third.ensures c.in_default.in_default-own.rest.0.1 c.in_default.in_default-own.rest.1 c.fault-in_default.ensures)

@@ -25,7 +25,7 @@ write_pair-requires-in-2 c = let a = c.args in line-fits-as (fill (drop 6 (set_f
 
 pub write_pair-requires-in_default : goal.write_pair-requires-in_default
 unfolding bytes
-write_pair-requires-in_default c = let a = c.args in line-fits-as (fill (drop 6 (set_form a.field)) (a.place ∷ a.value ∷ [])) _ (fill-as _ _ _ (ap (drop 6) (set_rest a.field c.in_default.rest.0.0.1 c.in_default.rest.0.1 c.in_default.rest.1)) ∙ field-words _ _ 3) a.out.now c.requires
+write_pair-requires-in_default c = let a = c.args in line-fits-as (fill (drop 6 (set_form a.field)) (a.place ∷ a.value ∷ [])) _ (fill-as _ _ _ (ap (drop 6) (set_rest a.field c.in_default.in_default-own.rest.0.0.1 c.in_default.in_default-own.rest.0.1 c.in_default.in_default-own.rest.1)) ∙ field-words _ _ 3) a.out.now c.requires
 
 pub returns-in-0 : goal.returns-in-0
 unfolding bytes
@@ -41,4 +41,4 @@ returns-in-2 c = let a = c.args in line-written-as (fill (drop 6 (set_form a.fie
 
 pub returns-in_default : goal.returns-in_default
 unfolding bytes
-returns-in_default c = let a = c.args in line-written-as (fill (drop 6 (set_form a.field)) (a.place ∷ a.value ∷ [])) _ (fill-as _ _ _ (ap (drop 6) (set_rest a.field c.in_default.rest.0.0.1 c.in_default.rest.0.1 c.in_default.rest.1)) ∙ field-words _ _ 3) a.out.now c.write_pair-in_default.ensures
+returns-in_default c = let a = c.args in line-written-as (fill (drop 6 (set_form a.field)) (a.place ∷ a.value ∷ [])) _ (fill-as _ _ _ (ap (drop 6) (set_rest a.field c.in_default.in_default-own.rest.0.0.1 c.in_default.in_default-own.rest.0.1 c.in_default.in_default-own.rest.1)) ∙ field-words _ _ 3) a.out.now c.write_pair-in_default.ensures

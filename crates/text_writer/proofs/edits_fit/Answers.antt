@@ -10,12 +10,12 @@ use borrow.Author.Rules.{rules}
 use Rattle.text_writer.proofs.edits_fit.Goals as goal
 
 pub loop-i-init : goal.loop-i-init
-loop-i-init c = let s = c.args in leaves_all edit_text s.t2 s.n s.fit (search rules)
+loop-i-init c = let s = c.args in leaves_all edit_text s.a s.n s.fit (search rules)
 
 pub loop-i-preserved : goal.loop-i-preserved
 loop-i-preserved c =
     let s = c.args in
-    leaves-next edit_text s.t2 s.n s.fit c.loop-i.invariant _ c.loop-i-test.true (c.edit_line_length.ensures ∙ ap (λ (r : List ℕ). length (edit_line r)) c.edit_row.ensures) c.fit_more-rest.ensures
+    leaves-next edit_text s.a s.n s.fit c.loop-i.invariant _ c.loop-i-test.true (c.edit_line_length.ensures ∙ ap (λ (r : List ℕ). length (edit_line r)) c.edit_row.ensures) c.fit_more-rest.ensures
 
 pub returns : goal.returns
-returns c = let s = c.args in leaves-end edit_text s.t2 s.n s.fit c.loop-i.invariant c.loop-i-test.false
+returns c = let s = c.args in leaves-end edit_text s.a s.n s.fit c.loop-i.invariant c.loop-i-test.false

@@ -13,19 +13,19 @@ returns-then-out-at c = let s = c.args in let text = text_of (record_of s.conten
 pub returns-then-not-text_fits : goal.returns-then-not-text_fits
 returns-then-not-text_fits c =
     let s = c.args in
-    no_room (text_of (record_of s.content)) s.out.now s.at c.if-out-at.false c.text_fits.ensures (not-true _ c.if-not-text_fits.true)
+    no_room (text_of (record_of s.content)) s.out.now s.at c.if-out-at.false c.text_fits.ensures c.if-not-text_fits.true
 
 pub write_rows-size-requires : goal.write_rows-size-requires
 write_rows-size-requires c =
     let s = c.args in
-    has_room (text_of (record_of s.content)) s.out.now s.at c.if-out-at.false c.text_fits.ensures (not-false _ c.if-not-text_fits.false)
+    has_room (text_of (record_of s.content)) s.out.now s.at c.if-out-at.false c.text_fits.ensures c.if-not-text_fits.false
 
 pub overflow_add-result : goal.overflow_add-result
 overflow_add-result c =
     let s = c.args in
-    omega (arith, end_fits (text_of (record_of s.content)) s.out.now s.at c.if-out-at.false c.text_fits.ensures (not-false _ c.if-not-text_fits.false) c.write_rows-size.ensures)
+    omega (arith, end_fits (text_of (record_of s.content)) s.out.now s.at c.if-out-at.false c.text_fits.ensures c.if-not-text_fits.false c.write_rows-size.ensures)
 
 pub returns : goal.returns
 returns c =
     let s = c.args in
-    written-there (text_of (record_of s.content)) s.out.now s.at c.if-out-at.false c.text_fits.ensures (not-false _ c.if-not-text_fits.false) c.write_rows-size.ensures
+    written-there (text_of (record_of s.content)) s.out.now s.at c.if-out-at.false c.text_fits.ensures c.if-not-text_fits.false c.write_rows-size.ensures

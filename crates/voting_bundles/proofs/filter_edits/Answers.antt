@@ -15,28 +15,28 @@ use Rattle.voting_bundles.proofs.filter_edits.Goals as goal
 
 pub loop-i-init : goal.loop-i-init
 loop-i-init c = let e = ap (λ r. r.edits) c.empty-old.ensures in
-    (search rules, search rules, search rules, ap length e, λ p f. filtering-start 127 filler_edit p c.args.t1 _ e)
+    (search rules, search rules, search rules, ap length e, λ p f. filtering-start 127 filler_edit p c.args.edits _ e)
 
 pub loop-i-preserved-then-marks-i-eq1 : goal.loop-i-preserved-then-marks-i-eq1
 loop-i-preserved-then-marks-i-eq1 c = let l = c.loop-i in
-    let z : length c.args.t1 ≡ 127 = search (rules, length-mapped) in
+    let z : length c.args.edits ≡ 127 = search (rules, length-mapped) in
     let lt = c.loop-i-test.true in (
       search rules,
       search rules,
       search rules,
       simp length-set l.invariant.3,
-      λ p f. filtering-kept 127 filler_edit p c.args.t1 l.i l.rows l.count _ (omega arith) (l.invariant.4 p f) (omega arith) (sym (f l.i lt) ∙ eq-eqb _ _ c.if-marks-i-eq1.true),
+      λ p f. filtering-kept 127 filler_edit p c.args.edits l.i l.rows l.count _ (omega arith) (l.invariant.4 p f) (omega arith) (sym (f l.i lt) ∙ eq-eqb _ _ c.if-marks-i-eq1.true),
     )
 
 pub loop-i-preserved : goal.loop-i-preserved
 loop-i-preserved c = let l = c.loop-i in
-    let z : length c.args.t1 ≡ 127 = search (rules, length-mapped) in
+    let z : length c.args.edits ≡ 127 = search (rules, length-mapped) in
     let lt = c.loop-i-test.true in (
       search rules,
       search rules,
       search rules,
       l.invariant.3,
-      λ p f. filtering-skip 127 filler_edit p c.args.t1 l.i l.rows l.count filler_edit (omega arith) (l.invariant.4 p f) (sym (f l.i lt) ∙ ne_eqb _ _ c.if-marks-i-eq1.false),
+      λ p f. filtering-skip 127 filler_edit p c.args.edits l.i l.rows l.count filler_edit (omega arith) (l.invariant.4 p f) (sym (f l.i lt) ∙ ne_eqb _ _ c.if-marks-i-eq1.false),
     )
 
 pub returns : goal.returns

@@ -21,10 +21,10 @@ returns-then-not-is_name c = let es = c.args.edits.now in
     let R = decoded es cs in
     let j = c.lent-lent.result in
     let p = lent-stored j (lent_fault empty_tables es cs) R c.lent-lent.ensures c.if-lent-ne0.false in
-    c.refused-then-not-is_name.ensures ∙ bundle-name-refused es cs x p.0 (sym c.is_name.ensures ∙ not-true _ c.if-not-is_name.true)
+    c.refused-then-not-is_name.ensures ∙ bundle-name-refused es cs x p.0 (sym c.is_name.ensures ∙ c.if-not-is_name.true)
 
 pub overflow_cast-name : goal.overflow_cast-name
-overflow_cast-name c = omega (arith, name-small c.args.edit (sym c.is_name.ensures ∙ not-false _ c.if-not-is_name.false))
+overflow_cast-name c = omega (arith, name-small c.args.edit (sym c.is_name.ensures ∙ c.if-not-is_name.false))
 
 pub returns-then-not-knows : goal.returns-then-not-knows
 returns-then-not-knows c = let es = c.args.edits.now in
@@ -33,9 +33,9 @@ returns-then-not-knows c = let es = c.args.edits.now in
     let R = decoded es cs in
     let j = c.lent-lent.result in
     let p = lent-stored j (lent_fault empty_tables es cs) R c.lent-lent.ensures c.if-lent-ne0.false in
-    let nm = sym c.is_name.ensures ∙ not-false _ c.if-not-is_name.false in
+    let nm = sym c.is_name.ensures ∙ c.if-not-is_name.false in
     let k = lent-checked es cs p.0 in
-    c.refused-then-not-knows.ensures ∙ bundle-unknown-refused es cs x p.0 nm (sym (c.knows.ensures R p.1 k) ∙ not-true _ c.if-not-knows.true)
+    c.refused-then-not-knows.ensures ∙ bundle-unknown-refused es cs x p.0 nm (sym (c.knows.ensures R p.1 k) ∙ c.if-not-knows.true)
 
 pub returns-then-not-sound : goal.returns-then-not-sound
 returns-then-not-sound c = let es = c.args.edits.now in
@@ -44,11 +44,11 @@ returns-then-not-sound c = let es = c.args.edits.now in
     let R = decoded es cs in
     let j = c.lent-lent.result in
     let p = lent-stored j (lent_fault empty_tables es cs) R c.lent-lent.ensures c.if-lent-ne0.false in
-    let nm = sym c.is_name.ensures ∙ not-false _ c.if-not-is_name.false in
+    let nm = sym c.is_name.ensures ∙ c.if-not-is_name.false in
     let k = lent-checked es cs p.0 in
-    let kn = sym (c.knows.ensures R p.1 k) ∙ not-false _ c.if-not-knows.false in
+    let kn = sym (c.knows.ensures R p.1 k) ∙ c.if-not-knows.false in
     let f = checked-fit R k in
-    c.refused-then-not-sound.ensures ∙ bundle-unsound-refused es cs x p.0 nm kn (sym (c.sound.ensures R p.1 f) ∙ not-true _ c.if-not-sound.true)
+    c.refused-then-not-sound.ensures ∙ bundle-unsound-refused es cs x p.0 nm kn (sym (c.sound.ensures R p.1 f) ∙ c.if-not-sound.true)
 
 pub returns : goal.returns
 returns c = let es = c.args.edits.now in
@@ -57,10 +57,10 @@ returns c = let es = c.args.edits.now in
     let R = decoded es cs in
     let j = c.lent-lent.result in
     let p = lent-stored j (lent_fault empty_tables es cs) R c.lent-lent.ensures c.if-lent-ne0.false in
-    let nm = sym c.is_name.ensures ∙ not-false _ c.if-not-is_name.false in
+    let nm = sym c.is_name.ensures ∙ c.if-not-is_name.false in
     let k = lent-checked es cs p.0 in
-    let kn = sym (c.knows.ensures R p.1 k) ∙ not-false _ c.if-not-knows.false in
+    let kn = sym (c.knows.ensures R p.1 k) ∙ c.if-not-knows.false in
     let f = checked-fit R k in
     let q = c.bundle-small.ensures R p.1 f kn in
-    bundle-answered es cs x p.0 nm kn (sym (c.sound.ensures R p.1 f) ∙ not-false _ c.if-not-sound.false) c.all_settled.result c.bundle-small.result
+    bundle-answered es cs x p.0 nm kn (sym (c.sound.ensures R p.1 f) ∙ c.if-not-sound.false) c.all_settled.result c.bundle-small.result
     (c.all_settled.ensures (bundle R x) q (bundle-fit R f x) ∙ eligible-all R x) q

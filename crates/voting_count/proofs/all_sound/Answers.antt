@@ -23,7 +23,7 @@ returns-then-not-sound c = λ h.
     let P = (lent_proposals (map (λ x. x.now) c.args.edits) (map (λ x. x.now) c.args.constraints)) in
     let lt = c.loop-k-test.true in
     let g = bench-faultless P h c.loop-k.k lt in
-    not-every (λ j. sound (held P j)) c.loop-k.k lt c.sound.result (c.sound.ensures (held P (c.loop-k.k + 1)) (c.proposal_at-proposal.ensures g) (checked-fit _ (held-checked P (c.loop-k.k + 1) g))) (not-true _ c.if-not-sound.true)
+    not-every (λ j. sound (held P j)) c.loop-k.k lt c.sound.result (c.sound.ensures (held P (c.loop-k.k + 1)) (c.proposal_at-proposal.ensures g) (checked-fit _ (held-checked P (c.loop-k.k + 1) g))) c.if-not-sound.true
 
 pub loop-k-preserved : goal.loop-k-preserved
 loop-k-preserved c = let P = (lent_proposals (map (λ x. x.now) c.args.edits) (map (λ x. x.now) c.args.constraints)) in
@@ -31,7 +31,7 @@ loop-k-preserved c = let P = (lent_proposals (map (λ x. x.now) c.args.edits) (m
       search rules,
       λ h.
           let g = bench-faultless P h c.loop-k.k lt in
-          every_more (λ j. sound (held P j)) c.loop-k.k lt c.sound.result (c.sound.ensures (held P (c.loop-k.k + 1)) (c.proposal_at-proposal.ensures g) (checked-fit _ (held-checked P (c.loop-k.k + 1) g))) (not-false _ c.if-not-sound.false) (c.loop-k.invariant.1 h),
+          every_more (λ j. sound (held P j)) c.loop-k.k lt c.sound.result (c.sound.ensures (held P (c.loop-k.k + 1)) (c.proposal_at-proposal.ensures g) (checked-fit _ (held-checked P (c.loop-k.k + 1) g))) c.if-not-sound.false (c.loop-k.invariant.1 h),
     )
 
 pub returns : goal.returns

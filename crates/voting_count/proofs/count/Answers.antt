@@ -27,10 +27,10 @@ returns-then-not-is_name c = λ rows e.
     let x = c.args.edit in
     let z : Faultless P = sym c.proposals_fault-number.ensures ∙ c.if-number-ne0.false in
     let f = sym (roll-faulty-is c.args.roll rows e) ∙ c.if-roll.false in
-    c.refused-then-not-is_name.ensures ∙ count-name-refused x P rows z f (sym c.is_name.ensures ∙ not-true _ c.if-not-is_name.true)
+    c.refused-then-not-is_name.ensures ∙ count-name-refused x P rows z f (sym c.is_name.ensures ∙ c.if-not-is_name.true)
 
 pub overflow_cast-name : goal.overflow_cast-name
-overflow_cast-name c = omega (arith, name-small c.args.edit (sym c.is_name.ensures ∙ not-false _ c.if-not-is_name.false))
+overflow_cast-name c = omega (arith, name-small c.args.edit (sym c.is_name.ensures ∙ c.if-not-is_name.false))
 
 pub returns-then-not-is_known : goal.returns-then-not-is_known
 returns-then-not-is_known c = λ rows e.
@@ -38,8 +38,8 @@ returns-then-not-is_known c = λ rows e.
     let x = c.args.edit in
     let z : Faultless P = sym c.proposals_fault-number.ensures ∙ c.if-number-ne0.false in
     let f = sym (roll-faulty-is c.args.roll rows e) ∙ c.if-roll.false in
-    let nm = sym c.is_name.ensures ∙ not-false _ c.if-not-is_name.false in
-    c.refused-then-not-is_known.ensures ∙ count-unknown-refused x P rows z f nm (sym (c.is_known.ensures _ z) ∙ not-true _ c.if-not-is_known.true)
+    let nm = sym c.is_name.ensures ∙ c.if-not-is_name.false in
+    c.refused-then-not-is_known.ensures ∙ count-unknown-refused x P rows z f nm (sym (c.is_known.ensures _ z) ∙ c.if-not-is_known.true)
 
 pub returns-then-not-all_sound : goal.returns-then-not-all_sound
 returns-then-not-all_sound c = λ rows e.
@@ -47,9 +47,9 @@ returns-then-not-all_sound c = λ rows e.
     let x = c.args.edit in
     let z : Faultless P = sym c.proposals_fault-number.ensures ∙ c.if-number-ne0.false in
     let f = sym (roll-faulty-is c.args.roll rows e) ∙ c.if-roll.false in
-    let nm = sym c.is_name.ensures ∙ not-false _ c.if-not-is_name.false in
-    let kn = sym (c.is_known.ensures _ z) ∙ not-false _ c.if-not-is_known.false in
-    c.refused-then-not-all_sound.ensures ∙ count-unsound-refused x P rows z f nm kn (sym (c.all_sound.ensures z) ∙ not-true _ c.if-not-all_sound.true)
+    let nm = sym c.is_name.ensures ∙ c.if-not-is_name.false in
+    let kn = sym (c.is_known.ensures _ z) ∙ c.if-not-is_known.false in
+    c.refused-then-not-all_sound.ensures ∙ count-unsound-refused x P rows z f nm kn (sym (c.all_sound.ensures z) ∙ c.if-not-all_sound.true)
 
 pub returns : goal.returns
 returns c = λ rows e.
@@ -57,9 +57,9 @@ returns c = λ rows e.
     let x = c.args.edit in
     let z : Faultless P = sym c.proposals_fault-number.ensures ∙ c.if-number-ne0.false in
     let f = sym (roll-faulty-is c.args.roll rows e) ∙ c.if-roll.false in
-    let nm = sym c.is_name.ensures ∙ not-false _ c.if-not-is_name.false in
-    let kn = sym (c.is_known.ensures _ z) ∙ not-false _ c.if-not-is_known.false in
+    let nm = sym c.is_name.ensures ∙ c.if-not-is_name.false in
+    let kn = sym (c.is_known.ensures _ z) ∙ c.if-not-is_known.false in
     let t = c.tally_of-tally.result in
     let q = c.tally_of-tally.ensures rows z e f in
-    count-answered x P rows z f nm kn (sym (c.all_sound.ensures z) ∙ not-false _ c.if-not-all_sound.false) t.election c.won_bundle.result (answer-held t x P rows q)
+    count-answered x P rows z f nm kn (sym (c.all_sound.ensures z) ∙ c.if-not-all_sound.false) t.election c.won_bundle.result (answer-held t x P rows q)
     (c.won_bundle.ensures (cast x P rows) q (cast-few c.args.roll rows e f x P))

@@ -22,9 +22,9 @@ pub returns-then-has_name : goal.returns-then-has_name
 returns-then-has_name c = λ cs h.
     let s = c.args in
     let k = c.loop-k.k in
-    let P = lent_proposals (map (λ x. x.now) s.t1) cs in
+    let P = lent_proposals (map (λ x. x.now) s.edits) cs in
     let lt = c.loop-k-test.true in
-    some-bench (λ j. mem s.name (written (held P j))) k lt c.has_name.result (c.has_name.ensures ∙ held-named (λ x. x.now) s.t1 cs k _ refl s.name (bench-faultless P h k lt)) c.if-has_name.true
+    some-bench (λ j. mem s.name (written (held P j))) k lt c.has_name.result (c.has_name.ensures ∙ held-named (λ x. x.now) s.edits cs k _ refl s.name (bench-faultless P h k lt)) c.if-has_name.true
 
 pub loop-k-preserved : goal.loop-k-preserved
 loop-k-preserved c = let s = c.args in
@@ -32,8 +32,8 @@ loop-k-preserved c = let s = c.args in
     let lt = c.loop-k-test.true in (
       search rules,
       λ cs h.
-          let P = lent_proposals (map (λ x. x.now) s.t1) cs in
-          no-bench (λ j. mem s.name (written (held P j))) l.k lt c.has_name.result (c.has_name.ensures ∙ held-named (λ x. x.now) s.t1 cs l.k _ refl s.name (bench-faultless P h l.k lt)) c.if-has_name.false (l.invariant.1 cs h),
+          let P = lent_proposals (map (λ x. x.now) s.edits) cs in
+          no-bench (λ j. mem s.name (written (held P j))) l.k lt c.has_name.result (c.has_name.ensures ∙ held-named (λ x. x.now) s.edits cs l.k _ refl s.name (bench-faultless P h l.k lt)) c.if-has_name.false (l.invariant.1 cs h),
     )
 
 pub returns : goal.returns

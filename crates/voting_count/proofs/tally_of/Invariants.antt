@@ -12,8 +12,8 @@ use Rattle.voting_count.proofs.Rolled.{rows-counted, rows_few, RollCounting, rol
 use Rattle.voting_count.proofs.tally_of.Given as goal
 
 abbrev pub invariant-loop-i : goal.invariant-loop-i
-invariant-loop-i l = (l.i ≤ l.n) × (l.n ≤ 8) × ((l : List RollRow) → Faultless (lent_proposals (map (λ x. x.now) l.edits) (map (λ x. x.now) l.constraints)) → (e : record { l.rows = l.rows; count = l.n; faulty = false } ≡ roll_of l) → (f : roll_faulty l ≡ false)
-    → RollCounting (record { l.rows = l.rows; count = l.n; faulty = false }) l e f l.name (lent_proposals (map (λ x. x.now) l.edits) (map (λ x. x.now) l.constraints)) l.i l.tally)
+invariant-loop-i l = (l.i ≤ l.n) × (l.n ≤ 8) × ((roll : List RollRow) → Faultless (lent_proposals (map (λ x. x.now) l.edits) (map (λ x. x.now) l.constraints)) → (e : record { rows = l.rows; count = l.n; faulty = false } ≡ roll_of roll) → (f : roll_faulty roll ≡ false)
+    → RollCounting (record { rows = l.rows; count = l.n; faulty = false }) roll e f l.name (lent_proposals (map (λ x. x.now) l.edits) (map (λ x. x.now) l.constraints)) l.i l.tally)
 
 abbrev pub decreases-loop-i : goal.decreases-loop-i
 decreases-loop-i l = l.n - l.i

@@ -58,7 +58,7 @@ loop-j-preserved c =
       l.invariant.2,
       λ R e fit t res. let w = l.invariant.3 R e fit t res in (
         w.0,
-        rowing-turn c.args.t1 c.args.table.now l.rows l.j _ a.result b.result f.result g.result R e fit t (omega arith) (omega arith)
+        rowing-turn c.args.multilog c.args.table.now l.rows l.j _ a.result b.result f.result g.result R e fit t (omega arith) (omega arith)
             (rw (← c.index16.ensures) a.ensures) (rw (← c.index16-in-loop-j.ensures) b.ensures) (f.ensures.1 R res) (g.ensures.1 R res) f.ensures.0 g.ensures.0 l.invariant.0.size w.1,
       ),
     )

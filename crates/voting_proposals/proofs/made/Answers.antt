@@ -16,7 +16,7 @@ returns-then-not-keeps c =
     let d = c.drafted-new.ensures M Q e k f j in
     let z = c.if-number-ne0.false in
     let b = c.keeps.ensures Q (proposed M Q) f (checked-fit Q j) (new-stored M Q _ d z) (checked-fit (proposed M Q) (new-checked M Q _ d z k)) (knows-old M Q) in
-    not-kept M Q _ d z b (not-true _ c.if-not-keeps.true) c.stopped-then-not-keeps.ensures
+    not-kept M Q _ d z b c.if-not-keeps.true c.stopped-then-not-keeps.ensures
 
 pub returns : goal.returns
 returns c =
@@ -24,4 +24,4 @@ returns c =
     let d = c.drafted-new.ensures M Q e k f j in
     let z = c.if-number-ne0.false in
     let b = c.keeps.ensures Q (proposed M Q) f (checked-fit Q j) (new-stored M Q _ d z) (checked-fit (proposed M Q) (new-checked M Q _ d z k)) (knows-old M Q) in
-    is-kept M Q _ d z b (not-false _ c.if-not-keeps.false)
+    is-kept M Q _ d z b c.if-not-keeps.false

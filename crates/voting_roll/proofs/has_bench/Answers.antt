@@ -17,14 +17,14 @@ unfolding any
 loop-i-init c = (search rules, search rules, refl)
 
 pub returns-then-row-bench : goal.returns-then-row-bench
-returns-then-row-bench c = let z : length c.args.t1 ≡ 8 = search rules in
-    sym (some-found (λ row. eqb row.bench c.args.bench) c.args.t1 c.args.n c.loop-i.i _ c.loop-i-test.true (omega arith) (eq-eqb _ _ c.if-row-bench.true))
-    ∙ bench-some c.args.bench (take c.args.n c.args.t1)
+returns-then-row-bench c = let z : length c.args.rows ≡ 8 = search rules in
+    sym (some-found (λ row. eqb row.bench c.args.bench) c.args.rows c.args.n c.loop-i.i _ c.loop-i-test.true (omega arith) (eq-eqb _ _ c.if-row-bench.true))
+    ∙ bench-some c.args.bench (take c.args.n c.args.rows)
 
 pub loop-i-preserved : goal.loop-i-preserved
-loop-i-preserved c = let z : length c.args.t1 ≡ 8 = search rules in
-    (search rules, search rules, some_more (λ row. eqb row.bench c.args.bench) c.args.t1 c.loop-i.i _ (omega arith) c.loop-i.invariant.2 (ne_eqb _ _ c.if-row-bench.false))
+loop-i-preserved c = let z : length c.args.rows ≡ 8 = search rules in
+    (search rules, search rules, some_more (λ row. eqb row.bench c.args.bench) c.args.rows c.loop-i.i _ (omega arith) c.loop-i.invariant.2 (ne_eqb _ _ c.if-row-bench.false))
 
 pub returns : goal.returns
 returns c = let e : c.loop-i.i ≡ c.args.n = omega arith in
-    sym (rw e at c.loop-i.invariant.2) ∙ bench-some c.args.bench (take c.args.n c.args.t1)
+    sym (rw e at c.loop-i.invariant.2) ∙ bench-some c.args.bench (take c.args.n c.args.rows)

@@ -17,20 +17,20 @@ pub loop-i-init : goal.loop-i-init
 loop-i-init c = (search rules, search rules, λ l s C g p. omega arith)
 
 pub returns-then-same_bundle : goal.returns-then-same_bundle
-returns-then-same_bundle c = let z : length c.args.t1 ≡ 8 = search (rules, length-mapped) in (
+returns-then-same_bundle c = let z : length c.args.groups ≡ 8 = search (rules, length-mapped) in (
       search rules,
-      λ k t C g p. place-hit c.args.t1 c.args.n (omega arith) k t C g c.loop-i.i c.loop-i-test.true (c.loop-i.invariant.2 k t C g p) c.same_bundle.result
-          (c.same_bundle.ensures C (get_or t c.loop-i.i none_yet) p (bundle-at c.args.t1 c.args.n (omega arith) k t C g c.loop-i.i _ c.loop-i-test.true)) c.if-same_bundle.true,
+      λ k t C g p. place-hit c.args.groups c.args.n (omega arith) k t C g c.loop-i.i c.loop-i-test.true (c.loop-i.invariant.2 k t C g p) c.same_bundle.result
+          (c.same_bundle.ensures C (get_or t c.loop-i.i none_yet) p (bundle-at c.args.groups c.args.n (omega arith) k t C g c.loop-i.i _ c.loop-i-test.true)) c.if-same_bundle.true,
     )
 
 pub loop-i-preserved : goal.loop-i-preserved
-loop-i-preserved c = let z : length c.args.t1 ≡ 8 = search (rules, length-mapped) in (
+loop-i-preserved c = let z : length c.args.groups ≡ 8 = search (rules, length-mapped) in (
       search rules,
       search rules,
-      λ k t C g p. place-miss c.args.t1 c.args.n (omega arith) k t C g c.loop-i.i c.loop-i-test.true (c.loop-i.invariant.2 k t C g p) c.same_bundle.result
-          (c.same_bundle.ensures C (get_or t c.loop-i.i none_yet) p (bundle-at c.args.t1 c.args.n (omega arith) k t C g c.loop-i.i _ c.loop-i-test.true)) c.if-same_bundle.false,
+      λ k t C g p. place-miss c.args.groups c.args.n (omega arith) k t C g c.loop-i.i c.loop-i-test.true (c.loop-i.invariant.2 k t C g p) c.same_bundle.result
+          (c.same_bundle.ensures C (get_or t c.loop-i.i none_yet) p (bundle-at c.args.groups c.args.n (omega arith) k t C g c.loop-i.i _ c.loop-i-test.true)) c.if-same_bundle.false,
     )
 
 pub returns : goal.returns
-returns c = let z : length c.args.t1 ≡ 8 = search (rules, length-mapped) in
-    (search rules, λ k t C g p. group-place-end c.args.t1 c.args.n (omega arith) k t C g c.loop-i.i c.loop-i-test.false (c.loop-i.invariant.2 k t C g p))
+returns c = let z : length c.args.groups ≡ 8 = search (rules, length-mapped) in
+    (search rules, λ k t C g p. group-place-end c.args.groups c.args.n (omega arith) k t C g c.loop-i.i c.loop-i-test.false (c.loop-i.invariant.2 k t C g p))

@@ -12,7 +12,7 @@ use Rattle.voting_tally.proofs.Steps.{none_yet, bundle-at, place-hit, place-miss
 use Rattle.voting_tally.proofs.place_of.Given as goal
 
 abbrev pub invariant-loop-i : goal.invariant-loop-i
-invariant-loop-i l = (l.i ≤ l.n) × (l.n ≤ 8) × ((l : List Ballot) (s : List Record) (C : Record) → take l.n l.groups ≡ map (group_in l) s → l.bundle ≡ stored C → place C s ≡ l.i + place C (drop l.i s))
+invariant-loop-i l = (l.i ≤ l.n) × (l.n ≤ 8) × ((ballots : List Ballot) (s : List Record) (C : Record) → take l.n l.groups ≡ map (group_in ballots) s → l.bundle ≡ stored C → place C s ≡ l.i + place C (drop l.i s))
 
 abbrev pub decreases-loop-i : goal.decreases-loop-i
 decreases-loop-i l = l.n - l.i

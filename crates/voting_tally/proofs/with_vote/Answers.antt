@@ -9,12 +9,12 @@ use Rattle.voting_tally.proofs.with_vote.Goals as goal
 pub returns-in_default : goal.returns-in_default
 returns-in_default c = (
   c.with_silent.ensures.0,
-  λ l v e h t p. silent-by (λ u. c.with_silent.result ≡ tally_of (l ++ (record { weight = c.args.weight; vote = u } ∷ []))) c.args.cast v p c.enum_told-in_default-1.given.1 (c.with_silent.ensures.1 l e t),
+  λ l v e h t p. silent-by (λ u. c.with_silent.result ≡ tally_of (l ++ (record { weight = c.args.weight; vote = u } ∷ []))) c.args.cast v p c.in_default.is (c.with_silent.ensures.1 l e t),
 )
 
 pub returns : goal.returns
 returns c = (
   c.with_bundle.ensures.0,
-  λ l v e h t p. bundle-by (λ u. c.with_bundle.result ≡ tally_of (l ++ (record { weight = c.args.weight; vote = u } ∷ []))) c.args.cast v p c.enum_told-1.given.1
+  λ l v e h t p. bundle-by (λ u. c.with_bundle.result ≡ tally_of (l ++ (record { weight = c.args.weight; vote = u } ∷ []))) c.args.cast v p c.in-Bundle.is
       (λ B q. c.with_bundle.ensures.1 l B e h t q),
 )

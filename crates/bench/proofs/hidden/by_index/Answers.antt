@@ -28,8 +28,8 @@ loop-i-preserved c =
       search rules,
       search rules,
       search rules,
-      λ R test h z f. indexed-next R _ _ test h (mark_named c.args.index.now c.args.t3) c.loop-i.marks c.loop-i.i _ c.loop-i-test.true c.loop-i.invariant.2
-          (ap (λ (j : ℕ). get_or c.args.t3 j 0) (c.index_of-place.ensures ∙ ap (λ (x : ℕ). get_or c.args.index.now x 0) c.index16.ensures)) f (c.loop-i.invariant.3 R test h z f),
+      λ R test h z f. indexed-next R _ _ test h (mark_named c.args.index.now c.args.hidden) c.loop-i.marks c.loop-i.i _ c.loop-i-test.true c.loop-i.invariant.2
+          (ap (λ (j : ℕ). get_or c.args.hidden j 0) (c.index_of-place.ensures ∙ ap (λ (x : ℕ). get_or c.args.index.now x 0) c.index16.ensures)) f (c.loop-i.invariant.3 R test h z f),
     )
 
 pub returns : goal.returns

@@ -19,11 +19,11 @@ pub loop-i-preserved : goal.loop-i-preserved
 loop-i-preserved c =
     let l = c.loop-i in
     rw c.put_index.ensures (
-      table-size c.args.t1 l.table l.i _ l.invariant.0,
+      table-size c.args.multilog l.table l.i _ l.invariant.0,
       omega arith,
       l.invariant.2,
       set_below l.table _ (l.i + 1) 128 (omega arith) l.invariant.3,
-      λ R e f. let w = l.invariant.4 R e f in (w.0, table_step c.args.t1 l.table l.i _ l.invariant.0 R e f (omega arith) w.1),
+      λ R e f. let w = l.invariant.4 R e f in (w.0, table_step c.args.multilog l.table l.i _ l.invariant.0 R e f (omega arith) w.1),
     )
 
 pub returns : goal.returns

@@ -43,7 +43,7 @@ loop-j-preserved c =
       l.invariant.2,
       λ R e f t. let w = l.invariant.3 R e f t in (
         w.0,
-        turn-resolving c.args.t1 c.args.table.now l.rows l.j _ k.result b.result a.result R e f t (omega arith)
+        turn-resolving c.args.multilog c.args.table.now l.rows l.j _ k.result b.result a.result R e f t (omega arith)
             (rw (← c.index16-in-loop-j.ensures) b.ensures) (rw (← c.index16.ensures) a.ensures) k.ensures.1 l.invariant.0.size (omega arith) k.ensures.0 w.1,
       ),
     )

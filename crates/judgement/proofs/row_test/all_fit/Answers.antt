@@ -47,9 +47,9 @@ returns-then-not-rule_fits c =
     let l = c.loop-j in
     λ R row e f t u. let k = l.invariant.2 R row e f t u in
     let h : l.j < length R.constraints = omega arith in
-    let b = c.rule_fits.ensures row _ _ (left-seat c.args.t1 R e f c.args.table.now t row c.args.t3 u l.j _ h c.index16.result c.index_of.result c.index16.ensures c.index_of.ensures)
-    (right-seat c.args.t1 R e f c.args.table.now t row c.args.t3 u l.j _ h c.index16-in-loop-j.result c.index_of-in-loop-j.result c.index16-in-loop-j.ensures c.index_of-in-loop-j.ensures) in
-    fitting-stop c.args.t1 R e f c.args.table.now t row c.args.t3 u l.j _ h _ b (not-true _ c.if-not-rule_fits.true) ∙ sym k.1
+    let b = c.rule_fits.ensures row _ _ (left-seat c.args.multilog R e f c.args.table.now t row c.args.places u l.j _ h c.index16.result c.index_of.result c.index16.ensures c.index_of.ensures)
+    (right-seat c.args.multilog R e f c.args.table.now t row c.args.places u l.j _ h c.index16-in-loop-j.result c.index_of-in-loop-j.result c.index16-in-loop-j.ensures c.index_of-in-loop-j.ensures) in
+    fitting-stop c.args.multilog R e f c.args.table.now t row c.args.places u l.j _ h _ b c.if-not-rule_fits.true ∙ sym k.1
 
 pub loop-j-preserved : goal.loop-j-preserved
 loop-j-preserved c =
@@ -58,9 +58,9 @@ loop-j-preserved c =
       l.invariant.1,
       λ R row e f t u. let k = l.invariant.2 R row e f t u in
           let h : l.j < length R.constraints = omega arith in
-          let b = c.rule_fits.ensures row _ _ (left-seat c.args.t1 R e f c.args.table.now t row c.args.t3 u l.j _ h c.index16.result c.index_of.result c.index16.ensures c.index_of.ensures)
-          (right-seat c.args.t1 R e f c.args.table.now t row c.args.t3 u l.j _ h c.index16-in-loop-j.result c.index_of-in-loop-j.result c.index16-in-loop-j.ensures c.index_of-in-loop-j.ensures) in
-          (k.0, k.1 ∙ fitting-step c.args.t1 R e f c.args.table.now t row c.args.t3 u l.j _ h _ b (not-false _ c.if-not-rule_fits.false)),
+          let b = c.rule_fits.ensures row _ _ (left-seat c.args.multilog R e f c.args.table.now t row c.args.places u l.j _ h c.index16.result c.index_of.result c.index16.ensures c.index_of.ensures)
+          (right-seat c.args.multilog R e f c.args.table.now t row c.args.places u l.j _ h c.index16-in-loop-j.result c.index_of-in-loop-j.result c.index16-in-loop-j.ensures c.index_of-in-loop-j.ensures) in
+          (k.0, k.1 ∙ fitting-step c.args.multilog R e f c.args.table.now t row c.args.places u l.j _ h _ b c.if-not-rule_fits.false),
     )
 
 pub returns : goal.returns

@@ -11,4 +11,4 @@ returns-in-1 c = λ row x y p q. rw c.in-1.is (c.stands_with.ensures row x y p q
 
 pub returns-in_default : goal.returns-in_default
 returns-in_default c =
-    λ row x y p q. fits-other row x c.args.rule y c.in_default.rest.0.1 c.in_default.rest.1
+    λ row x y p q. fits-other row x c.args.rule y c.in_default.in_default-own.rest.0.1 c.in_default.in_default-own.rest.1

@@ -9,7 +9,7 @@ use Rattle.judgement_marks.proofs.schedules.is_shut.Goals as goal
 
 pub returns-then-not-barring : goal.returns-then-not-barring
 returns-then-not-barring c =
-    λ R h t g q l k o e m u b. sym (part-bars R h _ (sym b ∙ not-true _ c.if-not-barring.true) (entering-known R t c.args.rows.now c.args.old.now g c.args.x (omega arith) k.closed k.known o))
+    λ R h t g q l k o e m u b. sym (part-bars R h _ (sym b ∙ c.if-not-barring.true) (entering-known R t c.args.rows.now c.args.old.now g c.args.x (omega arith) k.closed k.known o))
 
 pub returns-then-any_row : goal.returns-then-any_row
 returns-then-any_row c =

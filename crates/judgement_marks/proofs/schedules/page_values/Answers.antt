@@ -14,7 +14,7 @@ use Rattle.judgement_marks.proofs.schedules.page_values.Goals as goal
 
 pub loop-k-init : goal.loop-k-init
 loop-k-init c =
-    (omega arith, refl, λ R list d few k. paging-start R d few c.args.t1 list (omega arith) k)
+    (omega arith, refl, λ R list d few k. paging-start R d few c.args.row list (omega arith) k)
 
 pub bounds-pages-index8 : goal.bounds-pages-index8
 bounds-pages-index8 c =
@@ -26,10 +26,10 @@ loop-k-preserved c =
     let l = c.loop-k in (
       omega arith,
       length-set l.pages c.index8.result (l.k - 1) ∙ l.invariant.1,
-      λ R list d few k. rw c.index8.ensures (paging-step R d few c.args.t1 list (omega arith) k l.pages (l.k - 1) l.invariant.1 (omega arith) (rw (back l.k (omega arith)) (l.invariant.2 R list d few k))),
+      λ R list d few k. rw c.index8.ensures (paging-step R d few c.args.row list (omega arith) k l.pages (l.k - 1) l.invariant.1 (omega arith) (rw (back l.k (omega arith)) (l.invariant.2 R list d few k))),
     )
 
 pub returns : goal.returns
 returns c =
     let l = c.loop-k in
-    (l.invariant.1, λ R list d few k. paging-end R d few c.args.t1 list (omega arith) k l.pages l.invariant.1 (rw (zero_left l.k (omega arith)) at (l.invariant.2 R list d few k)))
+    (l.invariant.1, λ R list d few k. paging-end R d few c.args.row list (omega arith) k l.pages l.invariant.1 (rw (zero_left l.k (omega arith)) at (l.invariant.2 R list d few k)))

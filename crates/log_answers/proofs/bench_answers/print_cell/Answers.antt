@@ -12,7 +12,7 @@ pub returns-then-not-cell : goal.returns-then-not-cell
 returns-then-not-cell c = let s = c.args in printed-not s.cell.filled (fill (cell_form s.owner s.field) (s.label ∷ s.cell.value ∷ []) ∷ []) s.out.now s.at (not-true _ c.if-not-cell.true)
 
 pub returns-in-Chip : goal.returns-in-Chip
-returns-in-Chip c = let s = c.args in cell-printed s.owner Chip s.label s.field s.cell c.enum_told-1.given.1 (not-false _ c.if-not-cell.false) c.print_chip_cell.ensures
+returns-in-Chip c = let s = c.args in cell-printed s.owner Chip s.label s.field s.cell c.in-Chip.is (not-false _ c.if-not-cell.false) c.print_chip_cell.ensures
 
 pub returns-in-Page : goal.returns-in-Page
-returns-in-Page c = let s = c.args in cell-printed s.owner Page s.label s.field s.cell c.enum_told-in-Page-1.given.1 (not-false _ c.if-not-cell.false) c.print_page_cell.ensures
+returns-in-Page c = let s = c.args in cell-printed s.owner Page s.label s.field s.cell c.in-Page.is (not-false _ c.if-not-cell.false) c.print_page_cell.ensures

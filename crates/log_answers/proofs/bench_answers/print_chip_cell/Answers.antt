@@ -20,4 +20,4 @@ returns-in-2 c = field-printed Chip _ _ 2 c.in-2.is c.print-in-2.ensures
 
 pub returns-in_default : goal.returns-in_default
 unfolding cell_form bytes
-returns-in_default c = let e = c.in_default.rest in last-field Chip _ _ e.0.0.1 e.0.1 e.1 c.print-in_default.ensures
+returns-in_default c = let e = c.in_default.in_default-own.rest in last-field Chip _ _ e.0.0.1 e.0.1 e.1 c.print-in_default.ensures

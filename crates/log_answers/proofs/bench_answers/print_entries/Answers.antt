@@ -12,13 +12,13 @@ use Rattle.log_forms.specs.Printed.{texts_from}
 use Rattle.log_answers.proofs.bench_answers.print_entries.Goals as goal
 
 pub loop-i-init : goal.loop-i-init
-loop-i-init c = let s = c.args in let l : length s.t3 ≡ 64 = search (rules, length-mapped) in printing-start entry_text 0 s.t3 64 s.out.now s.at (omega arith)
+loop-i-init c = let s = c.args in let l : length s.entries ≡ 64 = search (rules, length-mapped) in printing-start entry_text 0 s.entries 64 s.out.now s.at (omega arith)
 
 pub loop-i-smaller : goal.loop-i-smaller
 loop-i-smaller c = omega (arith, c.loop-i-test.true)
 
 pub loop-i-preserved : goal.loop-i-preserved
-loop-i-preserved c = let s = c.args in printing-next entry_text 0 s.t3 64 s.out.now s.at c.loop-i.invariant _ c.loop-i.i (omega arith) c.loop-i-test.true c.print_entry-place.ensures
+loop-i-preserved c = let s = c.args in printing-next entry_text 0 s.entries 64 s.out.now s.at c.loop-i.invariant _ c.loop-i.i (omega arith) c.loop-i-test.true c.print_entry-place.ensures
 
 pub returns : goal.returns
-returns c = let s = c.args in let l : length s.t3 ≡ 64 = search (rules, length-mapped) in printed-as (texts_from entry_text 0 (take 64 s.t3)) s.out.now s.at (ap (texts_from entry_text 0) (all_of s.t3 64 l)) (printing-end entry_text 0 s.t3 64 s.out.now s.at c.loop-i.invariant c.loop-i-test.false)
+returns c = let s = c.args in let l : length s.entries ≡ 64 = search (rules, length-mapped) in printed-as (texts_from entry_text 0 (take 64 s.entries)) s.out.now s.at (ap (texts_from entry_text 0) (all_of s.entries 64 l)) (printing-end entry_text 0 s.entries 64 s.out.now s.at c.loop-i.invariant c.loop-i-test.false)

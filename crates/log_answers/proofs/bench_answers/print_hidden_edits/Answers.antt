@@ -10,7 +10,7 @@ use Rattle.log_answers.specs.bench_answers.Asks.{hidden_line}
 use Rattle.log_answers.proofs.bench_answers.print_hidden_edits.Goals as goal
 
 pub loop-i-init : goal.loop-i-init
-loop-i-init c = let s = c.args in let l : length s.t3 ≡ 127 = search (rules, length-mapped) in printing-start (hidden_line s.t5) 1 s.t3 s.n s.out.now s.at (omega (arith, c.requires))
+loop-i-init c = let s = c.args in let l : length s.edits ≡ 127 = search (rules, length-mapped) in printing-start (hidden_line s.marks) 1 s.edits s.n s.out.now s.at (omega (arith, c.requires))
 
 pub overflow_add-mark : goal.overflow_add-mark
 overflow_add-mark c = omega (arith, c.loop-i-test.true, c.requires)
@@ -25,7 +25,7 @@ pub loop-i-smaller : goal.loop-i-smaller
 loop-i-smaller c = omega (arith, c.loop-i-test.true)
 
 pub loop-i-preserved : goal.loop-i-preserved
-loop-i-preserved c = let s = c.args in printing-next (hidden_line s.t5) 1 s.t3 s.n s.out.now s.at c.loop-i.invariant _ (c.loop-i.i + 1) (omega arith) c.loop-i-test.true c.print_if_hidden-place.ensures
+loop-i-preserved c = let s = c.args in printing-next (hidden_line s.marks) 1 s.edits s.n s.out.now s.at c.loop-i.invariant _ (c.loop-i.i + 1) (omega arith) c.loop-i-test.true c.print_if_hidden-place.ensures
 
 pub returns : goal.returns
-returns c = let s = c.args in (printing-end (hidden_line s.t5) 1 s.t3 s.n s.out.now s.at c.loop-i.invariant c.loop-i-test.false, search (rules, length-mapped))
+returns c = let s = c.args in (printing-end (hidden_line s.marks) 1 s.edits s.n s.out.now s.at c.loop-i.invariant c.loop-i-test.false, search (rules, length-mapped))

@@ -9,12 +9,12 @@ returns-then-answer-ne0 c = outcome-refused _ _ _ _ c.if-answer-ne0.true c.print
 
 pub returns-in-Change : goal.returns-in-Change
 unfolding call_text
-returns-in-Change c = outcome-told _ _ _ _ c.enum_told-1.given.1 c.if-answer-ne0.false c.print_pages.ensures
+returns-in-Change c = outcome-told _ _ _ _ c.in-Change.is c.if-answer-ne0.false c.print_pages.ensures
 
 pub returns-in-PageTurn : goal.returns-in-PageTurn
 unfolding call_text
-returns-in-PageTurn c = outcome-told _ _ _ _ c.enum_told-in-PageTurn-1.given.1 c.if-answer-ne0.false c.print_pages-in-PageTurn.ensures
+returns-in-PageTurn c = outcome-told _ _ _ _ c.in-PageTurn.is c.if-answer-ne0.false c.print_pages-in-PageTurn.ensures
 
 pub returns-in-Adoption : goal.returns-in-Adoption
 unfolding call_text
-returns-in-Adoption c = outcome-told _ _ _ _ c.enum_told-in-Adoption-1.given.1 c.if-answer-ne0.false c.print_adoption.ensures
+returns-in-Adoption c = outcome-told _ _ _ _ c.in-Adoption.is c.if-answer-ne0.false c.print_adoption.ensures

@@ -10,28 +10,28 @@ use Rattle.log_session.proofs.questions.print_ask.Goals as goal
 
 pub returns-in-Text : goal.returns-in-Text
 unfolding ask_text
-returns-in-Text c = λ D e. asked D c.enum_told-1.given.1 (ap text_in e) c.print_record.ensures
+returns-in-Text c = λ D e. asked D c.in-Text.is (ap text_in e) c.print_record.ensures
 
 pub returns-in-Report : goal.returns-in-Report
 unfolding ask_text
-returns-in-Report c = λ D e. asked D c.enum_told-in-Report-1.given.1 refl (c.print_report.ensures (ledger_of D).multilog (ap (λ (x : Bench). x.multilog) e ∙ multilog-is D) (ledger-valid D).checked)
+returns-in-Report c = λ D e. asked D c.in-Report.is refl (c.print_report.ensures (ledger_of D).multilog (ap (λ (x : Bench). x.multilog) e ∙ multilog-is D) (ledger-valid D).checked)
 
 pub returns-in-Hidden : goal.returns-in-Hidden
 unfolding ask_text
-returns-in-Hidden c = λ D e. asked D c.enum_told-in-Hidden-1.given.1 (ap hidden_in e) c.print_hidden.ensures
+returns-in-Hidden c = λ D e. asked D c.in-Hidden.is (ap hidden_in e) c.print_hidden.ensures
 
 pub returns-in-Schedule : goal.returns-in-Schedule
 unfolding ask_text
-returns-in-Schedule c = λ D e. asked D c.enum_told-in-Schedule-1.given.1 (ap schedule_in e) c.print_schedule.ensures
+returns-in-Schedule c = λ D e. asked D c.in-Schedule.is (ap schedule_in e) c.print_schedule.ensures
 
 pub returns-in-Catalogue : goal.returns-in-Catalogue
 unfolding ask_text
-returns-in-Catalogue c = λ D e. asked D c.enum_told-in-Catalogue-1.given.1 (ap catalogue_in e) c.print_catalogue.ensures
+returns-in-Catalogue c = λ D e. asked D c.in-Catalogue.is (ap catalogue_in e) c.print_catalogue.ensures
 
 pub returns-in-Journal : goal.returns-in-Journal
 unfolding ask_text
-returns-in-Journal c = λ D e. asked D c.enum_told-in-Journal-1.given.1 (ap journal_in e) c.print_journal.ensures
+returns-in-Journal c = λ D e. asked D c.in-Journal.is (ap journal_in e) c.print_journal.ensures
 
 pub returns-in-Page : goal.returns-in-Page
 unfolding ask_text
-returns-in-Page c = λ D e. asked D c.enum_told-in-Page-1.given.1 (ap page_in e) c.print_page.ensures
+returns-in-Page c = λ D e. asked D c.in-Page.is (ap page_in e) c.print_page.ensures

@@ -10,4 +10,4 @@ pub returns-in-1 : goal.returns-in-1
 returns-in-1 c = body-set-is c.args.kind c.args.place c.args.field c.args.value c.in-1.is c.field_of.ensures
 
 pub returns-in_default : goal.returns-in_default
-returns-in_default c = body_kept c.args.kind c.args.place c.args.field c.args.value c.in_default.rest.0.1 c.in_default.rest.1
+returns-in_default c = body_kept c.args.kind c.args.place c.args.field c.args.value c.in_default.in_default-own.rest.0.1 c.in_default.in_default-own.rest.1

@@ -7,4 +7,4 @@ use Rattle.record_rows.proofs.row.constraint_in_range.Goals as goal
 pub returns : goal.returns
 unfolding constraint_in_range
 returns c =
-    (row-in-range c.args.t1 3 (cell c.args.t1 1) 3 (search rules) c.cells_in_range.ensures c.is_side-left.ensures c.is_side-right.ensures, search rules)
+    (row-in-range c.args.row 3 (cell c.args.row 1) 3 (search rules) c.cells_in_range.ensures c.is_side-left.ensures c.is_side-right.ensures, search rules)

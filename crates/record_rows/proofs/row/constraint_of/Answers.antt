@@ -6,16 +6,16 @@ use borrow.Author.Rules.{rules}
 use Rattle.record_rows.proofs.row.constraint_of.Goals as goal
 
 pub returns-then-not-constraint_in_range : goal.returns-then-not-constraint_in_range
-returns-then-not-constraint_in_range c = constraint-filler c.args.t1 c.constraint_in_range.ensures.0 (not-true _ c.if-not-constraint_in_range.true)
+returns-then-not-constraint_in_range c = constraint-filler c.args.row c.constraint_in_range.ensures.0 c.if-not-constraint_in_range.true
 
 pub overflow_cast-result : goal.overflow_cast-result
-overflow_cast-result c = let b = constraint-bounds c.args.t1 c.constraint_in_range.ensures.0 (not-false _ c.if-not-constraint_in_range.false) in omega (arith, b.0)
+overflow_cast-result c = let b = constraint-bounds c.args.row c.constraint_in_range.ensures.0 c.if-not-constraint_in_range.false in omega (arith, b.0)
 
 pub overflow_cast-result-2 : goal.overflow_cast-result-2
-overflow_cast-result-2 c = let b = constraint-bounds c.args.t1 c.constraint_in_range.ensures.0 (not-false _ c.if-not-constraint_in_range.false) in omega (arith, b.1)
+overflow_cast-result-2 c = let b = constraint-bounds c.args.row c.constraint_in_range.ensures.0 c.if-not-constraint_in_range.false in omega (arith, b.1)
 
 pub overflow_cast-result-3 : goal.overflow_cast-result-3
-overflow_cast-result-3 c = let b = constraint-bounds c.args.t1 c.constraint_in_range.ensures.0 (not-false _ c.if-not-constraint_in_range.false) in omega (arith, b.2)
+overflow_cast-result-3 c = let b = constraint-bounds c.args.row c.constraint_in_range.ensures.0 c.if-not-constraint_in_range.false in omega (arith, b.2)
 
 pub returns : goal.returns
-returns c = constraint-decoded c.args.t1 c.constraint_in_range.ensures.0 (not-false _ c.if-not-constraint_in_range.false)
+returns c = constraint-decoded c.args.row c.constraint_in_range.ensures.0 c.if-not-constraint_in_range.false

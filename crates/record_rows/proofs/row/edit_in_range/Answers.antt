@@ -7,4 +7,4 @@ use Rattle.record_rows.proofs.row.edit_in_range.Goals as goal
 pub returns : goal.returns
 unfolding edit_in_range
 returns c =
-    (row-in-range c.args.t1 5 (cell c.args.t1 2) 64 (search rules) c.cells_in_range.ensures c.is_name-named.ensures c.body_in_range-body.ensures, search rules)
+    (row-in-range c.args.row 5 (cell c.args.row 2) 64 (search rules) c.cells_in_range.ensures c.is_name-named.ensures c.body_in_range-body.ensures, search rules)

@@ -7,4 +7,4 @@ use borrow.Author.Rules.{rules}
 use Rattle.record_rows.proofs.row.field_of.Goals as goal
 
 pub returns-in_default : goal.returns-in_default
-returns-in_default c = past3 (λ n. Page ≡ field_of n) (λ m. refl) c.args.n c.in_default.rest.0.0.1 c.in_default.rest.0.1 c.in_default.rest.1
+returns-in_default c = past3 (λ n. Page ≡ field_of n) (λ m. refl) c.args.n c.in_default.in_default-own.rest.0.0.1 c.in_default.in_default-own.rest.0.1 c.in_default.in_default-own.rest.1

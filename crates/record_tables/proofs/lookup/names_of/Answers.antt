@@ -13,7 +13,7 @@ loop-i-init c = (search rules, search rules, search rules, search rules, refl)
 
 pub loop-i-preserved : goal.loop-i-preserved
 loop-i-preserved c =
-    (search rules, search rules, search rules, search rules, names-next c.args.t1 c.loop-i.names c.loop-i.i _ (search rules) (search rules) c.loop-i.invariant.4)
+    (search rules, search rules, search rules, search rules, names-next c.args.edits c.loop-i.names c.loop-i.i _ (search rules) (search rules) c.loop-i.invariant.4)
 
 pub returns : goal.returns
-returns c = names-end c.args.t1 c.loop-i.names c.loop-i.i c.args.n c.loop-i.invariant.0 c.loop-i-test.false c.loop-i.invariant.4
+returns c = names-end c.args.edits c.loop-i.names c.loop-i.i c.args.n c.loop-i.invariant.0 c.loop-i-test.false c.loop-i.invariant.4

@@ -10,31 +10,28 @@ use mathlib.Core.Logic.{⊎_elim}
 use lib.Seq.{take_all}
 use borrow.Author.Rules.{rules}
 use Rattle.text_forms.proofs.decimal.digits_value.Goals as goal
-
--- at a turn the byte is a digit, and that of the digit_run
-below : (c : tie.In-loop invariant-loop decreases-loop) → c.before.loop.i < length (digit_run c.before.before.before.args.bytes.now)
-below c = omega (arith, c.before.loop.invariant.1)
+use Rattle.text_forms.proofs.decimal.digits_value.Goals.{then-value-gt4294967296, else-value-gt4294967296}
 
 pub loop-i-init : goal.loop-i-init
 loop-i-init c = (search rules, c.requires, value_none (digit_run c.args.bytes.now) _)
 
 pub bounds-bytes-i : goal.bounds-bytes-i
-bounds-bytes-i c = omega (arith, below c.before, run_short c.args.bytes.now)
+bounds-bytes-i c = omega (arith, c.loop-i.invariant.1, run_short c.args.bytes.now)
 
 pub overflow_sub-value : goal.overflow_sub-value
-overflow_sub-value c = omega (arith, c.wide8.ensures, run-digits c.args.bytes.now c.loop-i.i (below c.before), run-get_or c.args.bytes.now c.loop-i.i (below c.before))
+overflow_sub-value c = omega (arith, c.wide8.ensures, run-digits c.args.bytes.now c.loop-i.i (omega (arith, c.loop-i.invariant.1)), run-get_or c.args.bytes.now c.loop-i.i (omega (arith, c.loop-i.invariant.1)))
 
 pub overflow_add-value : goal.overflow_add-value
-overflow_add-value c = omega (arith, c.wide8.ensures, run-digits c.args.bytes.now c.loop-i.i (below c.before), run-get_or c.args.bytes.now c.loop-i.i (below c.before))
+overflow_add-value c = omega (arith, c.wide8.ensures, run-digits c.args.bytes.now c.loop-i.i (omega (arith, c.loop-i.invariant.1)), run-get_or c.args.bytes.now c.loop-i.i (omega (arith, c.loop-i.invariant.1)))
 
 pub loop-i-preserved : goal.loop-i-preserved
 loop-i-preserved c = (
   search rules,
   c.loop-i.invariant.1,
-  ⊎_elim
-      (λ w. let o : 4294967296 < c.loop-i.value * 10 + (get_or (digit_run c.args.bytes.now) c.loop-i.i 0 - 48) = omega (arith, c.wide8.ensures, run-get_or c.args.bytes.now c.loop-i.i (below c.before)) in omega (arith, capped-over 4294967296 (digit_run c.args.bytes.now) c.loop-i.i c.loop-i.value (below c.before) c.loop-i.invariant.2 o))
-      (λ w. let o : c.loop-i.value * 10 + (get_or (digit_run c.args.bytes.now) c.loop-i.i 0 - 48) ≤ 4294967296 = omega (arith, c.wide8.ensures, run-get_or c.args.bytes.now c.loop-i.i (below c.before)) in omega (arith, capped-under 4294967296 (digit_run c.args.bytes.now) c.loop-i.i c.loop-i.value (below c.before) c.loop-i.invariant.2 o, c.wide8.ensures, run-get_or c.args.bytes.now c.loop-i.i (below c.before)))
-      c.if-value-gt4294967296.branch,
+  elim c.if-value-gt4294967296.branch [
+    then-value-gt4294967296 w ↦ let o : 4294967296 < c.loop-i.value * 10 + (get_or (digit_run c.args.bytes.now) c.loop-i.i 0 - 48) = omega (arith, c.wide8.ensures, run-get_or c.args.bytes.now c.loop-i.i (omega (arith, c.loop-i.invariant.1))) in omega (arith, capped-over 4294967296 (digit_run c.args.bytes.now) c.loop-i.i c.loop-i.value (omega (arith, c.loop-i.invariant.1)) c.loop-i.invariant.2 o)
+  | else-value-gt4294967296 w ↦ let o : c.loop-i.value * 10 + (get_or (digit_run c.args.bytes.now) c.loop-i.i 0 - 48) ≤ 4294967296 = omega (arith, c.wide8.ensures, run-get_or c.args.bytes.now c.loop-i.i (omega (arith, c.loop-i.invariant.1))) in omega (arith, capped-under 4294967296 (digit_run c.args.bytes.now) c.loop-i.i c.loop-i.value (omega (arith, c.loop-i.invariant.1)) c.loop-i.invariant.2 o, c.wide8.ensures, run-get_or c.args.bytes.now c.loop-i.i (omega (arith, c.loop-i.invariant.1)))
+  ],
 )
 
 pub returns : goal.returns

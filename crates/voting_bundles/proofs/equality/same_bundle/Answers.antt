@@ -27,8 +27,8 @@ returns-then-m-gt-CONSTRAINTS c = λ P Q p q.
 
 pub returns-then-not-same_edits : goal.returns-then-not-same_edits
 returns-then-not-same_edits c = λ P Q p q.
-    edits-differ c.args.a c.args.b P Q p q c.if-n-b.false c.if-m-b.false c.same_edits.result c.same_edits.ensures (not-true _ c.if-not-same_edits.true)
+    edits-differ c.args.a c.args.b P Q p q c.if-n-b.false c.if-m-b.false c.same_edits.result c.same_edits.ensures c.if-not-same_edits.true
 
 pub returns : goal.returns
 returns c = λ P Q p q.
-    constraints-decide c.args.a c.args.b P Q p q c.if-n-b.false c.if-m-b.false c.same_edits.result c.same_edits.ensures c.same_constraints.result (not-false _ c.if-not-same_edits.false) c.same_constraints.ensures
+    constraints-decide c.args.a c.args.b P Q p q c.if-n-b.false c.if-m-b.false c.same_edits.result c.same_edits.ensures c.same_constraints.result c.if-not-same_edits.false c.same_constraints.ensures

@@ -15,14 +15,14 @@ unfolding same_list
 loop-i-init c = (search rules, search rules, refl)
 
 pub returns-then-not-same_constraint : goal.returns-then-not-same_constraint
-returns-then-not-same_constraint c = let y : length c.args.t1 ≡ 512 = search rules in
-    let z : length c.args.t2 ≡ 512 = search rules in
-    sym (same-broken same_constraint c.args.t1 c.args.t2 c.args.n c.loop-i.i _ _ (omega arith) (omega arith) (omega arith) (sym c.same_constraint.ensures ∙ not-true _ c.if-not-same_constraint.true))
+returns-then-not-same_constraint c = let y : length c.args.a ≡ 512 = search rules in
+    let z : length c.args.b ≡ 512 = search rules in
+    sym (same-broken same_constraint c.args.a c.args.b c.args.n c.loop-i.i _ _ (omega arith) (omega arith) (omega arith) (sym c.same_constraint.ensures ∙ c.if-not-same_constraint.true))
 
 pub loop-i-preserved : goal.loop-i-preserved
-loop-i-preserved c = let y : length c.args.t1 ≡ 512 = search rules in
-    let z : length c.args.t2 ≡ 512 = search rules in
-    (search rules, search rules, same-rows-more same_constraint c.args.t1 c.args.t2 c.loop-i.i _ _ (omega arith) (omega arith) c.loop-i.invariant.2 (sym c.same_constraint.ensures ∙ not-false _ c.if-not-same_constraint.false))
+loop-i-preserved c = let y : length c.args.a ≡ 512 = search rules in
+    let z : length c.args.b ≡ 512 = search rules in
+    (search rules, search rules, same-rows-more same_constraint c.args.a c.args.b c.loop-i.i _ _ (omega arith) (omega arith) c.loop-i.invariant.2 (sym c.same_constraint.ensures ∙ c.if-not-same_constraint.false))
 
 pub returns : goal.returns
 returns c = let e : c.loop-i.i ≡ c.args.n = omega arith in

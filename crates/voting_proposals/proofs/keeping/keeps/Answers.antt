@@ -40,7 +40,7 @@ returns-then-not-is_kept c =
     let u = c.index_table-newtable.ensures.2 P g h in
     let b = c.bundle_by-before.ensures Q e f t (c.member_rows-oldrows.ensures.1 Q e f t) m in
     let a = c.bundle_by-after.ensures P g h u (c.member_rows-newrows.ensures.1 P g h u) (w _ m) in
-    keeps-stop c.args.old Q P e o.i filler_edit l (c.is_kept.ensures Q P _ f b a) (not-true _ c.if-not-is_kept.true)
+    keeps-stop c.args.old Q P e o.i filler_edit l (c.is_kept.ensures Q P _ f b a) c.if-not-is_kept.true
 
 pub loop-i-preserved : goal.loop-i-preserved
 loop-i-preserved c =
@@ -56,7 +56,7 @@ loop-i-preserved c =
           let u = c.index_table-newtable.ensures.2 P g h in
           let b = c.bundle_by-before.ensures Q e f t (c.member_rows-oldrows.ensures.1 Q e f t) m in
           let a = c.bundle_by-after.ensures P g h u (c.member_rows-newrows.ensures.1 P g h u) (w _ m) in
-          keeps-next c.args.old Q P e o.i filler_edit l (c.is_kept.ensures Q P _ f b a) (not-false _ c.if-not-is_kept.false) (k.3 Q P e f g h w),
+          keeps-next c.args.old Q P e o.i filler_edit l (c.is_kept.ensures Q P _ f b a) c.if-not-is_kept.false (k.3 Q P e f g h w),
     )
 
 pub returns : goal.returns
