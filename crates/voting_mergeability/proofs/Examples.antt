@@ -1,6 +1,6 @@
 -- The example of A8, computed, and a computed example against each promise with a premise missing. Assumes nothing.
-use mathlib.Core.Path.{◌≡◌, refl, sym, ap, ◌∙◌}
-use mathlib.Core.Bool.{true, false, ◌&&◌, cond}
+use mathlib.Core.Path.{◌≡◌, refl, sym, ap, subst, ◌∙◌}
+use mathlib.Core.Bool.{Bool, true, false, ◌&&◌, cond}
 use mathlib.Core.Logic.{inl, inr}
 use mathlib.Core.List.{List, [], ◌∷◌, ◌++◌}
 use Prim.Native.Nat.{ℕ, ◌<◌}
@@ -177,7 +177,11 @@ premises = record {
 
 held-chosen : (P : Record) → Has P (old ∷ new ∷ []) → Chosen example_roll sent (holding P)
 unfolding Chosen
-held-chosen P h k v = voters k v (λ e. rw e (inr h)) (λ e. rw e (inr (inl refl))) (λ e. rw e (inr (inl refl)))
+held-chosen P h k v =
+    voters k v
+    (λ e. subst (λ (i : ℕ). Has (holding P i) (empty_tables ∷ sent i)) (sym e) (inr h))
+    (λ e. subst (λ (i : ℕ). Has (holding P i) (empty_tables ∷ sent i)) (sym e) (inr (inl refl)))
+    (λ e. subst (λ (i : ℕ). Has (holding P i) (empty_tables ∷ sent i)) (sym e) (inr (inl refl)))
 
 choices : EachChosen example_roll sent elections
 choices x (inl q) = rw q (held-chosen old (inl refl))
@@ -238,13 +242,26 @@ rival-premises example_roll = record {
   each-one-body = samples-one-body example_roll rival_sent (rival-samples example_roll);
 }
 
+-- what each of two benches holds is the empty proposal or what it sent
+one-sent : (b : Bool) → Has (cond b old empty_tables) (empty_tables ∷ cond b (old ∷ []) (aborted ∷ []))
+one-sent true = inr (inl refl)
+one-sent false = inl refl
+
+other-sent : (b : Bool) → Has (cond b empty_tables aborted) (empty_tables ∷ cond b (old ∷ []) (aborted ∷ []))
+other-sent true = inl refl
+other-sent false = inr (inl refl)
+
+both-sent : (b : Bool) → Has (cond b old aborted) (empty_tables ∷ cond b (old ∷ []) (aborted ∷ []))
+both-sent true = inr (inl refl)
+both-sent false = inr (inl refl)
+
 pub majority-needed : WithHalf → ⊥
 unfolding Chosen
 majority-needed f = not-mergeable (rw (← computed.half-won) (f (weights 1 1) rival_sent half_elections (rival-premises _) chosen))
   where
     chosen : EachChosen (weights 1 1) rival_sent half_elections
-    chosen x (inl q) = rw q (λ k v. by (eqb k 1) (λ e. rw e (inr (inl refl))) (λ e. rw e (inl refl)))
-    chosen x (inr (inl q)) = rw q (λ k v. by (eqb k 1) (λ e. rw e (inl refl)) (λ e. rw e (inr (inl refl))))
+    chosen x (inl q) = subst (λ (y : HeldElection). Chosen (weights 1 1) rival_sent y.held) (sym q) (λ k v. one-sent (eqb k 1))
+    chosen x (inr (inl q)) = subst (λ (y : HeldElection). Chosen (weights 1 1) rival_sent y.held) (sym q) (λ k v. other-sent (eqb k 1))
     chosen x (inr (inr z)) = absurd z
 
 pub one-roll-needed : WithTwoRolls → ⊥
@@ -254,5 +271,5 @@ one-roll-needed f =
     (f (weights 2 1) (weights 1 2) rival_sent rival_elections rival_elections (rival-premises _) (rival-premises _) (chosen _) (chosen _)))
   where
     chosen : (example_roll : List RollRow) → EachChosen example_roll rival_sent rival_elections
-    chosen example_roll x (inl q) = rw q (λ k v. by (eqb k 1) (λ e. rw e (inr (inl refl))) (λ e. rw e (inr (inl refl))))
+    chosen example_roll x (inl q) = subst (λ (y : HeldElection). Chosen example_roll rival_sent y.held) (sym q) (λ k v. both-sent (eqb k 1))
     chosen example_roll x (inr z) = absurd z
