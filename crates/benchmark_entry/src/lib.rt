@@ -51,8 +51,7 @@ pub struct Elected {
     pub total: u32,
 }
 
-#[unsafe(no_mangle)]
-pub extern "C" fn measure_judgement(edits: &[EditRow], constraints: &[ConstraintRow]) -> Judged
+pub fn measure_judgement(edits: &[EditRow], constraints: &[ConstraintRow]) -> Judged
     ensures { result ≡ judgement_numbers (judgement_of edits.now constraints.now) }
 {
     let judgement = lent_record::judge_lent(edits, constraints);
@@ -69,8 +68,7 @@ pub extern "C" fn measure_judgement(edits: &[EditRow], constraints: &[Constraint
     }
 }
 
-#[unsafe(no_mangle)]
-pub extern "C" fn measure_schedule(edits: &[EditRow], constraints: &[ConstraintRow]) -> Scheduled
+pub fn measure_schedule(edits: &[EditRow], constraints: &[ConstraintRow]) -> Scheduled
     ensures { result ≡ scheduled_of (schedule_answer_of edits.now constraints.now) }
 {
     let answer = lent_record::schedule_lent(edits, constraints);
@@ -82,8 +80,7 @@ pub extern "C" fn measure_schedule(edits: &[EditRow], constraints: &[ConstraintR
 }
 
 // An empty bench merges one record, then another.
-#[unsafe(no_mangle)]
-pub extern "C" fn measure_merge(
+pub fn measure_merge(
     edits: &[EditRow],
     constraints: &[ConstraintRow],
     others: &[EditRow],
@@ -121,8 +118,7 @@ fn equal_seats() -> Roll
 }
 
 // Benches 1 to 4 lend one record, benches 5 to 8 its rival.
-#[unsafe(no_mangle)]
-pub extern "C" fn measure_election<'a>(
+pub fn measure_election<'a>(
     edit: u32,
     edits: &'a [EditRow],
     constraints: &'a [ConstraintRow],

@@ -31,8 +31,7 @@ fn refused(number: u32, line: usize) -> Reply
 }
 
 // Whether a text is without fault.
-#[unsafe(no_mangle)]
-pub extern "C" fn catalogue_check(text: &[u8]) -> Reply
+pub fn catalogue_check(text: &[u8]) -> Reply
     ensures { result ≡ checked_reply (read_text text.now) }
 {
     let reading = text_reader::read_text(text);
@@ -43,8 +42,7 @@ pub extern "C" fn catalogue_check(text: &[u8]) -> Reply
 }
 
 // The report of a text, at the start of out. Refused, out stays as it was.
-#[unsafe(no_mangle)]
-pub extern "C" fn catalogue_report(text: &[u8], out: &mut [u8]) -> Reply
+pub fn catalogue_report(text: &[u8], out: &mut [u8]) -> Reply
     ensures { (result ≡ reply_of (reported (read_text text.now) out.old))
         × (out.new ≡ reported_out (read_text text.now) out.old) }
 {
@@ -57,8 +55,7 @@ pub extern "C" fn catalogue_report(text: &[u8], out: &mut [u8]) -> Reply
 }
 
 // A text read and written back: the same bytes, at the start of out. Refused, out stays as it was.
-#[unsafe(no_mangle)]
-pub extern "C" fn catalogue_rewrite(text: &[u8], out: &mut [u8]) -> Reply
+pub fn catalogue_rewrite(text: &[u8], out: &mut [u8]) -> Reply
     ensures { (result ≡ rewritten_reply (read_text text.now) out.old)
         × (out.new ≡ rewritten_out (read_text text.now) out.old) }
 {
@@ -152,8 +149,7 @@ fn answered(kept: &[u8], log: &[u8], work: &mut [u8], out: &mut [u8]) -> Reply
 
 // THE ANSWERS to a call log from an empty bench, at the start of out. Refused with 12, out stays as it was. Work has the answers, up to the first
 // text of them that does not fit.
-#[unsafe(no_mangle)]
-pub extern "C" fn catalogue_replay(log: &[u8], work: &mut [u8], out: &mut [u8]) -> Reply
+pub fn catalogue_replay(log: &[u8], work: &mut [u8], out: &mut [u8]) -> Reply
     ensures { length log.now ≤ 4611686018427387904
         → (result ≡ answered_reply (answers_to log.now) work.old out.old)
         × (out.new ≡ answered_out (answers_to log.now) work.old out.old)
@@ -163,13 +159,7 @@ pub extern "C" fn catalogue_replay(log: &[u8], work: &mut [u8], out: &mut [u8]) 
 }
 
 // The answers to the lines that follow a kept log, which is how a bench is kept between calls.
-#[unsafe(no_mangle)]
-pub extern "C" fn catalogue_continue(
-    kept: &[u8],
-    log: &[u8],
-    work: &mut [u8],
-    out: &mut [u8],
-) -> Reply
+pub fn catalogue_continue(kept: &[u8], log: &[u8], work: &mut [u8], out: &mut [u8]) -> Reply
     ensures { length kept.now + length log.now ≤ 4611686018427387904
         → (result ≡ answered_reply (answers_after kept.now log.now) work.old out.old)
         × (out.new ≡ answered_out (answers_after kept.now log.now) work.old out.old)
@@ -179,8 +169,7 @@ pub extern "C" fn catalogue_continue(
 }
 
 // How united the benches are, from a table of election answers.
-#[unsafe(no_mangle)]
-pub extern "C" fn catalogue_unity(answers: &[ConstraintRow]) -> Unity
+pub fn catalogue_unity(answers: &[ConstraintRow]) -> Unity
     ensures { result ≡ unity_of (map weights_of answers.now) }
 {
     unity_table::unity_of(answers)

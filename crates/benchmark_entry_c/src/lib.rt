@@ -1,0 +1,48 @@
+// The C symbols that the benchmark calls (benchmark/): each is the function of `benchmark_entry` of its name, under the same clauses.
+#![tactic(auto)]
+
+ghost use Rattle.std.specs.Prelude.{◌≡◌};
+ghost use Rattle.judgement.specs.lent_record.Lent.{judgement_of, schedule_answer_of};
+ghost use Rattle.benchmark_entry.specs.Measured.{judgement_numbers, scheduled_of, merged_of, elected_of};
+
+use benchmark_entry::{Elected, Judged, Merged, Scheduled};
+use record_rows::row::{ConstraintRow, EditRow};
+
+#[unsafe(no_mangle)]
+pub extern "C" fn measure_judgement(edits: &[EditRow], constraints: &[ConstraintRow]) -> Judged
+    ensures { result ≡ judgement_numbers (judgement_of edits.now constraints.now) }
+{
+    benchmark_entry::measure_judgement(edits, constraints)
+}
+
+#[unsafe(no_mangle)]
+pub extern "C" fn measure_schedule(edits: &[EditRow], constraints: &[ConstraintRow]) -> Scheduled
+    ensures { result ≡ scheduled_of (schedule_answer_of edits.now constraints.now) }
+{
+    benchmark_entry::measure_schedule(edits, constraints)
+}
+
+#[unsafe(no_mangle)]
+pub extern "C" fn measure_merge(
+    edits: &[EditRow],
+    constraints: &[ConstraintRow],
+    others: &[EditRow],
+    otherconstraints: &[ConstraintRow],
+) -> Merged
+    ensures { result ≡ merged_of edits.now constraints.now others.now otherconstraints.now }
+{
+    benchmark_entry::measure_merge(edits, constraints, others, otherconstraints)
+}
+
+#[unsafe(no_mangle)]
+pub extern "C" fn measure_election<'a>(
+    edit: u32,
+    edits: &'a [EditRow],
+    constraints: &'a [ConstraintRow],
+    rivals: &'a [EditRow],
+    rivalconstraints: &'a [ConstraintRow],
+) -> Elected
+    ensures { result ≡ elected_of edit edits.now constraints.now rivals.now rivalconstraints.now }
+{
+    benchmark_entry::measure_election(edit, edits, constraints, rivals, rivalconstraints)
+}

@@ -1,0 +1,67 @@
+// The C symbols of the library (include/catalogue.h): each is the function of `c_library` of its name, under the same clauses.
+#![tactic(auto)]
+
+ghost use Rattle.std.specs.Prelude.{◌≡◌, [], map, ◌+◌, ◌≤◌, length};
+ghost use Rattle.text.specs.Text.{read_text};
+ghost use Rattle.text_report.specs.Report.{reported, reported_out};
+ghost use Rattle.unity_table.specs.Unity.{weights_of, unity_of};
+ghost use Rattle.c_library.specs.Replies.{reply_of, checked_reply, rewritten_reply, rewritten_out, answers_to, answers_after, answered_reply, answered_out, worked};
+
+use c_library::Reply;
+use record_rows::row::ConstraintRow;
+use unity_table::Unity;
+
+#[unsafe(no_mangle)]
+pub extern "C" fn catalogue_check(text: &[u8]) -> Reply
+    ensures { result ≡ checked_reply (read_text text.now) }
+{
+    c_library::catalogue_check(text)
+}
+
+#[unsafe(no_mangle)]
+pub extern "C" fn catalogue_report(text: &[u8], out: &mut [u8]) -> Reply
+    ensures { (result ≡ reply_of (reported (read_text text.now) out.old))
+        × (out.new ≡ reported_out (read_text text.now) out.old) }
+{
+    c_library::catalogue_report(text, &mut out[..])
+}
+
+#[unsafe(no_mangle)]
+pub extern "C" fn catalogue_rewrite(text: &[u8], out: &mut [u8]) -> Reply
+    ensures { (result ≡ rewritten_reply (read_text text.now) out.old)
+        × (out.new ≡ rewritten_out (read_text text.now) out.old) }
+{
+    c_library::catalogue_rewrite(text, &mut out[..])
+}
+
+#[unsafe(no_mangle)]
+pub extern "C" fn catalogue_replay(log: &[u8], work: &mut [u8], out: &mut [u8]) -> Reply
+    ensures { length log.now ≤ 4611686018427387904
+        → (result ≡ answered_reply (answers_to log.now) work.old out.old)
+        × (out.new ≡ answered_out (answers_to log.now) work.old out.old)
+        × (work.new ≡ (worked [] log.now work.old).bytes) }
+{
+    c_library::catalogue_replay(log, &mut work[..], &mut out[..])
+}
+
+#[unsafe(no_mangle)]
+pub extern "C" fn catalogue_continue(
+    kept: &[u8],
+    log: &[u8],
+    work: &mut [u8],
+    out: &mut [u8],
+) -> Reply
+    ensures { length kept.now + length log.now ≤ 4611686018427387904
+        → (result ≡ answered_reply (answers_after kept.now log.now) work.old out.old)
+        × (out.new ≡ answered_out (answers_after kept.now log.now) work.old out.old)
+        × (work.new ≡ (worked kept.now log.now work.old).bytes) }
+{
+    c_library::catalogue_continue(kept, log, &mut work[..], &mut out[..])
+}
+
+#[unsafe(no_mangle)]
+pub extern "C" fn catalogue_unity(answers: &[ConstraintRow]) -> Unity
+    ensures { result ≡ unity_of (map weights_of answers.now) }
+{
+    c_library::catalogue_unity(answers)
+}
