@@ -14,7 +14,7 @@ fn link() {
     let archive = PathBuf::from(directory).join("libc_library.a");
     // The compiler may be started in another directory than this script.
     let archive = archive.canonicalize().unwrap_or_else(|error| {
-        eprintln!("{}: {error}; `rt staticlib c_library` makes it", archive.display());
+        eprintln!("{}: {error}; `.ci/archive c_library_c` makes it", archive.display());
         std::process::exit(1)
     });
     let directory = archive.parent().expect("a file is in a directory");
