@@ -1,6 +1,6 @@
 //! What a source declares.
 
-use crate::words::{parts, Language};
+use crate::words::{parts, Language, HOLE};
 use std::ops::Range;
 
 #[derive(Clone, Copy, PartialEq, Eq, Debug)]
@@ -22,7 +22,7 @@ pub struct Declaration<'a> {
     pub name: &'a str,
     pub kind: Kind,
     pub public: bool,
-    /// Whether C calls it, or the system: `#[no_mangle]` or `main`.
+    /// Whether C calls it, or the system: `#[unsafe(no_mangle)]` or `main`.
     pub entry: bool,
     /// The signature with its clauses, or the function with its body.
     pub range: Range<usize>,
@@ -83,14 +83,14 @@ fn antt_signature(line: &str) -> Option<(&str, Kind, bool)> {
     loop {
         let (word, more) = rest.split_once(' ')?;
         match word {
-            "unfoldable" | "abbrev" | "axiom" => rest = more,
+            "pattern" | "unfoldable" | "abbrev" | "axiom" => rest = more,
             "pub" => (rest, public) = (more, true),
             "record" if more.starts_with('{') => return None,
             "record" => return Some((name(more)?, Kind::Record, public)),
             "data" => return Some((name(more)?, Kind::Data, public)),
-            "use" | "mod" | "module" | "infix" | "infixl" | "infixr" | "unfolding" | "let" => {
-                return None
-            }
+            "ruleset" => return Some((name(more)?, Kind::Value, public)),
+            "use" | "mod" | "module" | "open" | "infix" | "infixl" | "infixr" | "unfolding"
+            | "let" => return None,
             _ => break,
         }
     }
@@ -123,7 +123,7 @@ fn is_clause(line: &str, name: &str) -> bool {
     let first = line.split(' ').next().unwrap_or("");
     let left = line.split(" = ").next().unwrap_or("");
     let operator = || {
-        name.contains('_')
+        name.contains(HOLE)
             && left.split([' ', '(', ')']).any(|word| parts(name).any(|part| part == word))
     };
     first == "unfolding" || first == name || antt_signature(line).is_none() && operator()
@@ -150,7 +150,8 @@ fn of_rattle<'a>(text: &'a str, lines: &[Line<'a>]) -> Vec<Declaration<'a>> {
                 range: line.start..end,
             });
         }
-        outside = line.text.starts_with("#[no_mangle]") || outside && line.text.starts_with("#[");
+        outside =
+            line.text.starts_with("#[unsafe(no_mangle)]") || outside && line.text.starts_with("#[");
     }
     found
 }
@@ -194,25 +195,28 @@ mod tests {
 
     #[test]
     fn of_antt() {
-        let text = "infix 40 _in_\nabbrev pub _in_ : A\nx in y = x\n\nby {ℓ} : A\n\npub record R : Type 0 where\n  pub part : A\n\n\
-            module _ (a : A) where\n  pub law : a ≡ a\n  unfolding f\n  law = refl\n    where\n      own : A\n";
+        let text = "infix 40 ◌in◌\nabbrev pub ◌in◌ : A\nx in y = x\n\nby_it {ℓ} : A\n\npub record R : Type 0 where\n  pub part : A\n\n\
+            module _ (a : A) where\n  open a use {b}\n  pub law : a ≡ a\n  unfolding f\n  law = refl\n    where\n      own : A\n\n\
+            pub ruleset laws = (law, f)\n";
         let expected = [
-            ("_in_", Kind::Value, true),
-            ("by", Kind::Value, false),
+            ("◌in◌", Kind::Value, true),
+            ("by_it", Kind::Value, false),
             ("R", Kind::Record, true),
             ("part", Kind::Part, true),
             ("law", Kind::Value, true),
             ("own", Kind::Value, false),
+            ("laws", Kind::Value, true),
         ];
         assert_eq!(shown(text, Language::Antt), expected);
         let found = declarations(text, Language::Antt);
-        assert_eq!(text[found[0].range.clone()].trim(), "abbrev pub _in_ : A\nx in y = x");
-        assert!(text[found[4].range.clone()].ends_with("own : A\n"));
+        assert_eq!(text[found[0].range.clone()].trim(), "abbrev pub ◌in◌ : A\nx in y = x");
+        assert!(text[found[4].range.clone()].trim_end().ends_with("own : A"));
     }
 
     #[test]
     fn of_rattle() {
-        let text = "pub struct S {\n    pub a: u8,\n}\n\n#[no_mangle]\npub extern     fn f(a: u8) -> u8\n{\n    a\n}\n\nfn g() {\n}\nconst C: u8 = 1;\n";
+        let text = "#![tactic(auto)]\n\n#[derive(Clone, Copy)]\npub struct S {\n    pub a: u8,\n}\n\n#[unsafe(no_mangle)]\npub extern     fn f(a: u8) -> u8\n{\n    a\n}\n\n\
+            fn g() {\n}\nconst C: u8 = 1;\n";
         let expected = [
             ("S", Kind::Type, true),
             ("f", Kind::Function, true),

@@ -114,8 +114,8 @@ mod tests {
 
     #[test]
     fn of_antt() {
-        let text = "use a.B.{c, _≡_ as _is_}\nuse a.D as d\nuse a.E\nunfoldable pub use a.F.{\n  g,\n  h,\n}\nreuse x = y\n";
-        let expected = ["a.B c=c _is_=_≡_", "a.D d=a.D", "a.E E=a.E", "a.F g=g h=h"];
+        let text = "use a.B.{c, ◌≡◌ as ◌is◌}\nuse a.D as d\nuse a.E\nunfoldable pub use a.F.{\n  g,\n  h,\n}\nreuse x = y\n";
+        let expected = ["a.B c=c ◌is◌=◌≡◌", "a.D d=a.D", "a.E E=a.E", "a.F g=g h=h"];
         assert_eq!(shown(text, Language::Antt), expected);
         assert_eq!(
             imports(text, Language::Antt)[3].range,

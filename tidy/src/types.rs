@@ -1,4 +1,4 @@
-//! The structs and enums of the code, and which of them a crate touches: the kit demands that it lists the crates of these.
+//! The structs and enums of the code, and which of them a crate touches: it may list the crates of these.
 
 use crate::declared::{Declaration, Kind};
 use crate::source::Source;

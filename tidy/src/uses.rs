@@ -33,8 +33,8 @@ impl Uses {
 
     /// Whether a module is named that the kit makes of a struct or an enum.
     pub fn type_of(&self, crate_name: &str, name: &str) -> bool {
-        self.antt.contains(&format!("{crate_name}.specs.declared.{name}"))
-            || self.antt.contains(&format!("{crate_name}.proofs.{name}"))
+        let named = |made: &str| self.antt.contains(&format!("{crate_name}.{made}.{name}"));
+        ["specs.declared", "specs.contracts", "proofs"].into_iter().any(named)
     }
 
     fn add_imports(&mut self, source: &Source) {
@@ -62,15 +62,30 @@ impl Uses {
             self.add_antt(&path);
             if source.language == Language::Rattle {
                 self.add_code(&path);
+                self.add_attribute(source.crate_name, &path);
             }
         }
     }
 
     fn add_antt(&mut self, path: &str) {
-        let Some(module) = module_of(path) else { return };
+        if let Some(module) = module_of(path) {
+            self.add_module(module);
+        }
+    }
+
+    fn add_module(&mut self, module: &str) {
         let above = module.match_indices('.').map(|(end, _)| module[..end].to_string());
         self.antt.extend(above);
-        self.antt.insert(module);
+        self.antt.insert(module.to_string());
+    }
+
+    /// What an attribute `#[tactic(auto, using(crate::proofs::MODULE::NAME))]` names.
+    fn add_attribute(&mut self, crate_name: &str, path: &str) {
+        let names: Vec<&str> = path.split("::").collect();
+        if let [head, "specs" | "proofs", ..] = names[..] {
+            let head = if head == "crate" { crate_name } else { head };
+            self.add_module(&format!("{head}.{}", names[1..].join(".")));
+        }
     }
 
     fn add_code(&mut self, path: &str) {

@@ -83,7 +83,7 @@ fn character(text: &str, at: usize) -> Option<usize> {
 
 /// Whether no name of antt holds the character.
 fn is_break(c: char) -> bool {
-    c.is_whitespace() || "(){}[],;.\"⌜⌝«»".contains(c)
+    c.is_whitespace() || "(){}[],;.@\"«»".contains(c)
 }
 
 fn is_break_of_rattle(c: char) -> bool {
@@ -145,16 +145,26 @@ fn joint(before: &str) -> Joint {
     }
 }
 
-/// Where the contracts of functions stand: what is between the braces of `requires` and `ensures`, which may have a name.
+/// Where the contracts of functions and the ghost members of types stand: what is between the braces of `requires` and `ensures`, which may have a
+/// name, of `ghost invariant` and of `ghost NAME:`.
 fn contracts(text: &str) -> Vec<Range<usize>> {
     let mut found = Vec::new();
     for word in cut(text, 0..text.len(), is_break_of_rattle, false) {
-        let open = text[word.end()..].find('{').map(|place| word.end() + place);
-        if let ("requires" | "ensures", Some(open)) = (word.text, open) {
-            let name = text[word.end()..open].trim();
-            if !name.contains(is_break_of_rattle) {
-                found.push(open + 1..closing(text, open));
+        let Some(open) = text[word.end()..].find('{').map(|place| word.end() + place) else {
+            break;
+        };
+        let name = text[word.end()..open].trim();
+        let named = |name: &str| !name.contains(is_break_of_rattle);
+        let clause = match word.text {
+            "requires" | "ensures" => named(name),
+            "ghost" => {
+                let invariant = name.strip_prefix("invariant").map(str::trim_start);
+                invariant.is_some_and(named) || name.strip_suffix(':').is_some_and(named)
             }
+            _ => false,
+        };
+        if clause {
+            found.push(open + 1..closing(text, open));
         }
     }
     found
@@ -179,9 +189,12 @@ pub fn line_at(text: &str, place: usize) -> usize {
     text[..place].matches('\n').count() + 1
 }
 
-/// The parts of a name between its places for arguments: `≡` of `_≡_`.
+/// What stands in the name of an operator for an argument.
+pub const HOLE: char = '◌';
+
+/// The parts of a name between its places for arguments: `≡` of `◌≡◌`.
 pub fn parts(name: &str) -> impl Iterator<Item = &str> {
-    name.split('_').filter(|part| !part.is_empty())
+    name.split(HOLE).filter(|part| !part.is_empty())
 }
 
 #[cfg(test)]
@@ -201,21 +214,39 @@ mod tests {
 
     #[test]
     fn names_of_antt() {
-        let found = texts("f (x ∷ []) = λ i. c .args.name ≡ y-is′", Language::Antt);
-        assert_eq!(found, ["f", "x", "∷", "[]", "=", "λ", "i", "c", "args", "name", "≡", "y-is′"]);
+        let found = texts("f (x ∷ []) = λ i. c.args.name ≡ y_a-is'", Language::Antt);
+        assert_eq!(
+            found,
+            ["f", "x", "∷", "[]", "=", "λ", "i", "c", "args", "name", "≡", "y_a-is'"]
+        );
     }
 
     #[test]
     fn contracts_are_antt() {
         let text =
-            "fn f(a: u8) -> u8\n    ensures moves { λ r. ⌜ r ≡ place-of a ⌝ }\n{\n    a-b::c\n}\n";
+            "fn f(a: u8) -> u8\n    ensures moves { result ≡ place-of a.now }\n{\n    a-b::c\n}\n";
         let found = words(text, Language::Rattle);
         let contract: Vec<&str> =
             found.iter().filter(|word| word.contract).map(|word| word.text).collect();
-        assert_eq!(contract, ["λ", "r", "r", "≡", "place-of", "a"]);
+        assert_eq!(contract, ["result", "≡", "place-of", "a", "now"]);
         assert!(found
             .iter()
             .any(|word| word.text == "c" && word.joint == Joint::Colons && !word.contract));
+    }
+
+    #[test]
+    fn ghost_members_are_antt() {
+        let text = "ghost use a.B.{c};\nstruct S {\n    ghost size: { a ≡ b },\n    ghost invariant low { d ≤ e },\n}\n";
+        let found = words(text, Language::Rattle);
+        let ghost: Vec<&str> =
+            found.iter().filter(|word| word.contract).map(|word| word.text).collect();
+        assert_eq!(ghost, ["a", "≡", "b", "d", "≤", "e"]);
+    }
+
+    #[test]
+    fn operators_have_holes() {
+        assert_eq!(parts("◌among◌").collect::<Vec<_>>(), ["among"]);
+        assert_eq!(parts("read_text").collect::<Vec<_>>(), ["read_text"]);
     }
 
     #[test]

@@ -6,7 +6,7 @@ use crate::fault::Fault;
 use crate::source::Source;
 use crate::spans::Span;
 use crate::uses::Uses;
-use crate::words::{parts, words, Joint, Language};
+use crate::words::{parts, words, Joint, Language, HOLE};
 use std::collections::HashSet;
 
 const DEAD: &str = "is used nowhere, and no document names it";
@@ -34,9 +34,9 @@ pub fn faults(sources: &[Source], edits: &[Edit], spans: &[Span]) -> Vec<Fault> 
     found
 }
 
-/// Whether something has to use it. C, the system or the kit may: the kit takes the public name of a function's proof.
+/// Whether something has to use it. C, the system or the kit may: the kit takes the public names of a function's proof.
 fn may_die(source: &Source, declared: &Declaration) -> bool {
-    let taken = declared.entry || declared.public && source.proves_function();
+    let taken = declared.entry || declared.public && source.proves_function;
     !taken && declared.kind != Kind::Part
 }
 
@@ -63,7 +63,8 @@ fn antt_wrong(source: &Source, declared: &Declaration, uses: &Uses) -> Option<&'
 /// Whether its own file names it outside its declaration; that an operator binds tighter than another is no use.
 fn here(source: &Source, declared: &Declaration, name: &str) -> bool {
     let named = |text: &str| {
-        text == name || name.contains('_') && parts(name).any(|part| part == text.trim_matches('_'))
+        text == name
+            || name.contains(HOLE) && parts(name).any(|part| part == text.trim_matches(HOLE))
     };
     let fixity = |start: usize| {
         let line = source.text[..start].rfind('\n').map_or(0, |end| end + 1);
@@ -140,15 +141,15 @@ mod tests {
             ["crates/a/proofs/A.antt:1: f-is is used nowhere, and no document names it"]
         );
         assert!(
-            whats(&[law, ("crates/b/proofs/B.antt", "use Rattle·a.proofs.A.{f-is}\n")]).is_empty()
+            whats(&[law, ("crates/b/proofs/B.antt", "use Rattle.a.proofs.A.{f-is}\n")]).is_empty()
         );
         assert!(whats(&[
             law,
-            ("crates/a/proofs/B.antt", "use Rattle·a·proofs.proofs.A as a\ng = a.f-is\n")
+            ("crates/a/proofs/B.antt", "use Rattle.a.proofs.A as a\ng = a.f-is\n")
         ])
         .is_empty());
         assert_eq!(
-            whats(&[law, ("crates/b/proofs/B.antt", "use Rattle·c.proofs.A.{f-is}\n")]).len(),
+            whats(&[law, ("crates/b/proofs/B.antt", "use Rattle.c.proofs.A.{f-is}\n")]).len(),
             1
         );
         assert!(whats(&[law, ("docs/A.md", "`f-is`")]).is_empty());
@@ -160,8 +161,29 @@ mod tests {
     }
 
     #[test]
+    fn a_law_is_used_by_an_attribute() {
+        let law = ("crates/a/proofs/A.antt", "pub f_is : A\nf_is = f_is\n");
+        let code = |text| ("crates/a/src/lib.rt", text);
+        let own = "#[tactic(auto, using(crate::proofs::A::f_is))]\nfn main() {\n}\n";
+        assert!(whats(&[law, code(own)]).is_empty());
+        let other = "#[tactic(auto, using(b::proofs::A::f_is))]\nfn main() {\n}\n";
+        assert_eq!(whats(&[law, code(other)]).len(), 1);
+    }
+
+    #[test]
+    fn the_kit_takes_the_proof_of_a_function() {
+        let proof = "pub returns : goal.returns\nreturns = goal\n\nhelp : A\nhelp = goal\n";
+        assert_eq!(
+            whats(&[("crates/a/proofs/f/Answers.antt", proof)]),
+            ["crates/a/proofs/f/Answers.antt:4: help is used nowhere, and no document names it"]
+        );
+        let laws = ("crates/a/proofs/Lib.antt", "pub mod Answers\n");
+        assert_eq!(whats(&[("crates/a/proofs/Answers.antt", proof), laws]).len(), 2);
+    }
+
+    #[test]
     fn a_fixity_is_no_use() {
-        let text = "infix 40 _in_\nabbrev pub _in_ : A\nx in y = y\n";
+        let text = "infix 40 ◌in◌\nabbrev pub ◌in◌ : A\nx in y = y\n";
         assert_eq!(whats(&[("crates/a/specs/A.antt", text)]).len(), 1);
         let used = format!("{text}g = 1 in 2\n");
         assert!(whats(&[("crates/a/specs/A.antt", &used)]).is_empty());
@@ -171,13 +193,12 @@ mod tests {
     fn a_data_type_is_used_by_its_constructors() {
         let data = ("crates/a/specs/A.antt", "pub data D : Type 0 where\n  one : D\n");
         assert_eq!(whats(&[data]).len(), 1);
-        assert!(whats(&[data, ("crates/a/proofs/B.antt", "use Rattle·a·proofs.specs.A.{one}\n")])
-            .is_empty());
-        assert!(whats(&[
-            data,
-            ("crates/a/proofs/B.antt", "use Rattle·a·proofs.specs.A.D.{one}\n")
-        ])
-        .is_empty());
+        assert!(
+            whats(&[data, ("crates/a/proofs/B.antt", "use Rattle.a.specs.A.{one}\n")]).is_empty()
+        );
+        assert!(
+            whats(&[data, ("crates/a/proofs/B.antt", "use Rattle.a.specs.A.D.{one}\n")]).is_empty()
+        );
     }
 
     #[test]
@@ -198,8 +219,11 @@ mod tests {
         assert_eq!(whats(&[function, ("docs/A.md", "`f`, `a::fg`")]).len(), 1);
         let own = whats(&[("crates/a/src/lib.rt", "pub fn f() {\n}\nfn main() {\n    f()\n}\n")]);
         assert_eq!(own, ["crates/a/src/lib.rt:1: f is pub, and its own file alone uses it"]);
-        assert!(whats(&[("crates/a/src/lib.rt", "#[no_mangle]\npub extern \"C\" fn f() {\n}\n")])
-            .is_empty());
+        assert!(whats(&[(
+            "crates/a/src/lib.rt",
+            "#[unsafe(no_mangle)]\npub extern \"C\" fn f() {\n}\n"
+        )])
+        .is_empty());
     }
 
     #[test]
@@ -208,7 +232,7 @@ mod tests {
         assert_eq!(whats(&[structure]).len(), 1);
         assert!(whats(&[
             structure,
-            ("crates/b/specs/B.antt", "use Rattle·a.specs.declared.S.{S}\n")
+            ("crates/b/specs/B.antt", "use Rattle.a.specs.declared.S.{S}\n")
         ])
         .is_empty());
     }

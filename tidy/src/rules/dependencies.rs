@@ -9,12 +9,14 @@ use std::collections::{BTreeMap, BTreeSet};
 
 const LIST: &str = "crates.txt";
 
-/// Libraries of the kit, which have no line.
-const KIT: [&str; 3] = ["io", "libc", "os"];
+/// Libraries of the kit that may be listed, and have no line.
+const KIT: [&str; 1] = ["io"];
 
 struct Entry<'a> {
     line: usize,
     name: &'a str,
+    /// What stands before the colon: the name, and `staticlib` behind that of a static library.
+    head: &'a str,
     listed: Vec<&'a str>,
 }
 
@@ -39,7 +41,7 @@ pub fn faults(tree: &Tree, sources: &[Source]) -> Vec<Fault> {
 struct Touched<'a> {
     /// The crates that it names.
     named: BTreeSet<&'a str>,
-    /// The crates whose types it makes, gets or reaches without naming them: the kit demands that it lists these too.
+    /// The crates whose types it makes, gets or reaches without naming them: it may list these too.
     reached: BTreeSet<&'a str>,
 }
 
@@ -54,8 +56,9 @@ fn entries(list: &str) -> Vec<Entry<'_>> {
 }
 
 fn entry(line: usize, text: &str) -> Option<Entry<'_>> {
-    let (name, listed) = text.split('#').next()?.split_once(':')?;
-    Some(Entry { line, name: name.trim(), listed: listed.split_whitespace().collect() })
+    let (head, listed) = text.split('#').next()?.split_once(':')?;
+    let name = head.split_whitespace().next()?;
+    Some(Entry { line, name, head: head.trim(), listed: listed.split_whitespace().collect() })
 }
 
 fn touched<'a>(sources: &'a [Source]) -> BTreeMap<&'a str, Touched<'a>> {
@@ -74,9 +77,9 @@ fn touched<'a>(sources: &'a [Source]) -> BTreeMap<&'a str, Touched<'a>> {
     found
 }
 
-/// The crates of `Rattle·CRATE.`, the form for crates below.
+/// The crates of `Rattle.CRATE.`, the crate itself among them.
 fn modules_named(text: &str) -> impl Iterator<Item = &str> {
-    text.split("Rattle·").skip(1).filter_map(|rest| {
+    text.split("Rattle.").skip(1).filter_map(|rest| {
         let end = rest.find(|c: char| !c.is_ascii_alphanumeric() && c != '_')?;
         rest[end..].starts_with('.').then(|| &rest[..end])
     })
@@ -143,14 +146,17 @@ pub fn corrected(tree: &Tree, sources: &[Source]) -> String {
     let list = tree.text(LIST).unwrap_or("");
     let touched = touched(sources);
     let mut order: Vec<&str> = Vec::new();
+    let mut heads: BTreeMap<&str, &str> = BTreeMap::new();
     for entry in entries(list) {
         place(entry.name, &touched, &mut order);
+        heads.insert(entry.name, entry.head);
     }
     let comments = list.lines().filter(|line| line.starts_with('#')).map(str::to_string);
     let line = |name: &&str| {
         let uses = |other: &&&str| touched.get(*name).is_some_and(|touched| touched.has(other));
         let known = order.iter().chain(&KIT).filter(uses);
-        known.fold(format!("{name}:"), |line, other| format!("{line} {other}"))
+        let head = heads.get(name).unwrap_or(name);
+        known.fold(format!("{head}:"), |line, other| format!("{line} {other}"))
     };
     comments.chain(order.iter().map(line)).map(|line| line + "\n").collect()
 }
@@ -178,12 +184,35 @@ mod tests {
     const LOW: (&str, &str) = ("crates/low/src/lib.rt", "pub fn f() {\n}\n");
     const HIGH: (&str, &str) = (
         "crates/high/src/lib.rt",
-        "ghost use Rattle·low.specs.A.{a};\nfn g() {\n    io::print(1)\n}\n",
+        "ghost use Rattle.std.specs.Prelude.{◌≡◌};\nghost use Rattle.high.specs.B.{b};\nghost use Rattle.low.specs.A.{a};\nfn g() {\n    io::print(1)\n}\n",
     );
 
     #[test]
     fn what_is_named_is_listed() {
         assert!(whats(&[("crates.txt", "# list\nlow:\nhigh: low io\n"), LOW, HIGH]).is_empty());
+    }
+
+    #[test]
+    fn static_libraries() {
+        let text = "pub fn g() {\n    low::f()\n}\n";
+        let library = ("crates/low_c/src/lib.rt", text);
+        let list = |text| ("crates.txt", text);
+        assert!(whats(&[list("low:\nlow_c staticlib: low\n"), LOW, library]).is_empty());
+        assert_eq!(
+            whats(&[list("low:\nlow_c staticlib:\n"), LOW, library]),
+            ["crates.txt:2: low_c names low and does not list it once"]
+        );
+        let tree = Tree::of(&[list("low_c staticlib:\nlow:\n"), LOW, library]);
+        let masked = mask(&tree);
+        assert_eq!(corrected(&tree, &masked.sources()), "low:\nlow_c staticlib: low\n");
+    }
+
+    #[test]
+    fn what_an_attribute_names_is_listed() {
+        let text = "#[tactic(auto, using(low::proofs::A::law))]\nfn g() {\n}\n";
+        let high = ("crates/high/src/lib.rt", text);
+        let found = whats(&[("crates.txt", "low:\nhigh:\n"), LOW, high]);
+        assert_eq!(found, ["crates.txt:2: high names low and does not list it once"]);
     }
 
     #[test]

@@ -7,8 +7,8 @@ use crate::tree::Tree;
 use crate::words::Language;
 use std::collections::{BTreeSet, HashSet};
 
-const FOLDERS: [&str; 9] =
-    [".ci", "benchmark", "check", "crates", "docs", "example", "include", "runs", "tidy"];
+const FOLDERS: [&str; 10] =
+    [".ci", "benchmark", "check", "crates", "docs", "example", "include", "runs", "tidy", "tools"];
 
 /// The folders of a crate. Before them `crates/` may be left out.
 const PARTS: [&str; 4] = ["must-fail", "proofs", "specs", "src"];
@@ -125,7 +125,7 @@ fn fault(span: &Span, what: String) -> Fault {
 
 /// Whether a hyphen, an underscore or a capital joins words to one name.
 fn is_name(text: &str) -> bool {
-    let plain = text.chars().all(|c| c.is_alphanumeric() || "-_′".contains(c));
+    let plain = text.chars().all(|c| c.is_alphanumeric() || "-_'".contains(c));
     let capital =
         text.chars().zip(text.chars().skip(1)).any(|(a, b)| a.is_lowercase() && b.is_uppercase());
     plain && text.starts_with(char::is_alphabetic) && (capital || text.contains(['-', '_']))

@@ -4,7 +4,7 @@ use crate::edits::Edit;
 use crate::fault::Fault;
 use crate::imports::{Import, Item};
 use crate::source::Source;
-use crate::words::{masked, parts, words, Joint, Language, Word};
+use crate::words::{masked, parts, words, Joint, Language, Word, HOLE};
 use std::collections::HashSet;
 
 pub fn faults(sources: &[Source], edits: &[Edit]) -> Vec<Fault> {
@@ -55,14 +55,14 @@ impl<'a> Used<'a> {
             inserted.iter().flat_map(|text| words(text, Language::Antt)).map(|word| word.text),
         );
         names.extend(source.imports.iter().filter_map(|import| import.path.split('.').next()));
-        let sections: Vec<&str> = names.iter().map(|name| name.trim_matches('_')).collect();
+        let sections: Vec<&str> = names.iter().map(|name| name.trim_matches(HOLE)).collect();
         names.extend(sections);
         Used { names }
     }
 
     fn has(&self, name: &str) -> bool {
         self.names.contains(name)
-            || name.contains('_') && parts(name).all(|part| self.names.contains(part))
+            || name.contains(HOLE) && parts(name).all(|part| self.names.contains(part))
     }
 }
 
@@ -117,8 +117,8 @@ mod tests {
 
     #[test]
     fn of_antt() {
-        let text = "use a.B.{c, d, _≡_, _∷_, _+_, []}\nuse a.E as e\nuse a.F as f\nuse f.{g}\n\
-            -- d\nlaw : c ≡ x .d\nlaw = g (_+ 1) (e.d ∷ [])\n";
+        let text = "use a.B.{c, d, ◌≡◌, ◌∷◌, ◌+◌, []}\nuse a.E as e\nuse a.F as f\nuse f.{g}\n\
+            -- d\nlaw : c ≡ x.d\nlaw = g (◌+ 1) (e.d ∷ [])\n";
         assert_eq!(
             whats(&[("crates/a/proofs/A.antt", text)]),
             ["crates/a/proofs/A.antt:1: d is brought in and not used"]
@@ -132,7 +132,7 @@ mod tests {
 
     #[test]
     fn of_rattle() {
-        let text = "use record::Edit;\nuse record::Body;\nghost use a.B.{b, c};\nfn f(b: Edit)\n    ensures { ⌜ c ⌝ }\n{\n}\n";
+        let text = "use record::Edit;\nuse record::Body;\nghost use a.B.{b, c};\nfn f(b: Edit)\n    ensures { c }\n{\n}\n";
         let expected = [
             "crates/a/src/lib.rt:2: Body is brought in and not used",
             "crates/a/src/lib.rt:3: b is brought in and not used",

@@ -25,7 +25,7 @@ struct Place<'a> {
 /// The public names that several crates declare, with their places.
 fn shared<'a>(sources: &'a [Source]) -> BTreeMap<(Sort, &'a str), Vec<Place<'a>>> {
     let mut places: BTreeMap<(Sort, &str), Vec<Place>> = BTreeMap::new();
-    for source in sources.iter().filter(|source| !source.proves_function()) {
+    for source in sources.iter().filter(|source| !source.proves_function) {
         for declared in source
             .declarations
             .iter()
