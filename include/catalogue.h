@@ -1,7 +1,7 @@
 /* The chip catalogue for programs in other languages: exchanged texts, reports and call logs, as bytes in and bytes out, and tables of election
  * answers.
  *
- * `rt staticlib c_library` proves the library and writes target/staticlib/libc_library.a, which links into x86-64 programs:
+ * `.ci/archive c_library_c` proves the library and writes target/staticlib/libc_library.a, which links into x86-64 programs:
  *
  *     gcc -Iinclude program.c target/staticlib/libc_library.a -o program
  *
