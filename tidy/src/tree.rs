@@ -8,8 +8,8 @@ use std::path::Path;
 /// Files whose text the rules read; of every other one the path is enough.
 const READ: [&str; 5] = [".antt", ".rt", ".edit", ".md", "crates.txt"];
 
-/// Directories that hold no source.
-const SKIPPED: [&str; 2] = [".git", "target"];
+/// Directories that hold no source: `rt` builds in the folder out of each crate.
+const SKIPPED: [&str; 3] = [".git", "out", "target"];
 
 #[derive(Default)]
 pub struct Tree {
