@@ -1,4 +1,3 @@
-use borrow.Author.Rules.{rules}
 use Rattle.lists.specs.Lists.{mem}
 use Rattle.record.specs.Record.{names, written}
 use Rattle.record.specs.Stored.{padded}

@@ -1,4 +1,3 @@
-use borrow.Author.Rules.{rules}
 use Rattle.bench.proofs.Moves.{opens}
 use Rattle.bench.proofs.open_at.Goals as goal
 

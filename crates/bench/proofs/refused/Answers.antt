@@ -1,5 +1,4 @@
 use mathlib.Core.Path.{ap}
-use borrow.Author.Rules.{rules}
 use Rattle.ledger.specs.declared.Answer.{Answer}
 use Rattle.bench.proofs.refused.Goals as goal
 

@@ -1,4 +1,3 @@
-use borrow.Author.Rules.{rules}
 use Rattle.bench.proofs.Moves.{change-from}
 use Rattle.bench.proofs.reschedule.Goals as goal
 

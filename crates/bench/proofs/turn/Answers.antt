@@ -1,5 +1,4 @@
 use mathlib.Core.Path.{◌∙◌}
-use borrow.Author.Rules.{rules}
 use Rattle.ledger.proofs.Undone.{from-valid}
 use Rattle.bench.proofs.Moves.{turn-refused, turn-opens}
 use Rattle.bench.proofs.turn.Goals as goal

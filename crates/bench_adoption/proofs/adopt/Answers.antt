@@ -1,6 +1,5 @@
 -- `adopt` meets its contract. Assumes nothing.
 use mathlib.Core.List.{map}
-use borrow.Author.Rules.{rules}
 use Rattle.voting_count.specs.Count.{lent_proposals}
 use Rattle.bench_adoption.proofs.Adopted.{adopt-answers}
 use Rattle.bench_adoption.proofs.adopt.Goals as goal

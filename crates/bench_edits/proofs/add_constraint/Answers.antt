@@ -1,4 +1,3 @@
-use borrow.Author.Rules.{rules}
 use Rattle.bench_edits.proofs.Rows.{added-constraint}
 use Rattle.bench_edits.proofs.add_constraint.Goals as goal
 

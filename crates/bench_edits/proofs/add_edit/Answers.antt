@@ -1,4 +1,3 @@
-use borrow.Author.Rules.{rules}
 use Rattle.bench_edits.proofs.Rows.{added-edit}
 use Rattle.bench_edits.proofs.add_edit.Goals as goal
 

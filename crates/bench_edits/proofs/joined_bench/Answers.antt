@@ -1,7 +1,6 @@
 use mathlib.Core.Path.{◌≡◌, sym, ◌∙◌}
 use mathlib.Core.Bool.{true, false}
 use borrow.Author.Tests.{not-true, not-false}
-use borrow.Author.Rules.{rules}
 use Rattle.bench.proofs.Moves.{bench-record, bench-hidden}
 use Rattle.record.specs.Judgement.{sound}
 use Rattle.graph.proofs.indexes.Fit.{checked-fit}

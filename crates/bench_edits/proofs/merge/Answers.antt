@@ -1,4 +1,3 @@
-use borrow.Author.Rules.{rules}
 use Rattle.bench_edits.proofs.Rows.{merged}
 use Rattle.bench_edits.proofs.merge.Goals as goal
 

@@ -1,9 +1,7 @@
 -- `equal_seats` meets its contract. The loop's invariant: the roll has the rows of the benches so far. Assumes nothing.
-use Prim.Native.Nat.{◌≤◌, ◌-◌}
-use mathlib.Core.Path.{◌≡◌, ap, ◌∙◌}
+use mathlib.Core.Path.{ap, ◌∙◌}
 use lib.ListN.{take}
 use native.Mathlib.Omega.{arith}
-use borrow.Author.Rules.{rules}
 use Rattle.voting_roll.specs.Roll.{roll_of}
 use Rattle.benchmark_entry.specs.Measured.{equal_seats}
 use Rattle.benchmark_entry.proofs.Answers.{seated, all-seated}

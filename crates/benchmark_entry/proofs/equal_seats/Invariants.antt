@@ -1,10 +1,8 @@
 use Prim.Native.Nat.{◌≤◌, ◌-◌}
-use mathlib.Core.Path.{◌≡◌, ap, ◌∙◌}
+use mathlib.Core.Path.{◌≡◌}
 use lib.ListN.{take}
-use native.Mathlib.Omega.{arith}
 use Rattle.voting_roll.specs.Roll.{roll_of}
 use Rattle.benchmark_entry.specs.Measured.{equal_seats}
-use Rattle.benchmark_entry.proofs.Answers.{seated, all-seated}
 use Rattle.benchmark_entry.proofs.equal_seats.Given as goal
 
 abbrev pub invariant-loop-bench : goal.invariant-loop-bench

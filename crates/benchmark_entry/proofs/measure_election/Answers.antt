@@ -1,5 +1,4 @@
 -- `measure_election` meets its contract. Assumes nothing.
-use borrow.Author.Rules.{rules}
 use Rattle.benchmark_entry.specs.Measured.{equal_seats}
 use Rattle.benchmark_entry.proofs.Answers.{measured-election}
 use Rattle.benchmark_entry.proofs.measure_election.Goals as goal

@@ -1,6 +1,5 @@
 -- `measure_judgement` meets its contract. Assumes nothing.
 use mathlib.Core.Path.{ap}
-use borrow.Author.Rules.{rules}
 use Rattle.benchmark_entry.specs.Measured.{judgement_numbers}
 use Rattle.benchmark_entry.proofs.measure_judgement.Goals as goal
 

@@ -1,5 +1,4 @@
 -- `measure_merge` meets its contract. Assumes nothing.
-use borrow.Author.Rules.{rules}
 use Rattle.benchmark_entry.proofs.Answers.{merged-twice}
 use Rattle.benchmark_entry.proofs.measure_merge.Goals as goal
 

@@ -1,6 +1,5 @@
 -- `measure_schedule` meets its contract. Assumes nothing.
 use mathlib.Core.Path.{ap}
-use borrow.Author.Rules.{rules}
 use Rattle.benchmark_entry.specs.Measured.{scheduled_of}
 use Rattle.benchmark_entry.proofs.measure_schedule.Goals as goal
 

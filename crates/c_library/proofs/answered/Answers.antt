@@ -1,6 +1,5 @@
 -- `answered` meets its contract. Assumes nothing.
 use mathlib.Core.Path.{refl}
-use borrow.Author.Rules.{rules}
 use Rattle.c_library.proofs.Told.{work-is, work-short, out-short, out-told}
 use Rattle.c_library.proofs.answered.Goals as goal
 

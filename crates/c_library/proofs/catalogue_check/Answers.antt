@@ -1,5 +1,4 @@
 -- `catalogue_check` meets its contract. Assumes nothing.
-use borrow.Author.Rules.{rules}
 use Rattle.c_library.proofs.Told.{check-refused, check-accepted}
 use Rattle.c_library.proofs.catalogue_check.Goals as goal
 

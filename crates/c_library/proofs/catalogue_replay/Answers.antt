@@ -1,6 +1,5 @@
 -- `catalogue_replay` meets its contract. Assumes nothing.
 use native.Mathlib.Omega.{arith}
-use borrow.Author.Rules.{rules}
 use Rattle.text_lines.specs.Lines.{lines}
 use Rattle.log_run.specs.Log.{log_run, run_lines}
 use Rattle.c_library.specs.Replies.{texts_after}

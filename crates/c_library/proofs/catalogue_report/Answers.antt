@@ -1,6 +1,5 @@
 -- `catalogue_report` meets its contract. Assumes nothing.
 use mathlib.Core.Path.{ap}
-use borrow.Author.Rules.{rules}
 use Rattle.c_library.specs.Replies.{reply_of}
 use Rattle.c_library.proofs.catalogue_report.Goals as goal
 

@@ -1,5 +1,4 @@
 -- `catalogue_rewrite` meets its contract. Assumes nothing.
-use borrow.Author.Rules.{rules}
 use Rattle.c_library.proofs.Told.{rewrite-refused, rewrite-accepted}
 use Rattle.c_library.proofs.catalogue_rewrite.Goals as goal
 

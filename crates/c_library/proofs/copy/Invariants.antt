@@ -1,9 +1,7 @@
 use Prim.Native.Nat.{◌-◌, ◌≤◌}
-use mathlib.Core.Path.{◌≡◌, refl}
+use mathlib.Core.Path.{◌≡◌}
 use mathlib.Core.List.{◌++◌}
 use lib.ListN.{length, take, drop}
-use native.Mathlib.Omega.{arith}
-use Rattle.c_library.proofs.Told.{copied_next}
 use Rattle.c_library.proofs.copy.Given as goal
 
 abbrev pub invariant-loop-i : goal.invariant-loop-i

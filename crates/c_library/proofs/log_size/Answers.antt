@@ -1,5 +1,4 @@
 -- `log_size` meets its contract. Assumes nothing.
-use borrow.Author.Rules.{rules}
 use Rattle.c_library.proofs.Parts.{two-logs}
 use Rattle.c_library.proofs.log_size.Goals as goal
 

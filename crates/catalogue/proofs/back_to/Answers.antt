@@ -7,7 +7,7 @@ use borrow.Author.Rules.{rules}
 use Rattle.lists.proofs.Lists.{length-mapped}
 use Rattle.catalogue.specs.Chips.{cells, places, rows, stored_view}
 use Rattle.catalogue.specs.Entries.{absent_entry}
-use Rattle.catalogue.proofs.Loops.{Undoing, undo-within, undo-past, undo-end}
+use Rattle.catalogue.proofs.Loops.{undo-within, undo-past, undo-end}
 use Rattle.catalogue.proofs.back_to.Goals as goal
 
 pub loop-page-init : goal.loop-page-init

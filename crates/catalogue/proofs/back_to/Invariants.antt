@@ -1,11 +1,6 @@
 use Prim.Native.Nat.{◌≤◌}
-use mathlib.Core.Path.{◌≡◌, refl, ap}
-use lib.ListN.{length}
-use native.Mathlib.Omega.{arith}
-use Rattle.lists.proofs.Lists.{length-mapped}
-use Rattle.catalogue.specs.Chips.{cells, places, rows, stored_view}
-use Rattle.catalogue.specs.Entries.{absent_entry}
-use Rattle.catalogue.proofs.Loops.{Undoing, undo-within, undo-past, undo-end}
+use Rattle.catalogue.specs.Chips.{cells, places, rows}
+use Rattle.catalogue.proofs.Loops.{Undoing}
 use Rattle.catalogue.proofs.back_to.Given as goal
 
 abbrev pub invariant-loop-page : goal.invariant-loop-page

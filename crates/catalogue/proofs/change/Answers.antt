@@ -1,6 +1,5 @@
 -- `change` meets its contract.
 use native.Mathlib.Omega.{arith}
-use borrow.Author.Rules.{rules}
 use Rattle.catalogue.proofs.Moves.{common-le, change-moves, change-opens}
 use Rattle.catalogue.proofs.change.Goals as goal
 

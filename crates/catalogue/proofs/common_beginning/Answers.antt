@@ -1,12 +1,11 @@
 -- `common_beginning` meets its contract. The invariant: the names passed are the same.
-use Prim.Native.Nat.{ℕ, ◌-◌, ◌≤◌, ◌<◌, min}
+use Prim.Native.Nat.{ℕ, min}
 use mathlib.Core.Path.{◌≡◌, ap, ◌∙◌}
-use lib.ListN.{length, get_or}
+use lib.ListN.{length}
 use native.Mathlib.Omega.{arith}
 use borrow.Author.Rules.{rules}
 use borrow.Author.Count.{below_none, below_more}
 use Rattle.lists.proofs.Lists.{length-mapped}
-use Rattle.record.specs.Stored.{filler_edit}
 use Rattle.catalogue.specs.Chips.{rows}
 use Rattle.catalogue.proofs.Moves.{common-stops}
 use Rattle.catalogue.proofs.common_beginning.Goals as goal

@@ -1,12 +1,7 @@
-use Prim.Native.Nat.{ℕ, ◌-◌, ◌≤◌, ◌<◌, min}
-use mathlib.Core.Path.{◌≡◌, ap, ◌∙◌}
-use lib.ListN.{length, get_or}
-use native.Mathlib.Omega.{arith}
-use borrow.Author.Count.{below_none, below_more}
-use Rattle.lists.proofs.Lists.{length-mapped}
+use Prim.Native.Nat.{ℕ, ◌-◌, ◌≤◌, ◌<◌}
+use mathlib.Core.Path.{◌≡◌}
+use lib.ListN.{get_or}
 use Rattle.record.specs.Stored.{filler_edit}
-use Rattle.catalogue.specs.Chips.{rows}
-use Rattle.catalogue.proofs.Moves.{common-stops}
 use Rattle.catalogue.proofs.common_beginning.Given as goal
 
 abbrev pub invariant-loop-same : goal.invariant-loop-same

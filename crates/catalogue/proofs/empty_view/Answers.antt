@@ -1,5 +1,4 @@
 -- `empty_view` meets its contract.
-use borrow.Author.Rules.{rules}
 use Rattle.catalogue.proofs.Entries.{empty-view-stored}
 use Rattle.catalogue.proofs.empty_view.Goals as goal
 

@@ -1,12 +1,12 @@
 -- `forward_to` meets its contract. The invariant: the pages that are left, run from here, come to what all of them come to.
-use Prim.Native.Nat.{◌-◌, ◌≤◌}
+use Prim.Native.Nat.{◌≤◌}
 use mathlib.Core.Path.{◌≡◌, refl, ap}
 use lib.ListN.{length}
 use native.Mathlib.Omega.{arith}
 use borrow.Author.Rules.{rules}
 use Rattle.lists.proofs.Lists.{length-mapped}
 use Rattle.catalogue.specs.Chips.{cells, places, rows, stored_view}
-use Rattle.catalogue.proofs.Loops.{LeftToRun, run-within, run_past, pages-run-end}
+use Rattle.catalogue.proofs.Loops.{run-within, run_past, pages-run-end}
 use Rattle.catalogue.proofs.forward_to.Goals as goal
 
 pub loop-page-init : goal.loop-page-init

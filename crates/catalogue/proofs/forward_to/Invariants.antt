@@ -1,10 +1,6 @@
-use Prim.Native.Nat.{◌-◌, ◌≤◌}
-use mathlib.Core.Path.{◌≡◌, refl, ap}
-use lib.ListN.{length}
-use native.Mathlib.Omega.{arith}
-use Rattle.lists.proofs.Lists.{length-mapped}
-use Rattle.catalogue.specs.Chips.{cells, places, rows, stored_view}
-use Rattle.catalogue.proofs.Loops.{LeftToRun, run-within, run_past, pages-run-end}
+use Prim.Native.Nat.{◌-◌}
+use Rattle.catalogue.specs.Chips.{cells, places, rows}
+use Rattle.catalogue.proofs.Loops.{LeftToRun}
 use Rattle.catalogue.proofs.forward_to.Given as goal
 
 abbrev pub invariant-loop-page : goal.invariant-loop-page

@@ -1,7 +1,6 @@
 -- `run_entry` meets its contract.
 use mathlib.Core.Path.{◌∙◌}
 use native.Mathlib.Omega.{arith}
-use borrow.Author.Rules.{rules}
 use Rattle.catalogue.proofs.Entries.{cell-within, ran-insert, ran-set, left-absent}
 use Rattle.catalogue.specs.Chips.{cells}
 use Rattle.catalogue.proofs.run_entry.Goals as goal

@@ -1,5 +1,4 @@
 -- `turn_to` meets its contract: forward and back.
-use borrow.Author.Rules.{rules}
 use Rattle.catalogue.proofs.Moves.{turned_on, turned-back, view-turn-opens}
 use Rattle.catalogue.proofs.turn_to.Goals as goal
 

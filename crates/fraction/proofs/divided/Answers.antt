@@ -1,6 +1,5 @@
 -- `divided` meets its contract. Assumes nothing.
 use mathlib.Core.Path.{◌∙◌}
-use borrow.Author.Rules.{rules}
 use borrow.Author.Tests.{not-true, not-false}
 use Rattle.fraction.proofs.Bounds.{divided-wide, divided-told}
 use Rattle.fraction.proofs.divided.Goals as goal

@@ -2,7 +2,6 @@
 use mathlib.Core.Path.{◌≡◌, refl, ap, sym, ◌∙◌}
 use native.Mathlib.Omega.{arith}
 use native.Mathlib.Nat.{mod-lt}
-use borrow.Author.Rules.{rules}
 use Rattle.fraction.specs.Divisor.{gcd}
 use Rattle.fraction.proofs.Divisors.{gcd-step, gcd-none}
 use Rattle.fraction.proofs.gcd.Goals as goal

@@ -1,8 +1,5 @@
-use mathlib.Core.Path.{◌≡◌, refl, ap, sym, ◌∙◌}
-use native.Mathlib.Omega.{arith}
-use native.Mathlib.Nat.{mod-lt}
+use mathlib.Core.Path.{◌≡◌}
 use Rattle.fraction.specs.Divisor.{gcd}
-use Rattle.fraction.proofs.Divisors.{gcd-step, gcd-none}
 use Rattle.fraction.proofs.gcd.Given as goal
 
 abbrev pub invariant-loop-y : goal.invariant-loop-y

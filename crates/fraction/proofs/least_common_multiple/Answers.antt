@@ -1,5 +1,4 @@
 -- `least_common_multiple` meets its contract. Assumes nothing.
-use borrow.Author.Rules.{rules}
 use Rattle.fraction.proofs.Bounds.{multiple-is}
 use Rattle.fraction.proofs.least_common_multiple.Goals as goal
 

@@ -1,5 +1,4 @@
 -- `lowest_terms` meets its contract. Assumes nothing.
-use borrow.Author.Rules.{rules}
 use Rattle.fraction.proofs.Bounds.{lowest-none, lowest-some}
 use Rattle.fraction.proofs.lowest_terms.Goals as goal
 

@@ -1,6 +1,5 @@
 -- `plus` meets its contract. Assumes nothing.
 use mathlib.Core.Path.{◌∙◌}
-use borrow.Author.Rules.{rules}
 use borrow.Author.Tests.{not-true, not-false}
 use Rattle.fraction.proofs.Bounds.{part_small, part-fits, sum_fits, plus-wide, plus-scaled-wide, plus-sum-wide, plus-told}
 use Rattle.fraction.proofs.plus.Goals as goal

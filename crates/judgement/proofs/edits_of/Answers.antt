@@ -1,16 +1,11 @@
 -- `edits_of` meets its contract. Assumes nothing.
-use Prim.Native.Nat.{ℕ, ◌-◌, ◌≤◌, ◌<◌}
-use mathlib.Core.Path.{◌≡◌, refl, sym, ◌∙◌}
-use mathlib.Core.List.{List}
-use lib.ListN.{length, length-set}
+use Prim.Native.Nat.{◌-◌, ◌<◌}
+use mathlib.Core.Path.{refl, sym, ◌∙◌}
+use lib.ListN.{length-set}
 use native.Mathlib.Omega.{arith}
 use borrow.Author.Rules.{rules}
-use Rattle.judgement.proofs.Listing.{Listing, listing_start, listing-init, listing_step, listing-end}
-use Rattle.graph.specs.indexes.Fit.{Fit}
-use Rattle.judgement_marks.specs.schedules.Rows.{RowIs}
-use Rattle.record.specs.Record.{Record}
+use Rattle.judgement.proofs.Listing.{listing_start, listing-init, listing_step, listing-end}
 use Rattle.record.specs.Schedule.{schedule}
-use Rattle.record.specs.Stored.{stored}
 use Rattle.judgement.proofs.edits_of.Goals as goal
 
 pub loop-q-init : goal.loop-q-init

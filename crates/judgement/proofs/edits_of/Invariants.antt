@@ -1,9 +1,8 @@
-use Prim.Native.Nat.{ℕ, ◌-◌, ◌≤◌, ◌<◌}
-use mathlib.Core.Path.{◌≡◌, refl, sym, ◌∙◌}
+use Prim.Native.Nat.{ℕ, ◌-◌, ◌≤◌}
+use mathlib.Core.Path.{◌≡◌}
 use mathlib.Core.List.{List}
-use lib.ListN.{length, length-set}
-use native.Mathlib.Omega.{arith}
-use Rattle.judgement.proofs.Listing.{Listing, listing_start, listing-init, listing_step, listing-end}
+use lib.ListN.{length}
+use Rattle.judgement.proofs.Listing.{Listing}
 use Rattle.graph.specs.indexes.Fit.{Fit}
 use Rattle.judgement_marks.specs.schedules.Rows.{RowIs}
 use Rattle.record.specs.Record.{Record}

@@ -1,6 +1,5 @@
 -- `judge` meets its contract. Assumes nothing.
 use mathlib.Core.List.{[]}
-use borrow.Author.Rules.{rules}
 use Rattle.judgement.proofs.Judging.{none-hides, judged-is}
 use Rattle.judgement.proofs.judge.Goals as goal
 

@@ -1,5 +1,4 @@
 -- `musts` meets its contract. Assumes nothing.
-use borrow.Author.Rules.{rules}
 use Rattle.judgement.proofs.musts.Goals as goal
 
 pub returns : goal.returns

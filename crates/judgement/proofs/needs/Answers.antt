@@ -1,6 +1,5 @@
 -- `rules` meets its contract. Assumes nothing.
 use native.Mathlib.Omega.{arith}
-use borrow.Author.Rules.{rules}
 use Rattle.judgement.proofs.Judging.{name-past}
 use Rattle.judgement_marks.proofs.Standing.{names-some}
 use Rattle.judgement.proofs.needs.Goals as goal

@@ -1,5 +1,4 @@
 -- `nevers` meets its contract. Assumes nothing.
-use borrow.Author.Rules.{rules}
 use Rattle.judgement.proofs.nevers.Goals as goal
 
 pub returns : goal.returns

@@ -1,6 +1,5 @@
 -- `plan` meets its contract. Assumes nothing.
 use mathlib.Core.Path.{◌∙◌}
-use borrow.Author.Rules.{rules}
 use Rattle.judgement.proofs.Judging.{sound-ring, marked-hides}
 use Rattle.judgement_marks.proofs.Standing.{must-musts}
 use Rattle.record.proofs.Scheduled.{musts-known}

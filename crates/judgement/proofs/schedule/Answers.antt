@@ -1,5 +1,4 @@
 -- `schedule` meets its contract. Assumes nothing.
-use borrow.Author.Rules.{rules}
 use Rattle.judgement.proofs.Judging.{marked-hides}
 use Rattle.judgement.proofs.schedule.Goals as goal
 

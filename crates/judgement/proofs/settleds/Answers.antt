@@ -1,5 +1,4 @@
 -- `settleds` meets its contract. Assumes nothing.
-use borrow.Author.Rules.{rules}
 use Rattle.judgement.proofs.settleds.Goals as goal
 
 pub returns : goal.returns

@@ -1,6 +1,5 @@
 -- `sound` meets its contract. Assumes nothing.
 use mathlib.Core.Path.{◌∙◌}
-use borrow.Author.Rules.{rules}
 use Rattle.judgement.proofs.Judging.{sound-ring}
 use Rattle.judgement_marks.proofs.Standing.{must-musts}
 use Rattle.record.proofs.Scheduled.{musts-known}

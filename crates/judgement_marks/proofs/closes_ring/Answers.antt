@@ -1,7 +1,6 @@
 -- `closes_ring` meets its contract. Assumes nothing.
 use mathlib.Core.Path.{sym}
 use native.Mathlib.Omega.{arith}
-use borrow.Author.Rules.{rules}
 use Rattle.judgement_marks.proofs.Entering.{entering-known, entering-calm}
 use Rattle.judgement_marks.proofs.closes_ring.Goals as goal
 

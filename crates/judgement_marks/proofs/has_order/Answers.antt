@@ -1,6 +1,5 @@
 -- `has_order` meets its contract. Assumes nothing.
 use mathlib.Core.Path.{sym, ◌∙◌}
-use borrow.Author.Rules.{rules}
 use Rattle.judgement_marks.proofs.Pairs.{ordered-never, ordered-never-right, ordered-row, ordered-back}
 use Rattle.judgement_marks.proofs.Standing.{marked-on, marked-off}
 use Rattle.record.specs.Judgement.{never}

@@ -1,7 +1,6 @@
 -- `is_never` meets its contract. Assumes nothing.
 use mathlib.Core.Path.{sym, ◌∙◌}
 use native.Mathlib.Omega.{arith}
-use borrow.Author.Rules.{rules}
 use Rattle.judgement_marks.proofs.Entering.{bit-yes, bit-no}
 use Rattle.judgement_marks.proofs.Standing.{needs-names, never-must, never-need, never-entering, two-known, calm-two, unmarked-above, must-init, must-on}
 use Rattle.graph.proofs.links.Names.{get_or-among}

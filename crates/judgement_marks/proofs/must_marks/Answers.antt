@@ -1,7 +1,6 @@
 -- `must_marks` meets its contract. Assumes nothing.
 use mathlib.Core.Path.{◌∙◌}
 use mathlib.Core.List.{[]}
-use borrow.Author.Rules.{rules}
 use Rattle.judgement_marks.proofs.Standing.{none-closed, must-closure, names-some}
 use Rattle.graph.proofs.links.Marks.{none-marked}
 use Rattle.record.specs.Record.{names, enables}

@@ -2,7 +2,6 @@
 use native.Mathlib.Omega.{arith}
 use Rattle.judgement_marks.proofs.Entering.{first-enabler}
 use Rattle.judgement_marks.proofs.Standing.{enabler-need, init-need}
-use borrow.Author.Rules.{rules}
 use Rattle.judgement_marks.proofs.need_below.Goals as goal
 
 pub returns-then-j-eq0 : goal.returns-then-j-eq0

@@ -1,6 +1,5 @@
 -- `needs_marks` meets its contract. Assumes nothing.
 use mathlib.Core.Path.{◌∙◌}
-use borrow.Author.Rules.{rules}
 use Rattle.judgement_marks.proofs.Standing.{musts-closed, needs-closure, must-musts}
 use Rattle.record.specs.Record.{names, enables}
 use Rattle.record.specs.Schedule.{musts}

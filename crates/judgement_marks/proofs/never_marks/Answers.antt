@@ -1,7 +1,5 @@
 -- `never_marks` meets its contract. Assumes nothing.
 use mathlib.Core.Path.{refl, sym, ◌∙◌}
-use borrow.Author.Rules.{rules}
-use borrow.Author.Tests.{not-true}
 use Rattle.judgement_marks.proofs.Standing.{must-musts, never-nowhere, never-everywhere}
 use Rattle.graph.proofs.links.Marks.{none-marked}
 use Rattle.record.specs.Record.{names}

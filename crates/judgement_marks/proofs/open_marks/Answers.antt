@@ -1,14 +1,10 @@
 -- `open_marks` meets its contract. Assumes nothing.
-use Prim.Native.Nat.{◌-◌, ◌≤◌, ◌<◌}
-use mathlib.Core.Path.{◌≡◌, refl}
+use Prim.Native.Nat.{◌<◌}
+use mathlib.Core.Path.{refl}
 use lib.ListN.{length}
 use native.Mathlib.Omega.{arith}
-use borrow.Author.Rules.{rules}
-use Rattle.graph.specs.links.Resolved.{Resolved}
-use Rattle.judgement_marks.proofs.Opening.{Openings, openings-start, openings-step, openings-end}
-use Rattle.graph.specs.links.Marks.{marks_of}
-use Rattle.record.specs.Judgement.{never}
-use Rattle.record.specs.Record.{Record, names}
+use Rattle.judgement_marks.proofs.Opening.{openings-start, openings-step, openings-end}
+use Rattle.record.specs.Record.{names}
 use Rattle.judgement_marks.proofs.open_marks.Goals as goal
 
 pub loop-b-init : goal.loop-b-init

@@ -1,9 +1,8 @@
-use Prim.Native.Nat.{◌-◌, ◌≤◌, ◌<◌}
-use mathlib.Core.Path.{◌≡◌, refl}
+use Prim.Native.Nat.{◌-◌, ◌≤◌}
+use mathlib.Core.Path.{◌≡◌}
 use lib.ListN.{length}
-use native.Mathlib.Omega.{arith}
 use Rattle.graph.specs.links.Resolved.{Resolved}
-use Rattle.judgement_marks.proofs.Opening.{Openings, openings-start, openings-step, openings-end}
+use Rattle.judgement_marks.proofs.Opening.{Openings}
 use Rattle.graph.specs.links.Marks.{marks_of}
 use Rattle.record.specs.Judgement.{never}
 use Rattle.record.specs.Record.{Record, names}

@@ -1,7 +1,6 @@
 -- `open_pair` meets its contract. Assumes nothing.
 use mathlib.Core.Path.{refl, sym, ◌∙◌}
 use lib.ListN.{length-set}
-use borrow.Author.Rules.{rules}
 use Rattle.judgement_marks.proofs.open_pair.Goals as goal
 
 pub returns-then-has_order : goal.returns-then-has_order
@@ -9,8 +8,7 @@ returns-then-has_order c =
     (c.requires.3, λ R g la lb e. rw (sym (c.has_order.ensures R g la lb e) ∙ c.if-has_order.true) refl)
 
 pub returns : goal.returns
-returns c =
-    (
-      simp length-set c.requires.3,
-      λ R g la lb e. rw (sym (c.has_order.ensures R g la lb e) ∙ c.if-has_order.false) refl,
-    )
+returns c = (
+  simp length-set c.requires.3,
+  λ R g la lb e. rw (sym (c.has_order.ensures R g la lb e) ∙ c.if-has_order.false) refl,
+)

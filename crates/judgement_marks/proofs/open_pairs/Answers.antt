@@ -1,7 +1,6 @@
 -- `open_pairs` meets its contract. Assumes nothing.
-use Prim.Native.Nat.{◌≤◌}
 use native.Mathlib.Omega.{arith}
-use Rattle.judgement_marks.proofs.Opening.{Opening, opening-start, opening-step, opening-end}
+use Rattle.judgement_marks.proofs.Opening.{opening-start, opening-step, opening-end}
 use borrow.Author.Rules.{rules}
 use Rattle.judgement_marks.proofs.open_pairs.Goals as goal
 

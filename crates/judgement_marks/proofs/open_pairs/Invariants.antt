@@ -1,6 +1,5 @@
 use Prim.Native.Nat.{◌≤◌}
-use native.Mathlib.Omega.{arith}
-use Rattle.judgement_marks.proofs.Opening.{Opening, opening-start, opening-step, opening-end}
+use Rattle.judgement_marks.proofs.Opening.{Opening}
 use Rattle.judgement_marks.proofs.open_pairs.Given as goal
 
 abbrev pub invariant-loop-j : goal.invariant-loop-j

@@ -1,16 +1,11 @@
 -- `settled_marks` meets its contract. Assumes nothing.
-use Prim.Native.Nat.{◌-◌, ◌≤◌}
-use mathlib.Core.Path.{◌≡◌, refl, ap, ◌∙◌}
+use mathlib.Core.Path.{refl, ap, ◌∙◌}
 use mathlib.Core.Bool.{cond}
-use lib.ListN.{length, length-set}
+use lib.ListN.{length-set}
 use native.Mathlib.Omega.{arith}
-use borrow.Author.Rules.{rules}
-use Rattle.graph.specs.links.Resolved.{Resolved}
 use Rattle.judgement_marks.proofs.Standing.{marks-values, settled-is-by}
-use Rattle.graph.specs.links.Marks.{marks_of}
-use Rattle.graph.proofs.links.Marks.{Filled, filled-start, filled-step, filled-end}
-use Rattle.record.specs.Judgement.{must, never, settled}
-use Rattle.record.specs.Record.{Record, names}
+use Rattle.graph.proofs.links.Marks.{filled-start, filled-step, filled-end}
+use Rattle.record.specs.Judgement.{settled}
 use Rattle.judgement_marks.proofs.settled_marks.Goals as goal
 
 pub loop-x-init : goal.loop-x-init

@@ -1,12 +1,10 @@
 use Prim.Native.Nat.{◌-◌, ◌≤◌}
-use mathlib.Core.Path.{◌≡◌, refl, ap, ◌∙◌}
+use mathlib.Core.Path.{◌≡◌}
 use mathlib.Core.Bool.{cond}
-use lib.ListN.{length, length-set}
-use native.Mathlib.Omega.{arith}
+use lib.ListN.{length}
 use Rattle.graph.specs.links.Resolved.{Resolved}
-use Rattle.judgement_marks.proofs.Standing.{marks-values, settled-is-by}
 use Rattle.graph.specs.links.Marks.{marks_of}
-use Rattle.graph.proofs.links.Marks.{Filled, filled-start, filled-step, filled-end}
+use Rattle.graph.proofs.links.Marks.{Filled}
 use Rattle.record.specs.Judgement.{must, never, settled}
 use Rattle.record.specs.Record.{Record, names}
 use Rattle.judgement_marks.proofs.settled_marks.Given as goal

@@ -1,17 +1,11 @@
 -- `sound_nevers` meets its contract. Assumes nothing.
-use Prim.Native.Nat.{◌-◌, ◌≤◌}
-use mathlib.Core.Path.{◌≡◌, refl, ap, ◌∙◌}
-use mathlib.Core.Bool.{false, cond}
-use lib.ListN.{length, length-set}
+use mathlib.Core.Path.{refl, ap, ◌∙◌}
+use mathlib.Core.Bool.{cond}
+use lib.ListN.{length-set}
 use native.Mathlib.Omega.{arith}
-use borrow.Author.Rules.{rules}
-use Rattle.graph.specs.links.Resolved.{Resolved}
 use Rattle.judgement_marks.proofs.Standing.{marks-values}
-use Rattle.graph.specs.links.Marks.{marks_of}
-use Rattle.graph.proofs.links.Marks.{Filled, filled-start, filled-step, filled-end}
-use Rattle.record.specs.Judgement.{must, never}
-use Rattle.record.specs.Record.{Record, names}
-use Rattle.record.specs.Schedule.{musts, ring}
+use Rattle.graph.proofs.links.Marks.{filled-start, filled-step, filled-end}
+use Rattle.record.specs.Judgement.{never}
 use Rattle.judgement_marks.proofs.sound_nevers.Goals as goal
 
 pub loop-x-init : goal.loop-x-init

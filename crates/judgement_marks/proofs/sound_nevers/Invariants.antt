@@ -1,12 +1,10 @@
 use Prim.Native.Nat.{◌-◌, ◌≤◌}
-use mathlib.Core.Path.{◌≡◌, refl, ap, ◌∙◌}
+use mathlib.Core.Path.{◌≡◌}
 use mathlib.Core.Bool.{false, cond}
-use lib.ListN.{length, length-set}
-use native.Mathlib.Omega.{arith}
+use lib.ListN.{length}
 use Rattle.graph.specs.links.Resolved.{Resolved}
-use Rattle.judgement_marks.proofs.Standing.{marks-values}
 use Rattle.graph.specs.links.Marks.{marks_of}
-use Rattle.graph.proofs.links.Marks.{Filled, filled-start, filled-step, filled-end}
+use Rattle.graph.proofs.links.Marks.{Filled}
 use Rattle.record.specs.Judgement.{must, never}
 use Rattle.record.specs.Record.{Record, names}
 use Rattle.record.specs.Schedule.{musts, ring}

@@ -1,5 +1,4 @@
 -- `print_record` meets its contract. Assumes nothing.
-use borrow.Author.Rules.{rules}
 use Rattle.text_forms.specs.Spelling.{bytes}
 use Rattle.text_report.specs.Report.{counts_form}
 use Rattle.log_forms.proofs.Printing.{printed-both}

@@ -1,5 +1,4 @@
 -- `print_refusal` meets its contract. Assumes nothing.
-use borrow.Author.Rules.{rules}
 use Rattle.text_forms.specs.Spelling.{bytes}
 use Rattle.text_report.specs.Report.{refusal_form, refusal_line}
 use Rattle.log_answers.proofs.print_refusal.Goals as goal

@@ -1,5 +1,4 @@
 -- `print_report` meets its contract. Assumes nothing.
-use borrow.Author.Rules.{rules}
 use Rattle.text_report.specs.Report.{report_of}
 use Rattle.log_forms.proofs.Printing.{printed-past}
 use Rattle.log_answers.proofs.Placing.{part-printed, part-refused, part-inside}

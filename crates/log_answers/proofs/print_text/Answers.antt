@@ -1,5 +1,4 @@
 -- `print_text` meets its contract. Assumes nothing.
-use borrow.Author.Rules.{rules}
 use Rattle.record.specs.Stored.{record_of}
 use Rattle.text.specs.Text.{text_of}
 use Rattle.log_answers.proofs.Placing.{text-printed, answer-text-refused}

@@ -1,5 +1,4 @@
 -- `add_line` meets its contract. Assumes nothing.
-use borrow.Author.Rules.{rules}
 use Rattle.log_commands.proofs.Exchanged.{adds-refused, adds-edit, adds-constraint}
 use Rattle.log_commands.proofs.add_line.Goals as goal
 

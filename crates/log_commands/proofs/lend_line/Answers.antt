@@ -1,5 +1,4 @@
 -- `lend_line` meets its contract. Assumes nothing.
-use borrow.Author.Rules.{rules}
 use Rattle.log_commands.proofs.Exchanged.{lends-refused, lends-large, lends-edit, lends-constraint}
 use Rattle.log_commands.proofs.lend_line.Goals as goal
 

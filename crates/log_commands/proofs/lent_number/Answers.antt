@@ -1,5 +1,4 @@
 -- `lent_number` meets its contract. Assumes nothing.
-use borrow.Author.Rules.{rules}
 use borrow.Author.Tests.{not-true, not-false}
 use Rattle.text_forms.specs.Spelling.{bytes}
 use Rattle.log_commands.proofs.Exchanged.{lent-short, lent_other, lent-begun}

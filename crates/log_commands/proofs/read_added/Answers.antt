@@ -1,6 +1,5 @@
 -- `read_added` meets its contract. Assumes nothing.
 use mathlib.Core.Path.{ap, ◌∙◌}
-use borrow.Author.Rules.{rules}
 use Rattle.log_commands.specs.Groups.{line_adds}
 use Rattle.log_commands.proofs.read_added.Goals as goal
 

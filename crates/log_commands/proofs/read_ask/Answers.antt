@@ -1,6 +1,5 @@
 -- `read_ask` meets its contract. Assumes nothing.
 use mathlib.Core.Path.{refl}
-use borrow.Author.Rules.{rules}
 use Rattle.lists.specs.Lists.{filter, mem}
 use Rattle.text_forms.specs.Spelling.{bytes, starts_with, number_spelling}
 use Rattle.text_forms.specs.Form.{is_mark, spelling}

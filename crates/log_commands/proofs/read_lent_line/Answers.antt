@@ -1,7 +1,6 @@
 -- `read_lent_line` meets its contract. Assumes nothing.
 use mathlib.Core.Path.{ap, ◌∙◌}
 use native.Mathlib.Omega.{arith}
-use borrow.Author.Rules.{rules}
 use Rattle.log_commands.specs.Groups.{line_lends}
 use Rattle.log_commands.proofs.Exchanged.{no-lent-number, lent-inside, no-space, space-inside, line-lent}
 use Rattle.log_commands.proofs.read_lent_line.Goals as goal

@@ -1,5 +1,4 @@
 -- `turn_back` meets its contract. Assumes nothing.
-use borrow.Author.Rules.{rules}
 use Rattle.log_commands.proofs.Numbers.{back-far, back-wide, back-narrow, back-near}
 use Rattle.log_commands.proofs.turn_back.Goals as goal
 

@@ -1,5 +1,4 @@
 -- `turn_forward` meets its contract. Assumes nothing.
-use borrow.Author.Rules.{rules}
 use Rattle.log_commands.proofs.Numbers.{forward-far, forward-near}
 use Rattle.log_commands.proofs.turn_forward.Goals as goal
 

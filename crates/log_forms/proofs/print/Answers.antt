@@ -1,8 +1,6 @@
 -- `print` meets its contract. Assumes nothing.
-use borrow.Author.Rules.{rules}
 use native.Mathlib.Omega.{arith}
 use mathlib.Core.Path.{sym, ◌∙◌}
-use borrow.Author.Tests.{not-true, not-false}
 use Rattle.text_forms.specs.Form.{fill}
 use Rattle.log_forms.proofs.Printing.{printed-past, printed-none, printed-room, printed-at, printed-there}
 use Rattle.log_forms.proofs.print.Goals as goal

@@ -1,6 +1,5 @@
 -- `add_constraint` meets its contract. Assumes nothing.
 use mathlib.Core.Path.{refl}
-use borrow.Author.Rules.{rules}
 use Rattle.log_lent.proofs.Rows.{past_end}
 use Rattle.log_lent.proofs.add_constraint.Goals as goal
 

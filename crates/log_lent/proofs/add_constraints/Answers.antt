@@ -1,14 +1,12 @@
 -- `add_constraints` meets its contract. Assumes nothing.
-use Prim.Native.Nat.{◌-◌, ◌≤◌}
 use mathlib.Core.Path.{◌≡◌}
 use mathlib.Core.List.{[]}
-use lib.ListN.{length}
 use native.Mathlib.Omega.{arith}
 use borrow.Author.Rules.{rules}
 use Rattle.record.specs.Stored.{filler_constraint}
 use Rattle.record_rows.specs.row.Row.{constraint_row}
 use Rattle.log_lent.specs.Lent.{constraint_places}
-use Rattle.log_lent.proofs.Rows.{RowsJoined, rows-joined-none, rows-joined-next}
+use Rattle.log_lent.proofs.Rows.{rows-joined-none, rows-joined-next}
 use Rattle.log_lent.proofs.add_constraints.Goals as goal
 
 pub loop-i-init : goal.loop-i-init

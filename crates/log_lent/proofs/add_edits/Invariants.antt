@@ -1,12 +1,9 @@
 use Prim.Native.Nat.{◌-◌, ◌≤◌}
 use mathlib.Core.Path.{◌≡◌}
-use mathlib.Core.List.{[]}
 use lib.ListN.{length}
-use native.Mathlib.Omega.{arith}
-use Rattle.record.specs.Stored.{filler_edit}
 use Rattle.record_rows.specs.row.Row.{edit_row}
 use Rattle.log_lent.specs.Lent.{edit_places}
-use Rattle.log_lent.proofs.Rows.{RowsJoined, rows-joined-none, rows-joined-next}
+use Rattle.log_lent.proofs.Rows.{RowsJoined}
 use Rattle.log_lent.proofs.add_edits.Given as goal
 
 abbrev pub invariant-loop-i : goal.invariant-loop-i

@@ -1,6 +1,5 @@
 -- `constraints_of` meets its contract. Assumes nothing.
 use mathlib.Core.Path.{refl}
-use borrow.Author.Rules.{rules}
 use Rattle.log_lent.proofs.constraints_of.Goals as goal
 
 pub returns : goal.returns

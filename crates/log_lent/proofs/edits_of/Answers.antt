@@ -1,6 +1,5 @@
 -- `edits_of` meets its contract. Assumes nothing.
 use mathlib.Core.Path.{refl}
-use borrow.Author.Rules.{rules}
 use Rattle.log_lent.proofs.edits_of.Goals as goal
 
 pub returns : goal.returns

@@ -1,5 +1,4 @@
 -- `lend_constraint` meets its contract. Assumes nothing.
-use borrow.Author.Rules.{rules}
 use Rattle.log_lent.proofs.Settings.{constraint-lent}
 use Rattle.log_lent.proofs.lend_constraint.Goals as goal
 

@@ -1,5 +1,4 @@
 -- `lend_edit` meets its contract. Assumes nothing.
-use borrow.Author.Rules.{rules}
 use Rattle.log_lent.proofs.Settings.{edit-lent}
 use Rattle.log_lent.proofs.lend_edit.Goals as goal
 

@@ -1,5 +1,4 @@
 -- `lend_name` meets its contract. Assumes nothing.
-use borrow.Author.Rules.{rules}
 use Rattle.log_lent.proofs.Settings.{row-full, name-lent}
 use Rattle.log_lent.proofs.lend_name.Goals as goal
 

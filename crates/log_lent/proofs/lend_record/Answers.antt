@@ -1,7 +1,6 @@
 -- `lend_record` meets its contract. Assumes nothing.
 use mathlib.Core.List.{[]}
 use native.Mathlib.Omega.{arith}
-use borrow.Author.Rules.{rules}
 use Rattle.log_lent.proofs.Settings.{no-such-record, edits-many, constraints-many, record-lent}
 use Rattle.log_lent.specs.Lent.{with}
 use Rattle.log_lent.proofs.Rows.{with-same}

@@ -1,5 +1,4 @@
 -- `lend_seat` meets its contract. Assumes nothing.
-use borrow.Author.Rules.{rules}
 use Rattle.log_lent.proofs.Settings.{seat-bench, seat-weight, seat-past, seat-lent}
 use Rattle.log_lent.proofs.lend_seat.Goals as goal
 

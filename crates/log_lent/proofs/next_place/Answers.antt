@@ -1,6 +1,5 @@
 -- `next_place` meets its contract. Assumes nothing.
 use native.Mathlib.Omega.{arith}
-use borrow.Author.Rules.{rules}
 use Rattle.log_lent.proofs.Rows.{table-start, no_record, no-lent-place, row-placed}
 use Rattle.log_lent.proofs.next_place.Goals as goal
 

@@ -1,6 +1,5 @@
 -- `part_of` meets its contract. Assumes nothing.
 use native.Mathlib.Omega.{arith}
-use borrow.Author.Rules.{rules}
 use Rattle.log_lent.proofs.Rows.{table-start, no_part, part-too-long, part-outside, part-whole}
 use Rattle.log_lent.proofs.part_of.Goals as goal
 

@@ -1,5 +1,4 @@
 -- `proposed_constraints` meets its contract. Assumes nothing.
-use borrow.Author.Rules.{rules}
 use Rattle.log_lent.proofs.Rows.{eight-lent}
 use Rattle.log_lent.proofs.proposed_constraints.Goals as goal
 

@@ -1,5 +1,4 @@
 -- `without_rows` meets its contract. Assumes nothing.
-use borrow.Author.Rules.{rules}
 use Rattle.log_lent.proofs.Rows.{no_rows, no_table}
 use Rattle.log_lent.proofs.without_rows.Goals as goal
 

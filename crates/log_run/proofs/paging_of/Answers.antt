@@ -1,6 +1,5 @@
 -- `paging_of` meets its contract. Assumes nothing.
 use mathlib.Core.Path.{ap, sym, ◌∙◌}
-use borrow.Author.Rules.{rules}
 use Rattle.log_run.specs.Branches.{turn_told, paging_of}
 use Rattle.log_run.proofs.paging_of.Goals as goal
 

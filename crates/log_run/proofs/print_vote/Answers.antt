@@ -1,6 +1,5 @@
 -- `print_vote` meets its contract. Assumes nothing.
 use mathlib.Core.Path.{ap}
-use borrow.Author.Rules.{rules}
 use Rattle.ledger.specs.declared.Bench.{Bench}
 use Rattle.log_run.proofs.print_vote.Goals as goal
 

@@ -1,14 +1,9 @@
 -- `run_some` meets its contract. Assumes nothing.
-use Prim.Native.Nat.{◌+◌, ◌-◌, ◌≤◌}
-use mathlib.Core.Path.{◌≡◌, refl}
-use lib.ListN.{length}
+use mathlib.Core.Path.{refl}
 use native.Mathlib.Omega.{arith}
 use borrow.Author.Rules.{rules}
-use borrow.Author.Tests.{leb-true, leb-false}
+use borrow.Author.Tests.{leb-false}
 use Rattle.text_lines.proofs.Ends.{next-line}
-use Rattle.log_session.specs.Desk.{Desk}
-use Rattle.log_session.specs.calls.Lines.{Holds}
-use Rattle.log_run.specs.Running.{Running}
 use Rattle.log_run.proofs.Performed.{refusal-performed, lend-performed, proposal-performed, call-performed, kind-printed, vote-performed, ask-performed}
 use Rattle.log_run.proofs.Running.{running-start, running-few, running-next, stopped-above, stopped-end}
 use Rattle.log_run.proofs.Paging.{first-turn, opened-there}

@@ -1,15 +1,9 @@
 use Prim.Native.Nat.{◌+◌, ◌-◌, ◌≤◌}
-use mathlib.Core.Path.{◌≡◌, refl}
+use mathlib.Core.Path.{◌≡◌}
 use lib.ListN.{length}
-use native.Mathlib.Omega.{arith}
-use borrow.Author.Tests.{leb-true, leb-false}
-use Rattle.text_lines.proofs.Ends.{next-line}
 use Rattle.log_session.specs.Desk.{Desk}
 use Rattle.log_session.specs.calls.Lines.{Holds}
 use Rattle.log_run.specs.Running.{Running}
-use Rattle.log_run.proofs.Performed.{refusal-performed, lend-performed, proposal-performed, call-performed, kind-printed, vote-performed, ask-performed}
-use Rattle.log_run.proofs.Running.{running-start, running-few, running-next, stopped-above, stopped-end}
-use Rattle.log_run.proofs.Paging.{first-turn, opened-there}
 use Rattle.log_run.proofs.run_some.Given as goal
 
 abbrev pub invariant-loop-from : goal.invariant-loop-from

@@ -1,20 +1,11 @@
 -- `run_turns` meets its contract. Assumes nothing.
-use Prim.Native.Nat.{ℕ, ◌+◌, ◌-◌, ◌≤◌}
-use mathlib.Core.Path.{◌≡◌, refl, sym, ap, ◌∙◌}
-use mathlib.Core.List.{List}
-use lib.ListN.{length}
+use mathlib.Core.Path.{refl, sym, ap, ◌∙◌}
 use native.Mathlib.Omega.{arith}
 use borrow.Author.Rules.{rules}
-use borrow.Author.Tests.{leb-true, leb-false}
+use borrow.Author.Tests.{leb-false}
 use Rattle.lists.proofs.Lists.{is-by}
-use Rattle.record_rows.specs.grounds.Ground.{Rows}
 use Rattle.pages_turner.specs.declared.Turner.{Turner}
-use Rattle.ledger.specs.declared.Bench.{Bench}
-use Rattle.log_lent.specs.declared.Lending.{Lending}
-use Rattle.bench.specs.Changes.{open_at}
 use Rattle.text_lines.proofs.Ends.{next-line}
-use Rattle.log_session.specs.Desk.{Desk}
-use Rattle.log_run.specs.Running.{Running}
 use Rattle.log_run.proofs.Running.{running-few}
 use Rattle.log_run.proofs.Paging.{running-open, paged-next, stopped-after}
 use Rattle.log_run.proofs.run_turns.Goals as goal

@@ -7,7 +7,6 @@ use Rattle.ledger.specs.declared.Bench.{Bench}
 use Rattle.log_session.specs.Desk.{ledger_of}
 use Rattle.log_session.specs.Lends.{lend_effect}
 use Rattle.log_session.proofs.Cases.{lent-as, ledger-valid, multilog-is}
-use borrow.Author.Rules.{rules}
 use Rattle.log_session.proofs.lend_line.Goals as goal
 
 pub returns-in-EditRow : goal.returns-in-EditRow

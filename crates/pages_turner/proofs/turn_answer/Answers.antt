@@ -1,5 +1,4 @@
 -- `turn_answer` meets its contract.
-use borrow.Author.Rules.{rules}
 use Rattle.pages_turner.proofs.turn_answer.Goals as goal
 
 pub returns-in-To : goal.returns-in-To

@@ -1,5 +1,4 @@
 -- `turn_step` meets its contract: one law for each return.
-use borrow.Author.Rules.{rules}
 use Rattle.pages_turner.proofs.Signed.{opened-past, by_wide, added-fits, turn_below, page-fits, turn_on, turn-past}
 use Rattle.pages_turner.proofs.turn_step.Goals as goal
 

@@ -2,7 +2,6 @@
 use mathlib.Core.List.{[], ◌∷◌}
 use Rattle.record_tables.specs.Table.{decoded, add_constraint_fault, unite}
 use Rattle.record_joining.proofs.Answers.{join-refused-is, inserted-is}
-use borrow.Author.Rules.{rules}
 use Rattle.record_joining.proofs.add_constraint.Goals as goal
 
 pub returns-then-number-ne0 : goal.returns-then-number-ne0

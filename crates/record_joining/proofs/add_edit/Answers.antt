@@ -4,7 +4,6 @@ use mathlib.Core.Bool.{true}
 use Rattle.record.specs.Record.{written}
 use Rattle.record_tables.specs.Table.{decoded, add_edit_fault, unite}
 use Rattle.record_joining.proofs.Answers.{join-refused-is, union-is}
-use borrow.Author.Rules.{rules}
 use Rattle.record_joining.proofs.add_edit.Goals as goal
 
 pub returns-then-number-ne0 : goal.returns-then-number-ne0

@@ -1,8 +1,5 @@
 -- `edit_rows` meets its contract. Assumes nothing.
-use Prim.Native.Nat.{◌-◌, ◌≤◌}
-use mathlib.Core.Path.{◌≡◌, refl}
-use mathlib.Core.List.{map}
-use lib.ListN.{length, take}
+use mathlib.Core.Path.{refl}
 use Rattle.record_rows.specs.row.Row.{edit_row}
 use Rattle.record_joining.proofs.Answers.{rows_next, rows_end}
 use borrow.Author.Rules.{rules}

@@ -1,9 +1,8 @@
 use Prim.Native.Nat.{◌-◌, ◌≤◌}
-use mathlib.Core.Path.{◌≡◌, refl}
+use mathlib.Core.Path.{◌≡◌}
 use mathlib.Core.List.{map}
 use lib.ListN.{length, take}
 use Rattle.record_rows.specs.row.Row.{edit_row}
-use Rattle.record_joining.proofs.Answers.{rows_next, rows_end}
 use Rattle.record_joining.proofs.edit_rows.Given as goal
 
 abbrev pub invariant-loop-i : goal.invariant-loop-i

@@ -3,7 +3,6 @@ use mathlib.Core.Path.{◌∙◌}
 use Rattle.record_tables.specs.Table.{empty_tables, decoded, lent_fault}
 use Rattle.record_tables.proofs.Tables.{empty-stored}
 use Rattle.record_joining.proofs.Answers.{join-refused-is, lent_is}
-use borrow.Author.Rules.{rules}
 use Rattle.record_joining.proofs.lent.Goals as goal
 
 pub returns-then-number-ne0 : goal.returns-then-number-ne0

@@ -2,7 +2,6 @@
 use mathlib.Core.Bool.{false}
 use Rattle.record_tables.specs.Table.{decoded, names_of, lent_fault, unite}
 use Rattle.record_joining.proofs.Answers.{join-refused-is, union-is}
-use borrow.Author.Rules.{rules}
 use Rattle.record_joining.proofs.merge.Goals as goal
 
 pub returns-then-number-ne0 : goal.returns-then-number-ne0

@@ -1,7 +1,6 @@
 -- `refusal::constraint_add_fault` meets its contract. Assumes nothing.
 use native.Mathlib.Omega.{arith}
 use Rattle.record_tables.proofs.Tables.{stored-ordered, add-constraint}
-use borrow.Author.Rules.{rules}
 use Rattle.record_refusal.proofs.constraint_add_fault.Goals as goal
 
 pub returns-then-n-gt-EDITS : goal.returns-then-n-gt-EDITS

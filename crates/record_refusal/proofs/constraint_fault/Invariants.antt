@@ -1,13 +1,10 @@
 use Prim.Native.Nat.{ℕ, ◌+◌, ◌-◌, ◌≤◌}
-use mathlib.Core.Path.{◌≡◌, sym, ◌∙◌}
+use mathlib.Core.Path.{◌≡◌}
 use mathlib.Core.List.{List}
-use lib.ListN.{length, take}
-use native.Mathlib.Omega.{arith}
-use borrow.Author.Tests.{not-true, not-false}
-use Rattle.lists.proofs.Lists.{length-mapped}
-use Rattle.record_rows.proofs.grounds.Loop.{State, state-start, state-end, state-outside, state-late, state-goes, state-stops}
+use lib.ListN.{length}
+use Rattle.record_rows.proofs.grounds.Loop.{State}
 use Rattle.record_tables.specs.Checked.{MarksNames}
-use Rattle.record_tables.proofs.Elements.{constraint_elements, constraint-rows-ascend}
+use Rattle.record_tables.proofs.Elements.{constraint_elements}
 use Rattle.record_refusal.proofs.constraint_fault.Given as goal
 
 abbrev pub invariant-loop-i : goal.invariant-loop-i

@@ -1,12 +1,5 @@
 -- `refusal::constraint_place` meets its contract. Assumes nothing.
-use Prim.Native.Nat.{◌-◌, ◌≤◌}
-use mathlib.Core.Path.{◌≡◌}
-use mathlib.Core.List.{map}
-use lib.ListN.{take}
-use mathlib.Core.Bool.{false}
-use borrow.Author.Tests.{not-true, not-false}
 use Rattle.record_rows.specs.row.Row.{constraint_row}
-use Rattle.record_rows.specs.grounds.Ground.{misplaced}
 use Rattle.record_rows.proofs.grounds.Lates.{place-first, place-next, place_here, place-last}
 use Rattle.record_rows.proofs.grounds.Loop.{compared}
 use borrow.Author.Rules.{rules}
@@ -16,22 +9,20 @@ pub loop-p-init : goal.loop-p-init
 loop-p-init c = (search rules, search rules, place-first constraint_row c.args.a c.args.n (search rules) 3 c.args.row)
 
 pub returns-then-not-below : goal.returns-then-not-below
-returns-then-not-below c =
-    (
-      search rules,
-      search rules,
-      place_here constraint_row c.args.a c.args.n (search rules) 3 c.args.row c.loop-p.p _ (search rules)
-          (compared 3 c.args.row c.constraint_row-x.ensures c.below.ensures c.if-not-below.true) c.loop-p.invariant.2,
-    )
+returns-then-not-below c = (
+  search rules,
+  search rules,
+  place_here constraint_row c.args.a c.args.n (search rules) 3 c.args.row c.loop-p.p _ (search rules)
+      (compared 3 c.args.row c.constraint_row-x.ensures c.below.ensures c.if-not-below.true) c.loop-p.invariant.2,
+)
 
 pub loop-p-preserved : goal.loop-p-preserved
-loop-p-preserved c =
-    (
-      search rules,
-      search rules,
-      place-next constraint_row c.args.a c.args.n (search rules) 3 c.args.row c.loop-p.p _ (search rules)
-          (compared 3 c.args.row c.constraint_row-x.ensures c.below.ensures c.if-not-below.false) c.loop-p.invariant.2,
-    )
+loop-p-preserved c = (
+  search rules,
+  search rules,
+  place-next constraint_row c.args.a c.args.n (search rules) 3 c.args.row c.loop-p.p _ (search rules)
+      (compared 3 c.args.row c.constraint_row-x.ensures c.below.ensures c.if-not-below.false) c.loop-p.invariant.2,
+)
 
 pub returns : goal.returns
 returns c =

@@ -3,11 +3,8 @@ use mathlib.Core.Path.{◌≡◌}
 use mathlib.Core.List.{map}
 use lib.ListN.{take}
 use mathlib.Core.Bool.{false}
-use borrow.Author.Tests.{not-true, not-false}
 use Rattle.record_rows.specs.row.Row.{constraint_row}
 use Rattle.record_rows.specs.grounds.Ground.{misplaced}
-use Rattle.record_rows.proofs.grounds.Lates.{place-first, place-next, place_here, place-last}
-use Rattle.record_rows.proofs.grounds.Loop.{compared}
 use Rattle.record_refusal.proofs.constraint_place.Given as goal
 
 abbrev pub invariant-loop-p : goal.invariant-loop-p

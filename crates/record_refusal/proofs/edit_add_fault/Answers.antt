@@ -1,6 +1,5 @@
 -- `refusal::edit_add_fault` meets its contract. Assumes nothing.
 use Rattle.record_tables.proofs.Tables.{add-edit}
-use borrow.Author.Rules.{rules}
 use Rattle.record_refusal.proofs.edit_add_fault.Goals as goal
 
 pub returns : goal.returns

@@ -1,11 +1,9 @@
 -- `refusal::edit_fault` meets its contract. Assumes nothing.
-use Prim.Native.Nat.{◌+◌, ◌-◌, ◌≤◌}
 use mathlib.Core.Path.{◌≡◌, refl, sym, ◌∙◌}
 use lib.ListN.{length, take}
 use native.Mathlib.Omega.{arith}
-use borrow.Author.Tests.{not-true, not-false}
 use Rattle.lists.proofs.Lists.{length-mapped}
-use Rattle.record_rows.proofs.grounds.Loop.{State, state-start, state-end, state-outside, state-late, state-goes, state-stops, later-zero, late-zero}
+use Rattle.record_rows.proofs.grounds.Loop.{state-start, state-end, state-outside, state-late, state-goes, state-stops, later-zero, late-zero}
 use Rattle.record_tables.proofs.Elements.{edit_elements, edit-rows-ascend}
 use borrow.Author.Rules.{rules}
 use Rattle.record_refusal.proofs.edit_fault.Goals as goal

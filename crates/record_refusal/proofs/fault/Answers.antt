@@ -1,6 +1,5 @@
 -- `refusal::fault` meets its contract. Assumes nothing.
 use Rattle.record_tables.proofs.Tables.{lent-first, lent-second}
-use borrow.Author.Rules.{rules}
 use Rattle.record_refusal.proofs.fault.Goals as goal
 
 pub returns-then-number-ne0 : goal.returns-then-number-ne0

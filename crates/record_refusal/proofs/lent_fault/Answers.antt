@@ -3,7 +3,6 @@ use mathlib.Core.Path.{◌∙◌}
 use Rattle.record_tables.specs.Table.{empty_tables}
 use Rattle.record_tables.proofs.Tables.{empty-stored}
 use Rattle.record_tables.proofs.Records.{empty-checked}
-use borrow.Author.Rules.{rules}
 use Rattle.record_refusal.proofs.lent_fault.Goals as goal
 
 pub returns : goal.returns

@@ -1,7 +1,5 @@
 -- `constraint_further` meets its contract. Assumes nothing.
 use Rattle.record_tables.proofs.Further.{further-left, further-right, further-pair, further-merged, further-decision, further-plain}
-use borrow.Author.Tests.{not-true, not-false}
-use borrow.Author.Rules.{rules}
 use Rattle.record_tables.proofs.constraint_further.Goals as goal
 
 pub returns-then-not-marked : goal.returns-then-not-marked

@@ -1,10 +1,8 @@
 -- `constraint_repeated` meets its contract. Assumes nothing.
-use Prim.Native.Nat.{◌-◌, ◌≤◌, ◌<◌}
-use mathlib.Core.Path.{◌≡◌, refl, sym, ◌∙◌}
+use mathlib.Core.Path.{refl, sym, ◌∙◌}
 use mathlib.Core.List.{[]}
-use lib.ListN.{length, get_or, take, drop}
-use Rattle.lists.specs.Lists.{any}
-use Rattle.record_rows.specs.grounds.Ground.{alike, known}
+use lib.ListN.{get_or}
+use Rattle.record_rows.specs.grounds.Ground.{alike}
 use Rattle.record_rows.proofs.grounds.Lates.{some-hit, some-miss, some_end}
 use borrow.Author.Rules.{rules}
 use Rattle.record_tables.proofs.constraint_repeated.Goals as goal

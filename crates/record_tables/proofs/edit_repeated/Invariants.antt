@@ -1,10 +1,9 @@
 use Prim.Native.Nat.{◌-◌, ◌≤◌, ◌<◌}
-use mathlib.Core.Path.{◌≡◌, refl, sym, ◌∙◌}
+use mathlib.Core.Path.{◌≡◌}
 use mathlib.Core.List.{[]}
 use lib.ListN.{length, get_or, take, drop}
 use Rattle.lists.specs.Lists.{any}
 use Rattle.record_rows.specs.grounds.Ground.{alike, known}
-use Rattle.record_rows.proofs.grounds.Lates.{some-hit, some-miss, some_end}
 use Rattle.record_tables.proofs.edit_repeated.Given as goal
 
 abbrev pub invariant-loop-j : goal.invariant-loop-j

@@ -1,15 +1,10 @@
 -- `mark_edits` meets its contract. Assumes nothing.
-use Prim.Native.Nat.{◌-◌, ◌≤◌}
 use mathlib.Core.Path.{◌≡◌}
-use mathlib.Core.List.{map}
 use lib.ListN.{length, take}
 use native.Mathlib.Omega.{arith}
-use mathlib.Core.Bool.{true}
 use lib.Seq.{length-take-le}
-use Rattle.lists.specs.Lists.{all}
 use Rattle.record.specs.Record.{name_of}
 use Rattle.record_rows.specs.row.Row.{edit_in_range, edit_row}
-use Rattle.record_tables.specs.Checked.{MarksNames}
 use Rattle.record_tables.proofs.Marks.{marks-start, marks-front, marks-end, edit-small}
 use borrow.Author.Rules.{rules}
 use Rattle.record_tables.proofs.mark_edits.Goals as goal

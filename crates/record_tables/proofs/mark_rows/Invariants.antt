@@ -1,14 +1,11 @@
 use Prim.Native.Nat.{◌-◌, ◌≤◌}
-use mathlib.Core.Path.{◌≡◌, ◌∙◌}
-use mathlib.Core.List.{[]}
+use mathlib.Core.Path.{◌≡◌}
 use lib.ListN.{length, take}
-use native.Mathlib.Omega.{arith}
 use mathlib.Core.Bool.{true}
 use Rattle.lists.specs.Lists.{all}
-use Rattle.record_rows.specs.row.Row.{cell, edit_in_range}
+use Rattle.record_rows.specs.row.Row.{edit_in_range}
 use Rattle.record_tables.specs.Table.{names_of}
 use Rattle.record_tables.specs.Checked.{MarksNames}
-use Rattle.record_tables.proofs.Marks.{marks-start, marks-next, marks-end, row_small}
 use Rattle.record_tables.proofs.mark_rows.Given as goal
 
 abbrev pub invariant-loop-i : goal.invariant-loop-i

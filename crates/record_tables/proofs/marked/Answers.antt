@@ -1,7 +1,6 @@
 -- `marked` meets its contract. Assumes nothing.
 use mathlib.Core.Path.{refl}
 use Rattle.record_tables.proofs.Further.{past-unmarked}
-use borrow.Author.Rules.{rules}
 use Rattle.record_tables.proofs.marked.Goals as goal
 
 pub returns-then-i-marks : goal.returns-then-i-marks

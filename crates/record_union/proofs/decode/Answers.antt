@@ -1,7 +1,6 @@
 -- `decode` meets its contract. Assumes nothing.
 use native.Mathlib.Omega.{arith}
 use Rattle.record_union.proofs.Records.{decoded-is}
-use borrow.Author.Rules.{rules}
 use Rattle.record_union.proofs.decode.Goals as goal
 
 pub returns-then-edits-gt-EDITS : goal.returns-then-edits-gt-EDITS

@@ -1,9 +1,6 @@
 -- `decode_constraints` meets its contract. Assumes nothing.
-use Prim.Native.Nat.{◌-◌, ◌≤◌}
-use mathlib.Core.Path.{◌≡◌}
-use mathlib.Core.List.{[], map}
-use lib.ListN.{length, take}
-use Rattle.record.specs.Stored.{padded, filler_constraint}
+use mathlib.Core.List.{[]}
+use Rattle.record.specs.Stored.{filler_constraint}
 use Rattle.record_rows.specs.row.Row.{constraint_of}
 use Rattle.record_union.proofs.Joining.{decode-next, decode-end}
 use borrow.Author.Rules.{rules}

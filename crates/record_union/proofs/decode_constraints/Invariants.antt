@@ -1,11 +1,9 @@
 use Prim.Native.Nat.{◌-◌, ◌≤◌}
 use mathlib.Core.Path.{◌≡◌}
-use mathlib.Core.List.{[], map}
+use mathlib.Core.List.{map}
 use lib.ListN.{length, take}
 use Rattle.record.specs.Stored.{padded, filler_constraint}
 use Rattle.record_rows.specs.row.Row.{constraint_of}
-use Rattle.record_union.proofs.Joining.{decode-next, decode-end}
-use Rattle.record.proofs.Padded.{padded-begin}
 use Rattle.record_union.proofs.decode_constraints.Given as goal
 
 abbrev pub invariant-loop-i : goal.invariant-loop-i

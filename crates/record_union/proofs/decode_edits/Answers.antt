@@ -1,9 +1,6 @@
 -- `decode_edits` meets its contract. Assumes nothing.
-use Prim.Native.Nat.{◌-◌, ◌≤◌}
-use mathlib.Core.Path.{◌≡◌}
-use mathlib.Core.List.{[], map}
-use lib.ListN.{length, take}
-use Rattle.record.specs.Stored.{padded, filler_edit}
+use mathlib.Core.List.{[]}
+use Rattle.record.specs.Stored.{filler_edit}
 use Rattle.record_rows.specs.row.Row.{edit_of}
 use Rattle.record_union.proofs.Joining.{decode-next, decode-end}
 use borrow.Author.Rules.{rules}

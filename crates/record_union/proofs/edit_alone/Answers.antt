@@ -1,6 +1,5 @@
 -- `edit_alone` meets its contract. Assumes nothing.
 use Rattle.record_union.proofs.Records.{edit-alone-is}
-use borrow.Author.Rules.{rules}
 use Rattle.record_union.proofs.edit_alone.Goals as goal
 
 pub returns : goal.returns

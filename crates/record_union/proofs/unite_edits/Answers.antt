@@ -1,5 +1,4 @@
 -- `unite_edits` meets its contract. Assumes nothing.
-use Prim.Native.Nat.{◌+◌, ◌-◌}
 use mathlib.Core.Path.{refl}
 use lib.ListN.{take}
 use native.Mathlib.Omega.{arith}
@@ -7,7 +6,7 @@ use Rattle.lists.specs.Keyed.{united}
 use Rattle.lists.proofs.Lists.{length-mapped}
 use Rattle.record.specs.Stored.{filler_edit}
 use Rattle.record_tables.specs.Table.{edit_key}
-use Rattle.record_union.proofs.Joining.{UnionWalk, union-walk-start, walk-next, walk_end, united-edits-is}
+use Rattle.record_union.proofs.Joining.{union-walk-start, walk-next, walk_end, united-edits-is}
 use borrow.Author.Rules.{rules}
 use Rattle.record_union.proofs.unite_edits.Goals as goal
 

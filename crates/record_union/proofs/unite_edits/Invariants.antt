@@ -1,12 +1,8 @@
 use Prim.Native.Nat.{◌+◌, ◌-◌}
 use mathlib.Core.Path.{refl}
-use lib.ListN.{take}
-use native.Mathlib.Omega.{arith}
-use Rattle.lists.specs.Keyed.{united}
-use Rattle.lists.proofs.Lists.{length-mapped}
 use Rattle.record.specs.Stored.{filler_edit}
 use Rattle.record_tables.specs.Table.{edit_key}
-use Rattle.record_union.proofs.Joining.{UnionWalk, union-walk-start, walk-next, walk_end, united-edits-is}
+use Rattle.record_union.proofs.Joining.{UnionWalk}
 use Rattle.record_union.proofs.unite_edits.Given as goal
 
 abbrev pub invariant-loop-p : goal.invariant-loop-p

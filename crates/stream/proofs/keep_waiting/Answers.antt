@@ -1,5 +1,4 @@
 -- `keep_waiting` meets its contract. Assumes nothing.
-use borrow.Author.Rules.{rules}
 use Rattle.stream.proofs.Front.{whole-inside, rest-inside, waits_front}
 use Rattle.stream.proofs.keep_waiting.Goals as goal
 

@@ -1,7 +1,5 @@
 -- `last_end` meets its contract. Assumes nothing.
-use Prim.Native.Nat.{◌≤◌}
-use mathlib.Core.Path.{◌≡◌, ap, sym, ◌∙◌}
-use lib.ListN.{length, take}
+use mathlib.Core.Path.{ap, sym, ◌∙◌}
 use lib.Seq.{take-length}
 use borrow.Author.Rules.{rules}
 use Rattle.stream.specs.Pieces.{last_end}

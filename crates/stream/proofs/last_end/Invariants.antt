@@ -1,9 +1,7 @@
 use Prim.Native.Nat.{◌≤◌}
-use mathlib.Core.Path.{◌≡◌, ap, sym, ◌∙◌}
+use mathlib.Core.Path.{◌≡◌}
 use lib.ListN.{length, take}
-use lib.Seq.{take-length}
 use Rattle.stream.specs.Pieces.{last_end}
-use Rattle.stream.proofs.Front.{found-end, no_end, no_bytes}
 use Rattle.stream.proofs.last_end.Given as goal
 
 abbrev pub invariant-loop-n : goal.invariant-loop-n

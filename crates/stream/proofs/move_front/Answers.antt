@@ -1,10 +1,8 @@
 -- `move_front` meets its contract. Assumes nothing.
-use Prim.Native.Nat.{◌+◌, ◌-◌, ◌≤◌}
-use mathlib.Core.Path.{◌≡◌, refl}
-use lib.ListN.{length}
+use mathlib.Core.Path.{refl}
 use native.Mathlib.Omega.{arith}
 use borrow.Author.Rules.{rules}
-use Rattle.stream.proofs.Front.{moved, moved_more, moved_all}
+use Rattle.stream.proofs.Front.{moved_more, moved_all}
 use Rattle.stream.proofs.move_front.Goals as goal
 
 pub loop-i-init : goal.loop-i-init

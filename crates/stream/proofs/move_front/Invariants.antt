@@ -1,8 +1,7 @@
 use Prim.Native.Nat.{◌+◌, ◌-◌, ◌≤◌}
-use mathlib.Core.Path.{◌≡◌, refl}
+use mathlib.Core.Path.{◌≡◌}
 use lib.ListN.{length}
-use native.Mathlib.Omega.{arith}
-use Rattle.stream.proofs.Front.{moved, moved_more, moved_all}
+use Rattle.stream.proofs.Front.{moved}
 use Rattle.stream.proofs.move_front.Given as goal
 
 abbrev pub invariant-loop-i : goal.invariant-loop-i

@@ -1,6 +1,5 @@
 -- `advise` meets its contract. Assumes nothing.
 use mathlib.Core.Bool.{true, false}
-use borrow.Author.Rules.{rules}
 use Rattle.suggestions.proofs.Advised.{one_name, other_place, advise-after, advise-concurrent}
 use Rattle.suggestions.proofs.advise.Goals as goal
 

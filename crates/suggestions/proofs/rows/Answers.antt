@@ -1,5 +1,4 @@
 -- `rows` meets its contract. Assumes nothing.
-use borrow.Author.Rules.{rules}
 use Rattle.suggestions.proofs.Advised.{rows-nothing, rows-notafter, rows-enables, rows-noncommuting}
 use Rattle.suggestions.proofs.rows.Goals as goal
 

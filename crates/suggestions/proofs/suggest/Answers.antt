@@ -1,8 +1,6 @@
 -- `suggest` meets its contract. Assumes nothing.
 use mathlib.Core.Path.{sym, ◌∙◌}
-use borrow.Author.Rules.{rules}
 use Rattle.suggestions.proofs.Advised.{first-refused, second-refused, case-refused, suggestion-accepted}
-use borrow.Author.Tests.{not-true, not-false}
 use Rattle.suggestions.proofs.suggest.Goals as goal
 
 pub returns-then-not-edit_in_range : goal.returns-then-not-edit_in_range

@@ -1,10 +1,7 @@
 -- `form_fit` meets its contract. Assumes nothing.
-use Prim.Native.Nat.{◌-◌}
 use mathlib.Core.Path.{sym, ◌∙◌}
-use lib.ListN.{length}
 use native.Mathlib.Omega.{arith}
-use Rattle.text_forms.proofs.Filling.{Fitting, fitting-start, fitting-mark, fitting-byte, fitting-end}
-use borrow.Author.Rules.{rules}
+use Rattle.text_forms.proofs.Filling.{fitting-start, fitting-mark, fitting-byte, fitting-end}
 use Rattle.text_forms.proofs.form_fit.Goals as goal
 
 pub loop-i-init : goal.loop-i-init

@@ -1,8 +1,6 @@
 use Prim.Native.Nat.{◌-◌}
-use mathlib.Core.Path.{sym, ◌∙◌}
 use lib.ListN.{length}
-use native.Mathlib.Omega.{arith}
-use Rattle.text_forms.proofs.Filling.{Fitting, fitting-start, fitting-mark, fitting-byte, fitting-end}
+use Rattle.text_forms.proofs.Filling.{Fitting}
 use Rattle.text_forms.proofs.form_fit.Given as goal
 
 abbrev pub invariant-loop-i : goal.invariant-loop-i

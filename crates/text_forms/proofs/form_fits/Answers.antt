@@ -1,6 +1,5 @@
 -- `form_fits` meets its contract. Assumes nothing.
 use mathlib.Core.Path.{ap}
-use borrow.Author.Rules.{rules}
 use Rattle.text_forms.specs.declared.Fit.{Fit}
 use Rattle.text_forms.proofs.Filling.{fitting-ample}
 use Rattle.text_forms.proofs.form_fits.Goals as goal

@@ -1,5 +1,4 @@
 -- `mark_length` meets its contract. Assumes nothing.
-use borrow.Author.Rules.{rules}
 use Rattle.text_forms.proofs.Marks.{length-as, spells-answers, spells-names, spells-numbers}
 use Rattle.text_forms.specs.Spelling.{number_spelling}
 use Rattle.text_forms.proofs.mark_length.Goals as goal

@@ -1,6 +1,5 @@
 -- `number_at` meets its contract. Assumes nothing.
 use mathlib.Core.Path.{sym}
-use borrow.Author.Rules.{rules}
 use lib.ListN.{get_or-eq_default}
 use Rattle.text_forms.proofs.number_at.Goals as goal
 

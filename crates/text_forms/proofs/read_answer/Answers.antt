@@ -1,6 +1,5 @@
 -- `read_answer` meets its contract. Assumes nothing.
 use mathlib.Core.Path.{sym, ◌∙◌}
-use borrow.Author.Rules.{rules}
 use Rattle.text_forms.proofs.Marks.{read-yes, read_no, read-neither}
 use Rattle.text_forms.specs.Spelling.{bytes}
 use Rattle.text_forms.proofs.read_answer.Goals as goal

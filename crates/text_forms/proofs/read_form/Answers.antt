@@ -1,10 +1,7 @@
 -- `read_form` meets its contract. Assumes nothing.
-use Prim.Native.Nat.{◌-◌}
 use mathlib.Core.Path.{sym, ◌∙◌}
-use lib.ListN.{length}
 use native.Mathlib.Omega.{arith}
-use borrow.Author.Rules.{rules}
-use Rattle.text_forms.proofs.Reading.{Reading, reading-start, reading-no-mark, mark-inside, reading-mark, reading-no-byte, reading-other-byte, reading-byte, reading-long, reading-end}
+use Rattle.text_forms.proofs.Reading.{reading-start, reading-no-mark, mark-inside, reading-mark, reading-no-byte, reading-other-byte, reading-byte, reading-long, reading-end}
 use Rattle.text_forms.proofs.read_form.Goals as goal
 
 pub loop-i-init : goal.loop-i-init

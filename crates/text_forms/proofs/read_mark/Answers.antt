@@ -1,5 +1,4 @@
 -- `read_mark` meets its contract. Assumes nothing.
-use borrow.Author.Rules.{rules}
 use Rattle.text_forms.proofs.Marks.{numeral-as, spells-answers, spells-names, spells-numbers}
 use Rattle.text_forms.specs.Spelling.{number_spelling}
 use Rattle.text_forms.proofs.read_mark.Goals as goal

@@ -1,5 +1,4 @@
 -- `read_name` meets its contract. Assumes nothing.
-use borrow.Author.Rules.{rules}
 use Rattle.text_forms.specs.Spelling.{number_spelling, name_spelling}
 use Rattle.text_forms.proofs.read_name.Goals as goal
 

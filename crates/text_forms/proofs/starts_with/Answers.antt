@@ -1,10 +1,6 @@
 -- `starts_with` meets its contract. Assumes nothing.
-use Prim.Native.Nat.{◌-◌}
-use mathlib.Core.Path.{◌≡◌, refl, sym, ◌∙◌}
-use lib.ListN.{length, drop}
-use borrow.Author.Rules.{rules}
+use mathlib.Core.Path.{refl, sym, ◌∙◌}
 use Rattle.text_forms.proofs.Marks.{word-short, word-other, word_same, word_end}
-use Rattle.text_forms.specs.Spelling.{bytes, starts_with}
 use Rattle.text_forms.proofs.starts_with.Goals as goal
 
 pub loop-i-init : goal.loop-i-init

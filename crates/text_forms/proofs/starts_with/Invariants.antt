@@ -1,8 +1,7 @@
 use Prim.Native.Nat.{◌-◌}
-use mathlib.Core.Path.{◌≡◌, refl, sym, ◌∙◌}
+use mathlib.Core.Path.{◌≡◌}
 use lib.ListN.{length, drop}
-use Rattle.text_forms.proofs.Marks.{word-short, word-other, word_same, word_end}
-use Rattle.text_forms.specs.Spelling.{bytes, starts_with}
+use Rattle.text_forms.specs.Spelling.{starts_with}
 use Rattle.text_forms.proofs.starts_with.Given as goal
 
 abbrev pub invariant-loop-i : goal.invariant-loop-i

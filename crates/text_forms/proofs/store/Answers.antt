@@ -1,7 +1,6 @@
 -- `store` meets its contract. Assumes nothing.
 use mathlib.Core.Path.{sym}
 use native.Mathlib.Omega.{arith}
-use borrow.Author.Rules.{rules}
 use lib.Seq.{set_out}
 use Rattle.text_forms.proofs.store.Goals as goal
 

@@ -3,7 +3,6 @@ use Prim.Native.Nat.{ℕ}
 use mathlib.Core.List.{List, [], ◌∷◌, ◌++◌}
 use native.Mathlib.Omega.{arith}
 use lib.ListN.{length-append}
-use borrow.Author.Rules.{rules}
 use Rattle.text_forms.specs.decimal.Decimal.{decimal}
 use Rattle.text_forms.proofs.decimal.Parts.{inside, second-room, written_both}
 use Rattle.text_forms.proofs.write_ended.Goals as goal

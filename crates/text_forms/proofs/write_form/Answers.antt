@@ -1,10 +1,7 @@
 -- `write_form` meets its contract. Assumes nothing.
-use Prim.Native.Nat.{◌-◌}
 use mathlib.Core.Path.{sym, ◌∙◌}
-use lib.ListN.{length}
 use native.Mathlib.Omega.{arith}
-use borrow.Author.Rules.{rules}
-use Rattle.text_forms.proofs.Filling.{Writing, writing_start, mark-fits, writing-mark, byte-room, writing-byte, writing-end}
+use Rattle.text_forms.proofs.Filling.{writing_start, mark-fits, writing-mark, byte-room, writing-byte, writing-end}
 use Rattle.text_forms.proofs.write_form.Goals as goal
 
 pub loop-i-init : goal.loop-i-init

@@ -1,8 +1,6 @@
 use Prim.Native.Nat.{◌-◌}
-use mathlib.Core.Path.{sym, ◌∙◌}
 use lib.ListN.{length}
-use native.Mathlib.Omega.{arith}
-use Rattle.text_forms.proofs.Filling.{Writing, writing_start, mark-fits, writing-mark, byte-room, writing-byte, writing-end}
+use Rattle.text_forms.proofs.Filling.{Writing}
 use Rattle.text_forms.proofs.write_form.Given as goal
 
 abbrev pub invariant-loop-i : goal.invariant-loop-i

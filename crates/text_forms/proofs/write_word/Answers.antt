@@ -1,9 +1,6 @@
 -- `write_word` meets its contract. Assumes nothing.
-use Prim.Native.Nat.{◌-◌}
-use lib.ListN.{length}
 use native.Mathlib.Omega.{arith}
-use borrow.Author.Rules.{rules}
-use Rattle.text_forms.proofs.Filling.{Copying, copying-start, copying-same, copying-next, copying-end}
+use Rattle.text_forms.proofs.Filling.{copying-start, copying-same, copying-next, copying-end}
 use Rattle.text_forms.proofs.write_word.Goals as goal
 
 pub loop-i-init : goal.loop-i-init

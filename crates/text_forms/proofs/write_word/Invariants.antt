@@ -1,7 +1,6 @@
 use Prim.Native.Nat.{◌-◌}
 use lib.ListN.{length}
-use native.Mathlib.Omega.{arith}
-use Rattle.text_forms.proofs.Filling.{Copying, copying-start, copying-same, copying-next, copying-end}
+use Rattle.text_forms.proofs.Filling.{Copying}
 use Rattle.text_forms.proofs.write_word.Given as goal
 
 abbrev pub invariant-loop-i : goal.invariant-loop-i

@@ -1,7 +1,6 @@
 -- `write_worded` meets its contract. Assumes nothing.
 use native.Mathlib.Omega.{arith}
 use lib.ListN.{length-append}
-use borrow.Author.Rules.{rules}
 use Rattle.text_forms.specs.decimal.Decimal.{decimal}
 use Rattle.text_forms.proofs.decimal.Parts.{inside, second-room, written_both}
 use Rattle.text_forms.proofs.write_worded.Goals as goal

@@ -1,7 +1,6 @@
 -- `constraint_line_length` meets its contract. Assumes nothing.
 use mathlib.Core.Path.{refl, ap, ◌∙◌}
 use lib.ListN.{get_or}
-use borrow.Author.Rules.{rules}
 use Rattle.text_forms.specs.Spelling.{bytes}
 use Rattle.text_lines.specs.Line.{rule_form}
 use Rattle.text_lines.proofs.Says.{rule-rest}

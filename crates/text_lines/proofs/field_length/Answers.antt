@@ -2,7 +2,6 @@
 use Prim.Native.Nat.{ℕ}
 use mathlib.Core.Path.{refl, ap, ◌∙◌}
 use lib.ListN.{drop}
-use borrow.Author.Rules.{rules}
 use Rattle.text_forms.specs.Spelling.{bytes}
 use Rattle.text_lines.specs.Line.{set_form}
 use Rattle.text_lines.proofs.Says.{set_rest}

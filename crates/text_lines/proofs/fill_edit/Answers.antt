@@ -1,7 +1,6 @@
 -- `fill_edit` meets its contract. Assumes nothing.
 use Prim.Native.Nat.{ℕ}
 use mathlib.Core.Path.{ap}
-use borrow.Author.Rules.{rules}
 use Rattle.text_lines.proofs.Says.{filled-as, kind-rest}
 use Rattle.text_lines.specs.Line.{set_form, edit_form}
 use Rattle.text_forms.specs.Spelling.{bytes}

@@ -1,6 +1,5 @@
 -- `fill_rule` meets its contract. Assumes nothing.
 use mathlib.Core.Path.{ap}
-use borrow.Author.Rules.{rules}
 use Rattle.text_lines.proofs.Says.{filled-as, rule-rest}
 use Rattle.text_lines.specs.Line.{rule_form}
 use Rattle.text_forms.specs.Spelling.{bytes}

@@ -1,6 +1,5 @@
 -- `fill_set` meets its contract. Assumes nothing.
 use mathlib.Core.Path.{ap}
-use borrow.Author.Rules.{rules}
 use Rattle.text_lines.proofs.Says.{filled-as, set_rest}
 use Rattle.text_lines.specs.Line.{set_form}
 use Rattle.text_forms.specs.Spelling.{bytes}

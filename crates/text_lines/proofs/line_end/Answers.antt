@@ -1,10 +1,6 @@
 -- `line_end` meets its contract. Assumes nothing.
-use Prim.Native.Nat.{◌+◌, ◌-◌}
-use mathlib.Core.Path.{◌≡◌, refl, sym, ◌∙◌}
-use lib.ListN.{length, drop}
-use borrow.Author.Rules.{rules}
+use mathlib.Core.Path.{refl, sym, ◌∙◌}
 use Rattle.text_lines.proofs.Ends.{end-here, end_later, end-past}
-use Rattle.text_lines.specs.Lines.{first_line}
 use Rattle.text_lines.proofs.line_end.Goals as goal
 
 pub loop-i-init : goal.loop-i-init

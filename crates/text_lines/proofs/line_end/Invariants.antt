@@ -1,7 +1,6 @@
 use Prim.Native.Nat.{◌+◌, ◌-◌}
-use mathlib.Core.Path.{◌≡◌, refl, sym, ◌∙◌}
+use mathlib.Core.Path.{◌≡◌}
 use lib.ListN.{length, drop}
-use Rattle.text_lines.proofs.Ends.{end-here, end_later, end-past}
 use Rattle.text_lines.specs.Lines.{first_line}
 use Rattle.text_lines.proofs.line_end.Given as goal
 

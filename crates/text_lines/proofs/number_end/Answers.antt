@@ -1,6 +1,5 @@
 -- `number_end` meets its contract. Assumes nothing.
 use native.Mathlib.Omega.{arith}
-use borrow.Author.Rules.{rules}
 use Rattle.text_lines.proofs.Signs.{no_number, number-inside, number-ends}
 use Rattle.text_lines.proofs.number_end.Goals as goal
 

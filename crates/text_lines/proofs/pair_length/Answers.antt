@@ -1,6 +1,5 @@
 -- `pair_length` meets its contract. Assumes nothing.
 use native.Mathlib.Omega.{arith}
-use borrow.Author.Rules.{rules}
 use Rattle.text_forms.proofs.decimal.Laws.{decimal-twenty}
 use Rattle.text_lines.proofs.pair_length.Goals as goal
 

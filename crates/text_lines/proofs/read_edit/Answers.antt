@@ -1,7 +1,6 @@
 -- `read_edit` meets its contract. Assumes nothing.
 use mathlib.Core.Path.{sym, ◌∙◌}
 use native.Mathlib.Omega.{arith}
-use borrow.Author.Rules.{rules}
 use Rattle.text_lines.proofs.Says.{is-insert, is-remove, no_kind}
 use Rattle.text_lines.proofs.read_edit.Goals as goal
 

@@ -1,6 +1,5 @@
 -- `read_edit_as` meets its contract. Assumes nothing.
 use mathlib.Core.Path.{◌∙◌}
-use borrow.Author.Rules.{rules}
 use Rattle.text_lines.proofs.Says.{not-said, edit-slots, first-large, second-large, third-large, edit-said}
 use Rattle.text_lines.specs.Line.{edit_shape}
 use borrow.Author.Tests.{not-true, not-false}

@@ -1,6 +1,5 @@
 -- `read_line` meets its contract. Assumes nothing.
 use mathlib.Core.Path.{sym, ◌∙◌}
-use borrow.Author.Rules.{rules}
 use Rattle.text_lines.proofs.Says.{too_long, whole, no_line}
 use Rattle.text_lines.proofs.read_line.Goals as goal
 

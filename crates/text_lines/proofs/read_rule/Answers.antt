@@ -1,7 +1,6 @@
 -- `read_rule` meets its contract. Assumes nothing.
 use native.Mathlib.Omega.{arith}
 use mathlib.Core.Path.{refl}
-use borrow.Author.Rules.{rules}
 use Rattle.text_lines.proofs.Says.{is-rule, no-rule}
 use Rattle.text_lines.proofs.read_rule.Goals as goal
 

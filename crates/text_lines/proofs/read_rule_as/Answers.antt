@@ -1,7 +1,6 @@
 -- `read_rule_as` meets its contract. Assumes nothing.
 use mathlib.Core.Path.{◌∙◌}
 use native.Mathlib.Omega.{arith}
-use borrow.Author.Rules.{rules}
 use Rattle.text_lines.proofs.Says.{not-said, rule-slots, first-large, second-large, rule-said}
 use Rattle.text_lines.specs.Line.{rule_shape}
 use borrow.Author.Tests.{not-true, not-false}

@@ -1,7 +1,6 @@
 -- `read_set` meets its contract. Assumes nothing.
 use mathlib.Core.Path.{refl}
 use native.Mathlib.Omega.{arith}
-use borrow.Author.Rules.{rules}
 use Rattle.text_lines.proofs.Signs.{name-near}
 use Rattle.text_lines.proofs.Says.{is_field, no_field}
 use Rattle.text_lines.proofs.read_set.Goals as goal

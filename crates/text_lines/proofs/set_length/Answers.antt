@@ -1,6 +1,5 @@
 -- `set_length` meets its contract. Assumes nothing.
 use native.Mathlib.Omega.{arith}
-use borrow.Author.Rules.{rules}
 use Rattle.text_forms.proofs.decimal.Laws.{decimal-twenty}
 use Rattle.text_lines.proofs.Puts.{set-length-is}
 use Rattle.text_lines.proofs.set_length.Goals as goal

@@ -1,7 +1,6 @@
 -- `write_constraint_line` meets its contract. Assumes nothing.
 use mathlib.Core.Path.{ap, ◌∙◌}
 use lib.ListN.{get_or}
-use borrow.Author.Rules.{rules}
 use Rattle.text_forms.specs.Spelling.{bytes}
 use Rattle.text_lines.specs.Line.{rule_form, constraint_line}
 use Rattle.text_lines.proofs.Says.{rule-rest}

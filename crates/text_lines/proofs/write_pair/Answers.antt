@@ -2,7 +2,6 @@
 use mathlib.Core.List.{[], ◌∷◌, ◌++◌}
 use native.Mathlib.Omega.{arith}
 use lib.ListN.{length-append}
-use borrow.Author.Rules.{rules}
 use Rattle.text_forms.specs.decimal.Decimal.{decimal}
 use Rattle.text_forms.proofs.decimal.Parts.{inside, second-room, written_both}
 use Rattle.text_lines.proofs.write_pair.Goals as goal

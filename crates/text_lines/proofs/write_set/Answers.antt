@@ -3,7 +3,6 @@ use Prim.Native.Nat.{◌≤◌}
 use mathlib.Core.List.{[], ◌∷◌, ◌++◌}
 use lib.ListN.{length, drop, length-append}
 use native.Mathlib.Omega.{arith}
-use borrow.Author.Rules.{rules}
 use Rattle.text_forms.specs.decimal.Decimal.{decimal}
 use Rattle.text_forms.proofs.decimal.Parts.{inside, second-room, written_both}
 use Rattle.text_forms.specs.Spelling.{bytes}

@@ -4,7 +4,6 @@ use Rattle.record.specs.Stored.{constraint_limit}
 use Rattle.record_rows.specs.grounds.Ground.{known}
 use mathlib.Core.List.{[]}
 use lib.ListN.{get_or, take}
-use borrow.Author.Rules.{rules}
 use Rattle.text_reader.proofs.constraint_no_place.Goals as goal
 
 pub returns-then-m-lt-CONSTRAINTS : goal.returns-then-m-lt-CONSTRAINTS

@@ -1,10 +1,8 @@
 -- `constraint_row_fault` meets its contract. Assumes nothing.
 use Rattle.text_reader.proofs.Faults.{alone-range, alone-place, alone-further, alone-follows, alone-late}
-use borrow.Author.Tests.{not-true, not-false}
 use mathlib.Core.Bool.{false}
 use Rattle.record_tables.specs.Table.{constraint_kind}
 use mathlib.Core.Path.{sym, ◌∙◌}
-use borrow.Author.Rules.{rules}
 use Rattle.text_reader.proofs.constraint_row_fault.Goals as goal
 
 pub returns-then-not-constraint_in_range : goal.returns-then-not-constraint_in_range

@@ -1,9 +1,7 @@
 -- `edit_row_fault` meets its contract. Assumes nothing.
 use Rattle.text_reader.proofs.Faults.{alone-range, alone-place, alone-follows, alone-late}
-use borrow.Author.Tests.{not-true, not-false}
 use Rattle.record_tables.specs.Table.{edit_kind}
 use mathlib.Core.Path.{refl}
-use borrow.Author.Rules.{rules}
 use Rattle.text_reader.proofs.edit_row_fault.Goals as goal
 
 pub returns-then-not-edit_in_range : goal.returns-then-not-edit_in_range

@@ -1,11 +1,8 @@
 -- `read_rows` meets its contract. Assumes nothing.
 use mathlib.Core.Bool.{not}
-use Rattle.text_reader.proofs.Lines.{Upto, upto-start, upto-refused, upto_next, upto-end, row-least}
+use Rattle.text_reader.proofs.Lines.{upto-start, upto-refused, upto_next, upto-end, row-least}
 use Rattle.text_lines.proofs.Ends.{next-line}
-use Prim.Native.Nat.{◌-◌}
-use lib.ListN.{length}
 use native.Mathlib.Omega.{arith}
-use borrow.Author.Rules.{rules}
 use Rattle.text_reader.proofs.read_rows.Goals as goal
 
 pub loop-at-init : goal.loop-at-init

@@ -1,9 +1,6 @@
-use mathlib.Core.Bool.{not}
-use Rattle.text_reader.proofs.Lines.{Upto, upto-start, upto-refused, upto_next, upto-end, row-least}
-use Rattle.text_lines.proofs.Ends.{next-line}
+use Rattle.text_reader.proofs.Lines.{Upto}
 use Prim.Native.Nat.{◌-◌}
 use lib.ListN.{length}
-use native.Mathlib.Omega.{arith}
 use Rattle.text_reader.proofs.read_rows.Given as goal
 
 abbrev pub invariant-loop-at : goal.invariant-loop-at

@@ -1,6 +1,5 @@
 -- `read_text` meets its contract. Assumes nothing.
 use Rattle.text_reader.proofs.Lines.{text-refused, text-sound, text-unsound}
-use borrow.Author.Rules.{rules}
 use Rattle.text_reader.proofs.read_text.Goals as goal
 
 pub returns-then-reading-ne0 : goal.returns-then-reading-ne0

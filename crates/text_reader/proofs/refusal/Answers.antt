@@ -1,5 +1,4 @@
 -- `refusal` meets its contract. Assumes nothing.
-use borrow.Author.Rules.{rules}
 use Rattle.text_reader.proofs.refusal.Goals as goal
 
 pub returns : goal.returns

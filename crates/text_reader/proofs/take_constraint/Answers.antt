@@ -2,7 +2,6 @@
 use Rattle.text_reader.proofs.Taking.{constraint-taken}
 use lib.ListN.{length-set}
 use native.Mathlib.Omega.{arith}
-use borrow.Author.Rules.{rules}
 use Rattle.text_reader.proofs.take_constraint.Goals as goal
 
 pub constraint_row_fault-requires : goal.constraint_row_fault-requires

@@ -2,7 +2,6 @@
 use Rattle.text_reader.proofs.Taking.{edit-faulty, edit-after, name-inside, edit-taken}
 use lib.ListN.{length-set}
 use native.Mathlib.Omega.{arith}
-use borrow.Author.Rules.{rules}
 use Rattle.text_reader.proofs.take_edit.Goals as goal
 
 pub edit_row_fault-number-requires : goal.edit_row_fault-number-requires

@@ -2,7 +2,6 @@
 use Rattle.text_reader.proofs.Taking.{line_refused, line-edit-taken, line-constraint-taken}
 use Rattle.record_tables.specs.Table.{names_of}
 use lib.ListN.{take}
-use borrow.Author.Rules.{rules}
 use Rattle.text_reader.proofs.take_line.Goals as goal
 
 pub returns-then-said-ne0 : goal.returns-then-said-ne0

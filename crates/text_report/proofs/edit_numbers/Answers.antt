@@ -1,6 +1,5 @@
 -- `edit_numbers` meets its contract. Assumes nothing.
 use Rattle.text_report.proofs.Numbers.{five-same}
-use borrow.Author.Rules.{rules}
 use Rattle.text_report.proofs.edit_numbers.Goals as goal
 
 pub returns : goal.returns

@@ -1,15 +1,14 @@
 -- `lines_fit` meets its contract. Assumes nothing.
-use Prim.Native.Nat.{ℕ, ◌-◌}
+use Prim.Native.Nat.{ℕ}
 use mathlib.Core.Path.{refl, ap, ◌∙◌}
 use mathlib.Core.List.{List, []}
 use lib.ListN.{length}
 use native.Mathlib.Omega.{arith}
 use Rattle.text_forms.specs.Form.{fill}
 use Rattle.text_forms.specs.Fit.{fit_after}
-use Rattle.text_writer.proofs.Writing.{Leaves, leaves_all, leaves-next, leaves-end}
+use Rattle.text_writer.proofs.Writing.{leaves_all, leaves-next, leaves-end}
 use Rattle.text_report.specs.Report.{report_form}
 use Rattle.text_report.proofs.Room.{all_lines}
-use borrow.Author.Rules.{rules}
 use Rattle.text_report.proofs.lines_fit.Goals as goal
 
 pub loop-i-init : goal.loop-i-init

@@ -1,13 +1,8 @@
-use Prim.Native.Nat.{ℕ, ◌-◌}
-use mathlib.Core.Path.{refl, ap, ◌∙◌}
-use mathlib.Core.List.{List, []}
+use Prim.Native.Nat.{◌-◌}
 use lib.ListN.{length}
-use native.Mathlib.Omega.{arith}
 use Rattle.text_forms.specs.Form.{fill}
-use Rattle.text_forms.specs.Fit.{fit_after}
-use Rattle.text_writer.proofs.Writing.{Leaves, leaves_all, leaves-next, leaves-end}
+use Rattle.text_writer.proofs.Writing.{Leaves}
 use Rattle.text_report.specs.Report.{report_form}
-use Rattle.text_report.proofs.Room.{all_lines}
 use Rattle.text_report.proofs.lines_fit.Given as goal
 
 abbrev pub invariant-loop-i : goal.invariant-loop-i

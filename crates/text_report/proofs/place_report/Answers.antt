@@ -1,7 +1,5 @@
 -- `place_report` meets its contract. Assumes nothing.
 use mathlib.Core.List.{map, ◌++◌}
-use borrow.Author.Tests.{not-true, not-false}
-use borrow.Author.Rules.{rules}
 use Rattle.text_forms.specs.Form.{fill}
 use Rattle.text.specs.Text.{joined_lines}
 use Rattle.text_writer.proofs.Placing.{start_none, start-room, start-written}

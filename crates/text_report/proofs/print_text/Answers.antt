@@ -1,6 +1,5 @@
 -- `print_text` meets its contract. Assumes nothing.
 use Rattle.text_report.proofs.Reports.{printed-refused, printed-accepted}
-use borrow.Author.Rules.{rules}
 use Rattle.text_report.proofs.print_text.Goals as goal
 
 pub returns-then-reading-ne0 : goal.returns-then-reading-ne0

@@ -1,7 +1,6 @@
 -- `refusal_line` meets its contract. Assumes nothing.
 use Rattle.text_forms.specs.Spelling.{bytes}
 use Rattle.text_report.specs.Report.{refusal_form, refusal_line}
-use borrow.Author.Rules.{rules}
 use Rattle.text_report.proofs.refusal_line.Goals as goal
 
 pub returns : goal.returns

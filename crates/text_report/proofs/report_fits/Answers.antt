@@ -1,6 +1,5 @@
 -- `report_fits` meets its contract. Assumes nothing.
 use mathlib.Core.List.{map}
-use borrow.Author.Rules.{rules}
 use Rattle.text_forms.specs.Spelling.{bytes}
 use Rattle.text_forms.specs.Form.{fill}
 use Rattle.text.specs.Text.{joined_lines}

@@ -1,6 +1,5 @@
 -- `report_record` meets its contract. Assumes nothing.
 use Rattle.text_report.proofs.Reports.{count_small, report-placed}
-use borrow.Author.Rules.{rules}
 use Rattle.text_report.proofs.report_record.Goals as goal
 
 pub returns-then-n-gt-EDITS : goal.returns-then-n-gt-EDITS

@@ -1,8 +1,6 @@
 -- `report_rows` meets its contract. Assumes nothing.
 use Rattle.text_report.proofs.Numbers.{rows_none, report-rows-next}
-use lib.ListN.{length-set, length, take}
-use Rattle.text_report.specs.Rows.{numbered}
-use Prim.Native.Nat.{◌-◌, ◌≤◌}
+use lib.ListN.{length-set}
 use mathlib.Core.Path.{◌≡◌, ◌∙◌}
 use native.Mathlib.Omega.{arith}
 use borrow.Author.Rules.{rules}

@@ -1,9 +1,7 @@
-use Rattle.text_report.proofs.Numbers.{rows_none, report-rows-next}
-use lib.ListN.{length-set, length, take}
+use lib.ListN.{length, take}
 use Rattle.text_report.specs.Rows.{numbered}
 use Prim.Native.Nat.{◌-◌, ◌≤◌}
-use mathlib.Core.Path.{◌≡◌, ◌∙◌}
-use native.Mathlib.Omega.{arith}
+use mathlib.Core.Path.{◌≡◌}
 use Rattle.text_report.proofs.report_rows.Given as goal
 
 abbrev pub invariant-loop-i : goal.invariant-loop-i

@@ -1,6 +1,5 @@
 -- `report_text` meets its contract. Assumes nothing.
 use Rattle.text_report.proofs.Reports.{reported-refused, reported-accepted}
-use borrow.Author.Rules.{rules}
 use Rattle.text_report.proofs.report_text.Goals as goal
 
 pub returns-then-reading-ne0 : goal.returns-then-reading-ne0

@@ -1,7 +1,6 @@
 -- `write_line` meets its contract. Assumes nothing.
 use Rattle.text_forms.specs.Spelling.{bytes}
 use Rattle.text_report.specs.Report.{report_form}
-use borrow.Author.Rules.{rules}
 use Rattle.text_report.proofs.write_line.Goals as goal
 
 pub write_form-requires : goal.write_form-requires

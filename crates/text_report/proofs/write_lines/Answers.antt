@@ -1,13 +1,11 @@
 -- `write_lines` meets its contract. Assumes nothing.
 use Rattle.text_report.proofs.Room.{all_lines}
-use Rattle.text_writer.proofs.Writing.{Writes, writes-none, writes-inside, writes-room, writes-next, writes_at, writes-same, writes_end}
+use Rattle.text_writer.proofs.Writing.{writes-none, writes-inside, writes-room, writes-next, writes_at, writes_end}
 use Rattle.text_forms.specs.Form.{fill}
 use Rattle.text_report.specs.Report.{report_form}
-use Prim.Native.Nat.{◌-◌}
 use mathlib.Core.List.{[]}
 use lib.ListN.{length}
 use native.Mathlib.Omega.{arith}
-use borrow.Author.Rules.{rules}
 use Rattle.text_report.proofs.write_lines.Goals as goal
 
 pub loop-i-init : goal.loop-i-init

@@ -1,11 +1,8 @@
-use Rattle.text_report.proofs.Room.{all_lines}
-use Rattle.text_writer.proofs.Writing.{Writes, writes-none, writes-inside, writes-room, writes-next, writes_at, writes-same, writes_end}
+use Rattle.text_writer.proofs.Writing.{Writes}
 use Rattle.text_forms.specs.Form.{fill}
 use Rattle.text_report.specs.Report.{report_form}
 use Prim.Native.Nat.{◌-◌}
-use mathlib.Core.List.{[]}
 use lib.ListN.{length}
-use native.Mathlib.Omega.{arith}
 use Rattle.text_report.proofs.write_lines.Given as goal
 
 abbrev pub invariant-loop-i : goal.invariant-loop-i

@@ -7,7 +7,6 @@ use Rattle.text.specs.Text.{joined_lines}
 use Rattle.text_report.specs.Report.{counts_form, report_form}
 use Rattle.text_report.proofs.Room.{first_fits, first-inside, both-inside}
 use native.Mathlib.Omega.{arith}
-use borrow.Author.Rules.{rules}
 use Rattle.text_report.proofs.write_report.Goals as goal
 
 pub write_form-at-requires : goal.write_form-at-requires

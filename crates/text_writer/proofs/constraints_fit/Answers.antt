@@ -1,8 +1,8 @@
 -- `constraints_fit` meets its contract. Assumes nothing.
-use Rattle.text_writer.proofs.Writing.{Leaves, leaves_all, leaves-next, leaves-end}
+use Rattle.text_writer.proofs.Writing.{leaves_all, leaves-next, leaves-end}
 use Rattle.text_writer.specs.Placed.{constraint_text}
 use Rattle.text_lines.specs.Line.{constraint_line}
-use Prim.Native.Nat.{ℕ, ◌-◌}
+use Prim.Native.Nat.{ℕ}
 use mathlib.Core.Path.{ap, ◌∙◌}
 use mathlib.Core.List.{List}
 use lib.ListN.{length}

@@ -1,10 +1,6 @@
-use Rattle.text_writer.proofs.Writing.{Leaves, leaves_all, leaves-next, leaves-end}
+use Rattle.text_writer.proofs.Writing.{Leaves}
 use Rattle.text_writer.specs.Placed.{constraint_text}
-use Rattle.text_lines.specs.Line.{constraint_line}
-use Prim.Native.Nat.{ℕ, ◌-◌}
-use mathlib.Core.Path.{ap, ◌∙◌}
-use mathlib.Core.List.{List}
-use lib.ListN.{length}
+use Prim.Native.Nat.{◌-◌}
 use Rattle.text_writer.proofs.constraints_fit.Given as goal
 
 abbrev pub invariant-loop-i : goal.invariant-loop-i

@@ -1,8 +1,6 @@
 -- `place_form` meets its contract. Assumes nothing.
 use Rattle.text_writer.proofs.Placing.{start_none, start-room, start-written}
 use Rattle.text_forms.specs.Form.{fill}
-use borrow.Author.Tests.{not-true, not-false}
-use borrow.Author.Rules.{rules}
 use Rattle.text_writer.proofs.place_form.Goals as goal
 
 pub returns-then-not-form_fits : goal.returns-then-not-form_fits

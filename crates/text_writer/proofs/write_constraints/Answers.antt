@@ -1,7 +1,6 @@
 -- `write_constraints` meets its contract. Assumes nothing.
-use Rattle.text_writer.proofs.Writing.{Writes, writes-none, writes-inside, writes-room, writes-next, writes_at, writes-same, writes_end}
+use Rattle.text_writer.proofs.Writing.{writes-none, writes-inside, writes-room, writes-next, writes_at, writes_end}
 use Rattle.text_writer.specs.Placed.{constraint_text}
-use Prim.Native.Nat.{◌-◌}
 use native.Mathlib.Omega.{arith}
 use borrow.Author.Rules.{rules}
 use Rattle.text_writer.proofs.write_constraints.Goals as goal

@@ -1,7 +1,6 @@
-use Rattle.text_writer.proofs.Writing.{Writes, writes-none, writes-inside, writes-room, writes-next, writes_at, writes-same, writes_end}
+use Rattle.text_writer.proofs.Writing.{Writes}
 use Rattle.text_writer.specs.Placed.{constraint_text}
 use Prim.Native.Nat.{◌-◌}
-use native.Mathlib.Omega.{arith}
 use Rattle.text_writer.proofs.write_constraints.Given as goal
 
 abbrev pub invariant-loop-i : goal.invariant-loop-i

@@ -2,9 +2,7 @@
 use Rattle.text_writer.proofs.Placing.{not-placed, no_room, has_room, end_fits, written-there}
 use Rattle.record.specs.Stored.{record_of}
 use Rattle.text.specs.Text.{text_of}
-use borrow.Author.Tests.{not-true, not-false}
 use native.Mathlib.Omega.{arith}
-use borrow.Author.Rules.{rules}
 use Rattle.text_writer.proofs.write_text.Goals as goal
 
 pub returns-then-out-at : goal.returns-then-out-at

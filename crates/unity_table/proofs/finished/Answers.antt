@@ -1,6 +1,5 @@
 -- `finished` meets its contract. Assumes nothing.
 use mathlib.Core.Path.{◌∙◌}
-use borrow.Author.Rules.{rules}
 use borrow.Author.Tests.{not-true, not-false}
 use Rattle.unity_table.proofs.Ends.{end_refused, end_none, end-divisor, end-count, end-wide, end-mean}
 use Rattle.unity_table.proofs.finished.Goals as goal

@@ -1,9 +1,7 @@
 -- `unity_of` meets its contract. Assumes nothing.
-use Prim.Native.Nat.{◌≤◌, ◌-◌}
 use native.Mathlib.Omega.{arith}
 use borrow.Author.Rules.{rules}
-use lib.ListN.{length}
-use Rattle.unity_table.proofs.Rows.{Read, read_left, read_more, read-end}
+use Rattle.unity_table.proofs.Rows.{read_left, read_more, read-end}
 use Rattle.unity_table.proofs.unity_of.Goals as goal
 
 pub loop-i-init : goal.loop-i-init

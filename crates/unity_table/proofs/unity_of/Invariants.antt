@@ -1,7 +1,6 @@
 use Prim.Native.Nat.{◌≤◌, ◌-◌}
-use native.Mathlib.Omega.{arith}
 use lib.ListN.{length}
-use Rattle.unity_table.proofs.Rows.{Read, read_left, read_more, read-end}
+use Rattle.unity_table.proofs.Rows.{Read}
 use Rattle.unity_table.proofs.unity_of.Given as goal
 
 abbrev pub invariant-loop-i : goal.invariant-loop-i

@@ -1,5 +1,4 @@
 -- `weights_of` meets its contract. Assumes nothing.
-use borrow.Author.Rules.{rules}
 use Rattle.unity_table.proofs.Rows.{answer-told}
 use Rattle.unity_table.proofs.weights_of.Goals as goal
 

@@ -1,5 +1,4 @@
 -- `print_unity` meets its contract. Assumes nothing.
-use borrow.Author.Rules.{rules}
 use Rattle.text_forms.specs.Spelling.{bytes}
 use Rattle.unity_text.specs.Text.{unity_form}
 use Rattle.unity_text.proofs.Printing.{print-refused, print-accepted}

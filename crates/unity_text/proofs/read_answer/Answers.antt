@@ -1,5 +1,4 @@
 -- `read_answer` meets its contract. Assumes nothing.
-use borrow.Author.Rules.{rules}
 use borrow.Author.Tests.{not-true, not-false}
 use Rattle.text_forms.specs.Spelling.{bytes}
 use Rattle.unity_text.specs.Text.{weights_form}

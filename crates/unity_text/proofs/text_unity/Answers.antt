@@ -1,11 +1,8 @@
 -- `text_unity` meets its contract. Assumes nothing.
-use Prim.Native.Nat.{◌-◌}
 use native.Mathlib.Omega.{arith}
-use borrow.Author.Rules.{rules}
 use borrow.Author.Tests.{not-true, not-false}
-use lib.ListN.{length}
 use Rattle.text_lines.proofs.Ends.{next-line}
-use Rattle.unity_text.proofs.Lines.{SummedUpto, summed-start, upto_left, upto-few, summed-end, upto-unformed, upto-faulty, summed-next}
+use Rattle.unity_text.proofs.Lines.{summed-start, upto_left, upto-few, summed-end, upto-unformed, upto-faulty, summed-next}
 use Rattle.unity_text.proofs.text_unity.Goals as goal
 
 pub loop-at-init : goal.loop-at-init

@@ -1,5 +1,4 @@
 -- `all_settled` meets its contract. Assumes nothing.
-use borrow.Author.Rules.{rules}
 use Rattle.record.specs.Judgement.{settled}
 use Rattle.voting_bundles.proofs.all_settled.Goals as goal
 

@@ -1,5 +1,4 @@
 -- `bundle` meets its contract. Assumes nothing.
-use borrow.Author.Rules.{rules}
 use Rattle.voting_bundles.proofs.bundle.Goals as goal
 
 pub returns : goal.returns

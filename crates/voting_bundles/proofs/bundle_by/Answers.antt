@@ -1,6 +1,5 @@
 -- `bundle_by` meets its contract. Assumes nothing.
 use native.Mathlib.Omega.{arith}
-use borrow.Author.Rules.{rules}
 use Rattle.lists.specs.Lists.{mem}
 use Rattle.voting.specs.Bundle.{members}
 use Rattle.voting_bundles.proofs.Bundling.{edits-marked, ends-known, bundle-is, bundle-edits-within, bundle-constraints-within}

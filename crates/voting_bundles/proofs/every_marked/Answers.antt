@@ -1,13 +1,8 @@
 -- `every_marked` meets its contract. Assumes nothing.
-use mathlib.Core.Path.{◌≡◌, refl}
-use mathlib.Core.Bool.{Bool, true}
-use Prim.Native.Nat.{ℕ, ◌-◌, ◌≤◌}
+use mathlib.Core.Path.{refl}
 use native.Mathlib.Omega.{arith}
-use lib.ListN.{length, take}
 use borrow.Author.Rules.{rules}
-use Rattle.record.specs.Record.{Record, names, written}
 use Rattle.lists.specs.Lists.{all}
-use Rattle.graph.specs.links.Marks.{marks_of}
 use Rattle.voting_bundles.proofs.Judging.{marked_more, bundle-unmarked, all-marked}
 use Rattle.voting_bundles.proofs.every_marked.Goals as goal
 

@@ -1,12 +1,10 @@
-use mathlib.Core.Path.{◌≡◌, refl}
+use mathlib.Core.Path.{◌≡◌}
 use mathlib.Core.Bool.{Bool, true}
 use Prim.Native.Nat.{ℕ, ◌-◌, ◌≤◌}
-use native.Mathlib.Omega.{arith}
 use lib.ListN.{length, take}
 use Rattle.record.specs.Record.{Record, names, written}
 use Rattle.lists.specs.Lists.{all}
 use Rattle.graph.specs.links.Marks.{marks_of}
-use Rattle.voting_bundles.proofs.Judging.{marked_more, bundle-unmarked, all-marked}
 use Rattle.voting_bundles.proofs.every_marked.Given as goal
 
 abbrev pub invariant-loop-i : goal.invariant-loop-i

@@ -1,18 +1,16 @@
 -- `filter_constraints` meets its contract. Assumes nothing.
 use mathlib.Core.Path.{◌≡◌, ap, sym, ◌∙◌}
-use mathlib.Core.List.{List}
-use Prim.Native.Nat.{ℕ, ◌-◌, ◌≤◌, ◌<◌}
+use Prim.Native.Nat.{◌<◌}
 use native.Mathlib.Omega.{arith}
-use lib.ListN.{length-set, length, get_or}
+use lib.ListN.{length-set, length}
 use borrow.Author.Rules.{rules}
 use Rattle.lists.proofs.Lists.{length-mapped}
 use Rattle.record.specs.Stored.{filler_constraint}
-use Rattle.record.specs.Record.{Record, names}
-use Rattle.lists.specs.Lists.{mem, ◌among◌}
+use Rattle.record.specs.Record.{names}
+use Rattle.lists.specs.Lists.{◌among◌}
 use Rattle.record.specs.declared.Constraint.{Constraint}
-use Rattle.graph.specs.links.Marks.{marks_of, place_in}
 use Rattle.voting.specs.Bundle.{between}
-use Rattle.voting_bundles.proofs.Filtering.{Filtering, filtering-start, filtering-kept, filtering-skip, get_or-swap}
+use Rattle.voting_bundles.proofs.Filtering.{filtering-start, filtering-kept, filtering-skip, get_or-swap}
 use Rattle.voting_bundles.proofs.filter_constraints.Goals as goal
 
 pub loop-i-init : goal.loop-i-init

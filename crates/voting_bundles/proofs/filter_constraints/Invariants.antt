@@ -1,16 +1,13 @@
-use mathlib.Core.Path.{◌≡◌, ap, sym, ◌∙◌}
+use mathlib.Core.Path.{◌≡◌}
 use mathlib.Core.List.{List}
 use Prim.Native.Nat.{ℕ, ◌-◌, ◌≤◌, ◌<◌}
-use native.Mathlib.Omega.{arith}
-use lib.ListN.{length-set, length, get_or}
-use Rattle.lists.proofs.Lists.{length-mapped}
+use lib.ListN.{length, get_or}
 use Rattle.record.specs.Stored.{filler_constraint}
 use Rattle.record.specs.Record.{Record, names}
 use Rattle.lists.specs.Lists.{mem, ◌among◌}
-use Rattle.record.specs.declared.Constraint.{Constraint}
 use Rattle.graph.specs.links.Marks.{marks_of, place_in}
 use Rattle.voting.specs.Bundle.{between}
-use Rattle.voting_bundles.proofs.Filtering.{Filtering, filtering-start, filtering-kept, filtering-skip, get_or-swap}
+use Rattle.voting_bundles.proofs.Filtering.{Filtering}
 use Rattle.voting_bundles.proofs.filter_constraints.Given as goal
 
 abbrev pub invariant-loop-i : goal.invariant-loop-i

@@ -1,16 +1,12 @@
 -- `filter_edits` meets its contract. Assumes nothing.
 use mathlib.Core.Path.{◌≡◌, ap, sym, ◌∙◌}
-use mathlib.Core.Bool.{Bool}
-use Prim.Native.Nat.{ℕ, ◌+◌, ◌-◌, ◌≤◌, ◌<◌}
 use native.Mathlib.Omega.{arith}
-use lib.ListN.{length-set, length, get_or}
-use lib.Dec.{eqb}
+use lib.ListN.{length-set, length}
 use borrow.Author.Tests.{eq-eqb, ne_eqb}
 use borrow.Author.Rules.{rules}
 use Rattle.lists.proofs.Lists.{length-mapped}
 use Rattle.record.specs.Stored.{filler_edit}
-use Rattle.record.specs.declared.Edit.{Edit}
-use Rattle.voting_bundles.proofs.Filtering.{Filtering, filtering-start, filtering-kept, filtering-skip}
+use Rattle.voting_bundles.proofs.Filtering.{filtering-start, filtering-kept, filtering-skip}
 use Rattle.voting_bundles.proofs.filter_edits.Goals as goal
 
 pub loop-i-init : goal.loop-i-init

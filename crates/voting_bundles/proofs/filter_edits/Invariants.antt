@@ -1,14 +1,11 @@
-use mathlib.Core.Path.{◌≡◌, ap, sym, ◌∙◌}
+use mathlib.Core.Path.{◌≡◌}
 use mathlib.Core.Bool.{Bool}
 use Prim.Native.Nat.{ℕ, ◌+◌, ◌-◌, ◌≤◌, ◌<◌}
-use native.Mathlib.Omega.{arith}
-use lib.ListN.{length-set, length, get_or}
+use lib.ListN.{length, get_or}
 use lib.Dec.{eqb}
-use borrow.Author.Tests.{eq-eqb, ne_eqb}
-use Rattle.lists.proofs.Lists.{length-mapped}
 use Rattle.record.specs.Stored.{filler_edit}
 use Rattle.record.specs.declared.Edit.{Edit}
-use Rattle.voting_bundles.proofs.Filtering.{Filtering, filtering-start, filtering-kept, filtering-skip}
+use Rattle.voting_bundles.proofs.Filtering.{Filtering}
 use Rattle.voting_bundles.proofs.filter_edits.Given as goal
 
 abbrev pub invariant-loop-i : goal.invariant-loop-i

@@ -1,6 +1,5 @@
 -- `is_between` meets its contract. Assumes nothing.
 use native.Mathlib.Omega.{arith}
-use borrow.Author.Rules.{rules}
 use Rattle.voting_bundles.proofs.Bundling.{not-from, to-init, to-member}
 use Rattle.voting_bundles.proofs.is_between.Goals as goal
 

@@ -1,8 +1,6 @@
 -- `lent_bundle` meets its contract. Assumes nothing.
 use mathlib.Core.Path.{sym, ◌∙◌}
 use native.Mathlib.Omega.{arith}
-use borrow.Author.Tests.{not-true, not-false}
-use borrow.Author.Rules.{rules}
 use Rattle.record_rows.proofs.row.Cells.{name-small}
 use Rattle.record_tables.proofs.Records.{lent-checked}
 use Rattle.record_tables.specs.Table.{empty_tables, decoded, lent_fault}

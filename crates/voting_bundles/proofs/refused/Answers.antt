@@ -1,6 +1,5 @@
 -- `refused` meets its contract. Assumes nothing.
 use mathlib.Core.Bool.{false}
-use borrow.Author.Rules.{rules}
 use Rattle.voting_bundles.proofs.refused.Goals as goal
 
 pub returns : goal.returns

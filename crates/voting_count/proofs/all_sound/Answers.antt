@@ -1,16 +1,13 @@
 -- `all_sound` meets its contract. Assumes nothing.
-use mathlib.Core.Path.{◌≡◌, refl, sym}
-use mathlib.Core.Bool.{true}
+use mathlib.Core.Path.{refl, sym}
 use mathlib.Core.List.{map}
-use Prim.Native.Nat.{◌+◌, ◌-◌, ◌≤◌}
-use lib.ListN.{take}
-use borrow.Author.Tests.{not-true, not-false}
+use Prim.Native.Nat.{◌+◌}
 use borrow.Author.Rules.{rules}
 use Rattle.record.specs.Judgement.{sound}
 use Rattle.lists.specs.Lists.{all}
-use Rattle.voting_count.specs.Count.{lent_proposals, Faultless}
+use Rattle.voting_count.specs.Count.{lent_proposals}
 use Rattle.voting_count.proofs.Proposals.{held-checked, bench-faultless, not-every, every_more, benches-end}
-use Rattle.voting_roll.specs.Election.{benches, held}
+use Rattle.voting_roll.specs.Election.{held}
 use Rattle.graph.proofs.indexes.Fit.{checked-fit}
 use Rattle.voting_count.proofs.all_sound.Goals as goal
 

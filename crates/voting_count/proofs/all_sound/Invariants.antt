@@ -1,15 +1,12 @@
-use mathlib.Core.Path.{◌≡◌, refl, sym}
+use mathlib.Core.Path.{◌≡◌}
 use mathlib.Core.Bool.{true}
 use mathlib.Core.List.{map}
-use Prim.Native.Nat.{◌+◌, ◌-◌, ◌≤◌}
+use Prim.Native.Nat.{◌-◌, ◌≤◌}
 use lib.ListN.{take}
-use borrow.Author.Tests.{not-true, not-false}
 use Rattle.record.specs.Judgement.{sound}
 use Rattle.lists.specs.Lists.{all}
 use Rattle.voting_count.specs.Count.{lent_proposals, Faultless}
-use Rattle.voting_count.proofs.Proposals.{held-checked, bench-faultless, not-every, every_more, benches-end}
 use Rattle.voting_roll.specs.Election.{benches, held}
-use Rattle.graph.proofs.indexes.Fit.{checked-fit}
 use Rattle.voting_count.proofs.all_sound.Given as goal
 
 abbrev pub invariant-loop-k : goal.invariant-loop-k

@@ -2,8 +2,6 @@
 use mathlib.Core.Path.{sym, ◌∙◌}
 use mathlib.Core.List.{map}
 use native.Mathlib.Omega.{arith}
-use borrow.Author.Tests.{not-true, not-false}
-use borrow.Author.Rules.{rules}
 use Rattle.record_rows.proofs.row.Cells.{name-small}
 use Rattle.voting_count.specs.Count.{lent_proposals, Faultless}
 use Rattle.voting_count.proofs.Answers.{answer-held, count-rows-refused, roll-refused, count-name-refused, count-unknown-refused, count-unsound-refused, count-answered}

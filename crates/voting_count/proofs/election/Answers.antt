@@ -1,7 +1,6 @@
 -- `election` meets its contract. Assumes nothing.
 use mathlib.Core.Path.{ap, ◌∙◌}
 use mathlib.Core.List.{map}
-use borrow.Author.Rules.{rules}
 use Rattle.voting_count.specs.Count.{lent_proposals}
 use Rattle.voting_count.proofs.Answers.{election-counted}
 use Rattle.voting_count.proofs.election.Goals as goal

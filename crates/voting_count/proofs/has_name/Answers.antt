@@ -1,11 +1,8 @@
 -- `has_name` meets its contract. Assumes nothing.
-use mathlib.Core.Path.{◌≡◌, refl}
-use mathlib.Core.Bool.{false}
-use Prim.Native.Nat.{◌-◌, ◌≤◌}
-use lib.ListN.{length, take}
+use mathlib.Core.Path.{refl}
 use borrow.Author.Rules.{rules}
 use Rattle.lists.specs.Lists.{any}
-use Rattle.voting_count.proofs.Known.{count-named, name-found, name-next, name-missing}
+use Rattle.voting_count.proofs.Known.{name-found, name-next, name-missing}
 use Rattle.voting_count.proofs.has_name.Goals as goal
 
 pub loop-i-init : goal.loop-i-init

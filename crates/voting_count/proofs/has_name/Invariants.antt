@@ -1,9 +1,9 @@
-use mathlib.Core.Path.{◌≡◌, refl}
+use mathlib.Core.Path.{◌≡◌}
 use mathlib.Core.Bool.{false}
 use Prim.Native.Nat.{◌-◌, ◌≤◌}
 use lib.ListN.{length, take}
 use Rattle.lists.specs.Lists.{any}
-use Rattle.voting_count.proofs.Known.{count-named, name-found, name-next, name-missing}
+use Rattle.voting_count.proofs.Known.{count-named}
 use Rattle.voting_count.proofs.has_name.Given as goal
 
 abbrev pub invariant-loop-i : goal.invariant-loop-i

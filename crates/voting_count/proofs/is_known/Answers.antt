@@ -1,17 +1,13 @@
 -- `is_known` meets its contract. Assumes nothing.
-use mathlib.Core.Path.{◌≡◌, refl, sym, ◌∙◌}
-use mathlib.Core.Bool.{false}
-use mathlib.Core.List.{List, map}
-use Prim.Native.Nat.{◌-◌, ◌≤◌}
-use lib.ListN.{take}
+use mathlib.Core.Path.{refl, sym, ◌∙◌}
+use mathlib.Core.List.{map}
 use borrow.Author.Rules.{rules}
 use Rattle.record.specs.Record.{written}
 use Rattle.lists.specs.Lists.{any, mem}
-use Rattle.record_rows.specs.grounds.Ground.{Rows}
-use Rattle.voting_count.specs.Count.{lent_proposals, Faultless}
+use Rattle.voting_count.specs.Count.{lent_proposals}
 use Rattle.voting_count.proofs.Proposals.{bench-faultless, some-bench, no-bench, benches-end}
 use Rattle.voting_count.proofs.Known.{held-named}
-use Rattle.voting_roll.specs.Election.{benches, held}
+use Rattle.voting_roll.specs.Election.{held}
 use Rattle.voting_count.proofs.is_known.Goals as goal
 
 pub loop-k-init : goal.loop-k-init

@@ -1,4 +1,4 @@
-use mathlib.Core.Path.{◌≡◌, refl, sym, ◌∙◌}
+use mathlib.Core.Path.{◌≡◌}
 use mathlib.Core.Bool.{false}
 use mathlib.Core.List.{List, map}
 use Prim.Native.Nat.{◌-◌, ◌≤◌}
@@ -7,8 +7,6 @@ use Rattle.record.specs.Record.{written}
 use Rattle.lists.specs.Lists.{any, mem}
 use Rattle.record_rows.specs.grounds.Ground.{Rows}
 use Rattle.voting_count.specs.Count.{lent_proposals, Faultless}
-use Rattle.voting_count.proofs.Proposals.{bench-faultless, some-bench, no-bench, benches-end}
-use Rattle.voting_count.proofs.Known.{held-named}
 use Rattle.voting_roll.specs.Election.{benches, held}
 use Rattle.voting_count.proofs.is_known.Given as goal
 

@@ -1,6 +1,5 @@
 -- `proposal_at` meets its contract. Assumes nothing.
 use mathlib.Core.Path.{refl}
-use borrow.Author.Rules.{rules}
 use Rattle.voting_count.proofs.Proposals.{proposal-stored}
 use Rattle.voting_count.proofs.proposal_at.Goals as goal
 

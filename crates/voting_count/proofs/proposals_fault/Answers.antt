@@ -1,9 +1,8 @@
 -- `proposals_fault` meets its contract. Assumes nothing.
 use mathlib.Core.Path.{refl}
-use Prim.Native.Nat.{◌-◌, ◌≤◌}
 use native.Mathlib.Omega.{arith}
 use borrow.Author.Rules.{rules}
-use Rattle.voting_count.proofs.Benches.{Faultless, first-fault, count-no-fault, all-faultless}
+use Rattle.voting_count.proofs.Benches.{first-fault, count-no-fault, all-faultless}
 use Rattle.voting_count.proofs.proposals_fault.Goals as goal
 
 pub loop-k-init : goal.loop-k-init

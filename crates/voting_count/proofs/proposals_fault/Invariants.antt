@@ -1,7 +1,5 @@
-use mathlib.Core.Path.{refl}
 use Prim.Native.Nat.{◌-◌, ◌≤◌}
-use native.Mathlib.Omega.{arith}
-use Rattle.voting_count.proofs.Benches.{Faultless, first-fault, count-no-fault, all-faultless}
+use Rattle.voting_count.proofs.Benches.{Faultless}
 use Rattle.voting_count.proofs.proposals_fault.Given as goal
 
 abbrev pub invariant-loop-k : goal.invariant-loop-k

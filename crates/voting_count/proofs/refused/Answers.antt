@@ -1,5 +1,4 @@
 -- `refused` meets its contract. Assumes nothing.
-use borrow.Author.Rules.{rules}
 use Rattle.voting_roll.specs.Election.{refused_election}
 use Rattle.voting_count.proofs.refused.Goals as goal
 

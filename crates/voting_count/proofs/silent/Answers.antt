@@ -1,5 +1,4 @@
 -- `silent` meets its contract. Assumes nothing.
-use borrow.Author.Rules.{rules}
 use Rattle.voting_tally.specs.declared.Vote.TheVariants.{Silent}
 use Rattle.voting_count.proofs.silent.Goals as goal
 

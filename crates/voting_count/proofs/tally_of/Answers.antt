@@ -1,16 +1,12 @@
 -- `tally_of` meets its contract. Assumes nothing.
-use mathlib.Core.Path.{◌≡◌}
-use mathlib.Core.Bool.{false}
-use mathlib.Core.List.{map, List}
-use Prim.Native.Nat.{◌-◌, ◌≤◌}
+use mathlib.Core.List.{map}
 use lib.ListN.{get_or}
 use native.Mathlib.Omega.{arith}
 use borrow.Author.Rules.{rules}
-use Rattle.voting.specs.declared.RollRow.{RollRow}
-use Rattle.voting_roll.specs.Roll.{roll_faulty, roll_of, filler_row}
-use Rattle.voting_count.specs.Count.{lent_proposals, Faultless}
+use Rattle.voting_roll.specs.Roll.{filler_row}
+use Rattle.voting_count.specs.Count.{lent_proposals}
 use Rattle.voting_count.proofs.Proposals.{proposal-bench-low}
-use Rattle.voting_count.proofs.Rolled.{rows-counted, rows_few, RollCounting, roll-counting-start, counting-step, roll-counting-end, by_rows}
+use Rattle.voting_count.proofs.Rolled.{rows-counted, rows_few, roll-counting-start, counting-step, roll-counting-end, by_rows}
 use Rattle.voting_count.proofs.tally_of.Goals as goal
 
 pub returns-then-n-gt8 : goal.returns-then-n-gt8

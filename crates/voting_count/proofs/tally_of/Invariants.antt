@@ -2,13 +2,10 @@ use mathlib.Core.Path.{◌≡◌}
 use mathlib.Core.Bool.{false}
 use mathlib.Core.List.{map, List}
 use Prim.Native.Nat.{◌-◌, ◌≤◌}
-use lib.ListN.{get_or}
-use native.Mathlib.Omega.{arith}
 use Rattle.voting.specs.declared.RollRow.{RollRow}
-use Rattle.voting_roll.specs.Roll.{roll_faulty, roll_of, filler_row}
+use Rattle.voting_roll.specs.Roll.{roll_faulty, roll_of}
 use Rattle.voting_count.specs.Count.{lent_proposals, Faultless}
-use Rattle.voting_count.proofs.Proposals.{proposal-bench-low}
-use Rattle.voting_count.proofs.Rolled.{rows-counted, rows_few, RollCounting, roll-counting-start, counting-step, roll-counting-end, by_rows}
+use Rattle.voting_count.proofs.Rolled.{RollCounting}
 use Rattle.voting_count.proofs.tally_of.Given as goal
 
 abbrev pub invariant-loop-i : goal.invariant-loop-i

@@ -2,7 +2,6 @@
 use mathlib.Core.Path.{◌≡◌, ap, sym, ◌∙◌}
 use mathlib.Core.List.{map}
 use Prim.Native.Nat.{◌+◌}
-use borrow.Author.Rules.{rules}
 use Rattle.voting.specs.Bundle.{vote}
 use Rattle.voting_tally.specs.Groups.{cast_of}
 use Rattle.voting_count.specs.Count.{lent_proposals}

@@ -1,7 +1,5 @@
 -- `vote_of` meets its contract. Assumes nothing.
 use mathlib.Core.Path.{sym, ◌∙◌}
-use borrow.Author.Tests.{not-true, not-false}
-use borrow.Author.Rules.{rules}
 use Rattle.voting.specs.Bundle.{bundle}
 use Rattle.voting_bundles.proofs.Judging.{bundle-fit, eligible-all}
 use Rattle.voting_count.proofs.Benches.{vote-unknown, vote-open, vote-eligible}

@@ -3,7 +3,6 @@ use Prim.Native.Nat.{◌≤◌}
 use mathlib.Core.List.{◌∷◌}
 use native.Mathlib.Omega.{arith}
 use lib.ListN.{length}
-use borrow.Author.Rules.{rules}
 use Rattle.record.specs.Record.{written}
 use Rattle.voting.specs.Proposal.{decisions}
 use Rattle.record_tables.specs.Table.{unite}

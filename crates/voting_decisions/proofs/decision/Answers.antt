@@ -1,6 +1,5 @@
 -- `decisions::decision` meets its contract. Assumes nothing.
 use Rattle.voting_decisions.proofs.Paging.{aborted-is, required-is}
-use borrow.Author.Rules.{rules}
 use Rattle.voting_decisions.proofs.decision.Goals as goal
 
 pub returns-then-page-eq0 : goal.returns-then-page-eq0

@@ -14,7 +14,6 @@ use Rattle.graph.proofs.indexes.Fit.{checked-fit}
 use Rattle.voting_decisions.specs.Decisions.{Paged}
 use Rattle.voting_drafts.specs.ranking.Ranking.{flat_map, rank_of, pair_order}
 use Rattle.voting_decisions.proofs.Paging.{orders-by-page, scheduled-rest, finished-is}
-use borrow.Author.Rules.{rules}
 use Rattle.voting_decisions.proofs.finished.Goals as goal
 
 pub returns : goal.returns

@@ -1,7 +1,6 @@
 -- `decisions::pages` meets its contract. Assumes nothing.
 use mathlib.Core.List.{[]}
 use Rattle.judgement.proofs.Judging.{none-hides}
-use borrow.Author.Rules.{rules}
 use Rattle.voting_decisions.proofs.pages.Goals as goal
 
 pub returns : goal.returns

@@ -1,21 +1,14 @@
 use Prim.Native.Nat.{ℕ, ◌-◌, ◌≤◌}
-use mathlib.Core.Path.{◌≡◌, ap, ◌∙◌}
+use mathlib.Core.Path.{◌≡◌}
 use mathlib.Core.List.{List, ◌∷◌}
 use lib.ListN.{length, take}
-use native.Mathlib.Omega.{arith}
-use Rattle.lists.proofs.Lists.{length-mapped}
 use Rattle.record.specs.Record.{Record, written}
 use Rattle.record.specs.declared.Constraint.{Constraint}
-use Rattle.record.specs.Stored.{filler_edit}
 use Rattle.lists.specs.Keyed.{Ascending, united}
 use Rattle.record_tables.specs.Table.{constraint_key}
-use Rattle.voting.specs.Proposal.{decisions, decision_on}
 use Rattle.record_joining.specs.insertion.Insertion.{held_table}
 use Rattle.voting_drafts.specs.ranking.Ranking.{flat_map}
-use Rattle.voting_drafts.proofs.ranking.Joins.{map-flat, joins-start, joins-order, joins-end}
 use Rattle.voting_decisions.specs.Decisions.{Paged, decision_row}
-use Rattle.graph.proofs.indexes.Tables.{few-left}
-use Rattle.voting_decisions.proofs.Paging.{decisions-next, decisions-end, held-edits}
 use Rattle.voting_decisions.proofs.with_decisions.Given as goal
 
 abbrev pub invariant-loop-i : goal.invariant-loop-i

@@ -1,7 +1,6 @@
 -- `members::backward_key` meets its contract. Assumes nothing.
 use mathlib.Core.Path.{◌∙◌}
 use native.Mathlib.Omega.{arith}
-use borrow.Author.Rules.{rules}
 use Rattle.voting_members.proofs.Keys.{backward-none, backward-rival}
 use Rattle.voting_members.proofs.backward_key.Goals as goal
 

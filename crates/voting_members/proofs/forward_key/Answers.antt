@@ -1,7 +1,6 @@
 -- `members::forward_key` meets its contract. Assumes nothing.
 use mathlib.Core.Path.{◌∙◌}
 use native.Mathlib.Omega.{arith}
-use borrow.Author.Rules.{rules}
 use Rattle.voting_members.proofs.Keys.{forward-notafter, forward-enables, forward-rival}
 use Rattle.voting_members.proofs.forward_key.Goals as goal
 

@@ -1,17 +1,9 @@
 -- `members::leading_rows` meets its contract. Assumes nothing.
-use Prim.Native.Nat.{ℕ, ◌-◌, ◌*◌, ◌≤◌}
-use mathlib.Core.Path.{◌≡◌}
-use lib.ListN.{length, get_or}
+use Prim.Native.Nat.{◌*◌}
 use native.Mathlib.Omega.{arith}
-use Rattle.record.specs.Stored.{stored}
-use Rattle.record.specs.Record.{Record, names}
-use Rattle.graph.proofs.links.Links.{linking-start, Growing, growing-start, growing-safe}
-use Rattle.graph.specs.links.Marks.{place_in}
-use Rattle.graph.specs.links.Resolved.{Resolved}
-use Rattle.voting_members.proofs.Rowing.{member_keys_of, member_lefts_of, Rowing, growing-both, rowing-turn, rowing-end}
+use Rattle.graph.proofs.links.Links.{linking-start, growing-start, growing-safe}
+use Rattle.voting_members.proofs.Rowing.{member_keys_of, member_lefts_of, growing-both, rowing-turn, rowing-end}
 use Rattle.graph.proofs.indexes.Tables.{constraint-within, within_low}
-use Rattle.graph.specs.indexes.Fit.{Fit}
-use borrow.Author.Rules.{rules}
 use Rattle.voting_members.proofs.leading_rows.Goals as goal
 
 pub loop-j-init : goal.loop-j-init

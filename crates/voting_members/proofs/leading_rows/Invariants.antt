@@ -1,14 +1,12 @@
 use Prim.Native.Nat.{ℕ, ◌-◌, ◌*◌, ◌≤◌}
 use mathlib.Core.Path.{◌≡◌}
 use lib.ListN.{length, get_or}
-use native.Mathlib.Omega.{arith}
 use Rattle.record.specs.Stored.{stored}
 use Rattle.record.specs.Record.{Record, names}
-use Rattle.graph.proofs.links.Links.{linking-start, Growing, growing-start, growing-safe}
+use Rattle.graph.proofs.links.Links.{Growing}
 use Rattle.graph.specs.links.Marks.{place_in}
 use Rattle.graph.specs.links.Resolved.{Resolved}
-use Rattle.voting_members.proofs.Rowing.{member_keys_of, member_lefts_of, Rowing, growing-both, rowing-turn, rowing-end}
-use Rattle.graph.proofs.indexes.Tables.{constraint-within, within_low}
+use Rattle.voting_members.proofs.Rowing.{Rowing}
 use Rattle.graph.specs.indexes.Fit.{Fit}
 use Rattle.voting_members.proofs.leading_rows.Given as goal
 

@@ -1,5 +1,4 @@
 -- `members::member_rows` meets its contract. Assumes nothing.
-use borrow.Author.Rules.{rules}
 use Rattle.voting_members.proofs.member_rows.Goals as goal
 
 pub returns : goal.returns

@@ -1,7 +1,6 @@
 -- `members::rival_key` meets its contract. Assumes nothing.
 use mathlib.Core.Path.{sym, ◌∙◌}
 use native.Mathlib.Omega.{arith}
-use borrow.Author.Rules.{rules}
 use Rattle.record.specs.Record.{notafter}
 use Rattle.voting_members.proofs.Keys.{rival-ordered, rival-open}
 use Rattle.voting_members.proofs.rival_key.Goals as goal

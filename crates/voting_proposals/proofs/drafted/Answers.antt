@@ -1,13 +1,11 @@
 -- `drafted` meets its contract. Assumes nothing.
 use mathlib.Core.Path.{sym, ◌∙◌}
 use native.Mathlib.Omega.{arith}
-use borrow.Author.Tests.{not-true, not-false}
 use Rattle.record_tables.specs.Table.{unite}
 use Rattle.graph.proofs.indexes.Fit.{checked-fit}
 use Rattle.voting.specs.Proposal.{started, proposed}
 use Rattle.voting_proposals.specs.Propose.{draft_fault}
 use Rattle.voting_proposals.proofs.Drafts.{stopped-is, made-is, unsound-old, no-place-before, start-checked, start_is, unsound-start, no-place-after, propose-no-fault, last-is}
-use borrow.Author.Rules.{rules}
 use Rattle.voting_proposals.proofs.drafted.Goals as goal
 
 pub returns-then-not-sound : goal.returns-then-not-sound

@@ -1,9 +1,7 @@
 -- `made` meets its contract. Assumes nothing.
-use borrow.Author.Tests.{not-true, not-false}
 use Rattle.voting.specs.Proposal.{proposed}
 use Rattle.graph.proofs.indexes.Fit.{checked-fit}
 use Rattle.voting_proposals.proofs.Answers.{knows-old, draft-refused, new-checked, new-stored, not-kept, is-kept}
-use borrow.Author.Rules.{rules}
 use Rattle.voting_proposals.proofs.made.Goals as goal
 
 pub returns-then-number-ne0 : goal.returns-then-number-ne0

@@ -1,7 +1,6 @@
 -- `new_proposal` meets its contract. Assumes nothing.
 use Rattle.record_tables.specs.Table.{decoded}
 use Rattle.voting_proposals.proofs.Answers.{propose-rows-refused, own-stored, own-checked, old-refused, both_stored, both-checked, old-checked, old-few, made-rows}
-use borrow.Author.Rules.{rules}
 use Rattle.voting_proposals.proofs.new_proposal.Goals as goal
 
 pub returns-then-number-ne0 : goal.returns-then-number-ne0

@@ -1,7 +1,6 @@
 -- `propose` meets its contract. Assumes nothing.
 use Rattle.voting_proposals.specs.Propose.{LentToPropose}
 use Rattle.voting_proposals.proofs.Answers.{tables-refused, new-few, few-edits, few-constraints, written_is}
-use borrow.Author.Rules.{rules}
 use Rattle.voting_proposals.proofs.propose.Goals as goal
 
 pub returns-then-new-ne0 : goal.returns-then-new-ne0

@@ -1,7 +1,6 @@
 -- `stopped` meets its contract. Assumes nothing.
 use mathlib.Core.Path.{◌∙◌}
 use Rattle.record_tables.proofs.Tables.{empty-stored}
-use borrow.Author.Rules.{rules}
 use Rattle.voting_proposals.proofs.stopped.Goals as goal
 
 pub returns : goal.returns

@@ -1,12 +1,10 @@
 -- `write_constraints` meets its contract. Assumes nothing.
-use Prim.Native.Nat.{◌-◌, ◌≤◌}
-use mathlib.Core.Path.{◌≡◌, refl}
-use lib.ListN.{length}
+use mathlib.Core.Path.{refl}
 use native.Mathlib.Omega.{arith}
 use Rattle.lists.proofs.Lists.{length-mapped}
 use Rattle.record.specs.Stored.{filler_constraint}
 use Rattle.record_rows.specs.row.Row.{constraint_row}
-use Rattle.voting_proposals.proofs.Written.{written, written_next, written-end}
+use Rattle.voting_proposals.proofs.Written.{written_next, written-end}
 use borrow.Author.Rules.{rules}
 use Rattle.voting_proposals.proofs.write_constraints.Goals as goal
 
@@ -17,8 +15,7 @@ loop-i-init c =
 pub loop-i-preserved : goal.loop-i-preserved
 loop-i-preserved c =
     let h = c.loop-i-test.true in
-    let k = c.loop-i.invariant in
-    (
+    let k = c.loop-i.invariant in (
       search rules,
       k.1,
       k.2,

@@ -1,11 +1,8 @@
 use Prim.Native.Nat.{◌-◌, ◌≤◌}
-use mathlib.Core.Path.{◌≡◌, refl}
+use mathlib.Core.Path.{◌≡◌}
 use lib.ListN.{length}
-use native.Mathlib.Omega.{arith}
-use Rattle.lists.proofs.Lists.{length-mapped}
-use Rattle.record.specs.Stored.{filler_edit}
 use Rattle.record_rows.specs.row.Row.{edit_row}
-use Rattle.voting_proposals.proofs.Written.{written, written_next, written-end}
+use Rattle.voting_proposals.proofs.Written.{written}
 use Rattle.voting_proposals.proofs.write_edits.Given as goal
 
 abbrev pub invariant-loop-i : goal.invariant-loop-i

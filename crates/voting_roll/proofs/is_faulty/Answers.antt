@@ -2,7 +2,6 @@
 use mathlib.Core.Path.{◌∙◌}
 use native.Mathlib.Omega.{arith}
 use lib.ListN.{take}
-use borrow.Author.Rules.{rules}
 use Rattle.voting_roll.proofs.Rolls.{bench-low, bench-high, no-roll-place, bench-twice}
 use Rattle.voting_roll.proofs.is_faulty.Goals as goal
 

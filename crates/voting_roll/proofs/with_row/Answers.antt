@@ -1,7 +1,6 @@
 -- `with_row` meets its contract. Assumes nothing.
 use mathlib.Core.Path.{sym, ◌∙◌}
 use native.Mathlib.Omega.{arith}
-use borrow.Author.Rules.{rules}
 use Rattle.voting_roll.proofs.Rolls.{place-left, stays-faulty, becomes-faulty, grows}
 use Rattle.voting_roll.proofs.with_row.Goals as goal
 

@@ -1,5 +1,4 @@
 -- `tally::answer` meets its contract. Assumes nothing.
-use borrow.Author.Rules.{rules}
 use Rattle.voting_tally.proofs.answer.Goals as goal
 
 pub returns : goal.returns

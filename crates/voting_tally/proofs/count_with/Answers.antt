@@ -1,6 +1,5 @@
 -- `tally::count_with` meets its contract. Assumes nothing.
 use borrow.Author.Tests.{lt-ltb, le-ltb}
-use borrow.Author.Rules.{rules}
 use Rattle.voting_tally.proofs.count_with.Goals as goal
 
 pub returns-then-i-n : goal.returns-then-i-n

@@ -1,5 +1,4 @@
 -- `tally::no_votes` meets its contract. Assumes nothing.
-use borrow.Author.Rules.{rules}
 use Rattle.voting_tally.proofs.Steps.{no-votes-is}
 use Rattle.voting_tally.proofs.no_votes.Goals as goal
 

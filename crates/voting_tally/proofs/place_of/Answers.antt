@@ -1,15 +1,9 @@
 -- `tally::place_of` meets its contract. Assumes nothing.
 use mathlib.Core.Path.{◌≡◌}
-use mathlib.Core.List.{map, List}
-use Prim.Native.Nat.{◌+◌, ◌-◌, ◌≤◌}
 use native.Mathlib.Omega.{arith}
-use lib.ListN.{length, get_or, take, drop}
+use lib.ListN.{length, get_or}
 use borrow.Author.Rules.{rules}
 use Rattle.lists.proofs.Lists.{length-mapped}
-use Rattle.record.specs.Stored.{stored}
-use Rattle.record.specs.Record.{Record}
-use Rattle.voting.specs.Tally.{Ballot}
-use Rattle.voting_tally.specs.Groups.{group_in, place}
 use Rattle.voting_tally.proofs.Steps.{none_yet, bundle-at, place-hit, place-miss, group-place-end}
 use Rattle.voting_tally.proofs.place_of.Goals as goal
 
@@ -18,18 +12,18 @@ loop-i-init c = (search rules, search rules, λ l s C g p. omega arith)
 
 pub returns-then-same_bundle : goal.returns-then-same_bundle
 returns-then-same_bundle c = let z : length c.args.groups ≡ 8 = search (rules, length-mapped) in (
-      search rules,
-      λ k t C g p. place-hit c.args.groups c.args.n (omega arith) k t C g c.loop-i.i c.loop-i-test.true (c.loop-i.invariant.2 k t C g p) c.same_bundle.result
-          (c.same_bundle.ensures C (get_or t c.loop-i.i none_yet) p (bundle-at c.args.groups c.args.n (omega arith) k t C g c.loop-i.i _ c.loop-i-test.true)) c.if-same_bundle.true,
-    )
+  search rules,
+  λ k t C g p. place-hit c.args.groups c.args.n (omega arith) k t C g c.loop-i.i c.loop-i-test.true (c.loop-i.invariant.2 k t C g p) c.same_bundle.result
+      (c.same_bundle.ensures C (get_or t c.loop-i.i none_yet) p (bundle-at c.args.groups c.args.n (omega arith) k t C g c.loop-i.i _ c.loop-i-test.true)) c.if-same_bundle.true,
+)
 
 pub loop-i-preserved : goal.loop-i-preserved
 loop-i-preserved c = let z : length c.args.groups ≡ 8 = search (rules, length-mapped) in (
-      search rules,
-      search rules,
-      λ k t C g p. place-miss c.args.groups c.args.n (omega arith) k t C g c.loop-i.i c.loop-i-test.true (c.loop-i.invariant.2 k t C g p) c.same_bundle.result
-          (c.same_bundle.ensures C (get_or t c.loop-i.i none_yet) p (bundle-at c.args.groups c.args.n (omega arith) k t C g c.loop-i.i _ c.loop-i-test.true)) c.if-same_bundle.false,
-    )
+  search rules,
+  search rules,
+  λ k t C g p. place-miss c.args.groups c.args.n (omega arith) k t C g c.loop-i.i c.loop-i-test.true (c.loop-i.invariant.2 k t C g p) c.same_bundle.result
+      (c.same_bundle.ensures C (get_or t c.loop-i.i none_yet) p (bundle-at c.args.groups c.args.n (omega arith) k t C g c.loop-i.i _ c.loop-i-test.true)) c.if-same_bundle.false,
+)
 
 pub returns : goal.returns
 returns c = let z : length c.args.groups ≡ 8 = search (rules, length-mapped) in

@@ -1,14 +1,11 @@
 use mathlib.Core.Path.{◌≡◌}
 use mathlib.Core.List.{map, List}
 use Prim.Native.Nat.{◌+◌, ◌-◌, ◌≤◌}
-use native.Mathlib.Omega.{arith}
-use lib.ListN.{length, get_or, take, drop}
-use Rattle.lists.proofs.Lists.{length-mapped}
+use lib.ListN.{take, drop}
 use Rattle.record.specs.Stored.{stored}
 use Rattle.record.specs.Record.{Record}
 use Rattle.voting.specs.Tally.{Ballot}
 use Rattle.voting_tally.specs.Groups.{group_in, place}
-use Rattle.voting_tally.proofs.Steps.{none_yet, bundle-at, place-hit, place-miss, group-place-end}
 use Rattle.voting_tally.proofs.place_of.Given as goal
 
 abbrev pub invariant-loop-i : goal.invariant-loop-i

@@ -1,13 +1,9 @@
 -- `tally::winning_place` meets its contract. Assumes nothing.
 use mathlib.Core.Path.{◌≡◌}
-use mathlib.Core.Bool.{false}
-use Prim.Native.Nat.{ℕ, ◌-◌, ◌*◌, ◌≤◌, ◌<◌}
 use native.Mathlib.Omega.{arith}
-use lib.Dec.{ltb}
-use lib.ListN.{length, get_or}
+use lib.ListN.{length}
 use borrow.Author.Rules.{rules}
 use Rattle.lists.proofs.Lists.{length-mapped}
-use Rattle.voting_tally.specs.Groups.{filler_group}
 use Rattle.voting_tally.proofs.Winners.{winning-hit, winning-miss, winning-end}
 use Rattle.voting_tally.proofs.winning_place.Goals as goal
 

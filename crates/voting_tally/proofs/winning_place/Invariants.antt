@@ -1,12 +1,9 @@
 use mathlib.Core.Path.{◌≡◌}
 use mathlib.Core.Bool.{false}
 use Prim.Native.Nat.{ℕ, ◌-◌, ◌*◌, ◌≤◌, ◌<◌}
-use native.Mathlib.Omega.{arith}
 use lib.Dec.{ltb}
-use lib.ListN.{length, get_or}
-use Rattle.lists.proofs.Lists.{length-mapped}
+use lib.ListN.{get_or}
 use Rattle.voting_tally.specs.Groups.{filler_group}
-use Rattle.voting_tally.proofs.Winners.{winning-hit, winning-miss, winning-end}
 use Rattle.voting_tally.proofs.winning_place.Given as goal
 
 abbrev pub invariant-loop-i : goal.invariant-loop-i

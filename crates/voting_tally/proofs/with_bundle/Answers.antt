@@ -2,7 +2,6 @@
 use mathlib.Core.Path.{ap, ◌∙◌}
 use native.Mathlib.Omega.{arith}
 use lib.ListN.{set}
-use borrow.Author.Rules.{rules}
 use Rattle.voting_tally.proofs.Steps.{total-is, tally-room, placed, weight-within, bundle-step}
 use Rattle.voting_tally.proofs.with_bundle.Goals as goal
 

@@ -1,7 +1,6 @@
 -- `tally::with_silent` meets its contract. Assumes nothing.
 use mathlib.Core.Path.{ap, ◌∙◌}
 use native.Mathlib.Omega.{arith}
-use borrow.Author.Rules.{rules}
 use Rattle.voting_tally.proofs.Steps.{total-is, silent-within, silent-step}
 use Rattle.voting_tally.proofs.with_silent.Goals as goal
 

@@ -1,7 +1,6 @@
 -- `tally::with_vote` meets its contract. Assumes nothing.
 use mathlib.Core.Path.{◌≡◌}
 use mathlib.Core.List.{[], ◌∷◌, ◌++◌}
-use borrow.Author.Rules.{rules}
 use Rattle.voting_tally.specs.Groups.{tally_of}
 use Rattle.voting_tally.proofs.Steps.{silent-by, bundle-by}
 use Rattle.voting_tally.proofs.with_vote.Goals as goal

@@ -1,7 +1,6 @@
 -- `tally::won_bundle` meets its contract. Assumes nothing.
 use mathlib.Core.Path.{◌∙◌}
 use native.Mathlib.Omega.{arith}
-use borrow.Author.Rules.{rules}
 use Rattle.voting_tally.proofs.Winners.{no-winner, the-winner}
 use Rattle.voting_tally.proofs.Steps.{tally-count-is}
 use Rattle.voting_tally.proofs.Counts.{bundles-length}

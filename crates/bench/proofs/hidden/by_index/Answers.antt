@@ -1,14 +1,11 @@
-use Prim.Native.Nat.{ℕ, ◌-◌, ◌≤◌}
-use mathlib.Core.Path.{◌≡◌, ap, ◌∙◌}
-use mathlib.Core.Bool.{Bool, false, cond}
-use lib.ListN.{length, get_or}
+use Prim.Native.Nat.{ℕ}
+use mathlib.Core.Path.{ap, ◌∙◌}
+use lib.ListN.{get_or}
 use native.Mathlib.Omega.{arith}
 use borrow.Author.Rules.{rules}
-use Rattle.lists.specs.Lists.{◌among◌}
-use Rattle.record.specs.Record.{Record, written}
 use Rattle.bench.specs.hidden.Marks.{mark_named}
-use Rattle.bench.proofs.hidden.Index.{StoredRows, stored-rows, count_room}
-use Rattle.bench.proofs.hidden.Named.{Indexed, indexed-none, indexed-next, indexed-end}
+use Rattle.bench.proofs.hidden.Index.{stored-rows, count_room}
+use Rattle.bench.proofs.hidden.Named.{indexed-none, indexed-next, indexed-end}
 use Rattle.bench.proofs.hidden.by_index.Goals as goal
 
 pub returns-then-count-gt-EDITS : goal.returns-then-count-gt-EDITS
@@ -23,14 +20,13 @@ bounds-hidden-place c =
     omega (arith, c.index_of-place.ensures)
 
 pub loop-i-preserved : goal.loop-i-preserved
-loop-i-preserved c =
-    (
-      search rules,
-      search rules,
-      search rules,
-      λ R test h z f. indexed-next R _ _ test h (mark_named c.args.index.now c.args.hidden) c.loop-i.marks c.loop-i.i _ c.loop-i-test.true c.loop-i.invariant.2
-          (ap (λ (j : ℕ). get_or c.args.hidden j 0) (c.index_of-place.ensures ∙ ap (λ (x : ℕ). get_or c.args.index.now x 0) c.index16.ensures)) f (c.loop-i.invariant.3 R test h z f),
-    )
+loop-i-preserved c = (
+  search rules,
+  search rules,
+  search rules,
+  λ R test h z f. indexed-next R _ _ test h (mark_named c.args.index.now c.args.hidden) c.loop-i.marks c.loop-i.i _ c.loop-i-test.true c.loop-i.invariant.2
+      (ap (λ (j : ℕ). get_or c.args.hidden j 0) (c.index_of-place.ensures ∙ ap (λ (x : ℕ). get_or c.args.index.now x 0) c.index16.ensures)) f (c.loop-i.invariant.3 R test h z f),
+)
 
 pub returns : goal.returns
 returns c =

@@ -1,13 +1,12 @@
 use Prim.Native.Nat.{ℕ, ◌-◌, ◌≤◌}
-use mathlib.Core.Path.{◌≡◌, ap, ◌∙◌}
+use mathlib.Core.Path.{◌≡◌}
 use mathlib.Core.Bool.{Bool, false, cond}
-use lib.ListN.{length, get_or}
-use native.Mathlib.Omega.{arith}
+use lib.ListN.{length}
 use Rattle.lists.specs.Lists.{◌among◌}
 use Rattle.record.specs.Record.{Record, written}
 use Rattle.bench.specs.hidden.Marks.{mark_named}
-use Rattle.bench.proofs.hidden.Index.{StoredRows, stored-rows, count_room}
-use Rattle.bench.proofs.hidden.Named.{Indexed, indexed-none, indexed-next, indexed-end}
+use Rattle.bench.proofs.hidden.Index.{StoredRows}
+use Rattle.bench.proofs.hidden.Named.{Indexed}
 use Rattle.bench.proofs.hidden.by_index.Given as goal
 
 abbrev pub invariant-loop-i : goal.invariant-loop-i

@@ -1,4 +1,3 @@
-use borrow.Author.Rules.{rules}
 use Rattle.lists.specs.Lists.{mem}
 use Rattle.graph.proofs.indexes.Fit.{checked-fit}
 use Rattle.bench.proofs.hidden.Named.{init-shown, mark-carried}

@@ -1,5 +1,4 @@
 use native.Mathlib.Omega.{arith}
-use borrow.Author.Rules.{rules}
 use Rattle.bench.proofs.hidden.Index.{stored-rows, count_room, index-past, index-missing, index-found}
 use Rattle.bench.proofs.hidden.edit_index.Goals as goal
 

@@ -1,6 +1,5 @@
 use mathlib.Core.Path.{◌∙◌}
 use borrow.Author.Tests.{not-true, not-false}
-use borrow.Author.Rules.{rules}
 use Rattle.bench_adoption.specs.adoption.Adopts.{Adopts}
 use Rattle.bench_adoption.proofs.adoption.Votes.{adopt-refused, adopt-open, adopt-won}
 use Rattle.bench_adoption.proofs.adoption.adopted_bench.Goals as goal

@@ -1,7 +1,6 @@
 -- `visibility::hide` meets its contract. Assumes nothing.
 use mathlib.Core.Path.{refl}
 use mathlib.Core.Bool.{true}
-use borrow.Author.Rules.{rules}
 use Rattle.bench_edits.proofs.visibility.hide.Goals as goal
 
 pub returns : goal.returns

@@ -1,6 +1,4 @@
 -- `visibility::mark_fault` meets its contract. Assumes nothing.
-use borrow.Author.Tests.{not-true, not-false}
-use borrow.Author.Rules.{rules}
 use Rattle.bench_edits.proofs.visibility.Visible.{unnamed, unknown, marked-already, mark-changes}
 use Rattle.bench_edits.proofs.visibility.mark_fault.Goals as goal
 

@@ -1,6 +1,5 @@
 -- `visibility::remark` meets its contract. Assumes nothing.
 use mathlib.Core.Path.{sym, ◌∙◌}
-use borrow.Author.Rules.{rules}
 use Rattle.graph.proofs.indexes.Fit.{checked-fit}
 use Rattle.ledger.specs.Ledger.{start, fed}
 use Rattle.ledger.specs.Bench.{Answers}

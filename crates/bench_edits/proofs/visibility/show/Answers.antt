@@ -1,7 +1,6 @@
 -- `visibility::show` meets its contract. Assumes nothing.
 use mathlib.Core.Path.{refl}
 use mathlib.Core.Bool.{false}
-use borrow.Author.Rules.{rules}
 use Rattle.bench_edits.proofs.visibility.show.Goals as goal
 
 pub returns : goal.returns

@@ -1,7 +1,6 @@
 -- `indexes::index_of` meets its contract. Assumes nothing.
 use lib.ListN.{get_or-eq_default}
 use mathlib.Core.Path.{sym}
-use borrow.Author.Rules.{rules}
 use Rattle.graph.proofs.indexes.Tables.{past-length}
 use Rattle.graph.proofs.indexes.index_of.Goals as goal
 

@@ -1,14 +1,9 @@
 -- `indexes::index_table` meets its contract. Assumes nothing.
-use Prim.Native.Nat.{ℕ, ◌+◌, ◌-◌, ◌≤◌, ◌<◌}
-use mathlib.Core.Path.{◌≡◌, refl}
-use lib.ListN.{length, get_or}
+use Prim.Native.Nat.{◌+◌}
+use mathlib.Core.Path.{refl}
 use native.Mathlib.Omega.{arith}
-use borrow.Author.Rules.{rules}
-use Rattle.graph.specs.indexes.Fit.{Fit}
-use Rattle.graph.proofs.indexes.Tables.{length-names, Indexing, indexing-start, indexing-end, table-size, table_step, count-within, within_low}
+use Rattle.graph.proofs.indexes.Tables.{length-names, indexing-start, indexing-end, table-size, table_step, count-within, within_low}
 use Rattle.graph.proofs.links.Marks.{zeros-get, set_below}
-use Rattle.record.specs.Record.{Record}
-use Rattle.record.specs.Stored.{stored}
 use Rattle.graph.proofs.indexes.index_table.Goals as goal
 
 pub loop-i-init : goal.loop-i-init

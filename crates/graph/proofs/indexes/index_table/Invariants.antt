@@ -1,10 +1,8 @@
 use Prim.Native.Nat.{ℕ, ◌+◌, ◌-◌, ◌≤◌, ◌<◌}
-use mathlib.Core.Path.{◌≡◌, refl}
+use mathlib.Core.Path.{◌≡◌}
 use lib.ListN.{length, get_or}
-use native.Mathlib.Omega.{arith}
 use Rattle.graph.specs.indexes.Fit.{Fit}
-use Rattle.graph.proofs.indexes.Tables.{length-names, Indexing, indexing-start, indexing-end, table-size, table_step, count-within, within_low}
-use Rattle.graph.proofs.links.Marks.{zeros-get, set_below}
+use Rattle.graph.proofs.indexes.Tables.{Indexing}
 use Rattle.record.specs.Record.{Record}
 use Rattle.record.specs.Stored.{stored}
 use Rattle.graph.proofs.indexes.index_table.Given as goal

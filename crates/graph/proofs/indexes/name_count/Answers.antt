@@ -1,6 +1,5 @@
 -- `indexes::name_count` meets its contract. Assumes nothing.
 use native.Mathlib.Omega.{arith}
-use borrow.Author.Rules.{rules}
 use Rattle.graph.proofs.indexes.Tables.{length-names, count-within, within_low}
 use Rattle.graph.proofs.indexes.name_count.Goals as goal
 

@@ -2,7 +2,6 @@
 use lib.Seq.{set_out}
 use mathlib.Core.Path.{refl, sym}
 use native.Mathlib.Omega.{arith}
-use borrow.Author.Rules.{rules}
 use Rattle.graph.proofs.indexes.put_index.Goals as goal
 
 pub returns-then-at-lt-NAMES : goal.returns-then-at-lt-NAMES

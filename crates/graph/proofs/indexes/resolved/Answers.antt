@@ -1,5 +1,4 @@
 -- `indexes::resolved` meets its contract. Assumes nothing.
-use borrow.Author.Rules.{rules}
 use Rattle.graph.proofs.indexes.resolved.Goals as goal
 
 pub rows_of-requires : goal.rows_of-requires

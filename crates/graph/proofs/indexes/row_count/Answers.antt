@@ -1,5 +1,4 @@
 -- `indexes::row_count` meets its contract. Assumes nothing.
-use borrow.Author.Rules.{rules}
 use Rattle.graph.proofs.indexes.Tables.{constraint-within, within_low}
 use Rattle.graph.proofs.indexes.row_count.Goals as goal
 

@@ -1,12 +1,10 @@
 use Prim.Native.Nat.{ℕ, ◌-◌, ◌≤◌}
 use mathlib.Core.Path.{◌≡◌}
 use lib.ListN.{length, get_or}
-use native.Mathlib.Omega.{arith}
 use Rattle.graph.specs.indexes.Fit.{Fit}
-use Rattle.graph.proofs.indexes.Resolving.{keys_of, lefts_of, resolving-end, turn-resolving}
-use Rattle.graph.proofs.indexes.Tables.{constraint-within, within_low}
+use Rattle.graph.proofs.indexes.Resolving.{keys_of, lefts_of}
 use Rattle.graph.specs.links.Marks.{place_in}
-use Rattle.graph.proofs.links.Links.{Linking, linking-start, Growing, growing-start, growing-step, growing-safe}
+use Rattle.graph.proofs.links.Links.{Linking, Growing}
 use Rattle.record.specs.Record.{Record, names}
 use Rattle.record.specs.Stored.{stored}
 use Rattle.graph.proofs.indexes.rows_of.Given as goal

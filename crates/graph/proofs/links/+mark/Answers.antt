@@ -1,11 +1,11 @@
 -- `links::mark` meets its contract. Assumes nothing.
-use Prim.Native.Nat.{ℕ, ◌≤◌, ◌<◌}
+use Prim.Native.Nat.{◌<◌}
 use mathlib.Core.Path.{◌≡◌, sym, ◌∙◌}
 use lib.ListN.{length, set, length-set}
 use lib.Seq.{get_or-set_same}
 use native.Mathlib.Omega.{arith}
 use borrow.Author.Rules.{rules}
-use Rattle.graph.proofs.links.Reach.{Going, marked-was, going_start, going_step, going_end, unmarked, unmarked-less, on-set}
+use Rattle.graph.proofs.links.Reach.{marked-was, going_start, going_step, going_end, unmarked-less, on-set}
 use Rattle.graph.proofs.links.+mark.Goals as goal
 
 pub returns-then-marks-x-eq1 : goal.returns-then-marks-x-eq1

@@ -1,11 +1,10 @@
 -- `links::visit` meets its contract. Assumes nothing.
-use Prim.Native.Nat.{ℕ, ◌-◌, ◌≤◌, ◌<◌}
 use mathlib.Core.Path.{◌≡◌, ◌∙◌}
 use lib.ListN.{length, set, length-set}
 use native.Mathlib.Omega.{arith}
 use borrow.Author.Rules.{rules}
-use Rattle.graph.proofs.links.Reach.{unmarked, unmarked-le}
-use Rattle.graph.proofs.links.Search.{Walking, visited-ring, visited-was, walking_start, walking-step, walking-ring, walking-end, walking-less}
+use Rattle.graph.proofs.links.Reach.{unmarked-le}
+use Rattle.graph.proofs.links.Search.{visited-ring, visited-was, walking_start, walking-step, walking-ring, walking-end, walking-less}
 use Rattle.graph.proofs.links.+visit.Goals as goal
 
 pub returns-then-v-eq2 : goal.returns-then-v-eq2

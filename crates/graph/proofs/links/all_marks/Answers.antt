@@ -1,13 +1,8 @@
 -- `links::all_marks` meets its contract. Assumes nothing.
-use Prim.Native.Nat.{◌-◌, ◌≤◌}
-use mathlib.Core.Path.{◌≡◌, refl, ◌∙◌}
-use mathlib.Core.Bool.{cond}
-use lib.ListN.{length, length-set}
+use mathlib.Core.Path.{refl, ◌∙◌}
+use lib.ListN.{length-set}
 use native.Mathlib.Omega.{arith}
-use borrow.Author.Rules.{rules}
-use Rattle.graph.proofs.links.Marks.{Filled, filled-start, all-step, all_end}
-use Rattle.lists.specs.Lists.{mem}
-use Rattle.record.specs.Record.{Record, names}
+use Rattle.graph.proofs.links.Marks.{filled-start, all-step, all_end}
 use Rattle.graph.proofs.links.all_marks.Goals as goal
 
 pub loop-count-init : goal.loop-count-init

@@ -1,9 +1,8 @@
 use Prim.Native.Nat.{◌-◌, ◌≤◌}
-use mathlib.Core.Path.{◌≡◌, refl, ◌∙◌}
+use mathlib.Core.Path.{◌≡◌}
 use mathlib.Core.Bool.{cond}
-use lib.ListN.{length, length-set}
-use native.Mathlib.Omega.{arith}
-use Rattle.graph.proofs.links.Marks.{Filled, filled-start, all-step, all_end}
+use lib.ListN.{length}
+use Rattle.graph.proofs.links.Marks.{Filled}
 use Rattle.lists.specs.Lists.{mem}
 use Rattle.record.specs.Record.{Record, names}
 use Rattle.graph.proofs.links.all_marks.Given as goal

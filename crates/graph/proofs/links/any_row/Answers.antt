@@ -1,9 +1,8 @@
 -- `links::any_row` meets its contract. Assumes nothing.
-use Prim.Native.Nat.{◌≤◌}
 use mathlib.Core.Path.{◌≡◌, refl}
 use lib.ListN.{get_or}
 use native.Mathlib.Omega.{arith}
-use Rattle.graph.proofs.links.Links.{Looking, looking-start, looking-step, some-row, no_row}
+use Rattle.graph.proofs.links.Links.{looking-start, looking-step, some-row, no_row}
 use Rattle.lists.proofs.Lists.{clash}
 use Rattle.graph.specs.links.Links.{left_at}
 use borrow.Author.Rules.{rules}

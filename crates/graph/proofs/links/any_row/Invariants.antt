@@ -1,9 +1,7 @@
 use Prim.Native.Nat.{◌≤◌}
-use mathlib.Core.Path.{◌≡◌, refl}
+use mathlib.Core.Path.{◌≡◌}
 use lib.ListN.{get_or}
-use native.Mathlib.Omega.{arith}
-use Rattle.graph.proofs.links.Links.{Looking, looking-start, looking-step, some-row, no_row}
-use Rattle.lists.proofs.Lists.{clash}
+use Rattle.graph.proofs.links.Links.{Looking}
 use Rattle.graph.specs.links.Links.{left_at}
 use Rattle.graph.proofs.links.any_row.Given as goal
 

@@ -1,7 +1,6 @@
 -- `links::first_row` meets its contract. Assumes nothing.
 use native.Mathlib.Omega.{arith}
 use Rattle.graph.specs.links.Links.{head_at}
-use borrow.Author.Rules.{rules}
 use Rattle.graph.proofs.links.first_row.Goals as goal
 
 pub returns : goal.returns

@@ -1,10 +1,8 @@
 -- `links::has_new_ring` meets its contract. Assumes nothing.
-use Prim.Native.Nat.{◌-◌, ◌≤◌}
 use mathlib.Core.Path.{◌∙◌}
 use native.Mathlib.Omega.{arith}
 use Rattle.graph.proofs.links.Rings.{ring-found, ring-none, ring-low}
-use Rattle.graph.proofs.links.Search.{Searching, search-start, search-step, search-ring}
-use borrow.Author.Rules.{rules}
+use Rattle.graph.proofs.links.Search.{search-start, search-step, search-ring}
 use Rattle.graph.proofs.links.has_new_ring.Goals as goal
 
 pub loop-x-init : goal.loop-x-init

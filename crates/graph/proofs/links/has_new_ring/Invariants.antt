@@ -1,8 +1,5 @@
 use Prim.Native.Nat.{◌-◌, ◌≤◌}
-use mathlib.Core.Path.{◌∙◌}
-use native.Mathlib.Omega.{arith}
-use Rattle.graph.proofs.links.Rings.{ring-found, ring-none, ring-low}
-use Rattle.graph.proofs.links.Search.{Searching, search-start, search-step, search-ring}
+use Rattle.graph.proofs.links.Search.{Searching}
 use Rattle.graph.proofs.links.has_new_ring.Given as goal
 
 abbrev pub invariant-loop-x : goal.invariant-loop-x

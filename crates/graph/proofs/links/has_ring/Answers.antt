@@ -1,6 +1,5 @@
 -- `links::has_ring` meets its contract. Assumes nothing.
 use mathlib.Core.List.{[]}
-use borrow.Author.Rules.{rules}
 use Rattle.graph.proofs.links.Marks.{none-marked}
 use Rattle.graph.proofs.links.Rings.{no-ring-none}
 use Rattle.graph.proofs.links.has_ring.Goals as goal

@@ -1,8 +1,8 @@
 -- `links::leads_to` meets its contract. Assumes nothing.
-use Prim.Native.Nat.{◌+◌, ◌≤◌}
+use Prim.Native.Nat.{◌+◌}
 use mathlib.Core.Path.{◌≡◌, sym, ◌∙◌}
 use native.Mathlib.Omega.{arith}
-use Rattle.graph.proofs.links.Links.{Looking, looking-start, looking-step, some-row, no_row, leads-found, leads-none}
+use Rattle.graph.proofs.links.Links.{looking-start, looking-step, some-row, no_row, leads-found, leads-none}
 use Rattle.graph.specs.links.Links.{left_at}
 use borrow.Author.Rules.{rules}
 use Rattle.graph.proofs.links.leads_to.Goals as goal

@@ -1,7 +1,6 @@
 use Prim.Native.Nat.{◌+◌, ◌≤◌}
-use mathlib.Core.Path.{◌≡◌, sym, ◌∙◌}
-use native.Mathlib.Omega.{arith}
-use Rattle.graph.proofs.links.Links.{Looking, looking-start, looking-step, some-row, no_row, leads-found, leads-none}
+use mathlib.Core.Path.{◌≡◌}
+use Rattle.graph.proofs.links.Links.{Looking}
 use Rattle.graph.specs.links.Links.{left_at}
 use Rattle.graph.proofs.links.leads_to.Given as goal
 

@@ -1,7 +1,6 @@
 -- `links::link_row` meets its contract. Assumes nothing.
 use mathlib.Core.Path.{refl}
 use Rattle.graph.specs.links.Links.{head_at, with_row}
-use borrow.Author.Rules.{rules}
 use Rattle.graph.proofs.links.link_row.Goals as goal
 
 pub returns : goal.returns

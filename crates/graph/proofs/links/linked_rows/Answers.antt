@@ -1,10 +1,8 @@
 -- `links::linked_rows` meets its contract. Assumes nothing.
-use Prim.Native.Nat.{◌-◌, ◌≤◌}
 use lib.ListN.{take}
 use native.Mathlib.Omega.{arith}
-use Rattle.graph.proofs.links.Links.{Linking, linking-start, Growing, growing-start, growing-step, growing-safe}
+use Rattle.graph.proofs.links.Links.{linking-start, growing-start, growing-step, growing-safe}
 use Rattle.graph.proofs.links.Reversing.{linking-more, linking-all}
-use borrow.Author.Rules.{rules}
 use Rattle.graph.proofs.links.linked_rows.Goals as goal
 
 pub loop-j-init : goal.loop-j-init

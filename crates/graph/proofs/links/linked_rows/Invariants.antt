@@ -1,8 +1,6 @@
 use Prim.Native.Nat.{◌-◌, ◌≤◌}
 use lib.ListN.{take}
-use native.Mathlib.Omega.{arith}
-use Rattle.graph.proofs.links.Links.{Linking, linking-start, Growing, growing-start, growing-step, growing-safe}
-use Rattle.graph.proofs.links.Reversing.{linking-more, linking-all}
+use Rattle.graph.proofs.links.Links.{Linking, Growing}
 use Rattle.graph.proofs.links.linked_rows.Given as goal
 
 abbrev pub invariant-loop-j : goal.invariant-loop-j

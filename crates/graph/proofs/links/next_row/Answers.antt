@@ -2,7 +2,6 @@
 use Prim.Native.Nat.{◌-◌}
 use native.Mathlib.Omega.{arith}
 use Rattle.graph.specs.links.Links.{link_at}
-use borrow.Author.Rules.{rules}
 use Rattle.graph.proofs.links.next_row.Goals as goal
 
 pub returns : goal.returns

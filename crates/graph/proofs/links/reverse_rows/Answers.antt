@@ -1,7 +1,6 @@
 -- `links::reverse_rows` meets its contract. Assumes nothing.
-use Prim.Native.Nat.{◌≤◌}
 use native.Mathlib.Omega.{arith}
-use Rattle.graph.proofs.links.Reversing.{Noter, noter-start, noter-step, noter-end}
+use Rattle.graph.proofs.links.Reversing.{noter-start, noter-step, noter-end}
 use borrow.Author.Rules.{rules}
 use Rattle.graph.proofs.links.reverse_rows.Goals as goal
 

@@ -1,6 +1,5 @@
 use Prim.Native.Nat.{◌≤◌}
-use native.Mathlib.Omega.{arith}
-use Rattle.graph.proofs.links.Reversing.{Noter, noter-start, noter-step, noter-end}
+use Rattle.graph.proofs.links.Reversing.{Noter}
 use Rattle.graph.proofs.links.reverse_rows.Given as goal
 
 abbrev pub invariant-loop-j : goal.invariant-loop-j

@@ -1,8 +1,6 @@
 -- `links::reversed` meets its contract. Assumes nothing.
-use Prim.Native.Nat.{◌-◌, ◌≤◌}
 use native.Mathlib.Omega.{arith}
-use Rattle.graph.proofs.links.Reversing.{Reversing, reversing-start, reversing-step, reversing-end}
-use borrow.Author.Rules.{rules}
+use Rattle.graph.proofs.links.Reversing.{reversing-start, reversing-step, reversing-end}
 use Rattle.graph.proofs.links.reversed.Goals as goal
 
 pub loop-b-init : goal.loop-b-init

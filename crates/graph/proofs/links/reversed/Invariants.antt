@@ -1,6 +1,5 @@
 use Prim.Native.Nat.{◌-◌, ◌≤◌}
-use native.Mathlib.Omega.{arith}
-use Rattle.graph.proofs.links.Reversing.{Reversing, reversing-start, reversing-step, reversing-end}
+use Rattle.graph.proofs.links.Reversing.{Reversing}
 use Rattle.graph.proofs.links.reversed.Given as goal
 
 abbrev pub invariant-loop-b : goal.invariant-loop-b

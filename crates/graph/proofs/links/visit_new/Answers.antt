@@ -1,6 +1,5 @@
 -- `links::visit_new` meets its contract. Assumes nothing.
 use mathlib.Core.Path.{refl}
-use borrow.Author.Rules.{rules}
 use Rattle.graph.proofs.links.visit_new.Goals as goal
 
 pub returns-then-old-x-eq1 : goal.returns-then-old-x-eq1

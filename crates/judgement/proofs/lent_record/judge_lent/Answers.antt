@@ -1,6 +1,5 @@
 use Rattle.judgement.proofs.lent_record.Answers.{judgement-refused, judgement-told}
 use mathlib.Core.Path.{◌∙◌}
-use borrow.Author.Rules.{rules}
 use Rattle.judgement.proofs.lent_record.judge_lent.Goals as goal
 
 pub returns-then-number-ne0 : goal.returns-then-number-ne0

@@ -1,6 +1,5 @@
 use Rattle.judgement.proofs.lent_record.Answers.{schedule-refused, schedule-told}
 use mathlib.Core.Path.{ap, ◌∙◌}
-use borrow.Author.Rules.{rules}
 use Rattle.judgement.proofs.lent_record.schedule_lent.Goals as goal
 
 pub returns-then-number-ne0 : goal.returns-then-number-ne0

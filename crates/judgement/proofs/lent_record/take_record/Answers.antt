@@ -1,5 +1,4 @@
 use Rattle.judgement.proofs.lent_record.Answers.{lent-refused, lent-sound, lent-unsound}
-use borrow.Author.Rules.{rules}
 use Rattle.judgement.proofs.lent_record.take_record.Goals as goal
 
 pub returns-then-number-ne0 : goal.returns-then-number-ne0

@@ -1,4 +1,3 @@
-use borrow.Author.Rules.{rules}
 use Rattle.judgement.proofs.lent_record.Answers.{row-refused, row_told}
 use Rattle.judgement.proofs.lent_record.test_row.Goals as goal
 

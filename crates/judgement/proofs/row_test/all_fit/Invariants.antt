@@ -1,16 +1,13 @@
-use Prim.Native.Nat.{ℕ, ◌-◌, ◌≤◌, ◌<◌}
-use mathlib.Core.Path.{◌≡◌, refl, sym, ◌∙◌}
+use Prim.Native.Nat.{ℕ, ◌-◌, ◌≤◌}
+use mathlib.Core.Path.{◌≡◌}
 use mathlib.Core.List.{List}
 use lib.ListN.{length, drop}
-use native.Mathlib.Omega.{arith}
-use borrow.Author.Tests.{not-true, not-false}
 use Rattle.judgement.specs.row_test.Seats.{Indexed, Seated}
 use Rattle.graph.specs.indexes.Fit.{Fit}
 use Rattle.record.specs.Judgement.{fits}
 use Rattle.lists.specs.Lists.{all}
 use Rattle.record.specs.Record.{Record}
 use Rattle.record.specs.Stored.{stored}
-use Rattle.judgement.proofs.row_test.Fitting.{left-seat, right-seat, fitting-step, fitting-stop, row-fitting-end}
 use Rattle.judgement.proofs.row_test.all_fit.Given as goal
 
 abbrev pub invariant-loop-j : goal.invariant-loop-j

@@ -1,6 +1,5 @@
 -- `row_test::is_schedule` meets its contract. Assumes nothing.
 use mathlib.Core.Path.{sym, ◌∙◌}
-use borrow.Author.Rules.{rules}
 use borrow.Author.Tests.{not-true, not-false}
 use Rattle.judgement.proofs.row_test.Fitting.{empty-not, start-not, seats-not, seats-then}
 use Rattle.judgement.proofs.row_test.is_schedule.Goals as goal

@@ -1,6 +1,5 @@
 -- `row_test::known_index` meets its contract. Assumes nothing.
 use mathlib.Core.Path.{sym, ◌∙◌}
-use borrow.Author.Rules.{rules}
 use Rattle.judgement.proofs.row_test.Seating.{index-some, index-init, index-none}
 use Rattle.judgement.proofs.row_test.known_index.Goals as goal
 

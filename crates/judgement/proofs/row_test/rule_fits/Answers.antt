@@ -1,5 +1,4 @@
 -- `row_test::rule_fits` meets its contract. Assumes nothing.
-use borrow.Author.Rules.{rules}
 use Rattle.judgement.proofs.row_test.Fitting.{fits-other}
 use Rattle.judgement.proofs.row_test.rule_fits.Goals as goal
 

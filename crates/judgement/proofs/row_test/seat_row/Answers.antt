@@ -1,13 +1,9 @@
 -- `row_test::seat_row` meets its contract. Assumes nothing.
-use Prim.Native.Nat.{◌-◌, ◌≤◌, ◌+◌}
-use mathlib.Core.Path.{◌≡◌, refl, ◌∙◌}
-use lib.ListN.{length, length-set}
+use Prim.Native.Nat.{◌+◌}
+use mathlib.Core.Path.{refl, ◌∙◌}
+use lib.ListN.{length-set}
 use native.Mathlib.Omega.{arith}
-use borrow.Author.Rules.{rules}
-use Rattle.judgement.specs.row_test.Seats.{Indexed}
-use Rattle.judgement.proofs.row_test.Seating.{Seating, seating-start, unknown-not, repeated-not, seating-step, seating-end, row-index-unknown, row-index-known}
-use Rattle.graph.specs.indexes.Fit.{Fit}
-use Rattle.record.specs.Record.{Record}
+use Rattle.judgement.proofs.row_test.Seating.{seating-start, unknown-not, repeated-not, seating-step, seating-end, row-index-unknown, row-index-known}
 use Rattle.lists.proofs.Lists.{clash}
 use Rattle.judgement.proofs.row_test.seat_row.Goals as goal
 

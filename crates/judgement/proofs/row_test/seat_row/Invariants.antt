@@ -1,12 +1,10 @@
-use Prim.Native.Nat.{◌-◌, ◌≤◌, ◌+◌}
-use mathlib.Core.Path.{◌≡◌, refl, ◌∙◌}
-use lib.ListN.{length, length-set}
-use native.Mathlib.Omega.{arith}
+use Prim.Native.Nat.{◌-◌, ◌≤◌}
+use mathlib.Core.Path.{◌≡◌}
+use lib.ListN.{length}
 use Rattle.judgement.specs.row_test.Seats.{Indexed}
-use Rattle.judgement.proofs.row_test.Seating.{Seating, seating-start, unknown-not, repeated-not, seating-step, seating-end, row-index-unknown, row-index-known}
+use Rattle.judgement.proofs.row_test.Seating.{Seating}
 use Rattle.graph.specs.indexes.Fit.{Fit}
 use Rattle.record.specs.Record.{Record}
-use Rattle.lists.proofs.Lists.{clash}
 use Rattle.judgement.proofs.row_test.seat_row.Given as goal
 
 abbrev pub invariant-loop-q : goal.invariant-loop-q

@@ -2,7 +2,6 @@
 use mathlib.Core.Path.{sym, ◌∙◌}
 use native.Mathlib.Omega.{arith}
 use borrow.Author.Tests.{not-true}
-use borrow.Author.Rules.{rules}
 use Rattle.judgement_marks.proofs.schedules.Admitting.{admit-had, admit-need, admit-barred, admit-ring, admit-new, needs-cons}
 use Rattle.judgement_marks.proofs.Standing.{part-ring, needs-names, marked-on, marked-off, unmarked-above}
 use Rattle.graph.proofs.links.Names.{get_or-among}
@@ -41,40 +40,36 @@ is_shut-requires c =
     (c.requires.0, c.requires.2, c.requires.3)
 
 pub returns-then-is_shut : goal.returns-then-is_shut
-returns-then-is_shut c =
-    (
-      c.requires.5,
-      λ R h t g f q u m i b r k calm miss e. let w = c.closed-more.ensures.1 (enables R) R (names R) t g.enablers (enabler-known g.formed) k.closed (omega arith) k.known e ∙ needs-names R t _ in
-          rw (admit-barred R g.formed h t k _ (sym (c.is_shut.ensures R h t g q u k e w m i b) ∙ c.if-is_shut.true)) e,
-    )
+returns-then-is_shut c = (
+  c.requires.5,
+  λ R h t g f q u m i b r k calm miss e. let w = c.closed-more.ensures.1 (enables R) R (names R) t g.enablers (enabler-known g.formed) k.closed (omega arith) k.known e ∙ needs-names R t _ in
+      rw (admit-barred R g.formed h t k _ (sym (c.is_shut.ensures R h t g q u k e w m i b) ∙ c.if-is_shut.true)) e,
+)
 
 pub returns-then-not-whole : goal.returns-then-not-whole
-returns-then-not-whole c =
-    (
-      c.closed-more.ensures.0,
-      λ R h t g f q u m i b r k calm miss e. let w = c.closed-more.ensures.1 (enables R) R (names R) t g.enablers (enabler-known g.formed) k.closed (omega arith) k.known e ∙ needs-names R t _ in
-          rw (admit-new R g.formed h t k _ (marked-off R (λ y. mem y t) _ c.args.x e (omega arith) c.if-marks-x-eq1.false)
-          (sym (c.is_shut.ensures R h t g q u k e w m i b) ∙ c.if-is_shut.false)
-          (part-ring R _ (sym r ∙ not-true _ c.if-not-whole.true) (needs-cons R g.formed t _ (get_or-among (names R) c.args.x (omega arith)) k.known))) w,
-    )
+returns-then-not-whole c = (
+  c.closed-more.ensures.0,
+  λ R h t g f q u m i b r k calm miss e. let w = c.closed-more.ensures.1 (enables R) R (names R) t g.enablers (enabler-known g.formed) k.closed (omega arith) k.known e ∙ needs-names R t _ in
+      rw (admit-new R g.formed h t k _ (marked-off R (λ y. mem y t) _ c.args.x e (omega arith) c.if-marks-x-eq1.false)
+      (sym (c.is_shut.ensures R h t g q u k e w m i b) ∙ c.if-is_shut.false)
+      (part-ring R _ (sym r ∙ not-true _ c.if-not-whole.true) (needs-cons R g.formed t _ (get_or-among (names R) c.args.x (omega arith)) k.known))) w,
+)
 
 pub closes_ring-requires : goal.closes_ring-requires
 closes_ring-requires c =
     (c.requires.0, c.requires.1, c.requires.2, c.requires.3, c.closed-more.ensures.0)
 
 pub returns-then-closes_ring : goal.returns-then-closes_ring
-returns-then-closes_ring c =
-    (
-      c.requires.5,
-      λ R h t g f q u m i b r k calm miss e. let w = c.closed-more.ensures.1 (enables R) R (names R) t g.enablers (enabler-known g.formed) k.closed (omega arith) k.known e ∙ needs-names R t _ in
-          rw (admit-ring R g.formed h t k _ (sym (c.closes_ring.ensures R t g f q u k.closed k.known e calm w) ∙ c.if-closes_ring.true)) e,
-    )
+returns-then-closes_ring c = (
+  c.requires.5,
+  λ R h t g f q u m i b r k calm miss e. let w = c.closed-more.ensures.1 (enables R) R (names R) t g.enablers (enabler-known g.formed) k.closed (omega arith) k.known e ∙ needs-names R t _ in
+      rw (admit-ring R g.formed h t k _ (sym (c.closes_ring.ensures R t g f q u k.closed k.known e calm w) ∙ c.if-closes_ring.true)) e,
+)
 
 pub returns : goal.returns
-returns c =
-    (
-      c.closed-more.ensures.0,
-      λ R h t g f q u m i b r k calm miss e. let w = c.closed-more.ensures.1 (enables R) R (names R) t g.enablers (enabler-known g.formed) k.closed (omega arith) k.known e ∙ needs-names R t _ in
-          rw (admit-new R g.formed h t k _ (marked-off R (λ y. mem y t) _ c.args.x e (omega arith) c.if-marks-x-eq1.false)
-          (sym (c.is_shut.ensures R h t g q u k e w m i b) ∙ c.if-is_shut.false) (sym (c.closes_ring.ensures R t g f q u k.closed k.known e calm w) ∙ c.if-closes_ring.false)) w,
-    )
+returns c = (
+  c.closed-more.ensures.0,
+  λ R h t g f q u m i b r k calm miss e. let w = c.closed-more.ensures.1 (enables R) R (names R) t g.enablers (enabler-known g.formed) k.closed (omega arith) k.known e ∙ needs-names R t _ in
+      rw (admit-new R g.formed h t k _ (marked-off R (λ y. mem y t) _ c.args.x e (omega arith) c.if-marks-x-eq1.false)
+      (sym (c.is_shut.ensures R h t g q u k e w m i b) ∙ c.if-is_shut.false) (sym (c.closes_ring.ensures R t g f q u k.closed k.known e calm w) ∙ c.if-closes_ring.false)) w,
+)

@@ -1,20 +1,6 @@
 -- `schedules::admitted_marks` meets its contract. Assumes nothing.
-use Prim.Native.Nat.{ℕ, ◌-◌, ◌≤◌}
-use mathlib.Core.Path.{◌≡◌}
-use mathlib.Core.Bool.{false}
-use mathlib.Core.List.{List}
-use lib.ListN.{length}
 use native.Mathlib.Omega.{arith}
-use borrow.Author.Rules.{rules}
-use Rattle.judgement_marks.specs.schedules.Rows.{Hides}
-use Rattle.judgement_marks.proofs.schedules.Admitting.{Admitting, admitting-start, admitting-step, admitting-end}
-use Rattle.graph.specs.links.Resolved.{Resolved}
-use Rattle.graph.specs.links.Marks.{marks_of}
-use Rattle.graph.specs.links.Reversed.{Reversed}
-use Rattle.record.specs.Judgement.{must}
-use Rattle.lists.specs.Lists.{any}
-use Rattle.record.specs.Record.{Record, names}
-use Rattle.record.specs.Schedule.{musts, ring, bars}
+use Rattle.judgement_marks.proofs.schedules.Admitting.{admitting-start, admitting-step, admitting-end}
 use Rattle.judgement_marks.proofs.schedules.admitted_marks.Goals as goal
 
 pub loop-x-init : goal.loop-x-init

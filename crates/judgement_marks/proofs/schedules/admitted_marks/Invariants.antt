@@ -3,9 +3,8 @@ use mathlib.Core.Path.{◌≡◌}
 use mathlib.Core.Bool.{false}
 use mathlib.Core.List.{List}
 use lib.ListN.{length}
-use native.Mathlib.Omega.{arith}
 use Rattle.judgement_marks.specs.schedules.Rows.{Hides}
-use Rattle.judgement_marks.proofs.schedules.Admitting.{Admitting, admitting-start, admitting-step, admitting-end}
+use Rattle.judgement_marks.proofs.schedules.Admitting.{Admitting}
 use Rattle.graph.specs.links.Resolved.{Resolved}
 use Rattle.graph.specs.links.Marks.{marks_of}
 use Rattle.graph.specs.links.Reversed.{Reversed}

@@ -1,19 +1,8 @@
 -- `schedules::any_barred` meets its contract. Assumes nothing.
-use Prim.Native.Nat.{ℕ, ◌-◌, ◌≤◌, ◌<◌}
-use mathlib.Core.Path.{◌≡◌, sym, ◌∙◌}
-use mathlib.Core.Bool.{false, ◌&&◌}
-use mathlib.Core.List.{List}
-use lib.ListN.{length}
+use mathlib.Core.Path.{sym, ◌∙◌}
 use native.Mathlib.Omega.{arith}
-use borrow.Author.Rules.{rules}
 use borrow.Author.Count.{below_more}
-use Rattle.record.specs.Schedule.{bars}
-use Rattle.judgement_marks.specs.schedules.Rows.{Hides}
 use Rattle.judgement_marks.proofs.schedules.Admitting.{any-bars, none-bars}
-use Rattle.graph.specs.links.Marks.{name_at, marks_of}
-use Rattle.record.specs.Judgement.{must}
-use Rattle.lists.specs.Lists.{mem}
-use Rattle.record.specs.Record.{Record, names}
 use Rattle.judgement_marks.proofs.schedules.any_barred.Goals as goal
 
 pub loop-x-init : goal.loop-x-init

@@ -1,5 +1,4 @@
 -- `schedules::is_barred` meets its contract. Assumes nothing.
-use borrow.Author.Rules.{rules}
 use Rattle.judgement_marks.proofs.schedules.Admitting.{bar-unmarked, bar-shown, bar-must}
 use Rattle.judgement_marks.proofs.schedules.is_barred.Goals as goal
 

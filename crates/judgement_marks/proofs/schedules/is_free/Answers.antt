@@ -1,7 +1,6 @@
 -- `schedules::is_free` meets its contract. Assumes nothing.
 use Rattle.lists.proofs.Lists.{by}
 use Rattle.judgement_marks.proofs.schedules.Ordering.{free-not, free-held, free-yes}
-use borrow.Author.Rules.{rules}
 use Rattle.judgement_marks.proofs.schedules.is_free.Goals as goal
 
 pub returns-then-waits-x-ne1 : goal.returns-then-waits-x-ne1

@@ -1,8 +1,6 @@
 -- `schedules::is_shut` meets its contract. Assumes nothing.
 use mathlib.Core.Path.{sym, ◌∙◌}
 use native.Mathlib.Omega.{arith}
-use borrow.Author.Rules.{rules}
-use borrow.Author.Tests.{not-true}
 use Rattle.judgement_marks.proofs.schedules.Admitting.{part-bars, bars-alone}
 use Rattle.judgement_marks.proofs.Entering.{entering-known, entering-alone}
 use Rattle.judgement_marks.proofs.schedules.is_shut.Goals as goal

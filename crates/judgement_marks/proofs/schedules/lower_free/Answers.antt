@@ -1,7 +1,6 @@
 -- `schedules::lower_free` meets its contract. Assumes nothing.
 use mathlib.Core.Path.{sym, ◌∙◌}
 use native.Mathlib.Omega.{arith}
-use borrow.Author.Rules.{rules}
 use Rattle.judgement_marks.proofs.schedules.lower_free.Goals as goal
 
 pub returns-then-y-best : goal.returns-then-y-best

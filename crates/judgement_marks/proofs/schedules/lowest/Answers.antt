@@ -1,16 +1,12 @@
 -- `schedules::lowest` meets its contract. Assumes nothing.
-use Prim.Native.Nat.{ℕ, ◌-◌, ◌≤◌, ◌<◌}
+use Prim.Native.Nat.{ℕ, ◌<◌}
 use mathlib.Core.Path.{◌≡◌, sym, ◌∙◌}
-use mathlib.Core.Bool.{Bool, false}
-use lib.ListN.{length}
+use mathlib.Core.Bool.{false}
 use native.Mathlib.Omega.{arith}
-use borrow.Author.Rules.{rules}
 use borrow.Author.Count.{below_more}
 use Rattle.judgement_marks.specs.schedules.Rows.{free}
 use Rattle.judgement_marks.proofs.schedules.Ordering.{lowest-found, lowest-free-none}
-use Rattle.graph.specs.links.Resolved.{Resolved}
-use Rattle.graph.specs.links.Marks.{name_at, marks_of}
-use Rattle.record.specs.Record.{Record, names}
+use Rattle.graph.specs.links.Marks.{name_at}
 use Rattle.judgement_marks.proofs.schedules.lowest.Goals as goal
 
 pub loop-x-init : goal.loop-x-init

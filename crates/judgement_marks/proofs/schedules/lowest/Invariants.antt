@@ -1,11 +1,8 @@
 use Prim.Native.Nat.{ℕ, ◌-◌, ◌≤◌, ◌<◌}
-use mathlib.Core.Path.{◌≡◌, sym, ◌∙◌}
+use mathlib.Core.Path.{◌≡◌}
 use mathlib.Core.Bool.{Bool, false}
 use lib.ListN.{length}
-use native.Mathlib.Omega.{arith}
-use borrow.Author.Count.{below_more}
 use Rattle.judgement_marks.specs.schedules.Rows.{free}
-use Rattle.judgement_marks.proofs.schedules.Ordering.{lowest-found, lowest-free-none}
 use Rattle.graph.specs.links.Resolved.{Resolved}
 use Rattle.graph.specs.links.Marks.{name_at, marks_of}
 use Rattle.record.specs.Record.{Record, names}

@@ -1,8 +1,7 @@
 -- `schedules::lowest_freed` meets its contract. Assumes nothing.
-use Prim.Native.Nat.{◌≤◌}
 use native.Mathlib.Omega.{arith}
 use Rattle.judgement_marks.specs.schedules.Rows.{HeldBack}
-use Rattle.judgement_marks.proofs.schedules.Ordering.{Freeing, freeing-start, freeing_step, freeing-end}
+use Rattle.judgement_marks.proofs.schedules.Ordering.{freeing-start, freeing_step, freeing-end}
 use borrow.Author.Rules.{rules}
 use Rattle.judgement_marks.proofs.schedules.lowest_freed.Goals as goal
 

@@ -1,7 +1,6 @@
 use Prim.Native.Nat.{◌≤◌}
-use native.Mathlib.Omega.{arith}
 use Rattle.judgement_marks.specs.schedules.Rows.{HeldBack}
-use Rattle.judgement_marks.proofs.schedules.Ordering.{Freeing, freeing-start, freeing_step, freeing-end}
+use Rattle.judgement_marks.proofs.schedules.Ordering.{Freeing}
 use Rattle.judgement_marks.proofs.schedules.lowest_freed.Given as goal
 
 abbrev pub invariant-loop-j : goal.invariant-loop-j

@@ -1,31 +1,22 @@
 -- `schedules::ordered_row` meets its contract. Assumes nothing.
-use Prim.Native.Nat.{ℕ, ◌-◌, ◌≤◌, ◌<◌}
-use mathlib.Core.Path.{◌≡◌, refl, ◌∙◌}
-use mathlib.Core.Bool.{false}
-use mathlib.Core.List.{List, map}
-use lib.ListN.{length, get_or, take, length-set}
+use Prim.Native.Nat.{◌<◌}
+use mathlib.Core.Path.{refl, ◌∙◌}
+use lib.ListN.{length, length-set}
 use native.Mathlib.Omega.{arith}
-use borrow.Author.Rules.{rules}
-use Rattle.judgement_marks.specs.schedules.Rows.{free}
-use Rattle.judgement_marks.proofs.schedules.Ordering.{Ordering, ordering-start, ordering-step, ordering-stop, ordering-end, waiting, held_below}
-use Rattle.graph.specs.links.Resolved.{Resolved}
-use Rattle.graph.specs.links.Marks.{name_at, marks_of}
-use Rattle.graph.specs.links.Reversed.{Reversed}
+use Rattle.judgement_marks.proofs.schedules.Ordering.{ordering-start, ordering-step, ordering-stop, ordering-end, held_below}
 use Rattle.graph.proofs.links.Marks.{zeros-get, set_below}
-use Rattle.lists.specs.Lists.{mem, ◌within◌}
-use Rattle.record.specs.Record.{Record, names}
+use Rattle.record.specs.Record.{names}
 use Rattle.judgement_marks.proofs.schedules.ordered_row.Goals as goal
 
 pub loop-count-init : goal.loop-count-init
-loop-count-init c =
-    (
-      omega arith,
-      refl,
-      c.requires.3,
-      λ q. omega (arith, zeros-get 128 q),
-      omega arith,
-      λ R t g f q sub e. (ordering-start R t sub g.notafters.apart g.notafters.few c.args.n q _ e, λ y h. absurd (omega arith)),
-    )
+loop-count-init c = (
+  omega arith,
+  refl,
+  c.requires.3,
+  λ q. omega (arith, zeros-get 128 q),
+  omega arith,
+  λ R t g f q sub e. (ordering-start R t sub g.notafters.apart g.notafters.few c.args.n q _ e, λ y h. absurd (omega arith)),
+)
 
 pub lowest-x-requires : goal.lowest-x-requires
 lowest-x-requires c =

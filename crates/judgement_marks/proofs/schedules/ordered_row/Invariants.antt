@@ -1,15 +1,13 @@
 use Prim.Native.Nat.{ℕ, ◌-◌, ◌≤◌, ◌<◌}
-use mathlib.Core.Path.{◌≡◌, refl, ◌∙◌}
+use mathlib.Core.Path.{◌≡◌}
 use mathlib.Core.Bool.{false}
 use mathlib.Core.List.{List, map}
-use lib.ListN.{length, get_or, take, length-set}
-use native.Mathlib.Omega.{arith}
+use lib.ListN.{length, get_or, take}
 use Rattle.judgement_marks.specs.schedules.Rows.{free}
-use Rattle.judgement_marks.proofs.schedules.Ordering.{Ordering, ordering-start, ordering-step, ordering-stop, ordering-end, waiting, held_below}
+use Rattle.judgement_marks.proofs.schedules.Ordering.{Ordering, waiting}
 use Rattle.graph.specs.links.Resolved.{Resolved}
 use Rattle.graph.specs.links.Marks.{name_at, marks_of}
 use Rattle.graph.specs.links.Reversed.{Reversed}
-use Rattle.graph.proofs.links.Marks.{zeros-get, set_below}
 use Rattle.lists.specs.Lists.{mem, ◌within◌}
 use Rattle.record.specs.Record.{Record, names}
 use Rattle.judgement_marks.proofs.schedules.ordered_row.Given as goal

@@ -1,15 +1,9 @@
 -- `schedules::page_values` meets its contract. Assumes nothing.
-use Prim.Native.Nat.{ℕ, ◌-◌, ◌≤◌}
-use mathlib.Core.Path.{◌≡◌, refl, ◌∙◌}
-use mathlib.Core.Bool.{true}
-use mathlib.Core.List.{List}
-use lib.ListN.{length, length-set}
+use Prim.Native.Nat.{◌-◌}
+use mathlib.Core.Path.{refl, ◌∙◌}
+use lib.ListN.{length-set}
 use native.Mathlib.Omega.{arith}
-use borrow.Author.Rules.{rules}
-use Rattle.judgement_marks.specs.schedules.Rows.{RowIs}
-use Rattle.judgement_marks.proofs.schedules.Paging.{Paging, paging-start, paging-step, paging-end, back, zero_left}
-use Rattle.lists.specs.Lists.{distinct}
-use Rattle.record.specs.Record.{Record, names}
+use Rattle.judgement_marks.proofs.schedules.Paging.{paging-start, paging-step, paging-end, back, zero_left}
 use Rattle.judgement_marks.proofs.schedules.page_values.Goals as goal
 
 pub loop-k-init : goal.loop-k-init

@@ -1,11 +1,10 @@
-use Prim.Native.Nat.{ℕ, ◌-◌, ◌≤◌}
-use mathlib.Core.Path.{◌≡◌, refl, ◌∙◌}
+use Prim.Native.Nat.{ℕ, ◌≤◌}
+use mathlib.Core.Path.{◌≡◌}
 use mathlib.Core.Bool.{true}
 use mathlib.Core.List.{List}
-use lib.ListN.{length, length-set}
-use native.Mathlib.Omega.{arith}
+use lib.ListN.{length}
 use Rattle.judgement_marks.specs.schedules.Rows.{RowIs}
-use Rattle.judgement_marks.proofs.schedules.Paging.{Paging, paging-start, paging-step, paging-end, back, zero_left}
+use Rattle.judgement_marks.proofs.schedules.Paging.{Paging}
 use Rattle.lists.specs.Lists.{distinct}
 use Rattle.record.specs.Record.{Record, names}
 use Rattle.judgement_marks.proofs.schedules.page_values.Given as goal

@@ -1,5 +1,4 @@
 -- `schedules::schedule_row` meets its contract. Assumes nothing.
-use borrow.Author.Rules.{rules}
 use Rattle.judgement_marks.proofs.schedules.Admitting.{schedule-order, scheduled-known}
 use Rattle.judgement_marks.proofs.schedules.schedule_row.Goals as goal
 

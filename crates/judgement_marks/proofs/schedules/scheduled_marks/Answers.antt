@@ -1,6 +1,5 @@
 -- `schedules::scheduled_marks` meets its contract. Assumes nothing.
 use mathlib.Core.Path.{sym, ◌∙◌}
-use borrow.Author.Rules.{rules}
 use Rattle.judgement_marks.proofs.schedules.Admitting.{all-scheduled, none-scheduled}
 use Rattle.judgement_marks.proofs.Standing.{part-ring, must-musts}
 use Rattle.record.specs.Record.{names}

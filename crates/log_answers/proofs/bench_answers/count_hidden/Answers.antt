@@ -1,9 +1,8 @@
 -- `bench_answers::count_hidden` meets its contract. Assumes nothing.
 use borrow.Author.Rules.{rules}
 use native.Mathlib.Omega.{arith}
-use Prim.Native.Nat.{◌-◌}
 use lib.ListN.{drop}
-use Rattle.log_answers.proofs.bench_answers.Counts.{ChipCounting, chip-counting-start, chip-counting-end, marks-few, hidden-next}
+use Rattle.log_answers.proofs.bench_answers.Counts.{chip-counting-start, chip-counting-end, marks-few, hidden-next}
 use Rattle.log_answers.specs.bench_answers.Asks.{hides}
 use Rattle.log_answers.proofs.bench_answers.count_hidden.Goals as goal
 

@@ -1,7 +1,6 @@
-use native.Mathlib.Omega.{arith}
 use Prim.Native.Nat.{◌-◌}
 use lib.ListN.{drop}
-use Rattle.log_answers.proofs.bench_answers.Counts.{ChipCounting, chip-counting-start, chip-counting-end, marks-few, hidden-next}
+use Rattle.log_answers.proofs.bench_answers.Counts.{ChipCounting}
 use Rattle.log_answers.specs.bench_answers.Asks.{hides}
 use Rattle.log_answers.proofs.bench_answers.count_hidden.Given as goal
 

@@ -1,11 +1,10 @@
 -- `bench_answers::count_present` meets its contract. Assumes nothing.
 use borrow.Author.Rules.{rules}
 use native.Mathlib.Omega.{arith}
-use Prim.Native.Nat.{◌-◌}
 use mathlib.Core.Path.{◌≡◌, ◌∙◌, ap}
 use lib.ListN.{length}
 use Rattle.lists.proofs.Lists.{length-mapped}
-use Rattle.log_answers.proofs.bench_answers.Counts.{ChipCounting, chip-counting-start, counting-next, chip-counting-end}
+use Rattle.log_answers.proofs.bench_answers.Counts.{chip-counting-start, counting-next, chip-counting-end}
 use Rattle.log_answers.specs.bench_answers.Asks.{is_present}
 use Rattle.log_answers.proofs.bench_answers.Questions.{all_of}
 use Rattle.lists.specs.Lists.{filter}

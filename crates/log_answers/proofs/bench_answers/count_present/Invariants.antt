@@ -1,12 +1,6 @@
-use native.Mathlib.Omega.{arith}
 use Prim.Native.Nat.{◌-◌}
-use mathlib.Core.Path.{◌≡◌, ◌∙◌, ap}
-use lib.ListN.{length}
-use Rattle.lists.proofs.Lists.{length-mapped}
-use Rattle.log_answers.proofs.bench_answers.Counts.{ChipCounting, chip-counting-start, counting-next, chip-counting-end}
+use Rattle.log_answers.proofs.bench_answers.Counts.{ChipCounting}
 use Rattle.log_answers.specs.bench_answers.Asks.{is_present}
-use Rattle.log_answers.proofs.bench_answers.Questions.{all_of}
-use Rattle.lists.specs.Lists.{filter}
 use Rattle.log_answers.proofs.bench_answers.count_present.Given as goal
 
 abbrev pub invariant-loop-i : goal.invariant-loop-i

@@ -1,8 +1,5 @@
 -- `bench_answers::print_catalogue` meets its contract. Assumes nothing.
-use borrow.Author.Rules.{rules}
-use mathlib.Core.Path.{◌∙◌}
 use Rattle.text_forms.specs.Spelling.{bytes}
-use Rattle.log_forms.proofs.Printing.{printed-length}
 use Rattle.log_answers.proofs.bench_answers.Questions.{catalogue-printed}
 use Rattle.log_answers.proofs.bench_answers.print_catalogue.Goals as goal
 

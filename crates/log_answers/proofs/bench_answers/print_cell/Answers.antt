@@ -1,5 +1,4 @@
 -- `bench_answers::print_cell` meets its contract. Assumes nothing.
-use borrow.Author.Rules.{rules}
 use mathlib.Core.List.{[], ◌∷◌}
 use borrow.Author.Tests.{not-true, not-false}
 use Rattle.text_forms.specs.Form.{fill}

@@ -1,11 +1,10 @@
 -- `bench_answers::print_cells` meets its contract. Assumes nothing.
 use borrow.Author.Rules.{rules}
 use native.Mathlib.Omega.{arith}
-use Prim.Native.Nat.{◌-◌}
 use mathlib.Core.Path.{◌≡◌, ap}
 use lib.ListN.{length, take}
 use Rattle.lists.proofs.Lists.{length-mapped}
-use Rattle.log_forms.proofs.Printing.{Printing, printing-start, printing-next, printing-end, printed-as, printed-length}
+use Rattle.log_forms.proofs.Printing.{printing-start, printing-next, printing-end, printed-as}
 use Rattle.log_answers.specs.bench_answers.Asks.{cell_line}
 use Rattle.log_answers.proofs.bench_answers.Questions.{all_of}
 use Rattle.log_forms.specs.Printed.{texts_from}

@@ -1,12 +1,6 @@
-use native.Mathlib.Omega.{arith}
 use Prim.Native.Nat.{◌-◌}
-use mathlib.Core.Path.{◌≡◌, ap}
-use lib.ListN.{length, take}
-use Rattle.lists.proofs.Lists.{length-mapped}
-use Rattle.log_forms.proofs.Printing.{Printing, printing-start, printing-next, printing-end, printed-as, printed-length}
+use Rattle.log_forms.proofs.Printing.{Printing}
 use Rattle.log_answers.specs.bench_answers.Asks.{entry_text}
-use Rattle.log_answers.proofs.bench_answers.Questions.{all_of}
-use Rattle.log_forms.specs.Printed.{texts_from}
 use Rattle.log_answers.proofs.bench_answers.print_entries.Given as goal
 
 abbrev pub invariant-loop-i : goal.invariant-loop-i

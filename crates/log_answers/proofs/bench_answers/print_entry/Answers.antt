@@ -1,9 +1,6 @@
 -- `bench_answers::print_entry` meets its contract. Assumes nothing.
-use borrow.Author.Rules.{rules}
-use mathlib.Core.Path.{◌∙◌}
 use borrow.Author.Tests.{not-true, not-false}
 use Rattle.text_forms.specs.Spelling.{bytes}
-use Rattle.log_forms.proofs.Printing.{printed-length}
 use Rattle.log_answers.proofs.bench_answers.Questions.{entry-printed, entry_absent}
 use Rattle.log_answers.proofs.bench_answers.print_entry.Goals as goal
 

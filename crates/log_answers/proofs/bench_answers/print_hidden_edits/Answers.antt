@@ -1,11 +1,11 @@
 -- `bench_answers::print_hidden_edits` meets its contract. Assumes nothing.
 use borrow.Author.Rules.{rules}
 use native.Mathlib.Omega.{arith}
-use Prim.Native.Nat.{◌-◌, ◌+◌}
+use Prim.Native.Nat.{◌+◌}
 use mathlib.Core.Path.{◌≡◌}
 use lib.ListN.{length}
 use Rattle.lists.proofs.Lists.{length-mapped}
-use Rattle.log_forms.proofs.Printing.{Printing, printing-start, printing-next, printing-end, printed-length}
+use Rattle.log_forms.proofs.Printing.{printing-start, printing-next, printing-end}
 use Rattle.log_answers.specs.bench_answers.Asks.{hidden_line}
 use Rattle.log_answers.proofs.bench_answers.print_hidden_edits.Goals as goal
 

@@ -1,9 +1,5 @@
-use native.Mathlib.Omega.{arith}
-use Prim.Native.Nat.{◌-◌, ◌+◌}
-use mathlib.Core.Path.{◌≡◌}
-use lib.ListN.{length}
-use Rattle.lists.proofs.Lists.{length-mapped}
-use Rattle.log_forms.proofs.Printing.{Printing, printing-start, printing-next, printing-end, printed-length}
+use Prim.Native.Nat.{◌-◌}
+use Rattle.log_forms.proofs.Printing.{Printing}
 use Rattle.log_answers.specs.bench_answers.Asks.{hidden_line}
 use Rattle.log_answers.proofs.bench_answers.print_hidden_edits.Given as goal
 

@@ -1,5 +1,4 @@
 -- `bench_answers::print_if_hidden` meets its contract. Assumes nothing.
-use borrow.Author.Rules.{rules}
 use mathlib.Core.List.{[], ◌∷◌}
 use Rattle.text_forms.specs.Spelling.{bytes}
 use Rattle.log_answers.proofs.bench_answers.Questions.{printed-not, printed-so, not_hidden, is_hidden}

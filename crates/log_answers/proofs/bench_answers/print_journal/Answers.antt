@@ -1,9 +1,6 @@
 -- `bench_answers::print_journal` meets its contract. Assumes nothing.
-use borrow.Author.Rules.{rules}
 use native.Mathlib.Omega.{arith}
-use mathlib.Core.Path.{◌∙◌}
 use Rattle.text_forms.specs.Spelling.{bytes}
-use Rattle.log_forms.proofs.Printing.{printed-length}
 use Rattle.log_answers.proofs.bench_answers.Questions.{journal-printed}
 use Rattle.log_answers.proofs.bench_answers.print_journal.Goals as goal
 

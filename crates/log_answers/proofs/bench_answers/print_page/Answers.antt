@@ -1,5 +1,4 @@
 -- `bench_answers::print_page` meets its contract. Assumes nothing.
-use borrow.Author.Rules.{rules}
 use Rattle.text_forms.specs.Spelling.{bytes}
 use Rattle.log_answers.proofs.bench_answers.print_page.Goals as goal
 

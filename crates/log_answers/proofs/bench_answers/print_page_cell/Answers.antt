@@ -1,5 +1,4 @@
 -- `bench_answers::print_page_cell` meets its contract. Assumes nothing.
-use borrow.Author.Rules.{rules}
 use Rattle.text_forms.specs.Spelling.{bytes}
 use Rattle.log_answers.proofs.bench_answers.Questions.{field-printed, last-field}
 use Rattle.log_answers.specs.bench_answers.Asks.{cell_form}

@@ -1,12 +1,12 @@
 -- `bench_answers::print_pages` meets its contract. Assumes nothing.
 use borrow.Author.Rules.{rules}
 use native.Mathlib.Omega.{arith}
-use Prim.Native.Nat.{◌-◌, ◌+◌}
+use Prim.Native.Nat.{◌+◌}
 use mathlib.Core.Path.{◌≡◌}
 use lib.ListN.{length}
 use Rattle.text_forms.specs.Spelling.{bytes}
 use Rattle.lists.proofs.Lists.{length-mapped}
-use Rattle.log_forms.proofs.Printing.{Printing, printing-start, printing-next, printing-end, printed-length}
+use Rattle.log_forms.proofs.Printing.{printing-start, printing-next, printing-end}
 use Rattle.log_answers.specs.bench_answers.Asks.{page_line}
 use Rattle.log_answers.proofs.bench_answers.print_pages.Goals as goal
 

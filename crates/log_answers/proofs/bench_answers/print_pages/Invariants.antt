@@ -1,5 +1,4 @@
-use native.Mathlib.Omega.{arith}
-use Prim.Native.Nat.{◌-◌, ◌+◌}
+use Prim.Native.Nat.{◌-◌}
 use Rattle.log_forms.proofs.Printing.{Printing}
 use Rattle.log_answers.specs.bench_answers.Asks.{page_line}
 use Rattle.log_answers.proofs.bench_answers.print_pages.Given as goal

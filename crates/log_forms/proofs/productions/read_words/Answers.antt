@@ -1,5 +1,4 @@
 -- `productions::read_words` meets its contract. Assumes nothing.
-use borrow.Author.Rules.{rules}
 use borrow.Author.Tests.{not-true, not-false}
 use Rattle.text_forms.specs.Form.{taken}
 use Rattle.log_forms.proofs.productions.Reading.{words-fit, words-refused}

@@ -1,7 +1,6 @@
 -- `productions::words_kept` meets its contract. Assumes nothing.
 use borrow.Author.Rules.{rules}
-use Prim.Native.Nat.{◌-◌}
-use Rattle.log_forms.proofs.productions.Reading.{KeptSoFar, kept-start, kept_next, kept-large, kept-end}
+use Rattle.log_forms.proofs.productions.Reading.{kept-start, kept_next, kept-large, kept-end}
 use Rattle.log_forms.proofs.productions.words_kept.Goals as goal
 
 pub loop-i-init : goal.loop-i-init

@@ -1,5 +1,5 @@
 use Prim.Native.Nat.{◌-◌}
-use Rattle.log_forms.proofs.productions.Reading.{KeptSoFar, kept-start, kept_next, kept-large, kept-end}
+use Rattle.log_forms.proofs.productions.Reading.{KeptSoFar}
 use Rattle.log_forms.proofs.productions.words_kept.Given as goal
 
 abbrev pub invariant-loop-i : goal.invariant-loop-i

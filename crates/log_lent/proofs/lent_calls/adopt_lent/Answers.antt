@@ -1,5 +1,4 @@
 -- `lent_calls::adopt_lent` meets its contract. Assumes nothing.
-use borrow.Author.Rules.{rules}
 use Rattle.log_lent.proofs.lent_calls.Given.{adoption-given}
 use Rattle.log_lent.proofs.lent_calls.adopt_lent.Goals as goal
 

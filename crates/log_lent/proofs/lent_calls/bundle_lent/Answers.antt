@@ -1,6 +1,5 @@
 -- `lent_calls::bundle_lent` meets its contract. Assumes nothing.
 use native.Mathlib.Omega.{arith}
-use borrow.Author.Rules.{rules}
 use Rattle.log_lent.proofs.lent_calls.Given.{bundle-elsewhere, bundle-given}
 use Rattle.log_lent.proofs.lent_calls.bundle_lent.Goals as goal
 

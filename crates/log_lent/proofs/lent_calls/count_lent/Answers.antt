@@ -1,5 +1,4 @@
 -- `lent_calls::count_lent` meets its contract. Assumes nothing.
-use borrow.Author.Rules.{rules}
 use Rattle.log_lent.proofs.lent_calls.Given.{count-given}
 use Rattle.log_lent.proofs.lent_calls.count_lent.Goals as goal
 

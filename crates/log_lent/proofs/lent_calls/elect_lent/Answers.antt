@@ -1,6 +1,5 @@
 -- `lent_calls::elect_lent` meets its contract. Assumes nothing.
 use mathlib.Core.Path.{ap}
-use borrow.Author.Rules.{rules}
 use Rattle.voting_count.specs.declared.Counted.{Counted}
 use Rattle.voting_count.specs.Count.{count_of}
 use Rattle.log_lent.proofs.lent_calls.elect_lent.Goals as goal

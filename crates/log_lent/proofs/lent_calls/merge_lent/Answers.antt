@@ -1,6 +1,5 @@
 -- `lent_calls::merge_lent` meets its contract. Assumes nothing.
 use native.Mathlib.Omega.{arith}
-use borrow.Author.Rules.{rules}
 use Rattle.log_lent.proofs.lent_calls.Given.{merge-given}
 use Rattle.log_lent.proofs.lent_calls.merge_lent.Goals as goal
 

@@ -1,5 +1,4 @@
 -- `lent_calls::row_named` meets its contract. Assumes nothing.
-use borrow.Author.Rules.{rules}
 use Rattle.log_lent.proofs.lent_calls.Named.{named-row, not_named}
 use Rattle.log_lent.proofs.lent_calls.row_named.Goals as goal
 

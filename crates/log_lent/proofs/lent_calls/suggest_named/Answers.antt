@@ -1,9 +1,7 @@
 -- `lent_calls::suggest_named` meets its contract. Assumes nothing.
 use mathlib.Core.Path.{sym, ◌∙◌}
 use native.Mathlib.Omega.{arith}
-use borrow.Author.Rules.{rules}
 use Rattle.log_lent.proofs.lent_calls.Named.{first-unnamed, second-unnamed, no-case, first-unknown, second-unknown, both-named}
-use borrow.Author.Tests.{not-true, not-false}
 use Rattle.record_rows.proofs.row.Cells.{name-small}
 use Rattle.log_lent.proofs.lent_calls.suggest_named.Goals as goal
 

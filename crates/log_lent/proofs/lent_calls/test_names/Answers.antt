@@ -1,5 +1,4 @@
 -- `lent_calls::test_names` meets its contract. Assumes nothing.
-use borrow.Author.Rules.{rules}
 use Rattle.log_lent.proofs.lent_calls.Given.{names-taken}
 use Rattle.log_lent.proofs.lent_calls.test_names.Goals as goal
 

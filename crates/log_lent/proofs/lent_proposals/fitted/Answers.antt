@@ -1,5 +1,4 @@
 -- `lent_proposals::fitted` meets its contract. Assumes nothing.
-use borrow.Author.Rules.{rules}
 use Rattle.log_lent.proofs.lent_proposals.Making.{rows-stop, lent-few-edits, lent-few-constraints, proposal-whole}
 use Rattle.log_lent.proofs.lent_proposals.fitted.Goals as goal
 

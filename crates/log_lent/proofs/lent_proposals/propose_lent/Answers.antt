@@ -1,6 +1,5 @@
 -- `lent_proposals::propose_lent` meets its contract. Assumes nothing.
 use native.Mathlib.Omega.{arith}
-use borrow.Author.Rules.{rules}
 use Rattle.log_lent.proofs.lent_proposals.Making.{record-elsewhere, old-elsewhere, proposal-inside}
 use Rattle.log_lent.proofs.lent_proposals.propose_lent.Goals as goal
 

@@ -1,5 +1,4 @@
 -- `calls::print_adoption` meets its contract. Assumes nothing.
-use borrow.Author.Rules.{rules}
 use Rattle.text_forms.specs.Spelling.{bytes}
 use Rattle.log_session.proofs.calls.Telling.{adoption-told}
 use Rattle.log_session.proofs.calls.print_adoption.Goals as goal

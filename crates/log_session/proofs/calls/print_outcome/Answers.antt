@@ -1,6 +1,5 @@
 -- `calls::print_outcome` meets its contract. Assumes nothing.
 use Rattle.log_session.proofs.calls.Telling.{outcome-refused, outcome-told}
-use borrow.Author.Rules.{rules}
 use Rattle.log_session.specs.calls.Lines.{call_text}
 use Rattle.log_session.proofs.calls.print_outcome.Goals as goal
 

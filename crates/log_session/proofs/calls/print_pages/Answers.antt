@@ -1,5 +1,4 @@
 -- `calls::print_pages` meets its contract. Assumes nothing.
-use borrow.Author.Rules.{rules}
 use Rattle.text_forms.specs.Spelling.{bytes}
 use Rattle.log_session.specs.calls.Lines.{pages_text}
 use Rattle.log_session.proofs.calls.print_pages.Goals as goal

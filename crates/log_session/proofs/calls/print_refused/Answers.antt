@@ -1,5 +1,4 @@
 -- `calls::print_refused` meets its contract. Assumes nothing.
-use borrow.Author.Rules.{rules}
 use Rattle.log_session.proofs.calls.Telling.{setting-none, setting-some}
 use Rattle.log_session.proofs.calls.print_refused.Goals as goal
 

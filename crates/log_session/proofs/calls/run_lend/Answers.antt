@@ -1,6 +1,5 @@
 -- `calls::run_lend` meets its contract. Assumes nothing.
 use Rattle.log_session.proofs.calls.Telling.{lend-holds, lend-printed}
-use borrow.Author.Rules.{rules}
 use Rattle.log_session.proofs.calls.run_lend.Goals as goal
 
 pub returns : goal.returns

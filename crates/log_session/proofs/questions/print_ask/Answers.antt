@@ -5,7 +5,6 @@ use Rattle.log_session.specs.Desk.{ledger_of}
 use Rattle.log_session.specs.questions.Questions.{text_in, hidden_in, schedule_in, catalogue_in, journal_in, page_in, ask_text}
 use Rattle.log_session.proofs.Cases.{ledger-valid, multilog-is}
 use Rattle.log_session.proofs.questions.Answered.{asked}
-use borrow.Author.Rules.{rules}
 use Rattle.log_session.proofs.questions.print_ask.Goals as goal
 
 pub returns-in-Text : goal.returns-in-Text

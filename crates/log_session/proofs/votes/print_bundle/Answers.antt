@@ -1,5 +1,4 @@
 -- `votes::print_bundle` meets its contract. Assumes nothing.
-use borrow.Author.Rules.{rules}
 use Rattle.text_forms.specs.Spelling.{bytes}
 use Rattle.log_session.proofs.votes.Answered.{refused-so, bundle-line-answered}
 use Rattle.log_session.proofs.votes.print_bundle.Goals as goal

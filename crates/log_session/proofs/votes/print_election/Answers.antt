@@ -1,5 +1,4 @@
 -- `votes::print_election` meets its contract. Assumes nothing.
-use borrow.Author.Rules.{rules}
 use Rattle.text_forms.specs.Spelling.{bytes}
 use Rattle.log_session.proofs.votes.Answered.{refused-so, election-answered}
 use Rattle.log_session.proofs.votes.print_election.Goals as goal

@@ -1,7 +1,6 @@
 -- `votes::print_proposal` meets its contract. Assumes nothing.
 use borrow.Author.Tests.{not-true, not-false}
 use Rattle.log_session.proofs.votes.Making.{new-storable, proposal-printed, refused-lent, unkept-lent, kept-lent}
-use borrow.Author.Rules.{rules}
 use Rattle.log_session.proofs.votes.print_proposal.Goals as goal
 
 pub returns-then-made-ne0 : goal.returns-then-made-ne0

@@ -1,5 +1,4 @@
 -- `votes::print_rule` meets its contract. Assumes nothing.
-use borrow.Author.Rules.{rules}
 use Rattle.text_forms.specs.Spelling.{bytes}
 use Rattle.text_lines.specs.Line.{rule_form}
 use Rattle.log_session.proofs.votes.Answered.{rule-printed, last-rule-printed}

@@ -1,5 +1,4 @@
 -- `votes::print_rules` meets its contract. Assumes nothing.
-use borrow.Author.Rules.{rules}
 use Rattle.text_forms.specs.Spelling.{bytes}
 use Rattle.log_session.proofs.votes.Answered.{no-rule-answer, one-rule, two-rules}
 use Rattle.log_session.proofs.votes.print_rules.Goals as goal

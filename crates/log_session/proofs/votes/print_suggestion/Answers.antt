@@ -1,5 +1,4 @@
 -- `votes::print_suggestion` meets its contract. Assumes nothing.
-use borrow.Author.Rules.{rules}
 use Rattle.log_session.proofs.votes.Answered.{refused-so, answered-so}
 use Rattle.log_session.proofs.votes.print_suggestion.Goals as goal
 

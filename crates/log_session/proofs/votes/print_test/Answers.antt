@@ -1,5 +1,4 @@
 -- `votes::print_test` meets its contract. Assumes nothing.
-use borrow.Author.Rules.{rules}
 use Rattle.text_forms.specs.Spelling.{bytes}
 use Rattle.log_session.proofs.votes.Answered.{refused-so, test-answered}
 use Rattle.log_session.proofs.votes.print_test.Goals as goal

@@ -1,6 +1,5 @@
 -- `votes::print_vote` meets its contract. Assumes nothing.
 use Rattle.log_session.proofs.votes.Voting.{bench-stored, bench-checked, vote-election, vote-bundle, vote-suggestion, vote-test, vote-winner}
-use borrow.Author.Rules.{rules}
 use Rattle.log_session.proofs.votes.print_vote.Goals as goal
 
 pub returns-in-Elect : goal.returns-in-Elect

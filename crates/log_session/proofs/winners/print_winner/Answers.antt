@@ -1,6 +1,5 @@
 -- `winners::print_winner` meets its contract. Assumes nothing.
 use borrow.Author.Tests.{not-true, not-false}
-use borrow.Author.Rules.{rules}
 use Rattle.log_session.proofs.winners.Won.{won-by, open-printed, winner-printed}
 use Rattle.log_session.proofs.winners.print_winner.Goals as goal
 

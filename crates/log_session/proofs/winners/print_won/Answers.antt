@@ -1,5 +1,4 @@
 -- `winners::print_won` meets its contract. Assumes nothing.
-use borrow.Author.Rules.{rules}
 use Rattle.text_forms.specs.Spelling.{bytes}
 use Rattle.log_session.proofs.winners.Won.{won-printed}
 use Rattle.log_session.proofs.winners.print_won.Goals as goal

@@ -3,7 +3,6 @@ use mathlib.Core.Path.{ap, ◌∙◌}
 use Prim.Native.Nat.{ℕ}
 use lib.ListN.{get_or}
 use native.Mathlib.Omega.{arith}
-use borrow.Author.Rules.{rules}
 use Rattle.log_session.proofs.winners.Won.{verdict-is}
 use Rattle.log_session.proofs.winners.verdict_of.Goals as goal
 

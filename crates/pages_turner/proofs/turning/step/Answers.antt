@@ -1,4 +1,3 @@
-use borrow.Author.Rules.{rules}
 use Rattle.pages_turner.proofs.turning.Answered.{answer-is}
 use Rattle.pages_turner.proofs.turning.step.Goals as goal
 

@@ -1,12 +1,9 @@
 -- `insertion::place` meets its contract. Assumes nothing.
-use Prim.Native.Nat.{◌-◌, ◌≤◌}
-use lib.ListN.{length, take}
 use native.Mathlib.Omega.{arith}
 use Rattle.record.specs.Stored.{filler_constraint}
-use Rattle.lists.specs.Keyed.{Ascending}
 use Rattle.record_tables.specs.Table.{constraint_key}
 use Rattle.record_tables.proofs.lookup.Places.{middle-below}
-use Rattle.record_joining.proofs.insertion.Places.{InsertionBetween, array-start, array-low, array-high, array-place}
+use Rattle.record_joining.proofs.insertion.Places.{array-start, array-low, array-high, array-place}
 use borrow.Author.Rules.{rules}
 use Rattle.record_joining.proofs.insertion.place.Goals as goal
 

@@ -1,11 +1,8 @@
 use Prim.Native.Nat.{◌-◌, ◌≤◌}
 use lib.ListN.{length, take}
-use native.Mathlib.Omega.{arith}
-use Rattle.record.specs.Stored.{filler_constraint}
 use Rattle.lists.specs.Keyed.{Ascending}
 use Rattle.record_tables.specs.Table.{constraint_key}
-use Rattle.record_tables.proofs.lookup.Places.{middle-below}
-use Rattle.record_joining.proofs.insertion.Places.{InsertionBetween, array-start, array-low, array-high, array-place}
+use Rattle.record_joining.proofs.insertion.Places.{InsertionBetween}
 use Rattle.record_joining.proofs.insertion.place.Given as goal
 
 abbrev pub invariant-loop-low : goal.invariant-loop-low

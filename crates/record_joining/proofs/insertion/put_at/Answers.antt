@@ -1,9 +1,6 @@
 -- `insertion::put_at` meets its contract. Assumes nothing.
-use Prim.Native.Nat.{◌≤◌, ◌<◌}
-use mathlib.Core.Path.{◌≡◌}
-use lib.ListN.{length}
 use Rattle.record.specs.Stored.{filler_constraint}
-use Rattle.record_joining.proofs.insertion.Moves.{opened, opened-start, opened-turn, opened-done}
+use Rattle.record_joining.proofs.insertion.Moves.{opened-start, opened-turn, opened-done}
 use borrow.Author.Rules.{rules}
 use Rattle.record_joining.proofs.insertion.put_at.Goals as goal
 

@@ -1,8 +1,7 @@
 use Prim.Native.Nat.{◌≤◌, ◌<◌}
 use mathlib.Core.Path.{◌≡◌}
 use lib.ListN.{length}
-use Rattle.record.specs.Stored.{filler_constraint}
-use Rattle.record_joining.proofs.insertion.Moves.{opened, opened-start, opened-turn, opened-done}
+use Rattle.record_joining.proofs.insertion.Moves.{opened}
 use Rattle.record_joining.proofs.insertion.put_at.Given as goal
 
 abbrev pub invariant-loop-j : goal.invariant-loop-j

@@ -1,6 +1,5 @@
 -- `insertion::stands` meets its contract. Assumes nothing.
 use Rattle.record_joining.proofs.insertion.Tables.{none-stands, row-stands}
-use borrow.Author.Rules.{rules}
 use Rattle.record_joining.proofs.insertion.stands.Goals as goal
 
 pub returns-then-n-p : goal.returns-then-n-p

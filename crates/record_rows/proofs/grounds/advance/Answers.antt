@@ -1,8 +1,6 @@
 -- `grounds::advance` meets its contract. Assumes nothing.
 use mathlib.Core.Path.{◌∙◌}
 use Rattle.record_rows.proofs.grounds.Steps.{stepped-none, stepped-passed, stepped-new, stepped-known, stepped-other}
-use borrow.Author.Tests.{not-true, not-false}
-use borrow.Author.Rules.{rules}
 use Rattle.record_rows.proofs.grounds.advance.Goals as goal
 
 pub returns-then-not-there : goal.returns-then-not-there

@@ -1,7 +1,6 @@
 -- `grounds::as_new` meets its contract. Assumes nothing.
 use mathlib.Core.Path.{◌∙◌}
 use Rattle.record_rows.proofs.grounds.Steps.{new-full, new-fits}
-use borrow.Author.Rules.{rules}
 use Rattle.record_rows.proofs.grounds.as_new.Goals as goal
 
 pub returns-then-full : goal.returns-then-full

@@ -1,6 +1,5 @@
 -- `grounds::late_number` meets its contract. Assumes nothing.
 use borrow.Author.Tests.{eq-eqb, ne_eqb}
-use borrow.Author.Rules.{rules}
 use Rattle.record_rows.proofs.grounds.late_number.Goals as goal
 
 pub returns-then-number-eq0 : goal.returns-then-number-eq0

@@ -1,8 +1,5 @@
 -- `row::alike` meets its contract. Assumes nothing.
-use Prim.Native.Nat.{◌-◌, ◌≤◌}
-use mathlib.Core.Path.{◌≡◌, refl, sym, ◌∙◌}
-use lib.ListN.{length, take, drop}
-use Rattle.record_rows.specs.row.Row.{same}
+use mathlib.Core.Path.{refl, sym, ◌∙◌}
 use Rattle.record_rows.proofs.row.Compared.{same_more, same_not, same_end}
 use borrow.Author.Rules.{rules}
 use Rattle.record_rows.proofs.row.alike.Goals as goal

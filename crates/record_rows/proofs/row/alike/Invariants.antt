@@ -1,8 +1,7 @@
 use Prim.Native.Nat.{◌-◌, ◌≤◌}
-use mathlib.Core.Path.{◌≡◌, refl, sym, ◌∙◌}
+use mathlib.Core.Path.{◌≡◌}
 use lib.ListN.{length, take, drop}
 use Rattle.record_rows.specs.row.Row.{same}
-use Rattle.record_rows.proofs.row.Compared.{same_more, same_not, same_end}
 use Rattle.record_rows.proofs.row.alike.Given as goal
 
 abbrev pub invariant-loop-j : goal.invariant-loop-j

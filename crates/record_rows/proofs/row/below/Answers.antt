@@ -1,8 +1,5 @@
 -- `row::below` meets its contract. Assumes nothing.
-use Prim.Native.Nat.{◌-◌, ◌≤◌}
-use mathlib.Core.Path.{◌≡◌, refl, sym, ◌∙◌}
-use lib.ListN.{length, take, drop}
-use Rattle.lists.specs.Keyed.{precedes}
+use mathlib.Core.Path.{refl, sym, ◌∙◌}
 use Rattle.record_rows.proofs.row.Compared.{less-here, less-not, less-more, less-end}
 use borrow.Author.Rules.{rules}
 use Rattle.record_rows.proofs.row.below.Goals as goal

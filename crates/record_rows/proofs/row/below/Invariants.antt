@@ -1,8 +1,7 @@
 use Prim.Native.Nat.{◌-◌, ◌≤◌}
-use mathlib.Core.Path.{◌≡◌, refl, sym, ◌∙◌}
+use mathlib.Core.Path.{◌≡◌}
 use lib.ListN.{length, take, drop}
 use Rattle.lists.specs.Keyed.{precedes}
-use Rattle.record_rows.proofs.row.Compared.{less-here, less-not, less-more, less-end}
 use Rattle.record_rows.proofs.row.below.Given as goal
 
 abbrev pub invariant-loop-j : goal.invariant-loop-j

@@ -1,6 +1,5 @@
 -- `row::body_in_range` meets its contract. Assumes nothing.
 use Rattle.record_rows.proofs.row.Cells.{body-insert, body-set, body-remove, body-other}
-use borrow.Author.Rules.{rules}
 use Rattle.record_rows.proofs.row.body_in_range.Goals as goal
 
 pub returns-in-0 : goal.returns-in-0

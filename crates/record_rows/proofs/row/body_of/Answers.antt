@@ -1,6 +1,5 @@
 -- `row::body_of` meets its contract. Assumes nothing.
 use Rattle.record_rows.proofs.row.Cells.{body-set-is, body_kept}
-use borrow.Author.Rules.{rules}
 use Rattle.record_rows.proofs.row.body_of.Goals as goal
 
 pub returns-in-0 : goal.returns-in-0

@@ -1,6 +1,5 @@
 -- `row::cells_in_range` meets its contract. Assumes nothing.
 use Rattle.record_rows.proofs.row.Cells.{first-fails, bound-fails, rest-decides}
-use borrow.Author.Tests.{not-true, not-false}
 use Rattle.record_rows.proofs.row.cells_in_range.Goals as goal
 
 pub returns-then-not-first : goal.returns-then-not-first

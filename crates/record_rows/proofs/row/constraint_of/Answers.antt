@@ -1,8 +1,6 @@
 -- `row::constraint_of` meets its contract. Assumes nothing.
 use native.Mathlib.Omega.{arith}
 use Rattle.record_rows.proofs.row.Cells.{constraint-filler, constraint-bounds, constraint-decoded}
-use borrow.Author.Tests.{not-true, not-false}
-use borrow.Author.Rules.{rules}
 use Rattle.record_rows.proofs.row.constraint_of.Goals as goal
 
 pub returns-then-not-constraint_in_range : goal.returns-then-not-constraint_in_range

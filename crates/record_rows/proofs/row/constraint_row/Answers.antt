@@ -1,6 +1,5 @@
 -- `row::constraint_row` meets its contract. Assumes nothing.
 use Rattle.record_rows.proofs.row.Cells.{constraint-row-is}
-use borrow.Author.Rules.{rules}
 use Rattle.record_rows.proofs.row.constraint_row.Goals as goal
 
 pub returns : goal.returns

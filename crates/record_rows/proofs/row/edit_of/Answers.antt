@@ -1,8 +1,6 @@
 -- `row::edit_of` meets its contract. Assumes nothing.
 use native.Mathlib.Omega.{arith}
 use Rattle.record_rows.proofs.row.Cells.{edit-filler, edit-bounds, edit-decoded}
-use borrow.Author.Tests.{not-true, not-false}
-use borrow.Author.Rules.{rules}
 use Rattle.record_rows.proofs.row.edit_of.Goals as goal
 
 pub returns-then-not-edit_in_range : goal.returns-then-not-edit_in_range

@@ -1,6 +1,5 @@
 -- `row::edit_row` meets its contract. Assumes nothing.
 use Rattle.record_rows.proofs.row.Cells.{edit-row-is, row-set-is}
-use borrow.Author.Rules.{rules}
 use Rattle.record_rows.proofs.row.edit_row.Goals as goal
 
 pub returns-in-Insert : goal.returns-in-Insert

@@ -3,7 +3,6 @@ use mathlib.Core.Path.{◌≡◌, refl}
 use Rattle.record.specs.declared.Field.TheVariants.{Page}
 use Rattle.record_rows.specs.row.Row.{field_of}
 use Rattle.record_rows.proofs.row.Cells.{past3}
-use borrow.Author.Rules.{rules}
 use Rattle.record_rows.proofs.row.field_of.Goals as goal
 
 pub returns-in_default : goal.returns-in_default

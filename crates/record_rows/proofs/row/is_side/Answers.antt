@@ -1,6 +1,5 @@
 -- `row::is_side` meets its contract. Assumes nothing.
 use Rattle.record_rows.proofs.row.Cells.{side-zero, side-name}
-use borrow.Author.Rules.{rules}
 use Rattle.record_rows.proofs.row.is_side.Goals as goal
 
 pub returns-then-n-eq0 : goal.returns-then-n-eq0

@@ -1,6 +1,5 @@
 -- `lookup::knows` meets its contract. Assumes nothing.
 use Rattle.record_tables.proofs.lookup.Places.{knows-is}
-use borrow.Author.Rules.{rules}
 use Rattle.record_tables.proofs.lookup.knows.Goals as goal
 
 pub returns : goal.returns

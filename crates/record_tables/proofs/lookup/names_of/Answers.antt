@@ -1,9 +1,5 @@
 -- `lookup::names_of` meets its contract. Assumes nothing.
-use Prim.Native.Nat.{◌-◌, ◌≤◌}
-use mathlib.Core.Path.{◌≡◌, refl}
-use mathlib.Core.List.{map}
-use lib.ListN.{length, take}
-use Rattle.record.specs.Record.{name_of}
+use mathlib.Core.Path.{refl}
 use Rattle.record_tables.proofs.lookup.Places.{names-next, names-end}
 use borrow.Author.Rules.{rules}
 use Rattle.record_tables.proofs.lookup.names_of.Goals as goal

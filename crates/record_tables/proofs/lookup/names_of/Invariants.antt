@@ -1,9 +1,8 @@
 use Prim.Native.Nat.{◌-◌, ◌≤◌}
-use mathlib.Core.Path.{◌≡◌, refl}
+use mathlib.Core.Path.{◌≡◌}
 use mathlib.Core.List.{map}
 use lib.ListN.{length, take}
 use Rattle.record.specs.Record.{name_of}
-use Rattle.record_tables.proofs.lookup.Places.{names-next, names-end}
 use Rattle.record_tables.proofs.lookup.names_of.Given as goal
 
 abbrev pub invariant-loop-i : goal.invariant-loop-i

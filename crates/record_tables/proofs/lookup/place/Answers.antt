@@ -1,11 +1,9 @@
 -- `lookup::place` meets its contract. Assumes nothing.
-use Prim.Native.Nat.{◌-◌, ◌≤◌}
+use Prim.Native.Nat.{◌≤◌}
 use mathlib.Core.Path.{◌≡◌}
 use lib.ListN.{length}
 use native.Mathlib.Omega.{arith}
-use mathlib.Core.Bool.{true}
-use Rattle.lists.specs.Lists.{ascending}
-use Rattle.record_tables.proofs.lookup.Places.{Between, between_start, between-low, between-high, middle-below, found_none, found-other, found_here}
+use Rattle.record_tables.proofs.lookup.Places.{between_start, between-low, between-high, middle-below, found_none, found-other, found_here}
 use borrow.Author.Rules.{rules, scaled_Fits}
 use Rattle.record_tables.proofs.lookup.place.Goals as goal
 

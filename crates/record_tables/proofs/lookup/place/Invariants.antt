@@ -1,10 +1,9 @@
 use Prim.Native.Nat.{◌-◌, ◌≤◌}
 use mathlib.Core.Path.{◌≡◌}
 use lib.ListN.{length}
-use native.Mathlib.Omega.{arith}
 use mathlib.Core.Bool.{true}
 use Rattle.lists.specs.Lists.{ascending}
-use Rattle.record_tables.proofs.lookup.Places.{Between, between_start, between-low, between-high, middle-below, found_none, found-other, found_here}
+use Rattle.record_tables.proofs.lookup.Places.{Between}
 use Rattle.record_tables.proofs.lookup.place.Given as goal
 
 abbrev pub invariant-loop-low : goal.invariant-loop-low

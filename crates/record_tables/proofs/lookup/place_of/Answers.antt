@@ -2,7 +2,6 @@
 use native.Mathlib.Omega.{arith}
 use Rattle.record_tables.proofs.Tables.{stored-ordered}
 use Rattle.record_tables.proofs.lookup.Places.{place_is}
-use borrow.Author.Rules.{rules}
 use Rattle.record_tables.proofs.lookup.place_of.Goals as goal
 
 pub returns-then-n-gt-EDITS : goal.returns-then-n-gt-EDITS

@@ -1,8 +1,5 @@
 -- `decimal::digit_count` meets its contract. Assumes nothing.
-use Prim.Native.Nat.{◌+◌, ◌-◌, ◌≤◌}
-use mathlib.Core.Path.{◌≡◌, sym, ◌∙◌}
-use lib.ListN.{length, drop}
-use Rattle.text_forms.specs.decimal.Decimal.{digit_run}
+use mathlib.Core.Path.{sym, ◌∙◌}
 use Rattle.text_forms.proofs.decimal.Laws.{run_more, run-here, run_end}
 use mathlib.Core.Logic.{inl, inr}
 use native.Mathlib.Nat.{zero-add}

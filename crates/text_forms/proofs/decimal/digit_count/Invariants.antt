@@ -1,10 +1,7 @@
 use Prim.Native.Nat.{◌+◌, ◌-◌, ◌≤◌}
-use mathlib.Core.Path.{◌≡◌, sym, ◌∙◌}
+use mathlib.Core.Path.{◌≡◌}
 use lib.ListN.{length, drop}
 use Rattle.text_forms.specs.decimal.Decimal.{digit_run}
-use Rattle.text_forms.proofs.decimal.Laws.{run_more, run-here, run_end}
-use mathlib.Core.Logic.{inl, inr}
-use native.Mathlib.Nat.{zero-add}
 use Rattle.text_forms.proofs.decimal.digit_count.Given as goal
 
 abbrev pub invariant-loop-i : goal.invariant-loop-i

@@ -1,12 +1,11 @@
 -- `decimal::digits_value` meets its contract. Assumes nothing.
 use Prim.Native.Nat.{ℕ, ◌+◌, ◌-◌, ◌*◌, ◌≤◌, ◌<◌, min}
-use mathlib.Core.Path.{◌≡◌, ap, ◌∙◌}
+use mathlib.Core.Path.{ap, ◌∙◌}
 use mathlib.Core.List.{List}
-use lib.ListN.{length, get_or, take}
+use lib.ListN.{get_or}
 use native.Mathlib.Omega.{arith}
 use Rattle.text_forms.specs.decimal.Decimal.{digit_run, value_from}
 use Rattle.text_forms.proofs.decimal.Laws.{run-digits, run-get_or, run_short, capped-over, capped-under, value_none}
-use mathlib.Core.Logic.{⊎_elim}
 use lib.Seq.{take_all}
 use borrow.Author.Rules.{rules}
 use Rattle.text_forms.proofs.decimal.digits_value.Goals as goal
@@ -29,8 +28,8 @@ loop-i-preserved c = (
   search rules,
   c.loop-i.invariant.1,
   elim c.if-value-gt4294967296.branch [
-    then-value-gt4294967296 w ↦ let o : 4294967296 < c.loop-i.value * 10 + (get_or (digit_run c.args.bytes.now) c.loop-i.i 0 - 48) = omega (arith, c.wide8.ensures, run-get_or c.args.bytes.now c.loop-i.i (omega (arith, c.loop-i.invariant.1))) in omega (arith, capped-over 4294967296 (digit_run c.args.bytes.now) c.loop-i.i c.loop-i.value (omega (arith, c.loop-i.invariant.1)) c.loop-i.invariant.2 o)
-  | else-value-gt4294967296 w ↦ let o : c.loop-i.value * 10 + (get_or (digit_run c.args.bytes.now) c.loop-i.i 0 - 48) ≤ 4294967296 = omega (arith, c.wide8.ensures, run-get_or c.args.bytes.now c.loop-i.i (omega (arith, c.loop-i.invariant.1))) in omega (arith, capped-under 4294967296 (digit_run c.args.bytes.now) c.loop-i.i c.loop-i.value (omega (arith, c.loop-i.invariant.1)) c.loop-i.invariant.2 o, c.wide8.ensures, run-get_or c.args.bytes.now c.loop-i.i (omega (arith, c.loop-i.invariant.1)))
+    | then-value-gt4294967296 w ↦ let o : 4294967296 < c.loop-i.value * 10 + (get_or (digit_run c.args.bytes.now) c.loop-i.i 0 - 48) = omega (arith, c.wide8.ensures, run-get_or c.args.bytes.now c.loop-i.i (omega (arith, c.loop-i.invariant.1))) in omega (arith, capped-over 4294967296 (digit_run c.args.bytes.now) c.loop-i.i c.loop-i.value (omega (arith, c.loop-i.invariant.1)) c.loop-i.invariant.2 o)
+    | else-value-gt4294967296 w ↦ let o : c.loop-i.value * 10 + (get_or (digit_run c.args.bytes.now) c.loop-i.i 0 - 48) ≤ 4294967296 = omega (arith, c.wide8.ensures, run-get_or c.args.bytes.now c.loop-i.i (omega (arith, c.loop-i.invariant.1))) in omega (arith, capped-under 4294967296 (digit_run c.args.bytes.now) c.loop-i.i c.loop-i.value (omega (arith, c.loop-i.invariant.1)) c.loop-i.invariant.2 o, c.wide8.ensures, run-get_or c.args.bytes.now c.loop-i.i (omega (arith, c.loop-i.invariant.1)))
   ],
 )
 

@@ -1,11 +1,8 @@
 -- `decimal::number_length` meets its contract. Assumes nothing.
-use Prim.Native.Nat.{◌+◌, ◌<◌, ◌^◌}
-use mathlib.Core.Path.{◌≡◌, ap}
+use mathlib.Core.Path.{ap}
 use lib.ListN.{length}
 use native.Mathlib.Omega.{arith}
-use Rattle.text_forms.specs.decimal.Decimal.{decimal}
 use Rattle.text_forms.proofs.decimal.Laws.{decimal-small, length-large, decimal-twenty}
-use borrow.Author.Rules.{rules}
 use Rattle.text_forms.proofs.decimal.number_length.Goals as goal
 
 pub loop-rest-init : goal.loop-rest-init

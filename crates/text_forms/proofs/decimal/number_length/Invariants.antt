@@ -1,9 +1,7 @@
 use Prim.Native.Nat.{◌+◌, ◌<◌, ◌^◌}
-use mathlib.Core.Path.{◌≡◌, ap}
+use mathlib.Core.Path.{◌≡◌}
 use lib.ListN.{length}
-use native.Mathlib.Omega.{arith}
 use Rattle.text_forms.specs.decimal.Decimal.{decimal}
-use Rattle.text_forms.proofs.decimal.Laws.{decimal-small, length-large, decimal-twenty}
 use Rattle.text_forms.proofs.decimal.number_length.Given as goal
 
 abbrev pub invariant-loop-rest : goal.invariant-loop-rest

@@ -1,6 +1,5 @@
 -- `decimal::read_number` meets its contract. Assumes nothing.
 use Rattle.text_forms.proofs.decimal.Laws.{numeral-is}
-use borrow.Author.Rules.{rules}
 use Rattle.text_forms.proofs.decimal.read_number.Goals as goal
 
 pub returns : goal.returns

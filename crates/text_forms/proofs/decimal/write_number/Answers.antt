@@ -1,6 +1,5 @@
 -- `decimal::write_number` meets its contract. Assumes nothing.
-use borrow.Author.Rules.{rules}
-use Rattle.text_forms.proofs.decimal.Laws.{Writing, writing_start, writing-next, writing-end}
+use Rattle.text_forms.proofs.decimal.Laws.{writing_start, writing-next, writing-end}
 use Rattle.text_forms.proofs.decimal.write_number.Goals as goal
 
 pub loop-i-init : goal.loop-i-init

@@ -1,4 +1,4 @@
-use Rattle.text_forms.proofs.decimal.Laws.{Writing, writing_start, writing-next, writing-end}
+use Rattle.text_forms.proofs.decimal.Laws.{Writing}
 use Rattle.text_forms.proofs.decimal.write_number.Given as goal
 
 abbrev pub invariant-loop-i : goal.invariant-loop-i

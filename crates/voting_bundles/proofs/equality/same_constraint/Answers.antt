@@ -1,6 +1,5 @@
 -- `equality::same_constraint` meets its contract. Assumes nothing.
 use mathlib.Core.Path.{◌∙◌}
-use borrow.Author.Rules.{rules}
 use Rattle.voting_bundles.proofs.equality.Equal.{constraints-compared}
 use Rattle.voting_bundles.proofs.equality.same_constraint.Goals as goal
 

@@ -1,11 +1,8 @@
-use mathlib.Core.Path.{◌≡◌, refl, sym, ◌∙◌}
+use mathlib.Core.Path.{◌≡◌}
 use mathlib.Core.Bool.{true}
 use Prim.Native.Nat.{◌-◌, ◌≤◌}
-use native.Mathlib.Omega.{arith}
-use lib.ListN.{length, take}
-use borrow.Author.Tests.{not-true, not-false}
+use lib.ListN.{take}
 use Rattle.voting.specs.Tally.{same_list, same_constraint}
-use Rattle.voting_bundles.proofs.equality.Equal.{same-rows-more, same-broken}
 use Rattle.voting_bundles.proofs.equality.same_constraints.Given as goal
 
 abbrev pub invariant-loop-i : goal.invariant-loop-i

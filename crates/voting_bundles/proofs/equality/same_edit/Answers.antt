@@ -1,6 +1,5 @@
 -- `equality::same_edit` meets its contract. Assumes nothing.
 use mathlib.Core.Path.{◌∙◌}
-use borrow.Author.Rules.{rules}
 use Rattle.voting_bundles.proofs.equality.Equal.{edits-compared}
 use Rattle.voting_bundles.proofs.equality.same_edit.Goals as goal
 

@@ -1,10 +1,7 @@
 -- `equality::same_edits` meets its contract. Assumes nothing.
 use mathlib.Core.Path.{◌≡◌, refl, sym, ◌∙◌}
-use mathlib.Core.Bool.{true}
-use Prim.Native.Nat.{◌-◌, ◌≤◌}
 use native.Mathlib.Omega.{arith}
-use lib.ListN.{length, take}
-use borrow.Author.Tests.{not-true, not-false}
+use lib.ListN.{length}
 use borrow.Author.Rules.{rules}
 use Rattle.voting.specs.Tally.{same_list, same_edit}
 use Rattle.voting_bundles.proofs.equality.Equal.{same-rows-more, same-broken}

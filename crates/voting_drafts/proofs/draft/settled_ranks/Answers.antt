@@ -1,10 +1,7 @@
 -- `draft::settled_ranks` meets its contract. Assumes nothing.
-use Prim.Native.Nat.{ℕ, ◌-◌, ◌≤◌, ◌<◌}
-use mathlib.Core.Path.{◌≡◌}
-use lib.ListN.{length, get_or, length-set}
+use lib.ListN.{length-set}
 use native.Mathlib.Omega.{arith}
 use borrow.Author.Rules.{rules}
-use Rattle.voting_drafts.specs.draft.Draft.{settled_rank}
 use Rattle.voting_drafts.proofs.draft.Settled.{ranks-start, ranks-next}
 use Rattle.voting_drafts.proofs.draft.settled_ranks.Goals as goal
 

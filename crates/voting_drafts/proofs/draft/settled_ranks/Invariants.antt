@@ -1,9 +1,7 @@
 use Prim.Native.Nat.{ℕ, ◌-◌, ◌≤◌, ◌<◌}
 use mathlib.Core.Path.{◌≡◌}
-use lib.ListN.{length, get_or, length-set}
-use native.Mathlib.Omega.{arith}
+use lib.ListN.{length, get_or}
 use Rattle.voting_drafts.specs.draft.Draft.{settled_rank}
-use Rattle.voting_drafts.proofs.draft.Settled.{ranks-start, ranks-next}
 use Rattle.voting_drafts.proofs.draft.settled_ranks.Given as goal
 
 abbrev pub invariant-loop-i : goal.invariant-loop-i

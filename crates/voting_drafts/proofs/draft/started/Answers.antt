@@ -10,7 +10,6 @@ use Rattle.graph.proofs.indexes.Fit.{checked-fit}
 use Rattle.voting_drafts.specs.draft.Draft.{Settles}
 use Rattle.voting_drafts.specs.ranking.Ranking.{flat_map, rank_of, pair_order}
 use Rattle.voting_drafts.proofs.draft.Settled.{firsts-by-rank}
-use borrow.Author.Rules.{rules}
 use Rattle.voting_drafts.proofs.draft.started.Goals as goal
 
 pub returns : goal.returns

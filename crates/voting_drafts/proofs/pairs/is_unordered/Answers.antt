@@ -3,7 +3,6 @@ use mathlib.Core.Path.{sym, ◌∙◌}
 use native.Mathlib.Omega.{arith}
 use Rattle.record.specs.Record.{notafter}
 use Rattle.voting_drafts.proofs.pairs.Unordered.{index-low, index-name, other-rule, order-forth, order-back, index_read, order-read}
-use borrow.Author.Rules.{rules}
 use Rattle.voting_drafts.proofs.pairs.is_unordered.Goals as goal
 
 pub returns-then-c-ne2 : goal.returns-then-c-ne2

@@ -1,15 +1,10 @@
 -- `pairs::unordered_pairs` meets its contract. Assumes nothing.
-use Prim.Native.Nat.{ℕ, ◌-◌, ◌≤◌}
-use mathlib.Core.Path.{◌≡◌}
-use lib.ListN.{length, get_or, take}
+use Prim.Native.Nat.{◌≤◌}
+use lib.ListN.{length}
 use native.Mathlib.Omega.{arith}
 use Rattle.lists.proofs.Lists.{length-mapped}
-use Rattle.lists.specs.Lists.{filter}
-use Rattle.record.specs.Record.{Record, names}
-use Rattle.record.specs.Stored.{constraint_limit, filler_constraint}
-use Rattle.graph.specs.links.Marks.{place_in}
-use Rattle.graph.specs.links.Resolved.{Resolved}
-use Rattle.voting_drafts.proofs.pairs.Unordered.{is_unordered, pair-left-known, pair-right-known, here, pairs_next, pairs_end, pairs_start, bit-low, held-constraints, within-limit}
+use Rattle.record.specs.Stored.{filler_constraint}
+use Rattle.voting_drafts.proofs.pairs.Unordered.{pair-left-known, pair-right-known, here, pairs_next, pairs_end, pairs_start, bit-low, held-constraints, within-limit}
 use borrow.Author.Rules.{rules}
 use Rattle.voting_drafts.proofs.pairs.unordered_pairs.Goals as goal
 
@@ -56,8 +51,7 @@ returns c =
     let l = c.loop-i in
     let k = l.invariant in
     let r = c.resolved-resolved in
-    let t = c.index_table-index in
-    (
+    let t = c.index_table-index in (
       k.4,
       omega arith,
       λ R e f. let q = held-constraints c.args.multilog R e in

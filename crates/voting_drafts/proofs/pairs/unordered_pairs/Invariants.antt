@@ -1,14 +1,12 @@
 use Prim.Native.Nat.{ℕ, ◌-◌, ◌≤◌}
 use mathlib.Core.Path.{◌≡◌}
 use lib.ListN.{length, get_or, take}
-use native.Mathlib.Omega.{arith}
-use Rattle.lists.proofs.Lists.{length-mapped}
 use Rattle.lists.specs.Lists.{filter}
 use Rattle.record.specs.Record.{Record, names}
-use Rattle.record.specs.Stored.{constraint_limit, filler_constraint}
+use Rattle.record.specs.Stored.{constraint_limit}
 use Rattle.graph.specs.links.Marks.{place_in}
 use Rattle.graph.specs.links.Resolved.{Resolved}
-use Rattle.voting_drafts.proofs.pairs.Unordered.{is_unordered, pair-left-known, pair-right-known, here, pairs_next, pairs_end, pairs_start, bit-low, held-constraints, within-limit}
+use Rattle.voting_drafts.proofs.pairs.Unordered.{is_unordered}
 use Rattle.voting_drafts.proofs.pairs.unordered_pairs.Given as goal
 
 abbrev pub invariant-loop-i : goal.invariant-loop-i

@@ -1,7 +1,6 @@
 -- `ranking::order_row` meets its contract. Assumes nothing.
 use Rattle.voting_drafts.proofs.ranking.Joins.{joined-none, joined-one}
 use Rattle.voting_drafts.proofs.ranking.Ordered.{left-unranked, right-unranked, left-lower, right-lower, equal-ranks}
-use borrow.Author.Rules.{rules}
 use Rattle.voting_drafts.proofs.ranking.order_row.Goals as goal
 
 pub returns-then-a-eq0 : goal.returns-then-a-eq0

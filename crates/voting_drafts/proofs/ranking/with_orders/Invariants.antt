@@ -2,16 +2,12 @@ use Prim.Native.Nat.{◌-◌, ◌≤◌}
 use mathlib.Core.Path.{◌≡◌}
 use mathlib.Core.List.{List}
 use lib.ListN.{length, take}
-use native.Mathlib.Omega.{arith}
-use Rattle.lists.proofs.Lists.{length-mapped}
 use Rattle.record.specs.declared.Constraint.{Constraint}
-use Rattle.record.specs.Stored.{filler_constraint, constraint_limit}
+use Rattle.record.specs.Stored.{constraint_limit}
 use Rattle.lists.specs.Keyed.{Ascending, united}
 use Rattle.record_tables.specs.Table.{constraint_key}
 use Rattle.record_joining.specs.insertion.Insertion.{held_table}
 use Rattle.voting_drafts.specs.ranking.Ranking.{flat_map, rank_of, pair_order}
-use Rattle.voting_drafts.proofs.ranking.Joins.{joins-start, joins-order, joins-all}
-use Rattle.voting_drafts.proofs.ranking.Ordered.{ranked-next}
 use Rattle.voting_drafts.proofs.ranking.with_orders.Given as goal
 
 abbrev pub invariant-loop-i : goal.invariant-loop-i

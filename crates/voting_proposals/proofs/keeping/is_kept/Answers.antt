@@ -1,6 +1,5 @@
 -- `keeping::is_kept` meets its contract. Assumes nothing.
 use mathlib.Core.Path.{◌∙◌}
-use borrow.Author.Rules.{rules}
 use Rattle.voting.specs.Bundle.{bundle}
 use Rattle.voting_bundles.proofs.Judging.{bundle-fit, eligible-all}
 use Rattle.voting_proposals.proofs.keeping.Keeping.{same_kept, other-kept}

@@ -1,18 +1,10 @@
 -- `keeping::keeps` meets its contract. Assumes nothing.
-use Prim.Native.Nat.{◌-◌, ◌≤◌}
-use mathlib.Core.Path.{◌≡◌}
-use lib.ListN.{length, take}
 use native.Mathlib.Omega.{arith}
-use mathlib.Core.Bool.{true}
 use borrow.Author.Rules.{rules}
-use borrow.Author.Tests.{not-true, not-false}
 use Rattle.lists.proofs.Lists.{length-mapped}
-use Rattle.lists.specs.Lists.{all, ◌within◌}
-use Rattle.record.specs.Record.{Record, written}
-use Rattle.record.specs.Stored.{stored, filler_edit}
-use Rattle.graph.specs.indexes.Fit.{Fit}
+use Rattle.record.specs.Stored.{filler_edit}
 use Rattle.graph.proofs.indexes.Tables.{few-left}
-use Rattle.voting_proposals.proofs.keeping.Keeping.{is_kept, name-known, keeps-stop, keeps-next, keeps-start, keeps-end}
+use Rattle.voting_proposals.proofs.keeping.Keeping.{name-known, keeps-stop, keeps-next, keeps-start, keeps-end}
 use Rattle.voting_proposals.proofs.keeping.keeps.Goals as goal
 
 pub returns-then-n-gt-EDITS : goal.returns-then-n-gt-EDITS

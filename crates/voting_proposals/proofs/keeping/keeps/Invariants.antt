@@ -1,16 +1,12 @@
 use Prim.Native.Nat.{◌-◌, ◌≤◌}
 use mathlib.Core.Path.{◌≡◌}
 use lib.ListN.{length, take}
-use native.Mathlib.Omega.{arith}
 use mathlib.Core.Bool.{true}
-use borrow.Author.Tests.{not-true, not-false}
-use Rattle.lists.proofs.Lists.{length-mapped}
 use Rattle.lists.specs.Lists.{all, ◌within◌}
 use Rattle.record.specs.Record.{Record, written}
-use Rattle.record.specs.Stored.{stored, filler_edit}
+use Rattle.record.specs.Stored.{stored}
 use Rattle.graph.specs.indexes.Fit.{Fit}
-use Rattle.graph.proofs.indexes.Tables.{few-left}
-use Rattle.voting_proposals.proofs.keeping.Keeping.{is_kept, name-known, keeps-stop, keeps-next, keeps-start, keeps-end}
+use Rattle.voting_proposals.proofs.keeping.Keeping.{is_kept}
 use Rattle.voting_proposals.proofs.keeping.keeps.Given as goal
 
 abbrev pub invariant-loop-i : goal.invariant-loop-i
