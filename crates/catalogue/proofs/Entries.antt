@@ -6,7 +6,7 @@ use Prim.Native.Nat.{ℕ, ◌<◌, ◌≤◌}
 use native.Mathlib.Omega.{arith}
 use lib.ListN.{length, get_or, set, replicate, get_or-eq_default}
 use lib.Seq.{set_out}
-use Rattle.lists.proofs.Arrays.{get_d_any}
+use Rattle.lists.proofs.Arrays.{get_or-any}
 use Rattle.record.specs.declared.Field.{Field}
 use Rattle.record.specs.declared.Field.TheVariants.{Id, Size, Erase, Page}
 use Rattle.record.specs.declared.Body.{Body}
@@ -41,7 +41,7 @@ module _ (n : ℕ) (body : Body) (entry : Entry) where
 module _ (n : ℕ) (entries : List Entry) (edit : Edit) (place : ℕ) (at : place ≡ place_of edit.body) where
   pub touched-within : (d : Entry) → place < length entries → get_or entries place d ≡ touched (shelf n) entries edit
   unfolding touched
-  touched-within d h = rw (get_d_any entries place d (absent_entry n) h, at)
+  touched-within d h = rw (get_or-any entries place d (absent_entry n) h, at)
 
   pub touched-past : length entries ≤ place → absent_entry n ≡ touched (shelf n) entries edit
   unfolding touched

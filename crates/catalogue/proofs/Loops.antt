@@ -5,7 +5,7 @@ use Prim.Native.Nat.{ℕ, ◌+◌, ◌-◌, ◌<◌, ◌≤◌, min}
 use native.Mathlib.Omega.{arith}
 use lib.ListN.{length, get_or, set, drop, length-set}
 use lib.Seq.{slice, set_out}
-use Rattle.lists.proofs.Arrays.{get_d_any, take-least}
+use Rattle.lists.proofs.Arrays.{get_or-any, take-least}
 use Rattle.record.specs.declared.Edit.{Edit}
 use Rattle.pages.specs.Pages.{View}
 use Rattle.pages.specs.Steps.{step_forward, step_back, forward, back}
@@ -65,7 +65,7 @@ module _ (n places rows : ℕ) (edits : List Edit) (d : Edit) (start view : View
     undo-on next s q = record { sized = s; rest = undo.rest ∙ back_more (shelf n) edits d view next to page test room q }
 
     entry-back : get_or view.journal (page - 1) e ≡ get_or view.journal (page - 1) (absent_entry n)
-    entry-back = get_d_any view.journal (page - 1) e (absent_entry n) (omega (arith, undo.sized.journal))
+    entry-back = get_or-any view.journal (page - 1) e (absent_entry n) (omega (arith, undo.sized.journal))
 
     pub undo-within : Undoing n places rows edits to from start (page - 1)
         (record { catalogue = set view.catalogue place (get_or view.journal (page - 1) e); journal = set view.journal (page - 1) made })

@@ -9,10 +9,10 @@ use lib.Seq.{take_all}
 use Rattle.lists.proofs.Tests.{le-by}
 
 -- below the length the default is not read
-pub get_d_any : {A : Type 0} (l : List A) (i : ℕ) (d e : A) → i < length l → get_or l i d ≡ get_or l i e
-get_d_any [] i d e h = absurd (omega arith)
-get_d_any (x ∷ l) zero d e h = refl
-get_d_any (x ∷ l) (suc i) d e h = get_d_any l i d e (omega arith)
+pub get_or-any : {A : Type 0} (l : List A) (i : ℕ) (d e : A) → i < length l → get_or l i d ≡ get_or l i e
+get_or-any [] i d e h = absurd (omega arith)
+get_or-any (x ∷ l) zero d e h = refl
+get_or-any (x ∷ l) (suc i) d e h = get_or-any l i d e (omega arith)
 
 -- an array of fillers
 pub get_or-filled : {A : Type 0} (filler : A) (n i : ℕ) → get_or (replicate n filler) i filler ≡ filler

@@ -9,7 +9,7 @@ use lib.ListN.{length, take, get_or}
 use lib.Seq.{take-suc, length-take-le, get_or-take}
 use Rattle.lists.specs.Lists.{any, all, filter}
 use Rattle.lists.proofs.Tests.{by, clash}
-use Rattle.lists.proofs.Logic.{any_append, any-has, all-has, has_get_d}
+use Rattle.lists.proofs.Logic.{any_append, any-has, all-has, has-get_or}
 
 pub take_more : {A : Type 0} (a : List A) (i : ℕ) (d : A) → i < length a → take (i + 1) a ≡ take i a ++ (get_or a i d ∷ [])
 take_more a i d h = rw (add-one i) (take-suc a i d h)
@@ -50,9 +50,9 @@ module _ {A : Type 0} (f : A → Bool) where
   pub some-found : (a : List A) (n i : ℕ) (d : A) → i < n → n ≤ length a → f (get_or a i d) ≡ true → any f (take n a) ≡ true
   some-found a n i d h l e =
       let k : i < length (take n a) = omega (arith, length-take-le n a l) in
-      any-has f (take n a) (get_or (take n a) i d) (has_get_d (take n a) i d k) (rw (get_or-take n a i d h) e)
+      any-has f (take n a) (get_or (take n a) i d) (has-get_or (take n a) i d k) (rw (get_or-take n a i d h) e)
 
   pub all-broken : (a : List A) (n i : ℕ) (d : A) → i < n → n ≤ length a → f (get_or a i d) ≡ false → all f (take n a) ≡ false
   all-broken a n i d h l e =
       let k : i < length (take n a) = omega (arith, length-take-le n a l) in
-      by (all f (take n a)) (λ q. clash (all-has f (take n a) q (get_or (take n a) i d) (has_get_d (take n a) i d k)) (rw (get_or-take n a i d h) e)) (λ q. q)
+      by (all f (take n a)) (λ q. clash (all-has f (take n a) q (get_or (take n a) i d) (has-get_or (take n a) i d k)) (rw (get_or-take n a i d h) e)) (λ q. q)

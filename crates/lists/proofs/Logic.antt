@@ -9,10 +9,10 @@ use lib.ListN.{length, get_or}
 use Rattle.lists.specs.Lists.{any, all, filter, Has}
 use Rattle.lists.proofs.Tests.{by, clash, or-no-l, or-no-r, and_l, and_r}
 
-pub has_get_d : {A : Type 0} (l : List A) (i : ℕ) (d : A) → i < length l → Has (get_or l i d) l
-has_get_d [] i d h = absurd (omega arith)
-has_get_d (x ∷ l) zero d h = inl refl
-has_get_d (x ∷ l) (suc i) d h = inr (has_get_d l i d (omega arith))
+pub has-get_or : {A : Type 0} (l : List A) (i : ℕ) (d : A) → i < length l → Has (get_or l i d) l
+has-get_or [] i d h = absurd (omega arith)
+has-get_or (x ∷ l) zero d h = inl refl
+has-get_or (x ∷ l) (suc i) d h = inr (has-get_or l i d (omega arith))
 
 pub has-map : {A B : Type 0} (f : A → B) (a : A) (l : List A) → Has a l → Has (f a) (map f l)
 has-map f a [] h = absurd h

@@ -47,8 +47,8 @@ join-small : (R : Record) (names : List ℕ) (adding : Bool) (edits constraints 
 unfolding join_fault
 join-small R names adding edits constraints =
     orelse-small 14 (first_fault (row_fault edit_kind (edit_rows R)) [] edits) (first_fault (row_fault (constraint_kind names adding) (constraint_rows R)) [] constraints)
-    (first-fault-small 14 (row_fault edit_kind (edit_rows R)) (row-fault-small 14 (omega arith) edit_kind (λ row. omega arith) (edit_rows R)) [] edits)
-    (first-fault-small 14 (row_fault (constraint_kind names adding) (constraint_rows R)) (row-fault-small 14 (omega arith) (constraint_kind names adding) (further-small 14 (omega arith) names adding) (constraint_rows R)) [] constraints)
+    (first-fault-small 14 (row_fault edit_kind (edit_rows R)) (λ above row. row-fault-small 14 (omega arith) edit_kind (edit_rows R) above row (omega arith)) [] edits)
+    (first-fault-small 14 (row_fault (constraint_kind names adding) (constraint_rows R)) (λ above row. row-fault-small 14 (omega arith) (constraint_kind names adding) (constraint_rows R) above row (further-small 14 (omega arith) names adding row)) [] constraints)
 
 lent-small : (R : Record) (edits constraints : Rows) → join_fault R (names_of edits) false edits constraints ≤ 14
 lent-small R edits constraints = join-small R (names_of edits) false edits constraints

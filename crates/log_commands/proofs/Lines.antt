@@ -66,6 +66,11 @@ line_read_lem production m ns l k h =
     line-meant production m (fill f ns) ns (omega (arith, fill-room f ns (small ns h))) (taken-fill f ns (and_l (separate f) (ltb (room f) 102) fine) k l)
     ∙ rw h
 
+-- the number of forms
+grammar-size : length grammar ≡ 45
+unfolding command_forms grammar shapes set_shapes rule_shapes
+grammar-size = refl
+
 -- the production of a form
 unfoldable formed : List (Production Command) → List ℕ → Option (Production Command)
 formed [] f = none

@@ -13,7 +13,7 @@ use lib.Seq.{take-suc, take_all, length-take-le, get_or-take, get_or-set_same, g
 use Rattle.lists.proofs.Lists.{by, mem-last}
 use Rattle.record.specs.declared.Edit.{Edit}
 use Rattle.lists.specs.Lists.{mem, all}
-use Rattle.lists.proofs.Logic.{all-has, has_get_d}
+use Rattle.lists.proofs.Logic.{all-has, has-get_or}
 use Rattle.lists.proofs.Arrays.{get_or-zeros}
 use Rattle.record_rows.specs.row.Row.{Row, cell, edit_in_range, edit_row}
 use Rattle.record_rows.proofs.row.Cells.{edit-in-range, name-small}
@@ -46,7 +46,7 @@ module _ {A : Type 0} (number : A → ℕ) (good : A → Bool) (size : ℕ) (sma
   pub marks-next : (marks : List ℕ) (i k : ℕ) (d : A) → i < length l → length marks ≡ size → (number (get_or l i d) < size → k ≡ number (get_or l i d))
       → (all good l ≡ true → MarksNames marks (map number (take i l))) → all good l ≡ true → MarksNames (set marks k 1) (map number (take (i + 1) l))
   marks-next marks i k d h w place s f =
-      let b : number (get_or l i d) < size = small (get_or l i d) (all-has good l f (get_or l i d) (has_get_d l i d h)) in
+      let b : number (get_or l i d) < size = small (get_or l i d) (all-has good l f (get_or l i d) (has-get_or l i d h)) in
       let e : k ≡ number (get_or l i d) = place b in
       let n : map number (take (i + 1) l) ≡ map number (take i l) ++ (number (get_or l i d) ∷ []) = rw (add-one i, take-suc l i d h, map-append) in
       rw (n, e) (marks-more marks (map number (take i l)) (number (get_or l i d)) (omega arith) (s f))

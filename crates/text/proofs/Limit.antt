@@ -186,8 +186,8 @@ fault-small edits constraints l =
     let said = line_read l in
     orelse-small 13 said.number _ (number_small said (line-saying l))
     (by said.isedit
-    (λ (i : said.isedit ≡ true). rw i (orelse-small 13 (row_fault edit_kind [] edits said.edit) (13 given ltb 0 (length constraints)) (row-fault-small 13 (omega arith) edit_kind (λ row. omega arith) [] edits said.edit) (given-small 13 13 (ltb 0 (length constraints)) (omega arith))))
-    (λ (i : said.isedit ≡ false). rw i (row-fault-small 13 (omega arith) (constraint_kind (names_of edits) false) (further-small 13 (omega arith) (names_of edits) false) [] constraints said.constraint)))
+    (λ (i : said.isedit ≡ true). rw i (orelse-small 13 (row_fault edit_kind [] edits said.edit) (13 given ltb 0 (length constraints)) (row-fault-small 13 (omega arith) edit_kind [] edits said.edit (omega arith)) (given-small 13 13 (ltb 0 (length constraints)) (omega arith))))
+    (λ (i : said.isedit ≡ false). rw i (row-fault-small 13 (omega arith) (constraint_kind (names_of edits) false) [] constraints said.constraint (further-small 13 (omega arith) (names_of edits) false said.constraint))))
 
 refused-small : (ls : List (List ℕ)) (n : ℕ) (edits constraints : Rows) (k m : ℕ) → Given edits constraints → n ≡ length edits + length constraints → read_from n edits constraints ls ≡ Refused k m → (k ≤ 13) × (m ≤ 640)
 unfolding read_from

@@ -11,7 +11,7 @@ use borrow.Author.Tests.{not-false, ltb-false}
 use Rattle.lists.specs.Lists.{all, distinct}
 use Rattle.record.specs.Stored.{padded}
 use Rattle.lists.proofs.Lists.{by, or-no-l, or-no-r}
-use Rattle.lists.proofs.Logic.{all-has, has_get_d}
+use Rattle.lists.proofs.Logic.{all-has, has-get_or}
 use Rattle.record.proofs.Padded.{get_or-padded}
 use Rattle.voting.specs.declared.RollRow.{RollRow}
 use Rattle.voting.specs.Tally.{Ballot, ballots, total}
@@ -47,7 +47,7 @@ module _ (roll : Roll) (rows : List RollRow) (e : roll ≡ roll_of rows) (f : ro
   row-bench : (i : ℕ) (d : RollRow) → i < length rows → is_bench (get_or rows i d) ≡ true
   unfolding roll_faulty
   row-bench i d h =
-      all-has is_bench rows (not-false (all is_bench rows) (or-no-l (not (all is_bench rows)) (not (distinct (map roll_bench rows)) || ltb 8 (length rows)) f)) (get_or rows i d) (has_get_d rows i d h)
+      all-has is_bench rows (not-false (all is_bench rows) (or-no-l (not (all is_bench rows)) (not (distinct (map roll_bench rows)) || ltb 8 (length rows)) f)) (get_or rows i d) (has-get_or rows i d h)
 
   -- the first i rows are counted
   module _ (e' : ℕ) (P : Proposals) where

@@ -13,7 +13,7 @@ use Rattle.record.specs.Record.{Record, names, written, has, notafter, noncommut
 use Rattle.record.specs.declared.Record as declared
 use Rattle.record.specs.Stored.{stored, filler_constraint}
 use Rattle.lists.proofs.Lists.{by, clash, and_l, and_r, mem_index, cons-by, nil-no, closure-holds, closure-least, closure-closed, closure-unique}
-use Rattle.lists.proofs.Arrays.{get_d_any}
+use Rattle.lists.proofs.Arrays.{get_or-any}
 use Rattle.record.proofs.Records.{written-names, not-init, right-written, pair-by}
 use Rattle.graph.specs.links.Marks.{name_at, place_in, marks_of}
 use Rattle.graph.specs.links.Links.{left_at, with_row, Leads, RowOf}
@@ -299,7 +299,7 @@ module _ (r : declared.Record) (table rows : List ℕ) (j : ℕ) (d : Constraint
     (ef : a < length (names R) → b < length (names R) → f ≡ forward_key R a (get_or r.constraints j d).rule b)
     (eg : a < length (names R) → b < length (names R) → g ≡ backward_key R a (get_or r.constraints j d).rule b) (kf : f ≤ 128) (kg : g ≤ 128) where
   same : get_or r.constraints j d ≡ get_or R.constraints j filler_constraint
-  same = constraint-at r R q j d u ∙ get_d_any R.constraints j d filler_constraint u
+  same = constraint-at r R q j d u ∙ get_or-any R.constraints j d filler_constraint u
 
   pub rowing-turn : length rows ≡ 2432 → Rowing R rows j → Rowing R (with_both rows j a b f g) (j + 1)
   rowing-turn size =

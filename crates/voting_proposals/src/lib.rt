@@ -161,7 +161,7 @@ pub fn propose(
     newconstraints: &mut [ConstraintRow],
 ) -> Proposed
     ensures { Makes (record {
-      edits = edits.entry.now;
+      edits = edits.now;
       constraints = constraints.now;
       oldedits = oldedits.now;
       oldconstraints = oldconstraints.now;

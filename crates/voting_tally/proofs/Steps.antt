@@ -15,7 +15,7 @@ use Rattle.lists.specs.Lists.{any}
 use Rattle.record.specs.Record.{Record}
 use Rattle.record.specs.Stored.{padded, stored, empty_record}
 use Rattle.lists.proofs.Lists.{by, clash, and_l, and_r, or-no-l, or-no-r, get_or-mapped}
-use Rattle.lists.proofs.Arrays.{get_d_any}
+use Rattle.lists.proofs.Arrays.{get_or-any}
 use Rattle.record.proofs.Padded.{length-padded, take-padded, padded-more, get_or-padded, padded-past}
 use Rattle.voting.specs.declared.Election.{Election}
 use Rattle.voting.specs.Tally.{Ballot, same_bundle, total, weigh, is_silent, votes_for, greatest_of, greatest, silent, won, counted}
@@ -184,7 +184,7 @@ module _ (tally : Tally) (l : List Ballot) (w : ℕ) (e : tally ≡ tally_of l) 
         rw (groups-are, get_or-padded 8 filler_group m (place C s) d (omega arith), get_or-mapped (group_in l) s (place C s) none_yet d p, place-stands C s k))
         (λ k.
         let q : place C s < length (padded 8 filler_group m) = omega (arith, length-padded 8 filler_group m (omega (arith, bundles-length l)), bundles-length l, place-unknown C s k) in
-        rw (groups-are, get_d_any (padded 8 filler_group m) (place C s) d filler_group q, padded-past 8 filler_group m (place C s) (omega (arith, place-unknown C s k)))
+        rw (groups-are, get_or-any (padded 8 filler_group m) (place C s) d filler_group q, padded-past 8 filler_group m (place C s) (omega (arith, place-unknown C s k)))
         (sym (unknown-weightless l C k)))
 
     pub weight-within : (d : Group) (i m : ℕ) → i ≡ place C (bundles l) → total l ≤ m → (get_or tally.groups i d).weight ≤ m

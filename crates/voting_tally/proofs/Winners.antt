@@ -13,7 +13,7 @@ use Rattle.lists.specs.Lists.{any}
 use Rattle.record.specs.Record.{Record}
 use Rattle.record.specs.Stored.{stored, empty_record}
 use Rattle.lists.proofs.Lists.{by, clash, le-by, get_or-mapped}
-use Rattle.lists.proofs.Arrays.{get_d_any}
+use Rattle.lists.proofs.Arrays.{get_or-any}
 use Rattle.voting.specs.Tally.{Ballot, same_bundle, total, weigh, votes_for, group, greatest_of, greatest, wins, won, winner}
 use Rattle.voting.proofs.Elections.{same-is, one-winner, winner-wins, open_is}
 use Rattle.voting_tally.specs.declared.Group.{Group}
@@ -93,7 +93,7 @@ module _ (groups : List Group) (n : ℕ) (whole : ℕ) (h : n ≤ length groups)
 
   pub winning-hit : (d : Group) (i : ℕ) (x : Bool) → i < n → x ≡ ltb whole (2 * (get_or groups i d).weight) → x ≡ true → WinningPlace (take n groups) whole i
   winning-hit d i x k q e = record {
-    wins = λ z. rw (get_or-take n groups i filler_group k, get_d_any groups i filler_group d (omega arith)) (sym q ∙ e);
+    wins = λ z. rw (get_or-take n groups i filler_group k, get_or-any groups i filler_group d (omega arith)) (sym q ∙ e);
     none = λ z. absurd (omega (arith, size));
   }
 
@@ -101,7 +101,7 @@ module _ (groups : List Group) (n : ℕ) (whole : ℕ) (h : n ≤ length groups)
       → x ≡ ltb whole (2 * (get_or groups i d).weight) → x ≡ false → (j : ℕ) → j < i + 1 → ltb whole (2 * (get_or groups j filler_group).weight) ≡ false
   winning-miss d i x k f q e j l =
       le-by i j
-      (λ z. let r : j ≡ i = omega arith in rw (r, get_d_any groups i filler_group d (omega arith)) (sym q ∙ e))
+      (λ z. let r : j ≡ i = omega arith in rw (r, get_or-any groups i filler_group d (omega arith)) (sym q ∙ e))
       (λ z. f j z)
 
   pub winning-end : (i : ℕ) → n ≤ i → ((j : ℕ) → j < i → ltb whole (2 * (get_or groups j filler_group).weight) ≡ false) → WinningPlace (take n groups) whole i

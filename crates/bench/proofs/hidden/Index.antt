@@ -11,7 +11,7 @@ use Rattle.lists.specs.Lists.{mem, index_of, position_of, ◌among◌}
 use Rattle.record.specs.Record.{Record, name_of, written}
 use Rattle.record.specs.Stored.{padded, filler_edit, stored}
 use Rattle.lists.proofs.Lists.{by, mem_index, index-mem}
-use Rattle.lists.proofs.Logic.{all-has, has_get_d}
+use Rattle.lists.proofs.Logic.{all-has, has-get_or}
 use Rattle.record_rows.specs.row.Row.{edit_in_range, edit_row}
 use Rattle.graph.proofs.links.Names.{get_or-place}
 use Rattle.record.proofs.Padded.{get_or-padded}
@@ -45,7 +45,7 @@ module _ (R : Record) (edits : List Edit) (count : ℕ) (h : StoredRows R edits 
   stored-name-small i l =
       let s : i < length R.edits = omega (arith, h.size) in
       rw (h.rows, get_or-padded 127 filler_edit R.edits i filler_edit s)
-      (edit-small (get_or R.edits i filler_edit) (all-has (λ e. edit_in_range (edit_row e)) R.edits h.checked.editrange _ (has_get_d R.edits i filler_edit s)))
+      (edit-small (get_or R.edits i filler_edit) (all-has (λ e. edit_in_range (edit_row e)) R.edits h.checked.editrange _ (has-get_or R.edits i filler_edit s)))
 
 module _ (R : Record) (edits : List Edit) (count name : ℕ) (h : StoredRows R edits count) where
   -- a name past 16 bits is not written

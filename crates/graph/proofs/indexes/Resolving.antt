@@ -12,7 +12,7 @@ use Rattle.lists.specs.Lists.{any, index_of, ◌among◌}
 use Rattle.record.specs.Record.{Record, names, is, has, WellFormed}
 use Rattle.record.specs.Stored.{filler_constraint, stored}
 use Rattle.lists.proofs.Lists.{clash, or-by, mem_index, get_or-mapped}
-use Rattle.lists.proofs.Arrays.{get_d_any}
+use Rattle.lists.proofs.Arrays.{get_or-any}
 use Rattle.record.proofs.Records as records
 use Rattle.graph.specs.links.Marks.{name_at, place_in}
 use Rattle.graph.specs.links.Links.{left_at, with_row, Leads}
@@ -124,7 +124,7 @@ module _ (r : declared.Record) (table rows : List ℕ) (j : ℕ) (d : Constraint
     (t : (x : ℕ) → get_or table x 0 ≡ place_in (names R) x) (h : j < length R.constraints) (u : right ≡ get_or table (get_or r.constraints j d).right 0)
     (v : left ≡ get_or table (get_or r.constraints j d).left 0) (k : (get_or r.constraints j d).rule < 3 → key ≡ (get_or r.constraints j d).rule * 128 + right) where
   same : get_or r.constraints j d ≡ get_or R.constraints j filler_constraint
-  same = constraint-at r R q j d h ∙ get_d_any R.constraints j d filler_constraint h
+  same = constraint-at r R q j d h ∙ get_or-any R.constraints j d filler_constraint h
 
   key-is : key ≡ key_of R (get_or R.constraints j filler_constraint)
   unfolding key_of

@@ -9,7 +9,7 @@ use borrow.Author.Tests.{eq-eqb, ne_eqb}
 use lib.ListN.{length, get_or, take, drop, length-take}
 use lib.Seq.{take-length}
 use Rattle.lists.specs.Lists.{filter}
-use Rattle.lists.proofs.Arrays.{get_d_any, take-least}
+use Rattle.lists.proofs.Arrays.{get_or-any, take-least}
 use Rattle.record.specs.declared.Edit.{Edit}
 use Rattle.catalogue.specs.declared.Cell.{Cell}
 use Rattle.catalogue.specs.declared.Entry.{Entry}
@@ -112,4 +112,4 @@ all_of a n h = rw (← h) (take-length a)
 pub row_before : (rows : List Entry) (i : ℕ) (e : Edit) (d : Entry) → i < length rows → row_text (i + 1) e (get_or rows i d) ≡ row_at rows (i + 1) e
 row_before rows i e d h =
     let q : i + 1 - 1 ≡ i = omega arith in
-    rw (q, get_d_any rows i d (absent_entry chips.cells) h)
+    rw (q, get_or-any rows i d (absent_entry chips.cells) h)

@@ -11,7 +11,7 @@ use lib.ListN.{get_or}
 use borrow.Author.Tests.{eq-eqb, eqb-true, not-false}
 use Rattle.lists.specs.Lists.{Has, any, all, mem, index_of, ◌among◌}
 use Rattle.lists.proofs.Lists.{by, clash, and_l, and_r, or-by, or-no-l, mem_index, all_in}
-use Rattle.lists.proofs.Logic.{all-has, has_get_d}
+use Rattle.lists.proofs.Logic.{all-has, has-get_or}
 use Rattle.record.specs.declared.Record as declared
 use Rattle.record.specs.Record.{Record, names, written, WellFormed}
 use Rattle.record.specs.Stored.{stored, record_of}
@@ -128,7 +128,7 @@ module _ (e : ℕ) (P : Proposals) (roll : List RollRow) (z : election_fault e P
     held-sound =
         let l : row.bench - 1 < 8 = omega (arith, bench-low.0, bench-low.1) in
         let q : get_or benches (row.bench - 1) 0 ≡ row.bench = bench-at (row.bench - 1) l ∙ bench-again in
-        rw q at (all-has (λ k. sound (held P k)) benches faultless.2 (get_or benches (row.bench - 1) 0) (has_get_d benches (row.bench - 1) 0 l))
+        rw q at (all-has (λ k. sound (held P k)) benches faultless.2 (get_or benches (row.bench - 1) 0) (has-get_or benches (row.bench - 1) 0 l))
 
   winner-judgeable : (B : Record) → winner (cast e P roll) ≡ some B → Judgeable e B
   unfolding winner cast

@@ -11,7 +11,7 @@ use lib.Seq.{take-suc, drop-cons, length-take-le, get_or-take}
 use Rattle.lists.proofs.Lists.{by, clash}
 use Rattle.lists.specs.Keyed.{precedes, Ascending, inserted}
 use Rattle.lists.specs.Lists.{Has}
-use Rattle.lists.proofs.Logic.{has_get_d, has-append-by}
+use Rattle.lists.proofs.Logic.{has-get_or, has-append-by}
 use Rattle.lists.proofs.Order.{less-irrefl, less-trans}
 use Rattle.lists.proofs.Union.{below-has}
 use Rattle.record_joining.specs.insertion.Insertion.{Place}
@@ -24,7 +24,7 @@ module _ {A : Type 0} (key : A → List ℕ) where
   before-it : (l : List A) (m : ℕ) (d : A) → Ascending key l → m < length l → (r : A) → Has r (take m l) → precedes (key r) (key (get_or l m d)) ≡ true
   before-it [] m d a h r i = absurd (omega arith)
   before-it (y ∷ l) zero d a h r i = absurd i
-  before-it (y ∷ l) (suc m) d a h r (inl e) = rw e (below-has key y (get_or l m d) l a.0 (has_get_d l m d (omega arith)))
+  before-it (y ∷ l) (suc m) d a h r (inl e) = rw e (below-has key y (get_or l m d) l a.0 (has-get_or l m d (omega arith)))
   before-it (y ∷ l) (suc m) d a h r (inr i) = before-it l m d a.1 (omega arith) r i
 
   after-it : (l : List A) (m : ℕ) (d : A) → Ascending key l → m < length l → (r : A) → Has r (drop (suc m) l) → precedes (key (get_or l m d)) (key r) ≡ true

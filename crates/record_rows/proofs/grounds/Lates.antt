@@ -13,7 +13,7 @@ use lib.Seq.{take-suc, drop-cons, length-take-le, get_or-take}
 use Rattle.lists.proofs.Lists.{by, get_or-mapped}
 use Rattle.lists.specs.Lists.{any, Has}
 use Rattle.lists.specs.Keyed.{precedes, Ascending}
-use Rattle.lists.proofs.Logic.{has_get_d}
+use Rattle.lists.proofs.Logic.{has-get_or}
 use Rattle.lists.proofs.Union.{late, late-snoc, late_is}
 use Rattle.record_rows.specs.row.Row.{same}
 use Rattle.record_rows.proofs.row.Compared.{neither-same}
@@ -108,7 +108,7 @@ module _ (k limit : ℕ) (joined above : Rows) (count : ℕ) (row : List ℕ) wh
     number-there true h f e m g = number-new (leb limit count) refl e (place-new k joined row p a v.under h f) m g
     number-there false h f e m g =
         number-known (same row (get_or joined p [])) e
-        (row-place-known k joined row p a v.under h (neither-same (take k row) (take k (get_or joined p [])) (long ∙ sym (wide (get_or joined p []) (has_get_d joined p [] h))) f (v.stops h)))
+        (row-place-known k joined row p a v.under h (neither-same (take k row) (take k (get_or joined p [])) (long ∙ sym (wide (get_or joined p []) (has-get_or joined p [] h))) f (v.stops h)))
         m g
 
     number-once : (x : List ℕ) → (p < length joined → x ≡ get_or joined p []) → known k row above ≡ false → (m : Step) → m ≡ step_at k (ltb p (length joined)) x row (leb limit count)

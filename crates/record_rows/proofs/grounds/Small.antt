@@ -22,13 +22,13 @@ module _ (m : ℕ) where
   first_small n b later p q = orelse-small (n given b) later (given-small n b p) q
 
   -- 13 is the greatest number of a row besides its kind's own
-  pub row-fault-small : 13 ≤ m → (K : TableKind) → ((row : Row) → K.further row ≤ m) → (joined above : Rows) (row : Row) → row_fault K joined above row ≤ m
+  pub row-fault-small : 13 ≤ m → (K : TableKind) (joined above : Rows) (row : Row) → K.further row ≤ m → row_fault K joined above row ≤ m
   unfolding row_fault
-  row-fault-small h K f joined above row =
+  row-fault-small h K joined above row f =
       first_small 2 (not (K.in_range row)) _ (omega arith)
       (first_small 3 (no_place K.key K.limit joined above row) _ (omega arith)
       (first_small 4 (other_body K.key joined above row) _ (omega arith)
-      (orelse-small (K.further row) (13 given misplaced K.key above row) (f row) (given-small 13 (misplaced K.key above row) h))))
+      (orelse-small (K.further row) (13 given misplaced K.key above row) f (given-small 13 (misplaced K.key above row) h))))
 
   pub first-fault-small : (f : Rows → Row → ℕ) → ((above : Rows) (row : Row) → f above row ≤ m) → (above t : Rows) → first_fault f above t ≤ m
   unfolding first_fault

@@ -13,7 +13,7 @@ use lib.Seq.{take-suc}
 use Rattle.lists.proofs.Lists.{by, clash}
 use Rattle.lists.specs.Lists.{any, Has}
 use Rattle.lists.specs.Keyed.{precedes, Ascending, inserted, united}
-use Rattle.lists.proofs.Logic.{has_get_d, any-no}
+use Rattle.lists.proofs.Logic.{has-get_or, any-no}
 use Rattle.lists.proofs.Union.{late, late-snoc, late-last, late-more, late-has, ascending-snoc, ascending-united, united-snoc, united-has, united-old, inserted-known, length-new}
 use Rattle.record_rows.specs.row.Row.{same}
 use Rattle.record_rows.proofs.row.Compared.{same-eq, neither-same}
@@ -105,7 +105,7 @@ module _ (k limit w : ℕ) (joined t : Rows) (wide : (r : List ℕ) → Has r jo
         next count
         (v.counted
         ∙ sym (ap length (inserted-known (take k) row (get_or joined at []) so_far (ascending-united (take k) joined (take i t) a)
-        (united-old (take k) (get_or joined at []) joined (take i t) (has_get_d joined at [] there)) (same-eq (take k row) (take k (get_or joined at [])) e))))
+        (united-old (take k) (get_or joined at []) joined (take i t) (has-get_or joined at [] there)) (same-eq (take k row) (take k (get_or joined at [])) e))))
 
     as-known : alike k row (get_or joined at []) ≡ true → (m : Step) (q : Bool) → same row (get_or joined at []) ≡ q → m ≡ stepped true false false q (leb limit count) → StepTold k limit joined t at count i m
     unfolding stepped
@@ -129,7 +129,7 @@ module _ (k limit w : ℕ) (joined t : Rows) (wide : (r : List ℕ) → Has r jo
         })
     at_row m false true e f g = as-new (place-new k joined row at a (v.behind o) there f) m g
     at_row m false false e f g =
-        as-known (neither-same (take k row) (take k (get_or joined at [])) (long ∙ sym (wide (get_or joined at []) (has_get_d joined at [] there))) f e) m (same row (get_or joined at [])) refl g
+        as-known (neither-same (take k row) (take k (get_or joined at [])) (long ∙ sym (wide (get_or joined at []) (has-get_or joined at [] there))) f e) m (same row (get_or joined at [])) refl g
 
   pub told : (x : List ℕ) → (at < length joined → x ≡ get_or joined at []) → (m : Step)
       → m ≡ step_at k (ltb at (length joined)) x row (leb limit count) → StepTold k limit joined t at count i m

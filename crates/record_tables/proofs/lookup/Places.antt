@@ -14,7 +14,7 @@ use Rattle.lists.proofs.Lists.{by, ascending-head, ascending-tail, has-among}
 use Rattle.record.specs.declared.Edit.{Edit}
 use Rattle.record.specs.declared.Record as declared
 use Rattle.lists.specs.Lists.{index_of, mem, ascending}
-use Rattle.lists.proofs.Logic.{has_get_d}
+use Rattle.lists.proofs.Logic.{has-get_or}
 use Rattle.record.specs.Record.{Record, name_of, written, names}
 use Rattle.record.specs.Stored.{record_of, stored}
 use Rattle.record_tables.specs.Checked.{Checked}
@@ -24,7 +24,7 @@ use Rattle.record_tables.proofs.Tables.{held}
 pub ascends : (l : List ℕ) (j k : ℕ) → ascending l ≡ true → j < k → k < length l → get_or l j 0 < get_or l k 0
 ascends [] j k h p q = absurd (omega arith)
 ascends (x ∷ l) j zero h p q = absurd (omega arith)
-ascends (x ∷ l) zero (suc k) h p q = ascending-head x l h (get_or l k 0) (has-among (get_or l k 0) l (has_get_d l k 0 (omega arith)))
+ascends (x ∷ l) zero (suc k) h p q = ascending-head x l h (get_or l k 0) (has-among (get_or l k 0) l (has-get_or l k 0 (omega arith)))
 ascends (x ∷ l) (suc j) (suc k) h p q = ascends l j k (ascending-tail x l h) (omega arith) (omega arith)
 
 -- the place, from what stands before it

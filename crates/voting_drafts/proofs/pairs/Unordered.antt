@@ -14,7 +14,7 @@ use Rattle.lists.specs.Lists.{◌among◌, filter, index_of, Has}
 use Rattle.record.specs.Record.{Record, names, notafter, WellFormed}
 use Rattle.record.specs.Stored.{stored, constraint_limit}
 use Rattle.lists.proofs.Lists.{mem_index}
-use Rattle.lists.proofs.Logic.{has_get_d}
+use Rattle.lists.proofs.Logic.{has-get_or}
 use Rattle.graph.proofs.indexes.Resolving as resolving
 use Rattle.graph.specs.links.Marks.{name_at, place_in}
 use Rattle.graph.proofs.links.Names.{get_or-place, place-known}
@@ -61,7 +61,7 @@ module _ (R : Record) (w : WellFormed R) (c : Constraint) (m : Has c R.constrain
 -- the loop over the constraints in the first n rows of an array
 module _ (constraints : List Constraint) (n : ℕ) (w : n ≤ length constraints) (R : Record) (e : take n constraints ≡ R.constraints) where
   pub here : (i : ℕ) (d : Constraint) → i < n → Has (get_or constraints i d) R.constraints
-  here i d h = let q = in_array constraints R.constraints n i d e h w in rw q.1 (has_get_d R.constraints i d q.0)
+  here i d h = let q = in_array constraints R.constraints n i d e h w in rw q.1 (has-get_or R.constraints i d q.0)
 
   pub pairs_next : (rows : List Constraint) (i k m : ℕ) (d : Constraint) (b : Bool) → i < n → k < length rows → take k rows ≡ filter (is_unordered R) (take i R.constraints)
       → b ≡ is_unordered R (get_or constraints i d) → m ≡ cond b 1 0 → take (k + m) (set rows k (get_or constraints i d)) ≡ filter (is_unordered R) (take (i + 1) R.constraints)

@@ -18,7 +18,7 @@ use Rattle.graph.proofs.links.Names.{get_or-among}
 use Rattle.graph.proofs.indexes.Tables.{edit-count, name-at}
 use Rattle.voting.specs.Bundle.{bundle, eligible}
 use Rattle.voting.specs.Tally.{same_bundle}
-use Rattle.lists.proofs.Logic.{has_get_d, all-has}
+use Rattle.lists.proofs.Logic.{has-get_or, all-has}
 use Rattle.lists.proofs.Front.{all_more}
 use Rattle.voting.proofs.Elections.{same-is}
 use Rattle.voting.specs.Proposal.{keeps}
@@ -45,7 +45,7 @@ module _ (Q P : Record) (e : ℕ) where
 
 -- a test that one name fails
 all-stop : (p : ℕ → Bool) (l : List ℕ) (i : ℕ) → i < length l → p (get_or l i 0) ≡ false → false ≡ all p l
-all-stop p l i h f = by (all p l) (λ q. clash (all-has p l q (get_or l i 0) (has_get_d l i 0 h)) f) (λ q. sym q)
+all-stop p l i h f = by (all p l) (λ q. clash (all-has p l q (get_or l i 0) (has-get_or l i 0 h)) f) (λ q. sym q)
 
 -- the names of a stored record
 module _ (r : declared.Record) (Q : Record) (e : r ≡ stored Q) (i : ℕ) (d : Edit) (h : i < r.editcount) where
