@@ -2,6 +2,12 @@
 // whose file is the argument. With an option, as --help, or more arguments it prints how it is used.
 #![tactic(auto)]
 
+use std::io::Error;
+use std::rt::Env;
+
+// The system's number of the error that a name is too long.
+const ENAMETOOLONG: i32 = 36;
+
 // Whether an argument begins with a minus.
 fn is_option(argument: &[u8]) -> bool {
     if argument.len() == 0 {
@@ -10,23 +16,30 @@ fn is_option(argument: &[u8]) -> bool {
     argument[0] == 45
 }
 
-fn main() {
-    let count = os::arg_count();
+fn main(rt: HostRuntime) {
+    let count = stdio::arg_count(&rt);
     if count < 2 {
-        stdio_log::replay_input();
+        stdio_log::replay_input(&rt);
         return;
     }
-    let mut argument = io::buffer();
-    let size = os::arg(1, &mut argument);
-    if os::errno() != 0 {
-        os::fail(b"opening failed");
-        return;
-    }
+    let mut argument = [0u8; 4096];
+    let size = match Env::arg(&rt, 1, &mut argument) {
+        Ok(size) => size,
+        Err(_) => {
+            stdio::fail(
+                &rt,
+                "opening failed",
+                Error::from_raw_os_error(ENAMETOOLONG),
+            );
+            return;
+        }
+    };
     if 2 < count || is_option(&argument[..size]) {
         stdio::print(
+            &rt,
             b"usage: replay < LOG\n  runs the call log on one bench from empty and prints the answers\nusage: replay FILE < LOG\n  the same on the bench that the log kept in FILE makes; lines count on from it\n",
         );
         return;
     }
-    stdio_log::replay_after(&argument[..size]);
+    stdio_log::replay_after(&rt, &argument[..size]);
 }

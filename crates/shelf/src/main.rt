@@ -2,12 +2,13 @@
 // With an argument, as --help, it prints how it is used.
 #![tactic(auto)]
 
-fn main() {
-    if 1 < os::arg_count() {
+fn main(rt: HostRuntime) {
+    if 1 < stdio::arg_count(&rt) {
         stdio::print(
+            &rt,
             b"usage: shelf < TEXT\n  prints the report of the text of a record, or its first fault\n",
         );
         return;
     }
-    stdio::text_input::show_input();
+    stdio::text_input::show_input(&rt);
 }

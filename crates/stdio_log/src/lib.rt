@@ -11,9 +11,12 @@ ghost use Rattle.log_run.specs.Log.{Run, begun, run_lines};
 ghost use Rattle.stdio_log.specs.Streaming.{most_lines, Held, Ran, Streaming, Streamed, Continued};
 
 use ledger::Bench;
-use libc::STDIN_FILENO;
 use log_lent::Lending;
 use record_rows::row::{ConstraintRow, EditRow};
+use std::fs::File;
+use std::io::{Error, Read};
+use std::rt::Files;
+use std::{io, str};
 use stdio::Got;
 
 // Answers are printed when they pass this many bytes, so that a buffer of 65,536 has room for one answer more (`answer_limit`).
@@ -21,6 +24,9 @@ const LIMIT: usize = 28672;
 
 // So many bytes are read at most, and there are no more lines.
 const MOST: usize = 4611686018427387904;
+
+// The system's number of the error that bytes are no text.
+const EILSEQ: i32 = 84;
 
 // The desk after some bytes: how many lines were run, how many bytes wait for the end of their line, and whether reading or writing failed.
 #[derive(Clone, Copy)]
@@ -33,17 +39,18 @@ struct Fed {
 }
 
 // Prints the answers, which are the first bytes of out, where they are asked for; false where that fails.
-fn print(out: &[u8], at: usize, shown: bool) -> bool
+fn print(rt: &(impl Print + Eprint), out: &[u8], at: usize, shown: bool) -> bool
     requires { at ≤ length out.now }
 {
     if !shown {
         return true;
     }
-    stdio::print(&out[0..at])
+    stdio::print(rt, &out[0..at])
 }
 
 // Runs lines and prints their answers.
 fn run_lines(
+    rt: &(impl Print + Eprint),
     fed: Fed,
     edits: &mut [EditRow],
     constraints: &mut [ConstraintRow],
@@ -77,7 +84,7 @@ fn run_lines(
         held.lending = lent;
         held.count = logged.count;
         from += logged.from;
-        if !print(out, logged.at, shown) {
+        if !print(rt, out, logged.at, shown) {
             held.failed = true;
             return held;
         }
@@ -87,6 +94,7 @@ fn run_lines(
 
 // The whole lines of the first bytes of a chunk are run, and what waits moves to the front.
 fn feed(
+    rt: &(impl Print + Eprint),
     fed: Fed,
     edits: &mut [EditRow],
     constraints: &mut [ConstraintRow],
@@ -103,6 +111,7 @@ fn feed(
 {
     let whole = stream::last_end(&chunk[0..filled]);
     let mut ran = run_lines(
+        rt,
         fed,
         &mut edits[..],
         &mut constraints[..],
@@ -116,16 +125,17 @@ fn feed(
 }
 
 // One read into the chunk after the bytes that wait.
-fn read_piece(file: i32, chunk: &mut [u8], rest: usize) -> Got
+fn read_piece(rt: &impl Eprint, file: &mut impl Read, chunk: &mut [u8], rest: usize) -> Got
     requires { rest < length chunk.old }
     ensures { (rest + result.size ≤ length chunk.old) × (take rest chunk.new ≡ take rest chunk.old) }
 {
-    stdio::read_some(file, &mut chunk[rest..])
+    stdio::read_some(rt, file, &mut chunk[rest..])
 }
 
 // A file, piece by piece.
 fn read_all(
-    file: i32,
+    rt: &(impl Print + Eprint),
+    file: &mut impl Read,
     fed: Fed,
     edits: &mut [EditRow],
     constraints: &mut [ConstraintRow],
@@ -142,13 +152,14 @@ fn read_all(
     held.rest = 0;
     let mut left = MOST - fed.count;
     while chunk.len() <= left {
-        let got = read_piece(file, &mut chunk[..], held.rest);
+        let got = read_piece(rt, file, &mut chunk[..], held.rest);
         let size = got.size;
         if size == 0 {
             held.failed = got.failed;
             return held;
         }
         let next = feed(
+            rt,
             held,
             &mut edits[..],
             &mut constraints[..],
@@ -168,7 +179,8 @@ fn read_all(
 
 // A whole file, its last line without an end too.
 fn replayed(
-    file: i32,
+    rt: &(impl Print + Eprint),
+    file: &mut impl Read,
     fed: Fed,
     edits: &mut [EditRow],
     constraints: &mut [ConstraintRow],
@@ -181,6 +193,7 @@ fn replayed(
         → Streamed R result edits.new constraints.new × (result.count ≤ most_lines) }
 {
     let read = read_all(
+        rt,
         file,
         fed,
         &mut edits[..],
@@ -194,6 +207,7 @@ fn replayed(
     }
     let rest = read.rest;
     run_lines(
+        rt,
         read,
         &mut edits[..],
         &mut constraints[..],
@@ -205,7 +219,8 @@ fn replayed(
 
 // A whole file from an empty bench.
 fn replayed_first(
-    file: i32,
+    rt: &(impl Print + Eprint),
+    file: &mut impl Read,
     edits: &mut [EditRow],
     constraints: &mut [ConstraintRow],
     chunk: &mut [u8],
@@ -225,6 +240,7 @@ fn replayed_first(
         failed: false,
     };
     replayed(
+        rt,
         file,
         fed,
         &mut edits[..],
@@ -237,7 +253,8 @@ fn replayed_first(
 
 // A kept log, of which nothing is printed, and then the lines on standard input.
 fn continued(
-    kept: i32,
+    rt: &(impl Input + Print + Eprint),
+    kept: &mut impl Read,
     edits: &mut [EditRow],
     constraints: &mut [ConstraintRow],
     chunk: &mut [u8],
@@ -247,6 +264,7 @@ fn continued(
     ensures { result.failed ≡ false → Continued result edits.new constraints.new }
 {
     let fed = replayed_first(
+        rt,
         kept,
         &mut edits[..],
         &mut constraints[..],
@@ -257,8 +275,10 @@ fn continued(
     if fed.failed {
         return fed;
     }
+    let mut input = rt.reader();
     replayed(
-        STDIN_FILENO,
+        rt,
+        &mut input,
         fed,
         &mut edits[..],
         &mut constraints[..],
@@ -269,13 +289,15 @@ fn continued(
 }
 
 // Runs the log on standard input. Public for the programs.
-pub fn replay_input() {
+pub fn replay_input(rt: &(impl Input + Print + Eprint)) {
     let mut edits = [[0u32; 5]; 1152];
     let mut constraints = [[0u32; 3]; 4617];
-    let mut chunk = io::large_buffer();
-    let mut out = io::large_buffer();
+    let mut chunk = [0u8; 65536];
+    let mut out = [0u8; 65536];
+    let mut input = rt.reader();
     replayed_first(
-        STDIN_FILENO,
+        rt,
+        &mut input,
         &mut edits,
         &mut constraints,
         &mut chunk,
@@ -284,17 +306,33 @@ pub fn replay_input() {
     );
 }
 
-// Runs the log on standard input after the log that was kept in a file. Public for the programs.
-pub fn replay_after(path: &[u8]) {
-    let kept = os::open_read(path);
-    if kept < 0 {
-        os::fail(b"opening failed");
-        return;
+// Opens a file for reading. std takes a path only as text, so one that is no UTF-8 is refused.
+fn open_read<R: Files>(rt: &R, path: &[u8]) -> io::Result<R::File> {
+    match str::from_utf8(path) {
+        Ok(text) => File::open(rt, text),
+        Err(_) => Err(Error::from_raw_os_error(EILSEQ)),
     }
+}
+
+// Runs the log on standard input after the log that was kept in a file. Public for the programs.
+pub fn replay_after(rt: &(impl Files + Input + Print + Eprint), path: &[u8]) {
+    let mut kept = match open_read(rt, path) {
+        Ok(kept) => kept,
+        Err(error) => {
+            stdio::fail(rt, "opening failed", error);
+            return;
+        }
+    };
     let mut edits = [[0u32; 5]; 1152];
     let mut constraints = [[0u32; 3]; 4617];
-    let mut chunk = io::large_buffer();
-    let mut out = io::large_buffer();
-    continued(kept, &mut edits, &mut constraints, &mut chunk, &mut out);
-    libc::close(kept);
+    let mut chunk = [0u8; 65536];
+    let mut out = [0u8; 65536];
+    continued(
+        rt,
+        &mut kept,
+        &mut edits,
+        &mut constraints,
+        &mut chunk,
+        &mut out,
+    );
 }

@@ -2,13 +2,30 @@
 // the first 20,301 bytes decide (crate `unity_text`, first-bytes-decide). What is printed takes at most 1,024 bytes (printed-fits).
 #![tactic(auto)]
 
-use libc::{STDIN_FILENO, STDOUT_FILENO};
+ghost use Rattle.std.specs.Prelude.{◌≤◌, length};
 
-fn main() {
-    let mut text = io::large_buffer();
-    let n = io::read_full(STDIN_FILENO, &mut text);
+use std::io::Read;
+
+// Reads until the text is full, the input ends or a read fails: how many bytes stand at its start.
+fn read_full(file: &mut impl Read, text: &mut [u8]) -> usize
+    ensures { result ≤ length text.new }
+{
+    let mut done = 0;
+    while done < text.len() {
+        match file.read(&mut text[done..]) {
+            Ok(0) | Err(_) => break,
+            Ok(n) => done += n,
+        }
+    }
+    done
+}
+
+fn main(rt: HostRuntime) {
+    let mut text = [0u8; 65536];
+    let mut input = rt.reader();
+    let n = read_full(&mut input, &mut text);
     let mut out = [0u8; 1024];
     let written = unity_text::print_unity(&text[..n], &mut out);
     let end = written.end;
-    io::write_all(STDOUT_FILENO, &out[..end]);
+    let _ = rt.write_all(&out[..end]);
 }
