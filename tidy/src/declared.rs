@@ -13,6 +13,9 @@ pub enum Kind {
     Constant,
     /// A struct or an enum of the code.
     Type,
+    Trait,
+    /// A function or a constant of a type or a trait.
+    Member,
     /// A field of a record, or a constructor.
     Part,
 }
@@ -21,11 +24,20 @@ pub enum Kind {
 pub struct Declaration<'a> {
     pub name: &'a str,
     pub kind: Kind,
+    /// The type or the trait of a member.
+    pub owner: Option<&'a str>,
     pub public: bool,
     /// Whether C calls it, or the system: `#[unsafe(no_mangle)]` or `main`.
     pub entry: bool,
     /// The signature with its clauses, or the function with its body.
     pub range: Range<usize>,
+}
+
+impl Declaration<'_> {
+    /// Whether it lies within another one.
+    pub fn is_inner(&self) -> bool {
+        matches!(self.kind, Kind::Part | Kind::Member)
+    }
 }
 
 struct Line<'a> {
@@ -70,8 +82,8 @@ fn of_antt<'a>(text: &'a str, lines: &[Line<'a>]) -> Vec<Declaration<'a>> {
         if matches!(kind, Kind::Record | Kind::Data) {
             within = Some(line.indent);
         }
-        let end = end_of(lines, place, name).unwrap_or(text.len());
-        found.push(Declaration { name, kind, public, entry: false, range: line.start..end });
+        let range = line.start..end_of(lines, place, name).unwrap_or(text.len());
+        found.push(Declaration { name, kind, owner: None, public, entry: false, range });
     }
     found
 }
@@ -129,31 +141,75 @@ fn is_clause(line: &str, name: &str) -> bool {
     first == "unfolding" || first == name || antt_signature(line).is_none() && operator()
 }
 
+/// How far the members of a type or a trait are indented.
+const MEMBER_INDENT: usize = 4;
+
 fn of_rattle<'a>(text: &'a str, lines: &[Line<'a>]) -> Vec<Declaration<'a>> {
     let mut found = Vec::new();
+    let mut owner = None;
     let mut outside = false;
-    for (place, line) in lines.iter().enumerate() {
-        if let Some((name, kind, public)) = rattle_signature(line.text).filter(|_| line.indent == 0)
-        {
-            let ends = |line: &&Line| {
-                line.indent == 0 && (line.text.starts_with('}') || line.text.ends_with(';'))
-            };
-            let end = lines[place..]
-                .iter()
-                .find(ends)
-                .map_or(text.len(), |line| line.start + line.text.len());
-            found.push(Declaration {
-                name,
-                kind,
-                public,
-                entry: outside || name == "main",
-                range: line.start..end,
-            });
+    for line in lines {
+        if line.indent == 0 {
+            let closed = line.text.ends_with(['}', ';']);
+            owner = owner_of(line.text).or(owner).filter(|_| !closed);
+        }
+        if let Some((name, kind, public)) = rattle_declared(line, owner) {
+            let owner = owner.filter(|_| kind == Kind::Member);
+            let entry = outside || owner.is_none() && name == "main";
+            let range = line.start..end_of_item(text, line);
+            found.push(Declaration { name, kind, owner, public, entry, range });
         }
         outside =
             line.text.starts_with("#[unsafe(no_mangle)]") || outside && line.text.starts_with("#[");
     }
     found
+}
+
+/// The type or the trait whose members may follow a line.
+fn owner_of(line: &str) -> Option<&str> {
+    if let Some((name, Kind::Trait, _)) = rattle_signature(line) {
+        return Some(name);
+    }
+    let rest = line.strip_prefix("impl").filter(|rest| rest.starts_with([' ', '<']))?;
+    let inherent = if rest.starts_with('<') { rest.split_once("> ")?.1 } else { rest };
+    let typed = rest.split_once(" for ").map_or(inherent, |(_, typed)| typed).trim_start();
+    typed[..name_length(typed, "_:")].rsplit("::").next()
+}
+
+/// The length of the name that a text begins with, of letters, digits and these.
+fn name_length(text: &str, more: &str) -> usize {
+    text.find(|c: char| !c.is_ascii_alphanumeric() && !more.contains(c)).unwrap_or(text.len())
+}
+
+/// What a line declares: at the margin, or a member where one may follow.
+fn rattle_declared<'a>(line: &Line<'a>, owner: Option<&str>) -> Option<(&'a str, Kind, bool)> {
+    let (name, kind, public) = rattle_signature(line.text)?;
+    match (line.indent, owner) {
+        (0, _) => Some((name, kind, public)),
+        (MEMBER_INDENT, Some(_)) => Some((name, Kind::Member, public)),
+        _ => None,
+    }
+}
+
+/// Where an item of code ends: behind a semicolon that no bracket holds, or a brace below its beginning.
+fn end_of_item(text: &str, line: &Line) -> usize {
+    let mut depth = 0;
+    let mut margin = None;
+    for (place, c) in text[line.start..].char_indices() {
+        margin = match c {
+            '\n' => Some(0),
+            ' ' => margin.map(|indent| indent + 1),
+            '}' if margin == Some(line.indent) => return line.start + place + 1,
+            ';' if depth == 0 => return line.start + place + 1,
+            _ => None,
+        };
+        match c {
+            '(' | '[' | '{' => depth += 1,
+            ')' | ']' | '}' => depth -= 1,
+            _ => {}
+        }
+    }
+    text.len()
 }
 
 fn rattle_signature(line: &str) -> Option<(&str, Kind, bool)> {
@@ -174,11 +230,10 @@ fn rattle_signature(line: &str) -> Option<(&str, Kind, bool)> {
             "fn" => Kind::Function,
             "const" => Kind::Constant,
             "struct" | "enum" => Kind::Type,
+            "trait" => Kind::Trait,
             _ => return None,
         };
-        let length =
-            more.find(|c: char| !c.is_ascii_alphanumeric() && c != '_').unwrap_or(more.len());
-        return Some((&more[..length], kind, public));
+        return Some((&more[..name_length(more, "_")], kind, public));
     }
 }
 
@@ -225,5 +280,41 @@ mod tests {
         ];
         assert_eq!(shown(text, Language::Rattle), expected);
         assert!(declarations(text, Language::Rattle)[1].entry);
+    }
+
+    #[test]
+    fn members() {
+        let text = "pub trait T<const N: usize>: Copy {\n    ghost a: { Self → ℕ };\n\n    const C: usize;\n\n    fn f(self) -> u8\n        ensures { a self };\n\n    fn g();\n}\n\n\
+            impl<'a> T<5> for part::S<'a> {\n    fn f(self) -> u8 {\n        fn own() {\n        }\n        let x = 1;\n    }\n}\n\n\
+            impl<N: T<5>> R<N> {\n    pub fn main(&self) {\n    }\n}\n\nimpl T<3> for Q {}\n\npub fn h() {\n    fn own() {\n    }\n}\n";
+        let found = declarations(text, Language::Rattle);
+        let shown: Vec<(Option<&str>, &str)> =
+            found.iter().map(|declared| (declared.owner, declared.name)).collect();
+        let expected = [
+            (None, "T"),
+            (Some("T"), "C"),
+            (Some("T"), "f"),
+            (Some("T"), "g"),
+            (Some("S"), "f"),
+            (Some("R"), "main"),
+            (None, "h"),
+        ];
+        assert_eq!(shown, expected);
+        assert_eq!(found[0].kind, Kind::Trait);
+        assert!(found[1..6].iter().all(|member| member.is_inner() && !member.entry));
+        assert!(text[found[2].range.clone()].ends_with("ensures { a self };"));
+        assert!(text[found[4].range.clone()].ends_with("let x = 1;\n    }"));
+    }
+
+    #[test]
+    fn ends_of_items() {
+        let text =
+            "const C: &[u8; 2] =\n    b  ;\n\nfn f(a: [u8; 2])\n    ensures { a }\n{\n    C;\n}\n";
+        let found = declarations(text, Language::Rattle);
+        let ends: Vec<&str> = found.iter().map(|item| &text[item.range.clone()]).collect();
+        assert_eq!(
+            ends,
+            ["const C: &[u8; 2] =\n    b  ;", text[text.find("fn").unwrap()..].trim()]
+        );
     }
 }

@@ -22,6 +22,8 @@ pub struct Import<'a> {
     pub path: &'a str,
     /// Whether the items are the module itself.
     pub module: bool,
+    /// The block of a type or a trait that it stands in and brings its names into.
+    pub block: Option<Range<usize>>,
     pub items: Vec<Item<'a>>,
 }
 
@@ -32,12 +34,26 @@ pub fn imports(text: &str, language: Language) -> Vec<Import<'_>> {
     for line in text.split_inclusive('\n') {
         let start = at;
         at += line.len();
-        let marks = line.find("use ").map(|place| &line[..place]);
-        if let Some(marks @ ("" | "pub " | "unfoldable pub " | "ghost ")) = marks {
+        if let Some(marks) = marks(line, language) {
             found.push(import(text, start, start + marks.len() + 4, language));
         }
     }
     found
+}
+
+/// What stands before the `use` of a line that brings names in. `ghost use` may be indented.
+fn marks(line: &str, language: Language) -> Option<&str> {
+    let (marks, _) = line.split_once("use ")?;
+    let ghost = language == Language::Rattle && marks.trim_start() == "ghost ";
+    (ghost || ["", "pub ", "unfoldable pub "].contains(&marks)).then_some(marks)
+}
+
+/// The block around a place: between the lines at the margin.
+fn block(text: &str, at: usize) -> Range<usize> {
+    let margin = |end: &usize| text[end + 1..].starts_with(|c: char| !c.is_whitespace());
+    let mut ends = text.match_indices('\n').map(|(end, _)| end).filter(margin);
+    let start = text[..at].match_indices('\n').map(|(end, _)| end).rfind(margin);
+    start.unwrap_or(0)..ends.find(|end| *end >= at).unwrap_or(text.len())
 }
 
 /// The import that stands at `start` and whose path begins at `body`.
@@ -47,7 +63,8 @@ fn import(text: &str, start: usize, body: usize, language: Language) -> Import<'
     let last = open.map_or(line, |open| closing(text, open));
     let end = text[last..].find('\n').map_or(text.len(), |place| last + place + 1);
     let marks = &text[start..body];
-    let ghost = marks.starts_with("ghost");
+    let ghost = marks.trim_start().starts_with("ghost");
+    let block = marks.starts_with(' ').then(|| block(text, start));
     let head = body..open.unwrap_or(text[..line].trim_end().trim_end_matches(';').len());
     let (path, module, items) = match open {
         Some(open) => (trim(text, head), false, listed(text, open + 1..last)),
@@ -57,7 +74,8 @@ fn import(text: &str, start: usize, body: usize, language: Language) -> Import<'
             (item.name, true, vec![item])
         }
     };
-    Import { range: start..end, public: marks.contains("pub"), ghost, path, module, items }
+    let public = marks.contains("pub");
+    Import { range: start..end, public, ghost, path, module, block, items }
 }
 
 /// A path without the dot or the colons before its brace.
@@ -127,5 +145,16 @@ mod tests {
     fn of_rattle() {
         let text = "use record::Edit;\nghost use a.B.{c};\nghost use a.C as d;\n";
         assert_eq!(shown(text, Language::Rattle), ["record Edit=Edit", "a.B c=c", "a.C d=a.C"]);
+    }
+
+    #[test]
+    fn of_a_block() {
+        let text = "ghost use a.A.{b};\n\nimpl S {\n    ghost use a.B.{c,\n        d};\n\n    ghost e = { c };\n}\n\nfn f() {\n    use x;\n}\n";
+        assert_eq!(shown(text, Language::Rattle), ["a.A b=b", "a.B c=c d=d"]);
+        let found = imports(text, Language::Rattle);
+        assert_eq!(found[0].block, None);
+        let block = text[found[1].block.clone().unwrap()].trim();
+        assert!(block.starts_with("impl S {") && block.ends_with("ghost e = { c };"));
+        assert!(shown("  use a.B.{c}\n", Language::Antt).is_empty());
     }
 }

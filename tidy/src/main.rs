@@ -13,6 +13,7 @@ mod uses;
 mod words;
 
 use fault::Fault;
+use rules::imports::Traits;
 use rules::{dead, dependencies, documents, names, specs};
 use source::Source;
 use std::fs;
@@ -90,9 +91,10 @@ fn report(faults: &[Fault]) -> ExitCode {
 
 fn fix(root: &Path, tree: &Tree, sources: &[Source]) -> io::Result<()> {
     let edits = edits::edits(tree);
+    let traits = Traits::of(sources);
     for source in sources {
         let text = tree.text(source.path).unwrap_or(source.text);
-        if let Some(fixed) = rules::imports::fixed(source, text, &edits) {
+        if let Some(fixed) = rules::imports::fixed(source, text, &edits, &traits) {
             fs::write(root.join(source.path), fixed)?;
         }
     }

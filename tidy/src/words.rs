@@ -145,8 +145,8 @@ fn joint(before: &str) -> Joint {
     }
 }
 
-/// Where the contracts of functions and the ghost members of types stand: what is between the braces of `requires` and `ensures`, which may have a
-/// name, of `ghost invariant` and of `ghost NAME:`.
+/// Where the contracts of functions and the ghost members of types and traits stand: what is between the braces of `requires` and `ensures`, which may
+/// have a name, of `ghost invariant`, of `ghost NAME:` and of `ghost NAME =`.
 fn contracts(text: &str) -> Vec<Range<usize>> {
     let mut found = Vec::new();
     for word in cut(text, 0..text.len(), is_break_of_rattle, false) {
@@ -159,7 +159,8 @@ fn contracts(text: &str) -> Vec<Range<usize>> {
             "requires" | "ensures" => named(name),
             "ghost" => {
                 let invariant = name.strip_prefix("invariant").map(str::trim_start);
-                invariant.is_some_and(named) || name.strip_suffix(':').is_some_and(named)
+                let member = name.strip_suffix([':', '=']).map(str::trim_end);
+                invariant.is_some_and(named) || member.is_some_and(named)
             }
             _ => false,
         };
@@ -236,11 +237,12 @@ mod tests {
 
     #[test]
     fn ghost_members_are_antt() {
-        let text = "ghost use a.B.{c};\nstruct S {\n    ghost size: { a ≡ b },\n    ghost invariant low { d ≤ e },\n}\n";
+        let text = "ghost use a.B.{c};\nstruct S {\n    ghost size: { a ≡ b },\n    ghost invariant low { d ≤ e },\n}\n\
+            impl T for S {\n    ghost view = { f-g };\n    ghost invariant = { h };\n    fn i() {}\n}\n";
         let found = words(text, Language::Rattle);
         let ghost: Vec<&str> =
             found.iter().filter(|word| word.contract).map(|word| word.text).collect();
-        assert_eq!(ghost, ["a", "≡", "b", "d", "≤", "e"]);
+        assert_eq!(ghost, ["a", "≡", "b", "d", "≤", "e", "f-g", "h"]);
     }
 
     #[test]

@@ -5,9 +5,6 @@ use mathlib.Core.List.{List, map}
 use Prim.Native.Nat.{ℕ, ◌-◌, ◌≤◌}
 use native.Mathlib.Omega.{arith}
 use lib.IntN.{ℤ}
-use mir.Syntax.{w32}
-use mir.Val.{SFits, to_z, of_z}
-use mir.Facts.{to_z-of_z}
 use lib.ListN.{length, take, drop, length-map}
 use lib.Seq.{take-length}
 use Rattle.record.specs.declared.Edit.{Edit}
@@ -22,14 +19,15 @@ use Rattle.record.specs.Judgement.{sound}
 use Rattle.graph.specs.links.Marks.{marks_of}
 use Rattle.record_tables.specs.Checked.{Checked}
 use Rattle.voting.specs.declared.Election.{Election}
-use Rattle.pages_turner.specs.declared.Turned.{Turned}
-use Rattle.pages_turner.specs.declared.Turned.TheVariants.{To, Refused}
-use Rattle.pages_turner.specs.declared.TurnAnswer.{TurnAnswer}
-use Rattle.pages_turner.specs.Turn.{turned, turned_answer}
+use Rattle.std.specs.Prelude.{Option, Some, None, Result, Ok, Err}
+use Rattle.refusals.specs.declared.Refusal.{Refusal}
+use Rattle.refusals.specs.Numbers.{number}
+use Rattle.refusals.proofs.Numbers.{number-positive}
+use Rattle.pages_turner.specs.declared.Turner.{Turner}
+use Rattle.pages_turner.specs.Turn.{turned, turn_of, turn_fault, open_after}
+use Rattle.pages_turner.specs.turning.Turning.{turner_fault, after_turn}
 use Rattle.pages_turner.proofs.Signed.{turn_is}
 use Rattle.pages_turner.proofs.Landed.{turned-lands}
-use Rattle.pages_turner.specs.declared.turning.Turning.{Turning}
-use Rattle.pages_turner.specs.turning.Turning.{turn_answer_of, turning_of}
 use Rattle.pages.specs.Steps.{common_beginning, Agree}
 use Rattle.record.proofs.Padded.{take-padded}
 use Rattle.catalogue.specs.declared.View.{View}
@@ -39,11 +37,11 @@ use Rattle.catalogue.specs.Changes as moves
 use Rattle.ledger.specs.declared.Answer.{Answer}
 use Rattle.ledger.specs.declared.Bench.{Bench}
 use Rattle.ledger.specs.declared.Outcome.{Outcome}
-use Rattle.ledger.specs.Ledger.{Ledger, Call, turn, start, pages, last, at_page, judge, act, refusal, change, step, fed, plain_answer}
+use Rattle.ledger.specs.Ledger.{Ledger, Call, turn, start, pages, last, at_page, judge, act, refusal, change, step, fed, plain_answer, answered}
 use Rattle.ledger.specs.Bench.{page_edits, open_edits, bench_of, outcome, Answers}
 use Rattle.ledger.proofs.Valid.{Valid, start-valid, fed-valid}
 use Rattle.ledger.proofs.Undone.{from-valid, step-refused, step-accepted}
-use Rattle.bench.specs.Changes.{refused_with, open_at, turn_reply, Opens, KeepsEdits, pages_of, Reschedules}
+use Rattle.bench.specs.Changes.{refused_with, settled_outcome, Tries, open_at, turn_reply, Opens, KeepsEdits, pages_of, Reschedules}
 use Rattle.bench.proofs.Pages.{names-named, named-agree, pages-written, pages-room, open-written, last-room}
 
 -- a call that the ledger refuses with this number
@@ -55,6 +53,14 @@ refused-is L bench call n e j z =
 
 pub accepted-is : (L : Ledger) (call : Call) (r : Outcome) → judge L call ≡ 0 → r ≡ outcome (act L call) → r ≡ outcome (step L call)
 accepted-is L call r j e = e ∙ ap outcome (sym (step-accepted L call j))
+
+-- a call that is tried
+pub tried-answers : (bench : Bench) (call : Call) (tried : Result Outcome Refusal) → Tries bench call tried → Answers bench call (settled_outcome bench tried)
+unfolding Tries Answers
+tried-answers bench call (Ok r) t = λ calls e. let g = t calls e in accepted-is (fed start calls) call r (sym g.0) g.1
+tried-answers bench call (Err refusal) t = λ calls e.
+    let g = t calls e in
+    refused-is (fed start calls) bench call (number refusal) e (sym g.0) (number-positive refusal)
 
 length-pages : (L : Ledger) → length (page_edits L) ≡ last L
 unfolding page_edits last
@@ -113,72 +119,72 @@ opens bench page w m = λ calls e h.
     let y = x ∙ ap chips_view (sym (opened-edits L bench e page (omega arith))) in
     λ i. record { multilog = bench.multilog; hidden = bench.hidden; schedule = bench.schedule; turner = record { opened = page; last = bench.turner.last }; view = y i }
 
--- a turn, by the number as the code holds it
-module _ (L : Ledger) (v : Valid L) (bench : Bench) (e : bench ≡ bench_of L) (by : ℤ) (fits : SFits w32 by) (t : Turning) (h : t ≡ turning_of bench.turner (to_z w32 (of_z w32 by))) where
-  abbrev answer : TurnAnswer
-  answer = turned_answer L.opened (turned L.opened (last L) by)
+-- a turn
+module _ (L : Ledger) (v : Valid L) (bench : Bench) (e : bench ≡ bench_of L) (by : ℤ) where
+  abbrev page : Option ℕ
+  page = turn_of bench.turner.opened bench.turner.last by
 
-  answer-is : turn_answer_of L.opened (last L) by ≡ answer
-  answer-is = ap (turned_answer L.opened) (turn_is L.opened (last L) by (omega (arith, v.opened-within, last-room L v)))
-
-  turning-is : t ≡ record { number = answer.number; turner = record { opened = answer.opened; last = last L } }
+  page-is : page ≡ turned L.opened (last L) by
   unfolding bench_of
-  turning-is =
-      h ∙ (λ i. turning_of (e i).turner (to_z-of_z fits i))
-      ∙ (λ i. record { number = (answer-is i).number; turner = record { opened = (answer-is i).opened; last = last L } })
+  page-is = (λ i. turn_of (e i).turner.opened (e i).turner.last by) ∙ turn_is L.opened (last L) by (omega (arith, v.opened-within, last-room L v))
 
-  pub turn-refused : (t.number ≡ 0 → ⊥) → refused_with bench 10 ≡ outcome (step L (turn by))
+  opened-is : bench.turner.opened ≡ L.opened
+  unfolding bench_of
+  opened-is = ap (λ (b : Bench). b.turner.opened) e
+
+  fault-is : judge L (turn by) ≡ turner_fault bench.turner by
   unfolding judge
-  turn-refused z = go (turned L.opened (last L) by) refl
-    where
-      go : (u : Turned) → turned L.opened (last L) by ≡ u → refused_with bench 10 ≡ outcome (step L (turn by))
-      go (To page) q = absurd (z (ap (λ (r : Turning). r.number) turning-is ∙ ap (λ (u : Turned). (turned_answer L.opened u).number) q))
-      go Refused q = refused-is L bench (turn by) 10 e (ap (λ (u : Turned). (turned_answer L.opened u).number) q) (λ x. omega arith)
+  fault-is = ap turn_fault (sym page-is)
 
-  landed-within : answer.opened ≤ last L
-  landed-within = go (turned L.opened (last L) by) refl
-    where
-      go : (u : Turned) → turned L.opened (last L) by ≡ u → answer.opened ≤ last L
-      go (To page) q = omega (arith, ap (λ (u : Turned). (turned_answer L.opened u).opened) q, (turned-lands (last L) page L.opened by q).within)
-      go Refused q = omega (arith, ap (λ (u : Turned). (turned_answer L.opened u).opened) q, v.opened-within)
+  pub turn-refused : (n : ℕ) → n ≡ turner_fault bench.turner by → (n ≡ 0 → ⊥) → refused_with bench n ≡ outcome (step L (turn by))
+  turn-refused n h z = refused-is L bench (turn by) n e (fault-is ∙ sym h) z
 
-  pub turned-within : t.turner.opened ≤ last L
-  turned-within = omega (arith, ap (λ (r : Turning). r.turner.opened) turning-is, landed-within)
+  landed-within : (t : Option ℕ) → turned L.opened (last L) by ≡ t → open_after L.opened t ≤ last L
+  landed-within (Some page) q = (turned-lands (last L) page L.opened by q).within
+  landed-within None q = v.opened-within
 
-  pub turn-accepted : t.number ≡ 0 → record { answer = plain_answer 0; bench = open_at bench t.turner.opened } ≡ outcome (step L (turn by))
-  unfolding judge act outcome at_page
+  after-is : open_after bench.turner.opened page ≡ open_after L.opened (turned L.opened (last L) by)
+  after-is = λ i. open_after (opened-is i) (page-is i)
+
+  pub turned-within : (after_turn bench.turner by).opened ≤ last L
+  turned-within = omega (arith, after-is, landed-within (turned L.opened (last L) by) refl)
+
+  pub turn-accepted : turner_fault bench.turner by ≡ 0 → record { answer = plain_answer 0; bench = open_at bench (after_turn bench.turner by).opened } ≡ outcome (step L (turn by))
+  unfolding outcome act at_page
   turn-accepted z =
-      let p : t.turner.opened ≡ answer.opened = ap (λ (r : Turning). r.turner.opened) turning-is in
-      let x : open_at bench t.turner.opened ≡ bench_of (at_page L answer.opened) = ap (open_at bench) p ∙ election-open-is L bench e answer.opened landed-within in
-      accepted-is L (turn by) _ (sym (ap (λ (r : Turning). r.number) turning-is) ∙ z) (ap (λ (b : Bench). record { answer = plain_answer 0; bench = b }) x)
+      let n = open_after L.opened (turned L.opened (last L) by) in
+      let x : open_at bench (after_turn bench.turner by).opened ≡ bench_of (at_page L n) =
+      ap (open_at bench) after-is ∙ election-open-is L bench e n (landed-within (turned L.opened (last L) by) refl) in
+      accepted-is L (turn by) _ (fault-is ∙ z) (ap (λ (b : Bench). record { answer = plain_answer 0; bench = b }) x)
 
-  pub turn-told : turn_reply bench t ≡ outcome (step L (turn by))
-  unfolding judge turn_reply bench_of
-  turn-told = go (turned L.opened (last L) by) refl
+  pub turn-told : turn_reply bench (turner_fault bench.turner by) (after_turn bench.turner by) ≡ outcome (step L (turn by))
+  unfolding turn_reply
+  turn-told = go page refl
     where
-      go : (u : Turned) → turned L.opened (last L) by ≡ u → turn_reply bench t ≡ outcome (step L (turn by))
-      go (To page) q =
-          let z : t.number ≡ 0 = ap (λ (r : Turning). r.number) turning-is ∙ ap (λ (u : Turned). (turned_answer L.opened u).number) q in
-          ap (λ (n : ℕ). record { answer = plain_answer n; bench = open_at bench t.turner.opened }) z ∙ turn-accepted z
-      go Refused q =
-          let n : t.number ≡ 10 = ap (λ (r : Turning). r.number) turning-is ∙ ap (λ (u : Turned). (turned_answer L.opened u).number) q in
-          let p : t.turner.opened ≡ L.opened = ap (λ (r : Turning). r.turner.opened) turning-is ∙ ap (λ (u : Turned). (turned_answer L.opened u).opened) q in
-          let o : bench.turner.opened ≡ L.opened = ap (λ (b : Bench). b.turner.opened) e in
-          let x : open_at bench t.turner.opened ≡ bench = ap (open_at bench) (p ∙ sym o) ∙ open-same L v bench e in
-          (λ i. record { answer = plain_answer (n i); bench = x i }) ∙ turn-refused (λ z. omega arith)
+      go : (t : Option ℕ) → page ≡ t → turn_reply bench (turner_fault bench.turner by) (after_turn bench.turner by) ≡ outcome (step L (turn by))
+      go (Some p) q =
+          let z : turner_fault bench.turner by ≡ 0 = ap turn_fault q in
+          ap (λ (n : ℕ). record { answer = plain_answer n; bench = open_at bench (after_turn bench.turner by).opened }) z ∙ turn-accepted z
+      go None q =
+          let x : open_at bench (after_turn bench.turner by).opened ≡ bench = ap (λ (u : Option ℕ). open_at bench (open_after bench.turner.opened u)) q ∙ open-same L v bench e in
+          ap (λ (b : Bench). record { answer = plain_answer (turner_fault bench.turner by); bench = b }) x
+          ∙ turn-refused (turner_fault bench.turner by) refl (λ z. omega (arith, ap turn_fault q))
 
 -- the same of every list of calls
-pub turn-answers : (bench : Bench) (by : ℤ) → SFits w32 by → (t : Turning) → t ≡ turning_of bench.turner (to_z w32 (of_z w32 by)) → Answers bench (turn by) (turn_reply bench t)
-turn-answers bench by fits t h = from-valid bench (turn by) (turn_reply bench t) (λ L v e. turn-told L v bench e by fits t h)
+pub turn-answers : (bench : Bench) (by : ℤ) → Answers bench (turn by) (turn_reply bench (turner_fault bench.turner by) (after_turn bench.turner by))
+turn-answers bench by = from-valid bench (turn by) (turn_reply bench (turner_fault bench.turner by) (after_turn bench.turner by)) (λ L v e. turn-told L v bench e by)
 
-pub turn-opens : (bench : Bench) (by : ℤ) → SFits w32 by → (t : Turning) → t ≡ turning_of bench.turner (to_z w32 (of_z w32 by)) → t.number ≡ 0
-    → (b : Bench) → Opens bench t.turner.opened b → (a : Answer) → a ≡ plain_answer 0 → Answers bench (turn by) (record { answer = a; bench = b })
+pub turn-opens : (bench : Bench) (by : ℤ) (after : Turner) → turner_fault bench.turner by ≡ 0 → after ≡ after_turn bench.turner by
+    → (b : Bench) → Opens bench after.opened b → (a : Answer) → a ≡ plain_answer 0 → Answers bench (turn by) (record { answer = a; bench = b })
 unfolding Answers Opens
-turn-opens bench by fits t h z b o a q = λ calls e.
+turn-opens bench by after z h b o a q = λ calls e.
     let L = fed start calls in
     let v = fed-valid start calls start-valid in
-    let x = o calls e (omega (arith, last-is L bench e, turned-within L v bench e by fits t h)) in
-    (λ i. record { answer = q i; bench = x i }) ∙ turn-accepted L v bench e by fits t h z
+    let w = ap (λ (t : Turner). t.opened) h in
+    let x = o calls e (omega (arith, w, last-is L bench e, turned-within L v bench e by)) in
+    (λ i. record { answer = q i; bench = x i })
+    ∙ ap (λ (n : ℕ). record { answer = plain_answer 0; bench = open_at bench n }) w
+    ∙ turn-accepted L v bench e by z
 
 -- a change
 module _ (L : Ledger) (v : Valid L) (bench : Bench) (e : bench ≡ bench_of L) (R : Record) (h : List ℕ) (k : Checked R) (s : sound R ≡ true)
@@ -211,7 +217,7 @@ module _ (L : Ledger) (v : Valid L) (bench : Bench) (e : bench ≡ bench_of L) (
       → multilog ≡ stored R → hidden ≡ marks_of R (λ x. mem x h) → new ≡ pages_of R h
       → moves.ViewChanges bench.schedule bench.turner.opened new bench.view moved
       → record {
-        answer = record { number = 0; undone = moved.undone; redone = moved.redone; won = E.won; greatest = E.greatest; silent = E.silent; total = E.total };
+        answer = answered moved.undone moved.redone E;
         bench = record { multilog = multilog; hidden = hidden; schedule = new; turner = record { opened = new.count; last = new.count }; view = moved.view };
       } ≡ outcome (change L R h E)
   unfolding change outcome bench_of pages_of moves.ViewChanges page_edits open_edits pages last news schedule_of
@@ -238,7 +244,7 @@ module _ (L : Ledger) (v : Valid L) (bench : Bench) (e : bench ≡ bench_of L) (
 pub change-from : (bench : Bench) (multilog : declared.Record) (hidden : List ℕ) (new : Schedule) (E : Election) (moved : Changed)
     → moves.ViewChanges bench.schedule bench.turner.opened new bench.view moved
     → Reschedules bench multilog hidden new E (record {
-      answer = record { number = 0; undone = moved.undone; redone = moved.redone; won = E.won; greatest = E.greatest; silent = E.silent; total = E.total };
+      answer = answered moved.undone moved.redone E;
       bench = record { multilog = multilog; hidden = hidden; schedule = new; turner = record { opened = new.count; last = new.count }; view = moved.view };
     })
 unfolding Reschedules

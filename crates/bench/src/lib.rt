@@ -4,14 +4,15 @@
 pub mod hidden;
 
 ghost use Rattle.std.specs.Prelude.{◌≡◌};
-ghost use Rattle.ledger.specs.Ledger.{Call, no_election, start, plain_answer};
+ghost use Rattle.ledger.specs.Ledger.{Call, no_election, start, plain_answer, answered};
 ghost use Rattle.ledger.specs.Bench.{Answers, bench_of};
-ghost use Rattle.bench.specs.Changes.{Opens, Reschedules, refused_with};
+ghost use Rattle.bench.specs.Changes.{Opens, Reschedules, Tries, refused_with, settled_outcome};
 
 use graph::links::MARKS;
 use ledger::{Answer, Bench, Outcome};
 use pages_turner::{Turner, turning};
 use record::{Record, Schedule};
+use refusals::Refusal;
 use voting::Election;
 
 // A bench with no edit and no page.
@@ -21,12 +22,9 @@ pub fn empty_bench() -> Bench
     let multilog = record::empty();
     let edits = multilog.edits;
     Bench {
-        multilog: multilog,
-        hidden: [0u8; MARKS],
-        schedule: Schedule {
-            edits: edits,
-            count: 0,
-        },
+        multilog,
+        hidden: [0; MARKS],
+        schedule: Schedule { edits, count: 0 },
         turner: Turner { opened: 0, last: 0 },
         view: catalogue::empty_view(),
     }
@@ -37,7 +35,7 @@ pub fn plain_answer(number: u32) -> Answer
     ensures { result ≡ plain_answer number }
 {
     Answer {
-        number: number,
+        number,
         undone: 0,
         redone: 0,
         won: false,
@@ -53,7 +51,18 @@ pub fn refused(bench: Bench, number: u32) -> Outcome
 {
     Outcome {
         answer: plain_answer(number),
-        bench: bench,
+        bench,
+    }
+}
+
+// What a call comes to: its outcome, or its refusal on the bench that came in. Pub for the crates of the other calls.
+pub fn settled(bench: Bench, tried: Result<Outcome, Refusal>) -> Outcome
+    ensures is { result ≡ settled_outcome bench tried }
+    ensures answers { (call : Call) → Tries bench call tried → Answers bench call result }
+{
+    match tried {
+        Ok(outcome) => outcome,
+        Err(refusal) => refused(bench, refusal.number()),
     }
 }
 
@@ -62,31 +71,27 @@ pub fn open_at(bench: Bench, page: usize) -> Bench
     ensures { Opens bench page result }
 {
     let turner = bench.turner;
-    let schedule = bench.schedule;
-    let view = bench.view;
-    let moved = catalogue::turn_to(view, schedule, turner.opened, page);
-    let after = Turner {
+    let view = catalogue::turn_to(bench.view, bench.schedule, turner.opened, page);
+    let turner = Turner {
         opened: page,
         last: turner.last,
     };
-    let mut opened = bench;
-    opened.turner = after;
-    opened.view = moved;
-    opened
+    Bench {
+        turner,
+        view,
+        ..bench
+    }
 }
 
 pub fn turn(bench: Bench, by: i32) -> Outcome
     ensures { Answers bench (Call.turn by) result }
 {
-    let before = bench.turner;
-    let turning = turning::turned(before, by);
-    if turning.number != 0 {
-        return refused(bench, 10);
-    }
-    let after = turning.turner;
-    Outcome {
-        answer: plain_answer(0),
-        bench: open_at(bench, after.opened),
+    match turning::turned(bench.turner, by) {
+        Ok(after) => Outcome {
+            answer: plain_answer(0),
+            bench: open_at(bench, after.opened),
+        },
+        Err(refusal) => refused(bench, refusal.number()),
     }
 }
 
@@ -103,6 +108,21 @@ pub fn no_election() -> Election
     }
 }
 
+// The answer of a call that is not refused: its pages, and what it tells of an election. Pub for the crate of adoption.
+pub fn answered(undone: usize, redone: usize, election: Election) -> Answer
+    ensures { result ≡ answered undone redone election }
+{
+    Answer {
+        number: 0,
+        undone,
+        redone,
+        won: election.won,
+        greatest: election.greatest,
+        silent: election.silent,
+        total: election.total,
+    }
+}
+
 // To the last page of a new schedule, with the record and the hidden edits that it is made from. Pub for the crates of the calls that change.
 pub fn reschedule(
     bench: Bench,
@@ -114,30 +134,16 @@ pub fn reschedule(
     ensures { Reschedules bench multilog hidden schedule election result }
 {
     let turner = bench.turner;
-    let old = bench.schedule;
-    let view = bench.view;
     let last = schedule.count;
-    let moved = catalogue::change(view, old, turner.opened, schedule);
-    let new = moved.view;
+    let moved = catalogue::change(bench.view, bench.schedule, turner.opened, schedule);
     Outcome {
-        answer: Answer {
-            number: 0,
-            undone: moved.undone,
-            redone: moved.redone,
-            won: election.won,
-            greatest: election.greatest,
-            silent: election.silent,
-            total: election.total,
-        },
+        answer: answered(moved.undone, moved.redone, election),
         bench: Bench {
-            multilog: multilog,
-            hidden: hidden,
-            schedule: schedule,
-            turner: Turner {
-                opened: last,
-                last: last,
-            },
-            view: new,
+            multilog,
+            hidden,
+            schedule,
+            turner: Turner { opened: last, last },
+            view: moved.view,
         },
     }
 }

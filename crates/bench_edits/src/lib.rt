@@ -9,50 +9,45 @@ ghost use Rattle.bench_edits.specs.Joins.{Joins};
 
 use bench::hidden;
 use ledger::{Bench, Outcome};
-use record_joining::Joined;
+use record::Record;
 use record_rows::row::{ConstraintRow, EditRow};
+use refusals::Refusal;
 use voting::Election;
 
-// The number of the rows, then 8 by one test of the union, then the change. Pub for the crate of adoption.
-pub fn joined_bench(bench: Bench, joined: Joined, election: Election) -> Outcome
+// The refusal of the rows, then one test of the union, then the change. Pub for the crate of adoption.
+pub fn joined_bench(
+    bench: Bench,
+    joined: Result<Record, Refusal>,
+    election: Election,
+) -> Result<Outcome, Refusal>
     ensures { Joins bench joined election result }
 {
-    let number = joined.number;
-    if number != 0 {
-        return bench::refused(bench, number);
-    }
-    let old = bench.multilog;
-    let union = joined.after;
-    let marks = bench.hidden;
-    let hidden = hidden::carried(old, marks, union);
+    let union = joined?;
+    let hidden = hidden::carried(bench.multilog, bench.hidden, union);
     let planned = judgement::plan(union, hidden);
     if !planned.sound {
-        return bench::refused(bench, 8);
+        return Err(Refusal::Unsound);
     }
-    let schedule = planned.schedule;
-    bench::reschedule(bench, union, hidden, schedule, election)
+    Ok(bench::reschedule(bench, union, hidden, planned.schedule, election))
 }
 
 pub fn add_edit(bench: Bench, row: EditRow) -> Outcome
     ensures { Answers bench (Call.add_edit row) result }
 {
-    let multilog = bench.multilog;
-    let joined = record_joining::add_edit(multilog, row);
-    joined_bench(bench, joined, bench::no_election())
+    let joined = record_joining::add_edit(bench.multilog, row);
+    bench::settled(bench, joined_bench(bench, joined, bench::no_election()))
 }
 
 pub fn add_constraint(bench: Bench, row: ConstraintRow) -> Outcome
     ensures { Answers bench (Call.add_constraint row) result }
 {
-    let multilog = bench.multilog;
-    let joined = record_joining::add_constraint(multilog, row);
-    joined_bench(bench, joined, bench::no_election())
+    let joined = record_joining::add_constraint(bench.multilog, row);
+    bench::settled(bench, joined_bench(bench, joined, bench::no_election()))
 }
 
 pub fn merge(bench: Bench, edits: &[EditRow], constraints: &[ConstraintRow]) -> Outcome
     ensures { Answers bench (Call.merge edits.now constraints.now) result }
 {
-    let multilog = bench.multilog;
-    let joined = record_joining::merge(multilog, edits, constraints);
-    joined_bench(bench, joined, bench::no_election())
+    let joined = record_joining::merge(bench.multilog, edits, constraints);
+    bench::settled(bench, joined_bench(bench, joined, bench::no_election()))
 }

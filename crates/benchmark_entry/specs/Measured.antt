@@ -1,8 +1,11 @@
 -- What the benchmark is answered: parts of the answers to other operations, as numbers. Assumes nothing.
-use Rattle.std.specs.Prelude.{cond, List, [], ◌∷◌, map, ℕ}
+use Rattle.std.specs.Prelude.{cond, List, [], ◌∷◌, map, ℕ, eqb, replicate}
 use Rattle.record_rows.specs.grounds.Ground.{Rows}
 use Rattle.judgement.specs.declared.lent_record.Judgement.{Judgement}
-use Rattle.judgement.specs.declared.lent_record.ScheduleAnswer.{ScheduleAnswer}
+use Rattle.judgement.specs.lent_record.Lent.{record_fault, judgement_is}
+use Rattle.judgement.specs.Judged.{stored_schedule}
+use Rattle.graph.specs.links.Marks.{mark_limit}
+use Rattle.record_tables.specs.Table.{decoded}
 use Rattle.ledger.specs.Ledger.{merge, start, step, fed}
 use Rattle.voting.specs.declared.RollRow.{RollRow}
 use Rattle.voting_roll.specs.Election.{benches, election_of}
@@ -12,11 +15,26 @@ use Rattle.benchmark_entry.specs.declared.Scheduled.{Scheduled}
 use Rattle.benchmark_entry.specs.declared.Merged.{Merged}
 use Rattle.benchmark_entry.specs.declared.Elected.{Elected}
 
-abbrev pub judgement_numbers : Judgement → Judged
-judgement_numbers j = record { number = j.number; must = j.must; never = j.never; settled = j.settled; place = j.place }
+-- no mark, of an edit of a record that is refused
+abbrev pub no_marks : List ℕ
+no_marks = replicate mark_limit 0
 
-abbrev pub scheduled_of : ScheduleAnswer → Scheduled
-scheduled_of a = record { number = a.number; count = a.schedule.count }
+abbrev pub refused_judgement : ℕ → Judged
+refused_judgement number = record { number = number; must = no_marks; never = no_marks; settled = no_marks; place = no_marks }
+
+abbrev pub judgement_numbers : Judgement → Judged
+judgement_numbers j = record { number = 0; must = j.must; never = j.never; settled = j.settled; place = j.place }
+
+-- the judgement of a lent record, or the number of its refusal
+unfoldable pub judged_numbers : Rows → Rows → Judged
+judged_numbers edits constraints =
+    let n = record_fault edits constraints in cond (eqb n 0) (judgement_numbers (judgement_is (decoded edits constraints))) (refused_judgement n)
+
+-- how many pages the schedule of a lent record has, or the number of its refusal
+unfoldable pub scheduled_of : Rows → Rows → Scheduled
+scheduled_of edits constraints =
+    let n = record_fault edits constraints in
+    cond (eqb n 0) (record { number = 0; count = (stored_schedule (decoded edits constraints) []).count }) (record { number = n; count = 0 })
 
 -- the ledger's answer to a second merge, the first being the only call before it
 unfoldable pub merged_of : Rows → Rows → Rows → Rows → Merged

@@ -2,17 +2,16 @@
 #![tactic(auto)]
 
 ghost use Rattle.std.specs.Prelude.{◌≡◌};
-ghost use Rattle.voting_roll.specs.Roll.{roll_of};
-ghost use Rattle.judgement.specs.lent_record.Lent.{judgement_of, schedule_answer_of};
-ghost use Rattle.benchmark_entry.specs.Measured.{judgement_numbers, scheduled_of, merged_of, equal_seats, elected_of};
+ghost use Rattle.benchmark_entry.specs.Measured.{judged_numbers, judgement_numbers, scheduled_of, merged_of, seat, equal_seats, elected_of};
 
 use graph::links::MARKS;
 use judgement::lent_record;
-use record::Schedule;
+use judgement::lent_record::Judgement;
 use record_rows::row::{ConstraintRow, EditRow};
 use voting::RollRow;
-use voting_roll::Roll;
+use voting_count::LentRecord;
 
+// Kept: a number beside the values in each answer, which C reads.
 #[repr(C)]
 #[derive(Clone, Copy)]
 pub struct Judged {
@@ -52,30 +51,51 @@ pub struct Elected {
 }
 
 pub fn measure_judgement(edits: &[EditRow], constraints: &[ConstraintRow]) -> Judged
-    ensures { result ≡ judgement_numbers (judgement_of edits.now constraints.now) }
+    ensures { result ≡ judged_numbers edits.now constraints.now }
 {
-    let judgement = lent_record::judge_lent(edits, constraints);
-    let must = judgement.must;
-    let never = judgement.never;
-    let settled = judgement.settled;
-    let place = judgement.place;
+    match lent_record::judge_lent(edits, constraints) {
+        Ok(judgement) => judgement_numbers(judgement),
+        Err(refusal) => Judged {
+            number: refusal.number(),
+            must: [0; MARKS],
+            never: [0; MARKS],
+            settled: [0; MARKS],
+            place: [0; MARKS],
+        },
+    }
+}
+
+fn judgement_numbers(judgement: Judgement) -> Judged
+    ensures { result ≡ judgement_numbers judgement }
+{
+    let Judgement {
+        must,
+        never,
+        settled,
+        place,
+        ..
+    } = judgement;
     Judged {
-        number: judgement.number,
-        must: must,
-        never: never,
-        settled: settled,
-        place: place,
+        number: 0,
+        must,
+        never,
+        settled,
+        place,
     }
 }
 
 pub fn measure_schedule(edits: &[EditRow], constraints: &[ConstraintRow]) -> Scheduled
-    ensures { result ≡ scheduled_of (schedule_answer_of edits.now constraints.now) }
+    ensures { result ≡ scheduled_of edits.now constraints.now }
 {
-    let answer = lent_record::schedule_lent(edits, constraints);
-    let schedule: Schedule = answer.schedule;
-    Scheduled {
-        number: answer.number,
-        count: schedule.count,
+    match lent_record::schedule_lent(edits, constraints) {
+        Ok(schedule) => Scheduled {
+            number: 0,
+            count: schedule.count,
+        },
+        Err(refusal) => Scheduled {
+            number: refusal.number(),
+            count: 0,
+        },
     }
 }
 
@@ -89,9 +109,7 @@ pub fn measure_merge(
     ensures { result ≡ merged_of edits.now constraints.now others.now otherconstraints.now }
 {
     let first = bench_edits::merge(bench::empty_bench(), edits, constraints);
-    let bench = first.bench;
-    let second = bench_edits::merge(bench, others, otherconstraints);
-    let answer = second.answer;
+    let answer = bench_edits::merge(first.bench, others, otherconstraints).answer;
     Merged {
         number: answer.number,
         undone: answer.undone,
@@ -99,22 +117,28 @@ pub fn measure_merge(
     }
 }
 
-// Benches 1 to 8, each of weight 1.
-fn equal_seats() -> Roll
-    ensures { result ≡ roll_of equal_seats }
+// A bench of weight 1.
+fn seat(bench: u8) -> RollRow
+    ensures { result ≡ seat bench }
 {
-    let mut roll = voting_roll::empty_roll();
-    let mut bench: u8 = 0;
-    while bench < 8 {
-        bench += 1;
-        let row = RollRow {
-            bench: bench,
-            weight: 1,
-        };
-        let more = voting_roll::with_row(roll, row);
-        roll = more;
-    }
-    roll
+    RollRow { bench, weight: 1 }
+}
+
+// Benches 1 to 8.
+#[tactic(auto, unfolding(crate::specs::Measured::equal_seats))]
+fn equal_seats() -> [RollRow; 8]
+    ensures { result ≡ equal_seats }
+{
+    [
+        seat(1),
+        seat(2),
+        seat(3),
+        seat(4),
+        seat(5),
+        seat(6),
+        seat(7),
+        seat(8),
+    ]
 }
 
 // Benches 1 to 4 lend one record, benches 5 to 8 its rival.
@@ -127,24 +151,16 @@ pub fn measure_election<'a>(
 ) -> Elected
     ensures { result ≡ elected_of edit edits.now constraints.now rivals.now rivalconstraints.now }
 {
-    let answer = voting_count::election(
-        edit,
-        [edits, edits, edits, edits, rivals, rivals, rivals, rivals],
-        [
-            constraints,
-            constraints,
-            constraints,
-            constraints,
-            rivalconstraints,
-            rivalconstraints,
-            rivalconstraints,
-            rivalconstraints,
-        ],
-        equal_seats(),
-    );
+    let one = LentRecord { edits, constraints };
+    let rival = LentRecord {
+        edits: rivals,
+        constraints: rivalconstraints,
+    };
+    let proposals = [one, one, one, one, rival, rival, rival, rival];
+    let answer = voting_count::election(edit, &proposals, &equal_seats());
     Elected {
         number: answer.number,
-        won: numbers::bit8(answer.won) as u32,
+        won: u32::from(answer.won),
         greatest: answer.greatest,
         silent: answer.silent,
         total: answer.total,

@@ -2,22 +2,21 @@
 #![tactic(auto)]
 
 ghost use Rattle.std.specs.Prelude.{◌≡◌};
-ghost use Rattle.judgement.specs.lent_record.Lent.{judgement_of, schedule_answer_of};
-ghost use Rattle.benchmark_entry.specs.Measured.{judgement_numbers, scheduled_of, merged_of, elected_of};
+ghost use Rattle.benchmark_entry.specs.Measured.{judged_numbers, scheduled_of, merged_of, elected_of};
 
 use benchmark_entry::{Elected, Judged, Merged, Scheduled};
 use record_rows::row::{ConstraintRow, EditRow};
 
 #[unsafe(no_mangle)]
 pub extern "C" fn measure_judgement(edits: &[EditRow], constraints: &[ConstraintRow]) -> Judged
-    ensures { result ≡ judgement_numbers (judgement_of edits.now constraints.now) }
+    ensures { result ≡ judged_numbers edits.now constraints.now }
 {
     benchmark_entry::measure_judgement(edits, constraints)
 }
 
 #[unsafe(no_mangle)]
 pub extern "C" fn measure_schedule(edits: &[EditRow], constraints: &[ConstraintRow]) -> Scheduled
-    ensures { result ≡ scheduled_of (schedule_answer_of edits.now constraints.now) }
+    ensures { result ≡ scheduled_of edits.now constraints.now }
 {
     benchmark_entry::measure_schedule(edits, constraints)
 }

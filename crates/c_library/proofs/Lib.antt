@@ -1,2 +1,3 @@
 pub mod Parts
+pub mod Reading
 pub mod Told

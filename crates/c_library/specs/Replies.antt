@@ -1,15 +1,36 @@
 -- What the library answers to programs in other languages. Assumes nothing.
-use Rattle.std.specs.Prelude.{Bool, ◌&&◌, cond, List, ◌++◌, ℕ, leb, length, drop}
+use Rattle.std.specs.Prelude.{Bool, ◌&&◌, cond, List, ◌++◌, ℕ, leb, length, drop, Result, Ok, Err}
 use Rattle.text_lines.specs.Lines.{lines}
 use Rattle.text.specs.Text.{joined_lines, Answer, Accepted, Refused, text_of}
 use Rattle.text_writer.specs.Placed.{placed, placing}
-use Rattle.text_report.specs.declared.Reported.{Reported}
+use Rattle.text_reader.specs.declared.Fault.{Fault}
+use Rattle.text_report.specs.Report.{report_of}
 use Rattle.log_forms.specs.Printed.{Texts, Buffer, with_texts}
 use Rattle.log_run.specs.Log.{log_run, begun, run_lines}
+use Rattle.refusals.specs.declared.Refusal.{Refusal}
+use Rattle.refusals.specs.Numbers.{number}
+use Rattle.unity_table.specs.Unity.{UnityAnswer}
 use Rattle.c_library.specs.declared.Reply.{Reply}
+use Rattle.c_library.specs.declared.Unity.{Unity}
 
-abbrev pub reply_of : Reported → Reply
-reply_of r = record { number = r.number; line = r.line; size = r.size }
+-- how many bytes were written, or that they do not fit
+abbrev pub placed_reply : Result ℕ Refusal → Reply
+placed_reply (Ok size) = record { number = 0; line = 0; size = size }
+placed_reply (Err refusal) = record { number = number refusal; line = 0; size = 0 }
+
+-- what election answers come to, as the C library lays it out
+abbrev pub unity_reply : UnityAnswer → Unity
+unity_reply u = record { number = u.number; row = u.row; mean = u.mean; least = u.least; greatest = u.greatest; won = u.won; empty = u.empty }
+
+-- how many bytes were written, or the ground and the line of a text that is refused
+abbrev pub told_reply : Result ℕ Fault → Reply
+told_reply (Ok size) = record { number = 0; line = 0; size = size }
+told_reply (Err fault) = record { number = number fault.refusal; line = fault.line; size = 0 }
+
+-- the report at the start of the output, or 12 where it does not fit; or the text's number and line
+abbrev pub reported_reply : Answer → List ℕ → Reply
+reported_reply (Accepted R) out = placed_reply (placing (report_of R) 0 out)
+reported_reply (Refused number line) out = record { number = number; line = line; size = 0 }
 
 -- a text without fault, or its number and line
 abbrev pub checked_reply : Answer → Reply
@@ -18,7 +39,7 @@ checked_reply (Refused number line) = record { number = number; line = line; siz
 
 -- the same bytes at the start of the output
 abbrev pub rewritten_reply : Answer → List ℕ → Reply
-rewritten_reply (Accepted R) out = record { number = (placing (text_of R) 0 out).number; line = 0; size = (placing (text_of R) 0 out).end }
+rewritten_reply (Accepted R) out = placed_reply (placing (text_of R) 0 out)
 rewritten_reply (Refused number line) out = record { number = number; line = line; size = 0 }
 
 abbrev pub rewritten_out : Answer → List ℕ → List ℕ

@@ -3,13 +3,12 @@
 
 ghost use Rattle.std.specs.Prelude.{◌≡◌, [], map, ◌+◌, ◌≤◌, length};
 ghost use Rattle.text.specs.Text.{read_text};
-ghost use Rattle.text_report.specs.Report.{reported, reported_out};
+ghost use Rattle.text_report.specs.Report.{reported_out};
 ghost use Rattle.unity_table.specs.Unity.{weights_of, unity_of};
-ghost use Rattle.c_library.specs.Replies.{reply_of, checked_reply, rewritten_reply, rewritten_out, answers_to, answers_after, answered_reply, answered_out, worked};
+ghost use Rattle.c_library.specs.Replies.{unity_reply, reported_reply, checked_reply, rewritten_reply, rewritten_out, answers_to, answers_after, answered_reply, answered_out, worked};
 
-use c_library::Reply;
+use c_library::{Reply, Unity};
 use record_rows::row::ConstraintRow;
-use unity_table::Unity;
 
 #[unsafe(no_mangle)]
 pub extern "C" fn catalogue_check(text: &[u8]) -> Reply
@@ -20,7 +19,7 @@ pub extern "C" fn catalogue_check(text: &[u8]) -> Reply
 
 #[unsafe(no_mangle)]
 pub extern "C" fn catalogue_report(text: &[u8], out: &mut [u8]) -> Reply
-    ensures { (result ≡ reply_of (reported (read_text text.now) out.old))
+    ensures { (result ≡ reported_reply (read_text text.now) out.old)
         × (out.new ≡ reported_out (read_text text.now) out.old) }
 {
     c_library::catalogue_report(text, &mut out[..])
@@ -61,7 +60,7 @@ pub extern "C" fn catalogue_continue(
 
 #[unsafe(no_mangle)]
 pub extern "C" fn catalogue_unity(answers: &[ConstraintRow]) -> Unity
-    ensures { result ≡ unity_of (map weights_of answers.now) }
+    ensures { result ≡ unity_reply (unity_of (map weights_of answers.now)) }
 {
     c_library::catalogue_unity(answers)
 }

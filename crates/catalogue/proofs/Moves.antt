@@ -1,12 +1,13 @@
 -- Turns and changes of the chip catalogue, by the laws of pages.
-use mathlib.Core.Path.{◌≡◌, sym, ap, ◌∙◌}
-use mathlib.Core.Bool.{cond}
-use mathlib.Core.List.{List, map}
-use Prim.Native.Nat.{ℕ, ◌-◌, ◌<◌, ◌≤◌, min}
+use mathlib.Core.Path.{◌≡◌, refl, ap, ◌∙◌}
+use mathlib.Core.Bool.{Bool, cond}
+use mathlib.Core.List.{List, [], ◌∷◌, map}
+use Prim.Native.Nat.{ℕ, suc, ◌+◌, ◌-◌, ◌<◌, ◌≤◌}
 use native.Mathlib.Omega.{arith}
-use lib.ListN.{length, get_or, take, length-map, length-take, get_or-map}
-use lib.Dec.{leb}
-use lib.Seq.{slice, get_or-take, take-length}
+use lib.ListN.{length, take, length-map, length-take}
+use lib.Dec.{eqb, leb}
+use Rattle.std.specs.List.{prefix_len, zip}
+use lib.Seq.{slice, take-length}
 use borrow.Author.Tests.{le-leb, lt-leb}
 use Rattle.record.specs.declared.Edit.{Edit}
 use Rattle.record.specs.declared.Schedule.{Schedule}
@@ -14,32 +15,26 @@ use Rattle.record.specs.Record.{name_of}
 use Rattle.record.specs.Stored.{padded, filler_edit}
 use Rattle.pages.specs.Pages as pages
 use Rattle.pages.specs.Steps as steps
-use Rattle.pages.specs.Steps.{Agree}
+use Rattle.pages.specs.Steps.{Agree, common_beginning}
 use Rattle.record.proofs.Padded.{take-padded, slice-padded}
 use Rattle.pages.proofs.Turns.{pages-turn, pages-change}
-use Rattle.pages.proofs.Common.{common-left, common-right, common-found, common-take}
+use Rattle.pages.proofs.Common.{common-left, common-right, common-take}
 use Rattle.catalogue.specs.declared.View.{View}
 use Rattle.catalogue.specs.declared.Changed.{Changed}
 use Rattle.catalogue.specs.Chips.{rows, places, chips, stored_view, content_of, chips_view, schedule_of}
 use Rattle.catalogue.specs.Changes.{ViewTurns, ViewChanges, changed, common}
 
-name-at : (l : List Edit) (n j : ℕ) → j < n → get_or (map name_of (take n l)) j 0 ≡ (get_or l j filler_edit).name
-name-at l n j h = get_or-map name_of (take n l) j filler_edit ∙ ap name_of (get_or-take n l j filler_edit h)
+-- whether two edits have one name, and how many do at the beginning of two rows
+abbrev pub same_name : Edit × Edit → Bool
+same_name (a, b) = eqb a.name b.name
 
-length-names : (l : List Edit) (n : ℕ) → length (map name_of (take n l)) ≡ min n (length l)
-length-names l n = length-map (take n l) name_of ∙ length-take n l
-
--- the loop stops where a row ends or the names differ
-pub common-stops : (old new : List Edit) (n m end i : ℕ) → length old ≡ rows → length new ≡ rows → end ≡ min (min n m) rows → i ≤ end
-    → ((j : ℕ) → j < i → (get_or old j filler_edit).name ≡ (get_or new j filler_edit).name)
-    → (i < end → (get_or old i filler_edit).name ≡ (get_or new i filler_edit).name → ⊥) → i ≡ common (take n old) (take m new)
-unfolding common
-common-stops old new n m end i a b e h same stop =
-    let p = length-names old n in
-    let q = length-names new m in
-    common-found (map name_of (take n old)) (map name_of (take m new)) i (omega arith) (omega arith)
-    (λ j k. name-at old n j (omega arith) ∙ same j k ∙ sym (name-at new m j (omega arith)))
-    (λ k l x. stop (omega arith) (sym (name-at old n i (omega arith)) ∙ x ∙ name-at new m i (omega arith)))
+pub common-counted : (old new : List Edit) → prefix_len same_name (zip old new) ≡ common old new
+unfolding common common_beginning
+common-counted [] new = refl
+common-counted (x ∷ old) [] = refl
+common-counted (x ∷ old) (y ∷ new) =
+    let more : 1 + prefix_len same_name (zip old new) ≡ suc (common_beginning (map name_of old) (map name_of new)) = omega (arith, common-counted old new) in
+    ap (λ (n : ℕ). cond (eqb x.name y.name) n 0) more
 
 common-short : (old new : List Edit) → (common old new ≤ length old) × (common old new ≤ length new)
 unfolding common

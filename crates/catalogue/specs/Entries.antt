@@ -1,9 +1,8 @@
 -- Document 01, "Entries and pages": cells, entries and what an edit makes of an entry, for any number of cells. Assumes nothing.
-use Rattle.std.specs.Prelude.{true, false, cond, ℕ, set, replicate}
+use Rattle.std.specs.Prelude.{true, false, cond, ℕ, set, replicate, Some, None}
 use Rattle.record.specs.declared.Body.{Body}
 use Rattle.record.specs.declared.Body.TheVariants.{Insert, Set, Remove}
 use Rattle.record_rows.specs.row.Row.{field_number}
-use Rattle.catalogue.specs.declared.Cell.{Cell}
 use Rattle.catalogue.specs.declared.Entry.{Entry}
 
 abbrev pub place_of : Body → ℕ
@@ -11,16 +10,13 @@ place_of (Insert place) = place
 place_of (Set place field value) = place
 place_of (Remove place) = place
 
-abbrev pub blank : Cell
-blank = record { filled = false; value = 0 }
-
--- an absent entry has blank cells
+-- an absent entry has blank cells; a blank cell is none
 abbrev pub absent_entry : ℕ → Entry
-absent_entry n = record { present = false; cells = replicate n blank }
+absent_entry n = record { present = false; cells = replicate n None }
 
 -- Insert makes an absent entry present, all blank. Set fills the cell of a field of a present entry. Remove makes it absent. Otherwise nothing changes.
 abbrev pub run_body : ℕ → Body → Entry → Entry
-run_body n (Insert place) entry = cond entry.present entry (record { present = true; cells = replicate n blank })
+run_body n (Insert place) entry = cond entry.present entry (record { present = true; cells = replicate n None })
 run_body n (Set place field value) entry =
-    cond entry.present (record { present = true; cells = set entry.cells (field_number field) (record { filled = true; value = value }) }) entry
+    cond entry.present (record { present = true; cells = set entry.cells (field_number field) (Some value) }) entry
 run_body n (Remove place) entry = absent_entry n

@@ -1,16 +1,15 @@
 // Entries, the journal and pages of the chip catalogue (document 01, "Entries and pages").
 #![tactic(auto)]
 
-ghost use Rattle.std.specs.Prelude.{◌≡◌, take};
+ghost use Rattle.std.specs.Prelude.{◌≡◌, set, take};
 ghost use Rattle.std.proofs.Math.Seq.{slice};
-ghost use Rattle.pages.specs.Pages.{run_edit};
+ghost use Rattle.pages.specs.Pages.{run_edit, touched};
 ghost use Rattle.pages.specs.Steps.{back, forward, turn};
 ghost use Rattle.catalogue.specs.Entries.{absent_entry, place_of, run_body};
 ghost use Rattle.catalogue.specs.Chips.{cells, chips, content_of, empty_view, stored_view};
 ghost use Rattle.catalogue.specs.Changes.{ViewChanges, ViewTurns, changed, common};
 
 use record::{Body, EDITS, Edit, Schedule};
-use record_rows::row;
 
 // The sizes of the chip catalogue; specs/Chips.antt has the same numbers.
 pub const CELLS: usize = 4;
@@ -19,13 +18,10 @@ pub const PLACES: usize = 64;
 
 pub const PAGES: usize = EDITS;
 
-// A blank cell is not filled and has the value 0.
-#[derive(Clone, Copy)]
-pub struct Cell {
-    pub filled: bool,
-    pub value: u32,
-}
+// What is known of a chip in one field, if anything.
+pub type Cell = Option<u32>;
 
+// Kept: `present` beside the cells and no Option of them, since an absent entry has cells too, all blank, which the journal's lines print.
 #[derive(Clone, Copy)]
 pub struct Entry {
     pub present: bool,
@@ -54,9 +50,7 @@ pub fn place_of(body: Body) -> u8
     ensures { result ≡ place_of body }
 {
     match body {
-        Body::Insert(place) => place,
-        Body::Set(place, _, _) => place,
-        Body::Remove(place) => place,
+        Body::Insert(place) | Body::Set(place, _, _) | Body::Remove(place) => place,
     }
 }
 
@@ -65,10 +59,7 @@ fn absent_entry() -> Entry
 {
     Entry {
         present: false,
-        cells: [Cell {
-            filled: false,
-            value: 0,
-        }; CELLS],
+        cells: [None; CELLS],
     }
 }
 
@@ -77,30 +68,45 @@ fn run_entry(entry: Entry, body: Body) -> Entry
     ensures { result ≡ run_body cells body entry }
 {
     match body {
-        Body::Insert(_) => {
-            if entry.present {
-                entry
-            } else {
-                let mut inserted = absent_entry();
-                inserted.present = true;
-                inserted
-            }
-        }
-        Body::Set(_, field, value) => {
-            if entry.present {
-                let mut filled = entry;
-                let cell = numbers::index32(row::field_number(field));
-                let made = Cell {
-                    filled: true,
-                    value,
-                };
-                filled.cells[cell] = made;
-                filled
-            } else {
-                entry
-            }
+        Body::Insert(_) if !entry.present => Entry {
+            present: true,
+            cells: [None; CELLS],
+        },
+        Body::Set(_, field, value) if entry.present => {
+            let mut filled = entry;
+            filled.cells[field as usize] = Some(value);
+            filled
         }
         Body::Remove(_) => absent_entry(),
+        Body::Insert(_) | Body::Set(_, _, _) => entry,
+    }
+}
+
+// Kept: a place is tested and then indexed, since a proof learns no element of an array that was written through `get_mut`.
+impl Catalogue {
+    // An edit run. Gives the touched entry as it was before; a place past the last touches nothing.
+    fn run(&mut self, edit: Edit) -> Entry
+        ensures kept { result ≡ touched chips self.old.entries edit }
+        ensures ran { self.new.entries ≡ run_edit chips self.old.entries edit }
+    {
+        let place = usize::from(place_of(edit.body));
+        if place < PLACES {
+            let entry = self.entries[place];
+            self.entries[place] = run_entry(entry, edit.body);
+            entry
+        } else {
+            absent_entry()
+        }
+    }
+
+    // An entry put at a place, if it is one.
+    fn put(&mut self, place: u8, entry: Entry)
+        ensures { self.new.entries ≡ set self.old.entries place entry }
+    {
+        let place = usize::from(place);
+        if place < PLACES {
+            self.entries[place] = entry;
+        }
     }
 }
 
@@ -108,17 +114,9 @@ fn run_entry(entry: Entry, body: Body) -> Entry
 pub fn run_edit(catalogue: Catalogue, edit: Edit) -> Catalogue
     ensures { result ≡ record { entries = run_edit chips catalogue.entries edit } }
 {
-    let body = edit.body;
-    let place = place_of(body) as usize;
-    if place < PLACES {
-        let mut changed = catalogue;
-        let entry = changed.entries[place];
-        let made = run_entry(entry, body);
-        changed.entries[place] = made;
-        changed
-    } else {
-        catalogue
-    }
+    let mut changed = catalogue;
+    let _touched = changed.run(edit);
+    changed
 }
 
 // No entry is present, and no page is open.
@@ -137,52 +135,26 @@ pub fn empty_view() -> View
 }
 
 // The pages after page `from` up to page `to`, run. A schedule has no page past its rows.
-fn forward_to(view: View, schedule: Schedule, from: usize, to: usize) -> View
+fn forward_to(mut view: View, schedule: Schedule, from: usize, to: usize) -> View
     ensures { result ≡ stored_view (forward chips from (slice from to schedule.edits) (content_of view)) }
 {
-    let end = numbers::lesser(to, PAGES);
-    let mut catalogue = view.catalogue;
-    let mut journal = view.journal;
-    let mut page = from;
-    while page < end {
-        let row = page;
-        page += 1;
-        let edit = schedule.edits[row];
-        let body = edit.body;
-        let place = place_of(body) as usize;
-        if place < PLACES {
-            let entry = catalogue.entries[place];
-            journal.rows[row] = entry;
-            let made = run_entry(entry, body);
-            catalogue.entries[place] = made;
-        } else {
-            let absent = absent_entry();
-            journal.rows[row] = absent;
-        }
+    for page in from..to.min(PAGES) {
+        view.journal.rows[page] = view.catalogue.run(schedule.edits[page]);
     }
-    View { catalogue, journal }
+    view
 }
 
 // The pages after page `to` up to page `from`, undone by the journal, the last one first.
-fn back_to(view: View, schedule: Schedule, from: usize, to: usize) -> View
+fn back_to(mut view: View, schedule: Schedule, from: usize, to: usize) -> View
     ensures { result ≡ stored_view (back chips to (slice to from schedule.edits) (content_of view)) }
 {
-    let mut catalogue = view.catalogue;
-    let mut journal = view.journal;
-    let mut page = numbers::lesser(from, PAGES);
-    while to < page {
-        page -= 1;
-        let edit = schedule.edits[page];
-        let body = edit.body;
-        let place = place_of(body) as usize;
-        let entry = journal.rows[page];
-        let absent = absent_entry();
-        journal.rows[page] = absent;
-        if place < PLACES {
-            catalogue.entries[place] = entry;
-        }
+    for page in (to..from.min(PAGES)).rev() {
+        let kept = view.journal.rows[page];
+        view.journal.rows[page] = absent_entry();
+        view.catalogue
+            .put(place_of(schedule.edits[page].body), kept);
     }
-    View { catalogue, journal }
+    view
 }
 
 // From the open page to another page of the schedule.
@@ -201,17 +173,11 @@ pub fn turn_to(view: View, schedule: Schedule, opened: usize, page: usize) -> Vi
 fn common_beginning(old: Schedule, opened: usize, new: Schedule) -> usize
     ensures { result ≡ common (take opened old.edits) (take new.count new.edits) }
 {
-    let end = numbers::lesser(numbers::lesser(opened, new.count), PAGES);
-    let mut same: usize = 0;
-    while same < end {
-        let before = old.edits[same].name;
-        let after = new.edits[same].name;
-        if before != after {
-            return same;
-        }
-        same += 1;
-    }
-    same
+    old.edits[..opened.min(PAGES)]
+        .iter()
+        .zip(new.edit_slice())
+        .take_while(|(before, after)| before.name == after.name)
+        .count()
 }
 
 // The view at the last page of the new schedule, and the pages undone and redone.

@@ -1,10 +1,7 @@
 -- Document 02, A9: numbers of up to 64 bits, and what the code answers of a number or a fraction that may not fit. Assumes nothing.
-use Rattle.std.specs.Prelude.{Bool, true, false, cond, ◌&&◌, ℕ, ◌+◌, ◌*◌, ◌/◌, ◌≤◌, ◌<◌, ltb}
+use Rattle.std.specs.Prelude.{Bool, cond, ◌&&◌, ℕ, ◌+◌, ◌*◌, ◌/◌, ◌≤◌, ◌<◌, ltb, Option, Some, None}
 use Rattle.fraction.specs.declared.Fraction.{Fraction}
-use Rattle.fraction.specs.declared.Bounded.{Bounded}
-use Rattle.fraction.specs.declared.BoundedFraction.{BoundedFraction}
 use Rattle.fraction.specs.Divisor.{lcm}
-use Rattle.fraction.specs.Fraction.{no_fraction}
 
 -- 2^64, and the greatest number of 64 bits
 abbrev pub limit64 : ℕ
@@ -16,15 +13,15 @@ greatest64 = 18446744073709551615
 abbrev pub fits64 : ℕ → Bool
 fits64 n = ltb n limit64
 
--- the number, or that it does not fit, with 0 in its place
-unfoldable pub bounded : ℕ → Bounded
-bounded n = cond (fits64 n) (record { fits = true; value = n }) (record { fits = false; value = 0 })
+-- the number where it fits
+unfoldable pub bounded : ℕ → Option ℕ
+bounded n = cond (fits64 n) (Some n) None
 
-abbrev pub unbounded : BoundedFraction
-unbounded = record { fits = false; fraction = no_fraction }
+abbrev pub unbounded : Option Fraction
+unbounded = None
 
-unfoldable pub bounded_fraction : Fraction → BoundedFraction
-bounded_fraction f = cond (fits64 f.denominator && fits64 f.numerator) (record { fits = true; fraction = f }) unbounded
+unfoldable pub bounded_fraction : Fraction → Option Fraction
+bounded_fraction f = cond (fits64 f.denominator && fits64 f.numerator) (Some f) unbounded
 
 -- a sum with one fraction more, over the least common denominator of both
 unfoldable pub plus : Fraction → Fraction → Fraction

@@ -13,32 +13,14 @@ pub struct Fraction {
     pub denominator: u64,
 }
 
-// A whole number, or that it does not fit 64 bits.
-#[derive(Clone, Copy)]
-pub struct Bounded {
-    pub fits: bool,
-    pub value: u64,
-}
-
-// A fraction, or that a part of it does not fit 64 bits.
-#[derive(Clone, Copy)]
-pub struct BoundedFraction {
-    pub fits: bool,
-    pub fraction: Fraction,
-}
-
-const GREATEST_NUMBER: u64 = 18446744073709551615;
-
 // The greatest common divisor, by Euclid's algorithm.
+// Kept: the loop is a `while`, since how often a remainder is taken is known only when it is 0.
 fn gcd(a: u64, b: u64) -> u64
     ensures { result ≡ divisor.gcd a b }
 {
-    let mut x = a;
-    let mut y = b;
+    let (mut x, mut y) = (a, b);
     while y != 0 {
-        let rest = x % y;
-        x = y;
-        y = rest;
+        (x, y) = (y, x % y);
     }
     x
 }
@@ -61,6 +43,8 @@ pub fn lowest_terms(a: u64, b: u64) -> Fraction
 }
 
 // Pub for `unity_table`, whose shares are of small numbers.
+// Kept: no PartialOrd, whose laws fail at 0/0, which is below no fraction and above none, and whose products fit 64 bits only under a `requires`.
+#[tactic(auto, unfolding(crate::specs::Fraction::is_below))]
 pub fn is_below(f: Fraction, g: Fraction) -> bool
     requires { (f.numerator * g.denominator < bound.limit64) × (g.numerator * f.denominator < bound.limit64) }
     ensures { result ≡ is_below f g }
@@ -68,93 +52,39 @@ pub fn is_below(f: Fraction, g: Fraction) -> bool
     f.numerator * g.denominator < g.numerator * f.denominator
 }
 
-fn product(a: u64, b: u64) -> Bounded
-    ensures { result ≡ bound.bounded (a * b) }
-{
-    if b == 0 {
-        return Bounded {
-            fits: true,
-            value: 0,
-        };
-    }
-    if GREATEST_NUMBER / b < a {
-        return Bounded {
-            fits: false,
-            value: 0,
-        };
-    }
-    Bounded {
-        fits: true,
-        value: a * b,
-    }
-}
-
-fn least_common_multiple(a: u64, b: u64) -> Bounded
+fn least_common_multiple(a: u64, b: u64) -> Option<u64>
     ensures { result ≡ bound.bounded (divisor.lcm a b) }
 {
-    let parts = lowest_terms(a, b);
-    product(parts.numerator, b)
-}
-
-fn no_fraction() -> BoundedFraction
-    ensures { result ≡ bound.unbounded }
-{
-    let none = Fraction {
-        numerator: 0,
-        denominator: 0,
-    };
-    BoundedFraction {
-        fits: false,
-        fraction: none,
-    }
-}
-
-fn fraction_of(numerator: u64, denominator: u64) -> BoundedFraction
-    ensures { result ≡ bound.bounded_fraction (record { numerator = numerator; denominator = denominator }) }
-{
-    let whole = Fraction {
-        numerator: numerator,
-        denominator: denominator,
-    };
-    BoundedFraction {
-        fits: true,
-        fraction: whole,
-    }
+    lowest_terms(a, b).numerator.checked_mul(b)
 }
 
 // A sum with one fraction more, over the least common denominator. A share is at most 1, so that its part of the numerator fits where the
 // denominator does. Pub for `unity_table`, whose shares are such.
-pub fn plus(sum: Fraction, share: Fraction) -> BoundedFraction
+pub fn plus(sum: Fraction, share: Fraction) -> Option<Fraction>
     requires { bound.Addable sum share }
     ensures { result ≡ bound.bounded_fraction (bound.plus sum share) }
 {
-    let common = least_common_multiple(sum.denominator, share.denominator);
-    if !common.fits {
-        return no_fraction();
-    }
-    let denominator = common.value;
-    let scaled = product(sum.numerator, denominator / sum.denominator);
-    if !scaled.fits {
-        return no_fraction();
-    }
+    let denominator = least_common_multiple(sum.denominator, share.denominator)?;
+    let scaled = sum.numerator.checked_mul(denominator / sum.denominator)?;
     let added = share.numerator * (denominator / share.denominator);
-    if GREATEST_NUMBER - added < scaled.value {
-        return no_fraction();
-    }
-    fraction_of(scaled.value + added, denominator)
+    let numerator = scaled.checked_add(added)?;
+    Some(Fraction {
+        numerator,
+        denominator,
+    })
 }
 
 // A sum divided by a count, in lowest terms: the count is reduced too before it is multiplied, so that no more is refused than has to be.
 // Pub for `unity_table`, which divides by the number of shares.
-pub fn divided(sum: Fraction, count: u64) -> BoundedFraction
+pub fn divided(sum: Fraction, count: u64) -> Option<Fraction>
     requires { (0 < sum.denominator) × (0 < count) }
     ensures { result ≡ bound.bounded_fraction (lowest_terms sum.numerator (sum.denominator * count)) }
 {
     let reduced = lowest_terms(sum.numerator, sum.denominator);
     let parts = lowest_terms(reduced.numerator, count);
-    let denominator = product(reduced.denominator, parts.denominator);
-    if !denominator.fits {
-        return no_fraction();
-    }
-    fraction_of(parts.numerator, denominator.value)
+    let denominator = reduced.denominator.checked_mul(parts.denominator)?;
+    Some(Fraction {
+        numerator: parts.numerator,
+        denominator,
+    })
 }

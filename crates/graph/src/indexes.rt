@@ -2,74 +2,85 @@
 // for any counts and names; what they give is said of a record that is stored with checked tables.
 ghost use Rattle.std.specs.Prelude.{◌≡◌, ℕ, ◌+◌, ◌*◌, ◌<◌, ◌≤◌, length, get_or, set};
 ghost use Rattle.record.specs.Record as theory;
-ghost use Rattle.record.specs.Stored.{stored, constraint_limit};
-ghost use Rattle.record_rows.specs.row.Row.{name_limit};
+ghost use Rattle.record.specs.Stored.{stored};
 ghost use Rattle.graph.specs.links.Marks.{mark_limit, place_in};
-ghost use Rattle.graph.specs.links.Links.{key_limit, Safe};
+ghost use Rattle.graph.specs.links.Links.{key_limit};
 ghost use Rattle.graph.specs.links.Resolved.{Resolved};
 ghost use Rattle.graph.specs.indexes.Fit.{Fit};
 
-use crate::links;
-use crate::links::{ENABLES, NONCOMMUTING, ROWS, Rows};
-use record::{CONSTRAINTS, EDITS, Record};
+use crate::links::{ENABLES, Graph, Linking, NONCOMMUTING, Rows};
+use record::Record;
 use record_rows::row::NAMES;
+use std::marker::Model;
 
 // How many indexes there are, INIT's included.
-pub fn name_count(multilog: Record) -> usize
-    ensures { (result ≤ mark_limit) × ((R : theory.Record) → multilog ≡ stored R → Fit R → result ≡ length (theory.names R)) }
+fn name_count(multilog: Record) -> usize
+    ensures most { result ≤ mark_limit }
+    ensures count { (R : theory.Record) → multilog ≡ stored R → Fit R → result ≡ length (theory.names R) }
 {
-    numbers::lesser(multilog.editcount, EDITS) + 1
-}
-
-// How many constraints there are.
-pub fn row_count(multilog: Record) -> usize
-    ensures { (result ≤ constraint_limit) × ((R : theory.Record) → multilog ≡ stored R → Fit R → result ≡ length R.constraints) }
-{
-    numbers::lesser(multilog.constraintcount, CONSTRAINTS)
-}
-
-fn put_index(table: &mut [u8; NAMES], name: u16, index: u8)
-    requires { length table.old ≡ name_limit }
-    ensures { table.new ≡ set table.old name index }
-{
-    let at = numbers::index16(name);
-    if at < NAMES {
-        table[at] = index;
-    }
+    multilog.edit_slice().len() + 1
 }
 
 // The index of each name below the limit of names; 0 for INIT and for a name that the record does not know.
-pub fn index_table(multilog: Record) -> [u8; NAMES]
-    ensures { (length result ≡ name_limit) × ((x : ℕ) → get_or result x 0 < mark_limit)
-        × ((R : theory.Record) → multilog ≡ stored R → Fit R → (x : ℕ) → get_or result x 0 ≡ place_in (theory.names R) x) }
-{
-    let mut table = [0u8; NAMES];
-    let count = numbers::lesser(multilog.editcount, EDITS);
-    let mut i: usize = 0;
-    while i < count {
-        let edit = multilog.edits[i];
-        i += 1;
-        put_index(&mut table, edit.name, i as u8);
-    }
-    table
+#[derive(Drop)]
+pub struct IndexTable {
+    indexes: [u8; NAMES],
 }
 
-// The index of a name, 0 where the record has none. Pub for the crates that resolve names, which have the table whole.
-pub fn index_of(table: &[u8; NAMES], name: usize) -> usize
-    requires { length table.now ≡ name_limit }
-    ensures { result ≡ get_or table.now name 0 }
-{
-    if name < NAMES {
-        return numbers::index8(table[name]);
+// Clauses see the indexes.
+impl Model for IndexTable {
+    ghost use Rattle.std.specs.Prelude.{List, ℕ, ◌<◌, get_or};
+    ghost use Rattle.graph.specs.links.Marks.{mark_limit};
+
+    ghost Value = { List ℕ };
+
+    ghost view = { λ t. t.indexes };
+
+    ghost invariant = { λ t. (x : ℕ) → get_or t.indexes x 0 < mark_limit };
+}
+
+impl IndexTable {
+    fn put_index(&mut self, name: u16, index: usize)
+        requires { index < mark_limit }
+        ensures { self.new ≡ set self.old name index }
+    {
+        let at = usize::from(name);
+        if at < NAMES {
+            self.indexes[at] = index as u8;
+        }
     }
-    0
+
+    // The index of a name, 0 where the record has none. Pub for the crates that resolve names.
+    pub fn index_of(&self, name: usize) -> usize
+        ensures is { result ≡ get_or self.now name 0 }
+        ensures low { result < mark_limit }
+    {
+        match self.indexes.get(name) {
+            Some(index) => usize::from(*index),
+            None => 0,
+        }
+    }
+}
+
+pub fn index_table(multilog: Record) -> IndexTable
+    ensures { (R : theory.Record) → multilog ≡ stored R → Fit R → (x : ℕ) → get_or result x 0 ≡ place_in (theory.names R) x }
+{
+    let mut table = IndexTable {
+        indexes: [0; NAMES],
+    };
+    for (i, edit) in multilog.edit_slice().iter().enumerate() {
+        table.put_index(edit.name, i + 1);
+    }
+    table
 }
 
 // The right index above the base of the rule.
 fn key_of(rule: u8, right: usize) -> usize
     requires { right < mark_limit }
-    ensures { (result < key_limit) × (rule < 3 → result ≡ rule * mark_limit + right) }
+    ensures low { result < key_limit }
+    ensures is { rule < 3 → result ≡ rule * mark_limit + right }
 {
+    // Kept: the specification names a constraint's rule by number.
     match rule {
         0 => right,
         1 => ENABLES + right,
@@ -77,28 +88,25 @@ fn key_of(rule: u8, right: usize) -> usize
     }
 }
 
-fn rows_of(multilog: Record, table: &[u8; NAMES]) -> Rows
-    requires { (length table.now ≡ name_limit) × ((x : ℕ) → get_or table.now x 0 < mark_limit) }
-    ensures { Safe result
-        × ((R : theory.Record) → multilog ≡ stored R → Fit R → ((x : ℕ) → get_or table.now x 0 ≡ place_in (theory.names R) x) → Resolved R result) }
+fn rows_of(multilog: Record, table: &IndexTable) -> Rows
+    ensures { (R : theory.Record) → multilog ≡ stored R → Fit R → ((x : ℕ) → get_or table.now x 0 ≡ place_in (theory.names R) x) → Resolved R result }
 {
-    let mut rows = [0u16; ROWS];
-    let count = numbers::lesser(multilog.constraintcount, CONSTRAINTS);
-    let mut j: usize = 0;
-    while j < count {
-        let constraint = multilog.constraints[j];
-        let left = index_of(table, numbers::index16(constraint.left));
-        let right = index_of(table, numbers::index16(constraint.right));
-        links::link_row(&mut rows, j, key_of(constraint.rule, right), left);
-        j += 1;
+    let mut linking = Linking::new();
+    for constraint in multilog.constraint_slice() {
+        let left = table.index_of(usize::from(constraint.left));
+        let right = table.index_of(usize::from(constraint.right));
+        linking.link_row(key_of(constraint.rule, right), left);
     }
-    rows
+    linking.rows()
 }
 
-// The linked rows of a record.
-pub fn resolved(multilog: Record) -> Rows
-    ensures { Safe result × ((R : theory.Record) → multilog ≡ stored R → Fit R → Resolved R result) }
+// The edits of a record by index, with its linked rows.
+pub fn resolved(multilog: Record) -> Graph
+    ensures { (R : theory.Record) → multilog ≡ stored R → Fit R → Resolved R result.rows × (result.count ≡ length (theory.names R)) }
 {
     let table = index_table(multilog);
-    rows_of(multilog, &table)
+    Graph {
+        count: name_count(multilog),
+        rows: rows_of(multilog, &table),
+    }
 }

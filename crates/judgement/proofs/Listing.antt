@@ -21,7 +21,7 @@ use Rattle.record.proofs.Judged.{init-must}
 use Rattle.record.proofs.Scheduled.{musts-scheduled}
 use Rattle.graph.specs.links.Marks.{name_at}
 use Rattle.graph.proofs.links.Names.{get_or-among, place_same, ascending-distinct}
-use Rattle.judgement_marks.specs.declared.schedules.Row.{Row}
+use Rattle.judgement_marks.specs.declared.row.Row.{Row}
 use Rattle.judgement_marks.specs.schedules.Rows.{RowIs}
 use Rattle.judgement_marks.proofs.schedules.Paging.{list_length, list_at}
 use Rattle.graph.specs.indexes.Fit.{Fit}
@@ -65,13 +65,13 @@ name-zero : (R : Record) → name_at R 0 ≡ 0
 unfolding names
 name-zero R = refl
 
-module _ (R : Record) (f : Fit R) (r : declared.Record) (e : r ≡ stored R) (row : Row) (size : length row.indexes ≡ 128) (low : row.count ≤ 128) (hidden : List ℕ)
+module _ (R : Record) (f : Fit R) (r : declared.Record) (e : r ≡ stored R) (row : Row) (size : length row.indexes ≡ 128) (hidden : List ℕ)
     (g : RowIs R row (schedule R hidden)) where
   count-is : length (schedule R hidden) ≡ row.count
-  count-is = list_length R (ascending-distinct (names R) f.ascends) (names-few R f) row (schedule R hidden) (omega arith) g
+  count-is = list_length R (ascending-distinct (names R) f.ascends) (names-few R f) row (schedule R hidden) (omega (arith, size, row.few)) g
 
   name-is : (q : ℕ) → q < row.count → get_or (schedule R hidden) q 0 ≡ name_at R (get_or row.indexes q 0)
-  name-is = list_at R (ascending-distinct (names R) f.ascends) (names-few R f) row (schedule R hidden) (omega arith) g
+  name-is = list_at R (ascending-distinct (names R) f.ascends) (names-few R f) row (schedule R hidden) (omega (arith, size, row.few)) g
 
   -- INIT does not come again
   pub listing-init {ℓ} : {P : Type ℓ} (q : ℕ) → 1 ≤ q → q < row.count → get_or row.indexes q 0 ≡ 0 → P
@@ -112,12 +112,12 @@ module _ (R : Record) (f : Fit R) (r : declared.Record) (e : r ≡ stored R) (ro
       rw (k, more) (ap (λ c. set (padded 127 filler_edit done) c x) (sym (taken-length q a (omega arith))) ∙ padded-more 127 filler_edit done x (omega (arith, taken-length q a (omega arith))))
 
   pub listing-end : (edits : List Edit) (q : ℕ) → q - 1 ≡ row.count - 1 → Listing R (schedule R hidden) edits q
-      → ◌≡◌ {A = Schedule} (record { edits = edits; count = q - 1 }) (stored_schedule R hidden)
+      → ◌≡◌ {A = Schedule} (record { edits = edits; count = row.count - 1 }) (stored_schedule R hidden)
   unfolding stored_schedule scheduled_edits
   listing-end edits q c k =
       let l : length (drop 1 (schedule R hidden)) ≤ q - 1 = omega (arith, length-drop 1 (schedule R hidden), count-is) in
       let p : edits ≡ padded 127 filler_edit (map (edit_named R.edits) (drop 1 (schedule R hidden))) =
       k ∙ ap (λ m. padded 127 filler_edit (map (edit_named R.edits) m)) (take_all (q - 1) (drop 1 (schedule R hidden)) l) in
-      let n : q - 1 ≡ length (map (edit_named R.edits) (drop 1 (schedule R hidden))) =
+      let n : row.count - 1 ≡ length (map (edit_named R.edits) (drop 1 (schedule R hidden))) =
       omega (arith, length-map (drop 1 (schedule R hidden)) (edit_named R.edits), length-drop 1 (schedule R hidden), count-is) in
       λ i. record { edits = p i; count = n i }

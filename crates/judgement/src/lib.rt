@@ -5,19 +5,20 @@
 pub mod lent_record;
 pub mod row_test;
 
-ghost use Rattle.std.specs.Prelude.{◌≡◌, List, [], ◌∷◌, ℕ, ◌≤◌, ◌<◌, length, get_or};
+ghost use Rattle.std.specs.Prelude.{◌≡◌, List, [], ◌∷◌, ℕ};
 ghost use Rattle.record.specs.Record as theory;
 ghost use Rattle.lists.specs.Lists.{mem};
 ghost use Rattle.record.specs.Stored.{stored, filler_edit};
 ghost use Rattle.record.specs.Schedule as theory_schedule;
 ghost use Rattle.record.specs.Judgement as judgement;
-ghost use Rattle.graph.specs.links.Marks.{mark_limit, name_at, marks_of};
+ghost use Rattle.graph.specs.links.Marks.{name_at, marks_of};
 ghost use Rattle.judgement_marks.specs.schedules.Rows.{RowIs};
 ghost use Rattle.graph.specs.indexes.Fit.{Fit};
 ghost use Rattle.judgement.specs.Judged.{marked_edits, stored_schedule, judged_of};
 
+use graph::indexes;
 use graph::links::{MARKS, Marks};
-use graph::{indexes, links};
+use judgement_marks::row::Row;
 use judgement_marks::schedules;
 use record::{Body, EDITS, Edit, Record, Schedule};
 
@@ -34,52 +35,46 @@ pub struct Judged {
 pub fn sound(multilog: Record) -> bool
     ensures { (R : theory.Record) → multilog ≡ stored R → Fit R → result ≡ judgement.sound R }
 {
-    let n = indexes::name_count(multilog);
-    let rows = indexes::resolved(multilog);
-    let mustmarks = judgement_marks::must_marks(&rows);
-    !links::has_ring(n, &rows, mustmarks)
+    let graph = indexes::resolved(multilog);
+    let mustmarks = judgement_marks::must_marks(&graph.rows);
+    !graph.has_ring(mustmarks)
 }
 
 // The edits that must stand.
 pub fn musts(multilog: Record) -> Marks
     ensures { (R : theory.Record) → multilog ≡ stored R → Fit R → result ≡ marks_of R (judgement.must R) }
 {
-    let rows = indexes::resolved(multilog);
-    judgement_marks::must_marks(&rows)
+    let graph = indexes::resolved(multilog);
+    judgement_marks::must_marks(&graph.rows)
 }
 
 // The edits that can never stand.
 pub fn nevers(multilog: Record) -> Marks
     ensures { (R : theory.Record) → multilog ≡ stored R → Fit R → result ≡ marks_of R (judgement.never R) }
 {
-    let n = indexes::name_count(multilog);
-    let rows = indexes::resolved(multilog);
-    let mustmarks = judgement_marks::must_marks(&rows);
-    judgement_marks::never_marks(n, &rows, mustmarks)
+    let graph = indexes::resolved(multilog);
+    let mustmarks = judgement_marks::must_marks(&graph.rows);
+    judgement_marks::never_marks(&graph, mustmarks)
 }
 
 // The edits that are settled.
 pub fn settleds(multilog: Record) -> Marks
     ensures { (R : theory.Record) → multilog ≡ stored R → Fit R → result ≡ marks_of R (judgement.settled R) }
 {
-    let n = indexes::name_count(multilog);
-    let rows = indexes::resolved(multilog);
-    let mustmarks = judgement_marks::must_marks(&rows);
-    let nevermarks = judgement_marks::never_marks(n, &rows, mustmarks);
-    judgement_marks::settled_marks(n, &rows, mustmarks, nevermarks)
+    let graph = indexes::resolved(multilog);
+    let mustmarks = judgement_marks::must_marks(&graph.rows);
+    let nevermarks = judgement_marks::never_marks(&graph, mustmarks);
+    judgement_marks::settled_marks(&graph, mustmarks, nevermarks)
 }
 
 // The needs of the edit at an index; past the edits those of INIT.
 pub fn needs(multilog: Record, index: usize) -> Marks
     ensures { (R : theory.Record) → multilog ≡ stored R → Fit R → result ≡ marks_of R (λ y. mem y (theory_schedule.needs R (0 ∷ name_at R index ∷ []))) }
 {
-    let n = indexes::name_count(multilog);
-    let rows = indexes::resolved(multilog);
-    let mustmarks = judgement_marks::must_marks(&rows);
-    if index >= n {
-        return judgement_marks::needs_marks(&rows, mustmarks, 0);
-    }
-    judgement_marks::needs_marks(&rows, mustmarks, index)
+    let graph = indexes::resolved(multilog);
+    let mustmarks = judgement_marks::must_marks(&graph.rows);
+    let known = if index < graph.count { index } else { 0 };
+    judgement_marks::needs_marks(&graph.rows, mustmarks, known)
 }
 
 fn filler() -> Edit
@@ -92,28 +87,24 @@ fn filler() -> Edit
 }
 
 // A row of indexes as edits, without INIT, which comes first in every schedule.
-fn edits_of(multilog: Record, row: schedules::Row) -> Schedule
-    requires { (length row.indexes ≡ mark_limit) × (row.count ≤ mark_limit) × ((q : ℕ) → get_or row.indexes q 0 < mark_limit) }
+fn edits_of(multilog: Record, row: Row) -> Schedule
     ensures { (R : theory.Record) (hidden : List ℕ) → multilog ≡ stored R → Fit R → RowIs R row (theory_schedule.schedule R hidden) → result ≡ stored_schedule R hidden }
 {
     let edit = filler();
     let mut edits = [edit; EDITS];
-    let mut q: usize = 1;
-    while q < row.count {
-        let index = numbers::index8(row.indexes[q]);
+    for q in 1..row.count {
+        let index = usize::from(row.indexes[q]);
         if index == 0 {
             return Schedule {
-                edits: edits,
+                edits,
                 count: q - 1,
             };
         }
-        let next = multilog.edits[index - 1];
-        edits[q - 1] = next;
-        q += 1;
+        edits[q - 1] = multilog.edits[index - 1];
     }
     Schedule {
-        edits: edits,
-        count: q - 1,
+        edits,
+        count: row.count.saturating_sub(1),
     }
 }
 
@@ -121,10 +112,9 @@ fn edits_of(multilog: Record, row: schedules::Row) -> Schedule
 pub fn schedule(multilog: Record, hidden: Marks) -> Schedule
     ensures { (R : theory.Record) → multilog ≡ stored R → Fit R → result ≡ stored_schedule R (marked_edits R hidden) }
 {
-    let n = indexes::name_count(multilog);
-    let rows = indexes::resolved(multilog);
-    let mustmarks = judgement_marks::must_marks(&rows);
-    let row = schedules::schedule_row(n, &rows, mustmarks, &hidden);
+    let graph = indexes::resolved(multilog);
+    let mustmarks = judgement_marks::must_marks(&graph.rows);
+    let row = schedules::schedule_row(&graph, mustmarks, &hidden);
     edits_of(multilog, row)
 }
 
@@ -141,11 +131,10 @@ pub fn plan(multilog: Record, hidden: Marks) -> Planned
     ensures { (R : theory.Record) → multilog ≡ stored R → Fit R
         → (result.sound ≡ judgement.sound R) × (result.must ≡ marks_of R (judgement.must R)) × (result.schedule ≡ stored_schedule R (marked_edits R hidden)) }
 {
-    let n = indexes::name_count(multilog);
-    let rows = indexes::resolved(multilog);
-    let mustmarks = judgement_marks::must_marks(&rows);
-    let ring = links::has_ring(n, &rows, mustmarks);
-    let pages = schedules::schedule_row(n, &rows, mustmarks, &hidden);
+    let graph = indexes::resolved(multilog);
+    let mustmarks = judgement_marks::must_marks(&graph.rows);
+    let ring = graph.has_ring(mustmarks);
+    let pages = schedules::schedule_row(&graph, mustmarks, &hidden);
     Planned {
         sound: !ring,
         must: mustmarks,
@@ -157,18 +146,15 @@ pub fn plan(multilog: Record, hidden: Marks) -> Planned
 pub fn judge(multilog: Record) -> Judged
     ensures { (R : theory.Record) → multilog ≡ stored R → Fit R → result ≡ judged_of R }
 {
-    let n = indexes::name_count(multilog);
-    let rows = indexes::resolved(multilog);
-    let mustmarks = judgement_marks::must_marks(&rows);
-    let nevermarks = judgement_marks::never_marks(n, &rows, mustmarks);
-    let settledmarks = judgement_marks::settled_marks(n, &rows, mustmarks, nevermarks);
-    let nothing = [0u8; MARKS];
-    let row = schedules::schedule_row(n, &rows, mustmarks, &nothing);
-    let pages = schedules::page_values(row);
+    let graph = indexes::resolved(multilog);
+    let mustmarks = judgement_marks::must_marks(&graph.rows);
+    let nevermarks = judgement_marks::never_marks(&graph, mustmarks);
+    let settledmarks = judgement_marks::settled_marks(&graph, mustmarks, nevermarks);
+    let row = schedules::schedule_row(&graph, mustmarks, &[0; MARKS]);
     Judged {
         must: mustmarks,
         never: nevermarks,
         settled: settledmarks,
-        place: pages,
+        place: schedules::page_values(row),
     }
 }

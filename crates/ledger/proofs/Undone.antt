@@ -26,9 +26,8 @@ use Rattle.record_tables.proofs.Records.{joining-kept}
 use Rattle.voting.specs.declared.Election.{Election}
 use Rattle.voting.specs.Tally.{winner}
 use Rattle.voting_roll.specs.Election.{cast, counted}
-use Rattle.pages_turner.specs.declared.Turned.{Turned}
-use Rattle.pages_turner.specs.declared.Turned.TheVariants.{To, Refused}
-use Rattle.pages_turner.specs.Turn.{landed, turned, turned_answer}
+use Rattle.std.specs.Prelude.{Option as Page, Some, None}
+use Rattle.pages_turner.specs.Turn.{landed, turned, turn_fault, open_after}
 use Rattle.pages_turner.proofs.Landed.{turned-lands}
 use Rattle.pages.specs.Pages.{run, empty_catalogue}
 use Rattle.pages.proofs.Pages.{catalogue-of}
@@ -120,29 +119,29 @@ refused-unchanged calls call b r e a n =
     (λ q. ap (λ (o : Outcome). o.bench) x ∙ (ap (λ (s : Reply). bench_of s.after) (step-refused L call q) ∙ sym e))
 
 -- A TURN AND ITS OPPOSITE
-turned-back : (opened last page : ℕ) (n k : ℤ) → n +ℤ k ≡ pos 0 → opened ≤ last → turned opened last n ≡ To page → turned page last k ≡ To opened
+turned-back : (opened last page : ℕ) (n k : ℤ) → n +ℤ k ≡ pos 0 → opened ≤ last → turned opened last n ≡ Some page → turned page last k ≡ Some opened
 unfolding turned landed
 turned-back opened last page n k o l h =
     let a : pos page +ℤ k ≡ pos opened =
     ap (λ (z : ℤ). z +ℤ k) (sym (turned-lands last page opened n h).is) ∙ +ℤ_assoc (pos opened) n k ∙ ap (λ (z : ℤ). pos opened +ℤ z) o ∙ +ℤ_idr (pos opened) in
     ap (landed last) a ∙ rw (le-leb opened last l)
 
-turn-judged : (L : Ledger) (n : ℤ) (t : Turned) → turned L.opened (last L) n ≡ t → judge L (turn n) ≡ (turned_answer L.opened t).number
+turn-judged : (L : Ledger) (n : ℤ) (t : Page ℕ) → turned L.opened (last L) n ≡ t → judge L (turn n) ≡ turn_fault t
 unfolding judge
-turn-judged L n t e = ap (λ (u : Turned). (turned_answer L.opened u).number) e
+turn-judged L n t e = ap turn_fault e
 
-turn-after : (L : Ledger) (n : ℤ) (page : ℕ) → turned L.opened (last L) n ≡ To page → (step L (turn n)).after ≡ at_page L page
+turn-after : (L : Ledger) (n : ℤ) (page : ℕ) → turned L.opened (last L) n ≡ Some page → (step L (turn n)).after ≡ at_page L page
 unfolding act at_page
 turn-after L n page t =
-    ap (λ (r : Reply). r.after) (step-accepted L (turn n) (turn-judged L n (To page) t)) ∙ ap (λ (u : Turned). at_page L (turned_answer L.opened u).opened) t
+    ap (λ (r : Reply). r.after) (step-accepted L (turn n) (turn-judged L n (Some page) t)) ∙ ap (λ (u : Page ℕ). at_page L (open_after L.opened u)) t
 
 -- an accepted turn lands on a page
-turn_by {ℓ} : {P : Type ℓ} (L : Ledger) (n : ℤ) → judge L (turn n) ≡ 0 → ((page : ℕ) → turned L.opened (last L) n ≡ To page → P) → P
+turn_by {ℓ} : {P : Type ℓ} (L : Ledger) (n : ℤ) → judge L (turn n) ≡ 0 → ((page : ℕ) → turned L.opened (last L) n ≡ Some page → P) → P
 turn_by {P = P} L n h f = go (turned L.opened (last L) n) refl
   where
-    go : (t : Turned) → turned L.opened (last L) n ≡ t → P
-    go (To page) e = f page e
-    go Refused e = absurd (omega (arith, turn-judged L n Refused e))
+    go : (t : Page ℕ) → turned L.opened (last L) n ≡ t → P
+    go (Some page) e = f page e
+    go None e = absurd (omega (arith, turn-judged L n None e))
 
 pub opposite-turns : (calls : List Call) (n k : ℤ) (b : Bench) (r s : Outcome) → b ≡ bench_of (fed start calls) → n +ℤ k ≡ pos 0
     → Answers b (turn n) r → r.answer.number ≡ 0 → Answers r.bench (turn k) s → (s.answer.number ≡ 0) × (s.bench ≡ b)
@@ -157,7 +156,7 @@ opposite-turns calls n k b r s e o a z c =
     let w : r.bench ≡ bench_of (fed start (calls ++ (turn n ∷ []))) = ap (λ (u : Outcome). u.bench) x ∙ ap bench_of (sym (fed-more start calls (turn n))) in
     let y : s ≡ outcome (step (at_page L page) (turn k)) = rw m at (c (calls ++ (turn n ∷ [])) w) in
     let t₂ = turned-back L.opened (last L) page n k o v.opened-within t in
-    let second = turn-judged (at_page L page) k (To L.opened) t₂ in (
+    let second = turn-judged (at_page L page) k (Some L.opened) t₂ in (
       ap (λ (u : Outcome). u.answer.number) y ∙ (ap (λ (u : Reply). u.answer.number) (step-accepted (at_page L page) (turn k) second) ∙ accepted-number (at_page L page) (turn k)),
       ap (λ (u : Outcome). u.bench) y ∙ (ap bench_of (turn-after (at_page L page) k L.opened t₂) ∙ sym e),
     ))

@@ -23,9 +23,8 @@ use Rattle.record_tables.proofs.Records.{empty-checked, empty-sound, joined-chec
 use Rattle.voting.specs.declared.Election.{Election}
 use Rattle.voting.specs.Tally.{winner}
 use Rattle.voting_roll.specs.Election.{election_fault, cast, counted}
-use Rattle.pages_turner.specs.declared.Turned.{Turned}
-use Rattle.pages_turner.specs.declared.Turned.TheVariants.{To, Refused}
-use Rattle.pages_turner.specs.Turn.{turned, turned_answer}
+use Rattle.std.specs.Prelude.{Option as Page, Some, None}
+use Rattle.pages_turner.specs.Turn.{turned, open_after}
 use Rattle.pages_turner.proofs.Landed.{turned-lands}
 use Rattle.ledger.specs.Ledger.{Ledger, Call, add_edit, add_constraint, merge, hide, show, turn, adopt, start, pages, last, bundle_fault, judge, no_election, change, shown, adopted, act, refusal, step, fed}
 
@@ -67,9 +66,9 @@ adopted-valid L E none v h = v
 adopted-valid L E (some B) v h =
     union-valid L B E v (record-checked L.multilog B v.checked (orelse-none _ _ h).0) (not-false _ (given-none 7 _ (orelse-none (record_join_fault L.multilog B) _ h).1))
 
-landing-within : (opened last : ℕ) (n : ℤ) (t : Turned) → turned opened last n ≡ t → opened ≤ last → (turned_answer opened t).opened ≤ last
-landing-within opened last n (To page) e h = (turned-lands last page opened n e).within
-landing-within opened last n Refused e h = h
+landing-within : (opened last : ℕ) (n : ℤ) (t : Page ℕ) → turned opened last n ≡ t → opened ≤ last → open_after opened t ≤ last
+landing-within opened last n (Some page) e h = (turned-lands last page opened n e).within
+landing-within opened last n None e h = h
 
 pub shown-within : (x : ℕ) (hidden : List ℕ) → shown x hidden within hidden
 unfolding shown

@@ -12,7 +12,7 @@ use Rattle.voting.specs.declared.RollRow.{RollRow}
 use Rattle.voting.specs.declared.Election.{Election}
 use Rattle.voting.specs.Tally.{winner}
 use Rattle.voting_roll.specs.Election.{Proposals, election_fault, cast, counted, refused_election}
-use Rattle.pages_turner.specs.Turn.{turned, turned_answer}
+use Rattle.pages_turner.specs.Turn.{turned, turn_fault, open_after}
 use Rattle.pages.specs.Steps.{common_beginning}
 use Rattle.ledger.specs.declared.Answer.{Answer}
 
@@ -63,7 +63,7 @@ judge L (merge edits constraints) =
 judge L (hide x) =
     2 given not (is_name x) orelse 5 given not (mem x (written L.multilog)) orelse 9 given (must L.multilog x || mem x L.hidden)
 judge L (show x) = 2 given not (is_name x) orelse 5 given not (mem x (written L.multilog)) orelse 9 given not (mem x L.hidden)
-judge L (turn n) = (turned_answer L.opened (turned L.opened (last L) n)).number
+judge L (turn n) = turn_fault (turned L.opened (last L) n)
 judge L (adopt e P roll) = election_fault e P roll orelse bundle_fault L.multilog (winner (cast e P roll))
 
 -- an answer and the ledger after it
@@ -115,7 +115,7 @@ act L (turn n) = record {
     multilog = L.multilog;
     hidden = L.hidden;
     schedule = L.schedule;
-    opened = (turned_answer L.opened (turned L.opened (last L) n)).opened;
+    opened = open_after L.opened (turned L.opened (last L) n);
   };
 }
 act L (adopt e P roll) = adopted L (counted (cast e P roll)) (winner (cast e P roll))

@@ -7,9 +7,9 @@ use native.Mathlib.Omega.{arith}
 use native.Mathlib.Numerals.{add-one}
 use lib.ListN.{length, take, get_or}
 use lib.Seq.{take-suc, length-take-le, get_or-take}
-use Rattle.lists.specs.Lists.{any, all, filter}
+use Rattle.lists.specs.Lists.{all, filter}
 use Rattle.lists.proofs.Tests.{by, clash}
-use Rattle.lists.proofs.Logic.{any_append, any-has, all-has, has-get_or}
+use Rattle.lists.proofs.Logic.{all-has, has-get_or}
 
 pub take_more : {A : Type 0} (a : List A) (i : ℕ) (d : A) → i < length a → take (i + 1) a ≡ take i a ++ (get_or a i d ∷ [])
 take_more a i d h = rw (add-one i) (take-suc a i d h)
@@ -31,10 +31,6 @@ module _ {A : Type 0} (f : A → Bool) where
   filter-length (x ∷ l) = let h = filter-length l in by (f x) (λ e. rw e (omega arith)) (λ e. rw e (omega arith))
 
   module _ (a : List A) (i : ℕ) (d : A) (h : i < length a) where
-    pub some_more : any f (take i a) ≡ false → f (get_or a i d) ≡ false → any f (take (i + 1) a) ≡ false
-    unfolding any
-    some_more n e = rw (take_more a i d h, any_append, n, e)
-
     pub all_more : all f (take i a) ≡ true → f (get_or a i d) ≡ true → all f (take (i + 1) a) ≡ true
     unfolding all
     all_more n e = rw (take_more a i d h, all_append, n, e)
@@ -46,11 +42,6 @@ module _ {A : Type 0} (f : A → Bool) where
     pub filter-left : f (get_or a i d) ≡ false → filter f (take (i + 1) a) ≡ filter f (take i a)
     unfolding filter
     filter-left e = rw (take_more a i d h, filter-append, e) (append-nil (filter f (take i a)))
-
-  pub some-found : (a : List A) (n i : ℕ) (d : A) → i < n → n ≤ length a → f (get_or a i d) ≡ true → any f (take n a) ≡ true
-  some-found a n i d h l e =
-      let k : i < length (take n a) = omega (arith, length-take-le n a l) in
-      any-has f (take n a) (get_or (take n a) i d) (has-get_or (take n a) i d k) (rw (get_or-take n a i d h) e)
 
   pub all-broken : (a : List A) (n i : ℕ) (d : A) → i < n → n ≤ length a → f (get_or a i d) ≡ false → all f (take n a) ≡ false
   all-broken a n i d h l e =

@@ -1,6 +1,7 @@
 -- Laws of tests: either answer, and the answers of `&&` and `||` taken apart and put together. Assumes nothing.
 use mathlib.Core.Path.{◌≡◌, refl, sym}
-use mathlib.Core.Bool.{Bool, true, false, ◌&&◌, ◌||◌, or-true}
+use mathlib.Core.Bool.{Bool, true, false, cond, ◌&&◌, ◌||◌, or-true}
+use mir.Val.{bool_byte}
 use Prim.Native.Nat.{ℕ, ◌≤◌, ◌<◌}
 use native.Mathlib.Omega.{arith}
 use lib.Dec.{eqb, leb}
@@ -54,3 +55,8 @@ pub same_by : (a b : Bool) → (a ≡ true → b ≡ true) → (b ≡ true → a
 same_by true b f g = sym (f refl)
 same_by false true f g = g refl
 same_by false false f g = refl
+
+-- the number of a truth value
+pub byte-bit : (b : Bool) → bool_byte b ≡ cond {A = ℕ} b 1 0
+byte-bit true = refl
+byte-bit false = refl

@@ -1,10 +1,8 @@
 // What a bench is asked in a call log: its hidden edits, its schedule, its catalogue, its journal and its page.
-ghost use Rattle.std.specs.Prelude.{◌≡◌, cond, [], ◌∷◌, ◌≤◌, length, take, drop};
+ghost use Rattle.std.specs.Prelude.{◌≡◌, cond, [], ◌∷◌, ◌≤◌, length, take};
 ghost use Rattle.lists.specs.Lists.{filter};
 ghost use Rattle.log_forms.specs.Printed.{Printed, texts_from};
-ghost use Rattle.text_forms.specs.Form.{fill};
 ghost use Rattle.log_answers.specs.Answers.{answer_line};
-ghost use Rattle.log_answers.specs.declared.bench_answers.Owner.TheVariants.{Chip, Page};
 ghost use Rattle.log_answers.specs.bench_answers.Asks.{hides, hidden_line, hidden_text, page_line, schedule_text, cell_form, cell_line, cells_text, is_present, entry_text, catalogue_text, row_text, row_at, journal_text, page_text};
 
 use catalogue::{CELLS, Cell, Entry, PAGES, PLACES};
@@ -19,25 +17,11 @@ pub enum Owner {
     Page,
 }
 
-fn is_hidden(mark: u8) -> bool
-    ensures { result ≡ hides mark }
+// How many of these marks hide an edit.
+fn count_hidden(marks: &[u8]) -> usize
+    ensures { result ≡ length (filter hides marks.now) }
 {
-    mark == 1
-}
-
-// How many of the first n edits are hidden.
-fn count_hidden(marks: [u8; 128], n: usize) -> usize
-    requires { n ≤ 127 }
-    ensures { result ≡ length (filter hides (take n (drop 1 marks))) }
-{
-    let mut count = 0;
-    let mut i = 0;
-    while i < n {
-        let mark = marks[i + 1];
-        count += numbers::bit(is_hidden(mark));
-        i += 1;
-    }
-    count
+    marks.iter().filter(|mark| **mark == 1).count()
 }
 
 // The line of an edit that is hidden.
@@ -47,26 +31,17 @@ fn print_if_hidden(out: &mut [u8], at: usize, mark: u8, name: u16) -> usize
     if mark != 1 {
         return at;
     }
-    log_forms::print(&mut out[..], at, b"edit=@\n", &[name as u64])
+    log_forms::print(out, at, b"edit=@\n", &[u64::from(name)])
 }
 
-fn print_hidden_edits(
-    out: &mut [u8],
-    at: usize,
-    edits: [Edit; PAGES],
-    n: usize,
-    marks: [u8; 128],
-) -> usize
-    requires { n ≤ 127 }
-    ensures { (Printed (texts_from (hidden_line marks) 1 (take n edits)) out.old at out.new result) × (length edits ≡ 127) }
+// Kept: the mark of an edit stands one place further than the edit, and a row at its page, so that an index says more than a zip.
+fn print_hidden_edits(out: &mut [u8], at: usize, edits: &[Edit], marks: [u8; 128]) -> usize
+    requires { length edits.now ≤ 127 }
+    ensures { Printed (texts_from (hidden_line marks) 1 edits.now) out.old at out.new result }
 {
     let mut place = at;
-    let mut i = 0;
-    while i < n {
-        let e = edits[i];
-        let mark = marks[i + 1];
-        place = print_if_hidden(&mut out[..], place, mark, e.name);
-        i += 1;
+    for (i, edit) in edits.iter().enumerate() {
+        place = print_if_hidden(out, place, marks[i + 1], edit.name);
     }
     place
 }
@@ -74,26 +49,21 @@ fn print_hidden_edits(
 pub fn print_hidden(out: &mut [u8], at: usize, bench: Bench) -> usize
     ensures { Printed (hidden_text (take bench.multilog.editcount bench.multilog.edits) bench.hidden) out.old at out.new result }
 {
-    let multilog = bench.multilog;
+    let edits = bench.multilog.edit_slice();
     let marks = bench.hidden;
-    let edits = multilog.edits;
-    let n = numbers::lesser(multilog.editcount, PAGES);
-    let count = count_hidden(marks, n);
-    let place = log_forms::print(&mut out[..], at, b"hidden=#\n", &[count as u64]);
-    print_hidden_edits(&mut out[..], place, edits, n, marks)
+    let count = count_hidden(&marks[1..=edits.len()]);
+    let place = log_forms::print(out, at, b"hidden=#\n", &[count as u64]);
+    print_hidden_edits(out, place, edits, marks)
 }
 
-fn print_pages(out: &mut [u8], at: usize, edits: [Edit; PAGES], n: usize) -> usize
-    requires { n ≤ 127 }
-    ensures { (Printed (texts_from page_line 1 (take n edits)) out.old at out.new result) × (length edits ≡ 127) }
+fn print_pages(out: &mut [u8], at: usize, edits: &[Edit]) -> usize
+    requires { length edits.now ≤ 127 }
+    ensures { Printed (texts_from page_line 1 edits.now) out.old at out.new result }
 {
     let mut place = at;
-    let mut i = 0;
-    while i < n {
-        let e = edits[i];
-        i += 1;
-        let numbers = [i as u64, e.name as u64];
-        place = log_forms::print(&mut out[..], place, b"page=# edit=@\n", &numbers);
+    for (i, edit) in edits.iter().enumerate() {
+        let numbers = [i as u64 + 1, u64::from(edit.name)];
+        place = log_forms::print(out, place, b"page=# edit=@\n", &numbers);
     }
     place
 }
@@ -101,34 +71,24 @@ fn print_pages(out: &mut [u8], at: usize, edits: [Edit; PAGES], n: usize) -> usi
 pub fn print_schedule(out: &mut [u8], at: usize, bench: Bench) -> usize
     ensures { Printed (schedule_text (take bench.schedule.count bench.schedule.edits)) out.old at out.new result }
 {
-    let schedule = bench.schedule;
-    let edits = schedule.edits;
-    let n = numbers::lesser(schedule.count, PAGES);
-    let place = log_forms::print(&mut out[..], at, b"last=#\n", &[n as u64]);
-    print_pages(&mut out[..], place, edits, n)
+    let edits = bench.schedule.edit_slice();
+    let place = log_forms::print(out, at, b"last=#\n", &[edits.len() as u64]);
+    print_pages(out, place, edits)
 }
 
-// The line of a cell of a chip, by its field.
-fn print_chip_cell(out: &mut [u8], at: usize, field: usize, numbers: &[u64]) -> usize
-    ensures { Printed (fill (cell_form Chip field) numbers.now ∷ []) out.old at out.new result }
+// The line of a cell by its field: of a chip's cell, or of a page's.
+fn cell_form(owner: Owner, field: usize) -> &'static [u8]
+    ensures { result.now ≡ cell_form owner field }
 {
-    match field {
-        0 => log_forms::print(&mut out[..], at, b"chip=# field=id value=#\n", numbers),
-        1 => log_forms::print(&mut out[..], at, b"chip=# field=size value=#\n", numbers),
-        2 => log_forms::print(&mut out[..], at, b"chip=# field=erase value=#\n", numbers),
-        _ => log_forms::print(&mut out[..], at, b"chip=# field=page value=#\n", numbers),
-    }
-}
-
-// The same of a page.
-fn print_page_cell(out: &mut [u8], at: usize, field: usize, numbers: &[u64]) -> usize
-    ensures { Printed (fill (cell_form Page field) numbers.now ∷ []) out.old at out.new result }
-{
-    match field {
-        0 => log_forms::print(&mut out[..], at, b"page=# field=id value=#\n", numbers),
-        1 => log_forms::print(&mut out[..], at, b"page=# field=size value=#\n", numbers),
-        2 => log_forms::print(&mut out[..], at, b"page=# field=erase value=#\n", numbers),
-        _ => log_forms::print(&mut out[..], at, b"page=# field=page value=#\n", numbers),
+    match (owner, field) {
+        (Owner::Chip, 0) => b"chip=# field=id value=#\n",
+        (Owner::Chip, 1) => b"chip=# field=size value=#\n",
+        (Owner::Chip, 2) => b"chip=# field=erase value=#\n",
+        (Owner::Chip, _) => b"chip=# field=page value=#\n",
+        (Owner::Page, 0) => b"page=# field=id value=#\n",
+        (Owner::Page, 1) => b"page=# field=size value=#\n",
+        (Owner::Page, 2) => b"page=# field=erase value=#\n",
+        (Owner::Page, _) => b"page=# field=page value=#\n",
     }
 }
 
@@ -143,14 +103,11 @@ fn print_cell(
 ) -> usize
     ensures { Printed (cell_line owner label field cell) out.old at out.new result }
 {
-    if !cell.filled {
+    let Some(value) = cell else {
         return at;
-    }
-    let numbers = [label, cell.value as u64];
-    match owner {
-        Owner::Chip => print_chip_cell(&mut out[..], at, field, &numbers),
-        Owner::Page => print_page_cell(&mut out[..], at, field, &numbers),
-    }
+    };
+    let form = cell_form(owner, field);
+    log_forms::print(out, at, form, &[label, u64::from(value)])
 }
 
 // The lines of an entry's cells; the label is the chip or the page.
@@ -158,11 +115,8 @@ fn print_cells(out: &mut [u8], at: usize, owner: Owner, label: u64, cells: [Cell
     ensures { Printed (cells_text owner label cells) out.old at out.new result }
 {
     let mut place = at;
-    let mut i = 0;
-    while i < CELLS {
-        let cell = cells[i];
-        place = print_cell(&mut out[..], place, owner, label, i, cell);
-        i += 1;
+    for (field, cell) in cells.iter().enumerate() {
+        place = print_cell(out, place, owner, label, field, *cell);
     }
     place
 }
@@ -173,33 +127,22 @@ fn print_entry(out: &mut [u8], at: usize, chip: usize, entry: Entry) -> usize
     if !entry.present {
         return at;
     }
-    let cells = entry.cells;
-    let place = log_forms::print(&mut out[..], at, b"chip=#\n", &[chip as u64]);
-    print_cells(&mut out[..], place, Owner::Chip, chip as u64, cells)
+    let place = log_forms::print(out, at, b"chip=#\n", &[chip as u64]);
+    print_cells(out, place, Owner::Chip, chip as u64, entry.cells)
 }
 
 fn count_present(entries: [Entry; PLACES]) -> usize
     ensures { result ≡ length (filter is_present entries) }
 {
-    let mut count = 0;
-    let mut i = 0;
-    while i < PLACES {
-        let entry = entries[i];
-        count += numbers::bit(entry.present);
-        i += 1;
-    }
-    count
+    entries.iter().filter(|entry| entry.present).count()
 }
 
 fn print_entries(out: &mut [u8], at: usize, entries: [Entry; PLACES]) -> usize
     ensures { Printed (texts_from entry_text 0 entries) out.old at out.new result }
 {
     let mut place = at;
-    let mut i = 0;
-    while i < PLACES {
-        let entry = entries[i];
-        place = print_entry(&mut out[..], place, i, entry);
-        i += 1;
+    for (chip, entry) in entries.iter().enumerate() {
+        place = print_entry(out, place, chip, *entry);
     }
     place
 }
@@ -207,44 +150,30 @@ fn print_entries(out: &mut [u8], at: usize, entries: [Entry; PLACES]) -> usize
 pub fn print_catalogue(out: &mut [u8], at: usize, bench: Bench) -> usize
     ensures { Printed (catalogue_text bench.view.catalogue.entries) out.old at out.new result }
 {
-    let view = bench.view;
-    let catalogue = view.catalogue;
-    let entries = catalogue.entries;
+    let entries = bench.view.catalogue.entries;
     let count = count_present(entries);
-    let place = log_forms::print(&mut out[..], at, b"chips=#\n", &[count as u64]);
-    print_entries(&mut out[..], place, entries)
+    let place = log_forms::print(out, at, b"chips=#\n", &[count as u64]);
+    print_entries(out, place, entries)
 }
 
 // The touched chip and the entry that a page keeps.
 fn print_row(out: &mut [u8], at: usize, page: usize, edit: Edit, row: Entry) -> usize
     ensures { Printed (row_text page edit row) out.old at out.new result }
 {
-    let body = edit.body;
-    let chip = catalogue::place_of(body);
-    let present = numbers::bit(row.present);
-    let cells = row.cells;
-    let numbers = [page as u64, chip as u64, present as u64];
-    let place = log_forms::print(&mut out[..], at, b"page=# chip=# present=?\n", &numbers);
-    print_cells(&mut out[..], place, Owner::Page, page as u64, cells)
+    let chip = catalogue::place_of(edit.body);
+    let present = u64::from(row.present);
+    let numbers = [page as u64, chip as u64, present];
+    let place = log_forms::print(out, at, b"page=# chip=# present=?\n", &numbers);
+    print_cells(out, place, Owner::Page, page as u64, row.cells)
 }
 
-fn print_rows(
-    out: &mut [u8],
-    at: usize,
-    edits: [Edit; PAGES],
-    n: usize,
-    rows: [Entry; PAGES],
-) -> usize
-    requires { n ≤ 127 }
-    ensures { (Printed (texts_from (row_at rows) 1 (take n edits)) out.old at out.new result) × (length edits ≡ 127) }
+fn print_rows(out: &mut [u8], at: usize, edits: &[Edit], rows: [Entry; PAGES]) -> usize
+    requires { length edits.now ≤ 127 }
+    ensures { Printed (texts_from (row_at rows) 1 edits.now) out.old at out.new result }
 {
     let mut place = at;
-    let mut i = 0;
-    while i < n {
-        let e = edits[i];
-        let row = rows[i];
-        i += 1;
-        place = print_row(&mut out[..], place, i, e, row);
+    for (i, edit) in edits.iter().enumerate() {
+        place = print_row(out, place, i + 1, *edit, rows[i]);
     }
     place
 }
@@ -252,15 +181,9 @@ fn print_rows(
 pub fn print_journal(out: &mut [u8], at: usize, bench: Bench) -> usize
     ensures { Printed (journal_text (take bench.turner.opened bench.schedule.edits) bench.view.journal.rows) out.old at out.new result }
 {
-    let turner = bench.turner;
-    let schedule = bench.schedule;
-    let edits = schedule.edits;
-    let view = bench.view;
-    let journal = view.journal;
-    let rows = journal.rows;
-    let n = numbers::lesser(turner.opened, PAGES);
-    let place = log_forms::print(&mut out[..], at, b"open=#\n", &[n as u64]);
-    print_rows(&mut out[..], place, edits, n, rows)
+    let edits = &bench.schedule.edits[..bench.turner.opened.min(PAGES)];
+    let place = log_forms::print(out, at, b"open=#\n", &[edits.len() as u64]);
+    print_rows(out, place, edits, bench.view.journal.rows)
 }
 
 // The turner alone tells the page.
@@ -268,5 +191,5 @@ pub fn print_page(out: &mut [u8], at: usize, turner: Turner) -> usize
     ensures { Printed (page_text turner.opened turner.last) out.old at out.new result }
 {
     let numbers = [turner.opened as u64, turner.last as u64];
-    log_forms::print(&mut out[..], at, b"open=# last=#\n", &numbers)
+    log_forms::print(out, at, b"open=# last=#\n", &numbers)
 }

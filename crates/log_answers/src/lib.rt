@@ -19,10 +19,10 @@ pub fn print_refusal(number: u32, line: usize, out: &mut [u8], at: usize) -> usi
     ensures { Printed (refusal_line number line ∷ []) out.old at out.new result }
 {
     log_forms::print(
-        &mut out[..],
+        out,
         at,
         b"refused=# line=#\n",
-        &[number as u64, line as u64],
+        &[u64::from(number), line as u64],
     )
 }
 
@@ -31,11 +31,10 @@ pub fn print_text(out: &mut [u8], at: usize, content: Record) -> usize
     ensures { Printed (text_of (record_of content) ∷ []) out.old at out.new result }
 {
     let size = out.len();
-    let written = text_writer::write_text(content, &mut out[..], at);
-    if written.number != 0 {
+    let Ok(end) = text_writer::write_text(content, out, at) else {
         return size + 1;
-    }
-    written.end
+    };
+    end
 }
 
 // Prints the counts of a record, then its text.
@@ -43,8 +42,8 @@ pub fn print_record(out: &mut [u8], at: usize, content: Record) -> usize
     ensures { Printed (record_text content) out.old at out.new result }
 {
     let numbers = [content.editcount as u64, content.constraintcount as u64];
-    let head = log_forms::print(&mut out[..], at, b"edits=# rules=#\n", &numbers);
-    print_text(&mut out[..], head, content)
+    let head = log_forms::print(out, at, b"edits=# rules=#\n", &numbers);
+    print_text(out, head, content)
 }
 
 // Prints the report of a sound record.
@@ -55,12 +54,11 @@ pub fn print_report(out: &mut [u8], at: usize, content: Record) -> usize
     if size < at {
         return size + 1;
     }
-    let written = text_report::report_record(content, &mut out[at..]);
-    if written.number != 0 {
+    let Ok(end) = text_report::report_record(content, &mut out[at..]) else {
+        return size + 1;
+    };
+    if size - at < end {
         return size + 1;
     }
-    if size - at < written.end {
-        return size + 1;
-    }
-    at + written.end
+    at + end
 }

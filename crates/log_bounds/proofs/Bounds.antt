@@ -16,13 +16,11 @@ use Rattle.lists.proofs.Logic.{has-mapped, filter-from}
 use Rattle.lists.proofs.Union.{united-has}
 use Rattle.record.specs.declared.Edit.{Edit}
 use Rattle.record.specs.Record.{Record, written}
-use Rattle.record.specs.Stored.{stored, record_of}
 use Rattle.record_rows.specs.row.Row.{Row, value_cell, edit_in_range, edit_of, edit_row}
 use Rattle.record_rows.specs.grounds.Ground.{Rows}
 use Rattle.record_rows.proofs.grounds.Grounds.{given-none}
 use Rattle.record_rows.proofs.row.Cells.{edit-filler, edit-back}
 use Rattle.record_tables.specs.Table.{edit_rows, empty_tables, edit_key, unite}
-use Rattle.record_tables.proofs.Tables.{stored_back}
 use Rattle.voting.specs.declared.RollRow.{RollRow as Seat}
 use Rattle.voting.specs.declared.Election.{Election}
 use Rattle.voting.specs.Bundle.{members, bundle, eligible, vote}
@@ -43,7 +41,7 @@ use Rattle.log_commands.specs.declared.Call.TheVariants.{AddEdit, AddConstraint,
 use Rattle.log_commands.specs.declared.Proposing.{Proposing}
 use Rattle.log_lent.specs.Lent.{Lent, nothing_lent, is_lent, edit_places, rows_fault, with, added, with_edit, with_constraint, with_record, seat_number, with_seat, without_roll, name_number, with_name, without_row}
 use Rattle.log_lent.specs.lent_calls.Calls.{proposals_of}
-use Rattle.log_lent.specs.lent_proposals.Made.{tables_of, proposal_of, proposal_in}
+use Rattle.log_lent.specs.lent_proposals.Made.{tables_of, lent_proposal_fault, proposal_made}
 use Rattle.log_session.specs.Desk.{Desk, Request, outside, make, empty_desk, ledger_of, requested}
 use Rattle.log_bounds.specs.Bounded.{Bounded}
 use Rattle.log_session.specs.Lends.{lend_effect, edit_cells_row}
@@ -81,9 +79,6 @@ rows_fit R f row m = has-mapped edit_row row R.edits m (λ e n q. rw q (f e n))
 
 united-fits : (s t : List Edit) → Each EditFits s → Each EditFits t → Each EditFits (united edit_key s t)
 united-fits s t f g e m = ⊎_elim (f e) (g e) (united-has edit_key e s t m)
-
-stored-fits : (R : Record) → Each EditFits R.edits → Each EditFits (record_of (stored R)).edits
-stored-fits R f = let q : (record_of (stored R)).edits ≡ R.edits = ap (λ (S : Record). S.edits) (stored_back R) in rw q f
 
 -- bundles and votes
 pub bundle-fits : (R : Record) (e : ℕ) → Each EditFits R.edits → Each EditFits (bundle R e).edits
@@ -277,21 +272,21 @@ new-proposal-fits t f g =
     (λ (e : eqb (propose_fault t) 0 ≡ true). rw e (united-fits (record_m t).edits (proposal_q t).edits (decoded-fits t.edits f) (decoded-fits t.oldedits g)))
     (λ (e : eqb (propose_fault t) 0 ≡ false). rw e (λ x m. absurd m))
 
-proposal-fits : (L : Lent) → LentFits L → (k old n m : ℕ) → Each EditFits (record_of (proposal_in L k old n m).after).edits
-unfolding proposal_in proposal_of
+proposal-fits : (L : Lent) → LentFits L → (k old n m : ℕ) → Each EditFits (proposal_made L k old n m).edits
+unfolding proposal_made
 proposal-fits L F k old n m =
     by (is_lent k && is_lent old)
-    (λ (e : (ltb k 9 && ltb old 9) ≡ true). let t = tables_of L k old n m in rw e (stored-fits (new_proposal t) (new-proposal-fits t (F.lent k) (F.lent old))))
-    (λ (e : (ltb k 9 && ltb old 9) ≡ false). rw e (stored-fits empty_tables (λ x w. absurd w)))
+    (λ (e : (ltb k 9 && ltb old 9) ≡ true). rw e (new-proposal-fits (tables_of L k old n m) (F.lent k) (F.lent old)))
+    (λ (e : (ltb k 9 && ltb old 9) ≡ false). rw e (λ x w. absurd w))
 
 proposes-fit : (D : Desk) → Bounded D → (w : Proposing) → LentFits (proposal_effect D w).after.lent
 unfolding proposal_effect
 proposes-fit D B w =
-    let p = proposal_in D.lent w.lent w.old w.edits w.rules in
-    by (eqb p.number 0 && w.keep)
-    (λ (e : (eqb p.number 0 && w.keep) ≡ true).
-    rw e (record-lent D.lent w.old (record_of p.after) (lent_fits D B) (proposal-fits D.lent (lent_fits D B) w.lent w.old w.edits w.rules)))
-    (λ (e : (eqb p.number 0 && w.keep) ≡ false). rw e (lent_fits D B))
+    let n = lent_proposal_fault D.lent w.lent w.old w.edits w.rules in
+    by (eqb n 0 && w.keep)
+    (λ (e : (eqb n 0 && w.keep) ≡ true).
+    rw e (record-lent D.lent w.old (proposal_made D.lent w.lent w.old w.edits w.rules) (lent_fits D B) (proposal-fits D.lent (lent_fits D B) w.lent w.old w.edits w.rules)))
+    (λ (e : (eqb n 0 && w.keep) ≡ false). rw e (lent_fits D B))
 
 pub proposal-bounded : (D : Desk) → Bounded D → (w : Proposing) → Bounded (proposal_effect D w).after
 unfolding proposal_effect

@@ -4,10 +4,10 @@ use mathlib.Core.Bool.{Bool, true, false, cond, ◌&&◌}
 use mathlib.Core.Logic.{inl, inr}
 use mathlib.Core.List.{List, [], ◌∷◌, ◌++◌}
 use mathlib.Core.Option.{Option, none, some}
-use Prim.Native.Nat.{ℕ, ◌-◌, ◌≤◌, ◌<◌, ◌^◌}
+use Prim.Native.Nat.{ℕ, ◌-◌, ◌≤◌, ◌<◌, ◌^◌, min, max}
 use native.Mathlib.Omega.{arith}
 use borrow.Author.Tests.{eqb-true, eqb-false, eq-eqb}
-use lib.Dec.{eqb, leb, ltb}
+use lib.Dec.{eqb, ltb}
 use lib.ListN.{length, take, replicate, length-map, length-take}
 use lib.Seq.{take-length}
 use Rattle.lists.specs.Lists.{mem}
@@ -20,7 +20,7 @@ use Rattle.record.specs.Record.{Record}
 use Rattle.record.specs.Stored.{padded, filler_edit, record_of, stored, edit_named}
 use Rattle.record.specs.Judgement.{must, never}
 use Rattle.record.proofs.Padded.{take-padded}
-use Rattle.record_rows.specs.row.Row.{Row, cell, name_cell, edit_in_range, edit_row}
+use Rattle.record_rows.specs.row.Row.{Row, name_cell, edit_in_range, edit_row}
 use Rattle.record_rows.specs.grounds.Ground.{Rows}
 use Rattle.record_rows.proofs.grounds.Grounds.{orelse-none}
 use Rattle.record_rows.proofs.row.Cells.{name-small, edit-bounds}
@@ -47,11 +47,9 @@ use Rattle.voting_bundles.specs.Bundles.{lent_bundle_fault, bundle_answer}
 use Rattle.voting_proposals.specs.Propose as proposal
 use Rattle.voting_proposals.specs.Propose.{draft_fault, record_m, proposal_q, propose_fault, new_proposal}
 use Rattle.voting_proposals.proofs.Drafts.{drafted-checked}
-use Rattle.judgement.specs.declared.lent_record.RowAnswer.{RowAnswer}
 use Rattle.suggestions.specs.declared.Advice.{Advice}
 use Rattle.suggestions.specs.declared.Advice.TheVariants.{Nothing, Notafter, NotafterEnables, Noncommuting}
-use Rattle.suggestions.specs.declared.Suggested.{Suggested}
-use Rattle.suggestions.specs.Suggest.{rows_of, advised, given, no_row, suggested}
+use Rattle.suggestions.specs.Suggest.{rows_of, advised, given, pair_fault, suggested}
 use Rattle.ledger.specs.declared.Answer.{Answer}
 use Rattle.ledger.specs.Ledger.{Ledger, Call, add_edit, add_constraint, merge, hide, show, turn, adopt, pages, last, judge, no_election, plain_answer, change, adopted, act, refusal, step}
 use Rattle.ledger.specs.Bench.{page_edits, open_edits, bench_of}
@@ -65,22 +63,21 @@ use Rattle.log_bounds.proofs.Small.{Each, each_take, each-filled, each_both, ent
 use Rattle.log_commands.specs.declared.Ask.{Ask}
 use Rattle.log_commands.specs.declared.Ask.TheVariants.{Text, Report, Hidden, Schedule, Catalogue, Journal, Page}
 use Rattle.log_commands.specs.declared.Call.{Call as Calls}
+use Rattle.log_commands.specs.declared.Call.TheVariants.{AddEdit, AddConstraint, Merge, Hide, Show, Turn, Adopt}
 use Rattle.log_commands.specs.declared.Lend.{Lend as Lends}
 use Rattle.log_commands.specs.declared.Proposing.{Proposing}
 use Rattle.log_commands.specs.declared.Vote.{Vote}
 use Rattle.log_commands.specs.declared.Vote.TheVariants.{Elect, Bundle, Suggest, Test, Winner}
 use Rattle.log_lent.specs.Lent.{is_lent}
-use Rattle.log_lent.specs.lent_calls.Calls.{proposals_of, bundle_in, row_in, suggest_fault, suggested_in}
-use Rattle.log_lent.specs.lent_proposals.Made.{tables_of, proposal_of, proposal_in}
+use Rattle.log_lent.specs.lent_calls.Calls.{proposals_of, bundle_in, lent_row_fault, row_sound, suggest_fault, suggestion_fault, suggested_in}
+use Rattle.log_lent.specs.lent_proposals.Made.{tables_of, lent_proposal_fault, proposal_made}
 use Rattle.log_session.specs.Desk.{Desk, Request, outside, make, ledger_of, bench_in, requested, printed_of}
 use Rattle.log_bounds.specs.Bounded.{answer_limit, Bounded}
 use Rattle.log_session.specs.Lends.{lend_effect}
 use Rattle.log_session.specs.Requests.{request_of}
-use Rattle.log_session.specs.calls.Lines.{pages_text, adoption_text, call_kind, call_text, call_effect}
-use Rattle.log_session.specs.declared.calls.Kind.{Kind}
-use Rattle.log_session.specs.declared.calls.Kind.TheVariants.{Change, PageTurn, Adoption}
+use Rattle.log_session.specs.calls.Lines.{pages_text, adoption_text, call_text, call_effect}
 use Rattle.log_session.specs.questions.Questions.{ask_text}
-use Rattle.log_session.specs.votes.Votes.{election_line, bundle_text, rule_line, suggestion_text, test_line, won_text, winner_text, proposal_effect, vote_effect}
+use Rattle.log_session.specs.votes.Votes.{election_line, bundle_text, suggestion_text, test_line, won_text, winner_text, proposal_effect, vote_effect}
 use Rattle.log_session.proofs.Cases.{ledger-valid}
 use Rattle.log_session.proofs.calls.Telling.{lend-text}
 use Rattle.log_bounds.proofs.Numbers.{judge-small, propose-small, bundle-number-small, test-number-small, suggest-number-small, lend-number-small, SmallElection, counted-small, election-small}
@@ -198,11 +195,15 @@ pages-size : (a : Answer) (opened last : ℕ) → SmallAnswer a → opened < 429
 unfolding pages_text room bytes is_mark
 pages-size a opened last s h i = line-size (bytes "undone=# redone=# open=# last=#\n") (a.undone ∷ a.redone ∷ opened ∷ last ∷ []) 200 (s.undone, (s.redone, (h, (i, tt)))) refl
 
-call-text-size : (kind : Kind) (a : Answer) (opened last : ℕ) → SmallAnswer a → opened < 4294967296 → last < 4294967296 → size_of (call_text kind a opened last) ≤ 200
+call-text-size : (call : Calls) (a : Answer) (opened last : ℕ) → SmallAnswer a → opened < 4294967296 → last < 4294967296 → size_of (call_text call a opened last) ≤ 200
 unfolding call_text adoption_text room bytes is_mark
-call-text-size Change a opened last s h i = pages-size a opened last s h i
-call-text-size (PageTurn pages) a opened last s h i = pages-size a opened last s h i
-call-text-size Adoption a opened last s h i =
+call-text-size (AddEdit cells) a opened last s h i = pages-size a opened last s h i
+call-text-size (AddConstraint cells) a opened last s h i = pages-size a opened last s h i
+call-text-size (Merge k) a opened last s h i = pages-size a opened last s h i
+call-text-size (Hide edit) a opened last s h i = pages-size a opened last s h i
+call-text-size (Show edit) a opened last s h i = pages-size a opened last s h i
+call-text-size (Turn pages) a opened last s h i = pages-size a opened last s h i
+call-text-size (Adopt edit) a opened last s h i =
     line-size (bytes "won=? greatest=# silent=# total=# undone=# redone=# open=# last=#\n") (bit a.won ∷ a.greatest ∷ a.silent ∷ a.total ∷ a.undone ∷ a.redone ∷ opened ∷ last ∷ []) 200
     (bit-small a.won, (s.greatest, (s.silent, (s.total, (s.undone, (s.redone, (h, (i, tt)))))))) refl
 
@@ -215,7 +216,7 @@ outside-size : (line : ℕ) → line < 2 ^ 64 → size_of (answered_text 2 [] li
 outside-size line l = answer-size 2 line [] (omega arith) l (λ z. omega (arith, size_none))
 
 module _ (D : Desk) (B : Bounded D) (line : ℕ) (l : line < 2 ^ 64) where
-  requested-size : (call : Calls) (q : Request) → RequestFits q → size_of (printed_of (requested D (λ a L. call_text (call_kind call) a L.opened (last L)) q) line) ≤ answer_limit
+  requested-size : (call : Calls) (q : Request) → RequestFits q → size_of (printed_of (requested D (λ a L. call_text call a L.opened (last L)) q) line) ≤ answer_limit
   unfolding requested printed_of
   requested-size call outside c = outside-size line l
   requested-size call (make made) c =
@@ -223,8 +224,8 @@ module _ (D : Desk) (B : Bounded D) (line : ℕ) (l : line < 2 ^ 64) where
       let s = step_small (ledger_of D) (ledger-valid D) made c in
       let v = step-valid (ledger_of D) made (ledger-valid D) in
       let h : last r.after < 4294967296 = omega (arith, last-room r.after v) in
-      answered-size r.answer.number line answer_limit (call_text (call_kind call) r.answer r.after.opened (last r.after)) s.number l (omega arith)
-      (λ z. omega (arith, call-text-size (call_kind call) r.answer r.after.opened (last r.after) s (omega (arith, v.opened-within)) h))
+      answered-size r.answer.number line answer_limit (call_text call r.answer r.after.opened (last r.after)) s.number l (omega arith)
+      (λ z. omega (arith, call-text-size call r.answer r.after.opened (last r.after) s (omega (arith, v.opened-within)) h))
 
   -- A CALL
   pub call-size : (call : Calls) → CallLineFits call → size_of (printed_of (call_effect D call) line) ≤ answer_limit
@@ -242,7 +243,7 @@ module _ (D : Desk) (B : Bounded D) (line : ℕ) (l : line < 2 ^ 64) where
       rw e (drafted-checked (record_m t) (proposal_q t) (joined-checked (record_m t) t.oldedits t.oldconstraints (lent-checked t.edits t.constraints a.0) b.0) d.0)
 
   pub proposal-size : (w : Proposing) → size_of (printed_of (proposal_effect D w) line) ≤ answer_limit
-  unfolding proposal_effect printed_of proposal_in proposal_of
+  unfolding proposal_effect printed_of lent_proposal_fault proposal_made
   proposal-size w =
       by (is_lent w.lent && is_lent w.old)
       (λ (e : (ltb w.lent 9 && ltb w.old 9) ≡ true).
@@ -272,54 +273,47 @@ unfolding lent_bundle_fault
 lent-faultless es cs edit z = (orelse-none (lent_fault empty_tables es cs) _ z).0
 
 -- suggested constraints
-record SmallSuggestion (s : Suggested) : Type 0 where
-  number : s.number ≤ 14
-  count : s.count < 4294967296
-  first : (cell s.first 0 < 4294967296) × (cell s.first 2 < 4294967296)
-  second : (cell s.second 0 < 4294967296) × (cell s.second 2 < 4294967296)
+suggestion-size : (advice : Advice) (a b : ℕ) → a < 2304 → b < 2304 → size_of (suggestion_text (given (rows_of advice a b))) ≤ 162
+unfolding suggestion_text room bytes is_mark
+suggestion-size Nothing a b h i = head-size (bytes "rules=#\n") (0 ∷ []) 102 [] (omega arith, tt) refl (omega (arith, size_none))
+suggestion-size Notafter a b h i =
+    let row = a ∷ 0 ∷ b ∷ [] in
+    head-size (bytes "rules=#\n") (1 ∷ []) 102 (constraint_line row ∷ []) (omega arith, tt) refl (omega (arith, size-one (constraint_line row), rule-line-size row (omega arith) (omega arith)))
+suggestion-size NotafterEnables a b h i =
+    let row = a ∷ 0 ∷ b ∷ [] in
+    let next = a ∷ 1 ∷ b ∷ [] in
+    head-size (bytes "rules=#\n") (2 ∷ []) 102 (constraint_line row ∷ constraint_line next ∷ []) (omega arith, tt) refl
+    (omega (
+      arith,
+      size-both (constraint_line row ∷ []) (constraint_line next ∷ []),
+      size-one (constraint_line row),
+      size-one (constraint_line next),
+      rule-line-size row (omega arith) (omega arith),
+      rule-line-size next (omega arith) (omega arith),
+    ))
+suggestion-size Noncommuting a b h i =
+    let row = min a b ∷ 2 ∷ max a b ∷ [] in
+    head-size (bytes "rules=#\n") (1 ∷ []) 102 (constraint_line row ∷ []) (omega arith, tt) refl (omega (arith, size-one (constraint_line row), rule-line-size row (omega arith) (omega arith)))
 
-given-fits : (advice : Advice) (a b : ℕ) → a < 2304 → b < 2304 → SmallSuggestion (given (rows_of advice a b))
-given-fits Nothing a b h i = record { number = omega arith; count = omega arith; first = (omega arith, omega arith); second = (omega arith, omega arith) }
-given-fits Notafter a b h i = record { number = omega arith; count = omega arith; first = (omega arith, omega arith); second = (omega arith, omega arith) }
-given-fits NotafterEnables a b h i = record { number = omega arith; count = omega arith; first = (omega arith, omega arith); second = (omega arith, omega arith) }
-given-fits Noncommuting a b h i = record { number = omega arith; count = omega arith; first = (omega arith, omega arith); second = (omega arith, omega arith) }
-
-none-fit : (n : ℕ) → n ≤ 14 → SmallSuggestion (record { number = n; count = 0; first = no_row; second = no_row })
-none-fit n h = record { number = h; count = omega arith; first = (omega arith, omega arith); second = (omega arith, omega arith) }
-
-suggested-fits : (a b : Row) (kind : ℕ) → SmallSuggestion (suggested a b kind)
-unfolding suggested
-suggested-fits a b kind =
+pair-size : (a b : Row) (kind : ℕ) → pair_fault a b kind ≡ 0 → size_of (suggestion_text (suggested a b kind)) ≤ 162
+unfolding pair_fault suggested
+pair-size a b kind z =
     by (edit_in_range a && (edit_in_range b && ltb kind 2))
     (λ (e : (edit_in_range a && (edit_in_range b && ltb kind 2)) ≡ true).
     let p = edit-bounds a refl (and_l (edit_in_range a) (edit_in_range b && ltb kind 2) e) in
     let q = edit-bounds b refl (and_l (edit_in_range b) (ltb kind 2) (and_r (edit_in_range a) (edit_in_range b && ltb kind 2) e)) in
-    rw e (given-fits (advised kind a b) (name_cell a) (name_cell b) p.0 q.0))
-    (λ (e : (edit_in_range a && (edit_in_range b && ltb kind 2)) ≡ false). rw e (none-fit 2 (omega arith)))
+    suggestion-size (advised kind a b) (name_cell a) (name_cell b) p.0 q.0)
+    (λ (e : (edit_in_range a && (edit_in_range b && ltb kind 2)) ≡ false). absurd (let y : ◌≡◌ {A = ℕ} 2 0 = rw e at z in omega arith))
 
-suggestion-fits : (R : Record) (first second kind : ℕ) → SmallSuggestion (suggested_in R first second kind)
-unfolding suggested_in
-suggestion-fits R first second kind =
-    let n = suggest_fault R first second kind in
-    by (eqb n 0)
-    (λ (e : eqb n 0 ≡ true). rw e (suggested-fits (edit_row (edit_named R.edits first)) (edit_row (edit_named R.edits second)) kind))
-    (λ (e : eqb n 0 ≡ false). rw e (none-fit n (suggest-number-small R first second kind)))
+suggested-size : (R : Record) (first second kind : ℕ) → suggestion_fault R first second kind ≡ 0 → size_of (suggestion_text (suggested_in R first second kind)) ≤ 162
+unfolding suggestion_fault suggested_in
+suggested-size R first second kind z =
+    pair-size (edit_row (edit_named R.edits first)) (edit_row (edit_named R.edits second)) kind
+    (orelse-none (suggest_fault R first second kind) (pair_fault (edit_row (edit_named R.edits first)) (edit_row (edit_named R.edits second)) kind) z).1
 
-some-rule : (b : Bool) (row : Row) → cell row 0 < 4294967296 → cell row 2 < 4294967296 → size_of (cond b (rule_line row) []) ≤ 51
-some-rule true row h i = omega (arith, size-one (constraint_line row), rule-line-size row h i)
-some-rule false row h i = omega (arith, size_none)
-
-suggestion-size : (s : Suggested) → SmallSuggestion s → size_of (suggestion_text s) ≤ 162
-unfolding suggestion_text room bytes is_mark
-suggestion-size s k =
-    let first = cond (leb 1 s.count) (rule_line s.first) [] in
-    let second = cond (leb 2 s.count) (rule_line s.second) [] in
-    head-size (bytes "rules=#\n") (s.count ∷ []) 102 (first ++ second) (k.count, tt) refl
-    (omega (arith, size-both first second, some-rule (leb 1 s.count) s.first k.first.0 k.first.1, some-rule (leb 2 s.count) s.second k.second.0 k.second.1))
-
-tested-size : (a : RowAnswer) → size_of (test_line a) ≤ answer_limit
+tested-size : (sound : Bool) → size_of (test_line sound) ≤ answer_limit
 unfolding test_line room bytes is_mark
-tested-size a = line-size (bytes "sound=?\n") (bit a.sound ∷ []) answer_limit (bit-small a.sound, tt) refl
+tested-size sound = line-size (bytes "sound=?\n") (bit sound ∷ []) answer_limit (bit-small sound, tt) refl
 
 election-line-size : (E : Election) → SmallElection E → size_of (election_line E) ≤ 100
 unfolding election_line room bytes is_mark
@@ -396,8 +390,8 @@ module _ (D : Desk) (B : Bounded D) (line : ℕ) (l : line < 2 ^ 64) where
       (λ (e : ltb k 9 ≡ true). rw e (bundle-answer-size line l (D.lent.edits k) (D.lent.constraints k) (B.lent k) edit))
       (λ (e : ltb k 9 ≡ false). rw e (outside-size line l))
 
-  test-size : (k : ℕ) → size_of (answered_text (row_in D.lent k).number (test_line (row_in D.lent k)) line) ≤ answer_limit
-  test-size k = answer-size (row_in D.lent k).number line (test_line (row_in D.lent k)) (test-number-small D.lent k) l (λ z. tested-size (row_in D.lent k))
+  test-size : (k : ℕ) → size_of (answered_text (lent_row_fault D.lent k) (test_line (row_sound D.lent k)) line) ≤ answer_limit
+  test-size k = answer-size (lent_row_fault D.lent k) line (test_line (row_sound D.lent k)) (test-number-small D.lent k) l (λ z. tested-size (row_sound D.lent k))
 
   -- A LINE ABOUT VOTES
   pub vote-size : (vote : Vote) → size_of (printed_of (vote_effect D vote) line) ≤ answer_limit
@@ -405,9 +399,9 @@ module _ (D : Desk) (B : Bounded D) (line : ℕ) (l : line < 2 ^ 64) where
   vote-size (Elect edit) = elect-size line l (election_of edit (proposals_of D.lent) D.lent.roll) (election-small edit (proposals_of D.lent) D.lent.roll B.weights)
   vote-size (Bundle edit k) = bundle-size k edit
   vote-size (Suggest w) =
-      let s = suggested_in (ledger_of D).multilog w.first w.second w.case in
-      let k = suggestion-fits (ledger_of D).multilog w.first w.second w.case in
-      answer-size s.number line (suggestion_text s) k.number l (λ z. omega (arith, suggestion-size s k))
+      let R = (ledger_of D).multilog in
+      answer-size (suggestion_fault R w.first w.second w.case) line (suggestion_text (suggested_in R w.first w.second w.case)) (suggest-number-small R w.first w.second w.case) l
+      (λ z. omega (arith, suggested-size R w.first w.second w.case z))
   vote-size (Test k) = test-size k
   vote-size (Winner edit) = winner-size line l edit (proposals_of D.lent) D.lent.roll (proposals-fit D B) B.weights
 

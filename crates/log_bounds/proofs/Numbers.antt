@@ -9,36 +9,37 @@ use native.Mathlib.Omega.{arith}
 use borrow.Author.Tests.{eqb-true}
 use lib.Dec.{eqb, leb, ltb}
 use lib.ListN.{length, get_or}
+use Rattle.std.specs.Prelude as prelude
+use Rattle.std.specs.Prelude.{Some, None}
 use Rattle.lists.specs.Lists.{any, all, mem, Has}
 use Rattle.lists.proofs.Lists.{by}
 use Rattle.record.specs.Record.{Record, written}
 use Rattle.record.specs.Judgement.{sound, must}
-use Rattle.record_rows.specs.row.Row.{is_name}
+use Rattle.record_rows.specs.row.Row.{Row, is_name, edit_in_range}
 use Rattle.record_rows.specs.grounds.Ground.{Rows, row_fault, first_fault, ◌given◌}
 use Rattle.record_rows.proofs.grounds.Grounds.{orelse-none, given-none}
 use Rattle.record_rows.proofs.grounds.Small.{orelse-small, given-small, first_small, row-fault-small, first-fault-small}
 use Rattle.record_tables.proofs.Further.{further-small}
 use Rattle.record_tables.specs.Table.{edit_rows, constraint_rows, decoded, empty_tables, edit_kind, constraint_kind, names_of, join_fault, record_join_fault, unite}
-use Rattle.pages_turner.specs.declared.Turned.{Turned}
-use Rattle.pages_turner.specs.declared.Turned.TheVariants.{To, Refused}
-use Rattle.pages_turner.specs.Turn.{turned, turned_answer}
+use Rattle.pages_turner.specs.Turn.{turned, turn_fault}
 use Rattle.voting.specs.declared.RollRow.{RollRow}
 use Rattle.voting.specs.declared.Election.{Election}
 use Rattle.voting.specs.Tally.{ballots, total, is_silent, greatest, silent, counted, winner}
 use Rattle.voting.specs.Proposal.{started, proposed}
 use Rattle.voting.proofs.Elections.{weigh-le, greatest-le}
-use Rattle.voting_roll.specs.Roll.{roll_faulty, roll_of}
+use Rattle.voting_roll.specs.Roll.{roll_faulty}
 use Rattle.voting_roll.specs.Election.{Proposals, benches, held, proposal_fault, first_given, election_fault, cast, election_of}
 use Rattle.voting_count.proofs.Rolled.{rows_few}
 use Rattle.voting_bundles.specs.Bundles.{lent_bundle_fault, bundle_answer}
 use Rattle.voting_proposals.specs.Propose as proposal
 use Rattle.voting_proposals.specs.Propose.{overfull, draft_fault, unkept, too_short, record_m, proposal_q, propose_fault}
-use Rattle.judgement.specs.lent_record.Lent.{record_fault, row_answer_of}
+use Rattle.judgement.specs.lent_record.Lent.{record_fault}
+use Rattle.suggestions.specs.Suggest.{pair_fault}
 use Rattle.ledger.specs.Ledger.{Ledger, Call, add_edit, add_constraint, merge, hide, show, turn, adopt, last, bundle_fault, judge}
 use Rattle.log_commands.specs.declared.Lend.{Lend}
 use Rattle.log_commands.specs.declared.Lend.TheVariants.{EditRow, ConstraintRow, NoRows, BenchRows, RollRow as SeatRow, NoRoll, RowName, NoRow}
 use Rattle.log_lent.specs.Lent.{Lent, is_lent, edit_places, constraint_places, row_places, rows_fault, seat_number, name_number}
-use Rattle.log_lent.specs.lent_calls.Calls.{row_in, suggest_fault}
+use Rattle.log_lent.specs.lent_calls.Calls.{lent_row_fault as tested_fault, suggest_fault, suggestion_fault}
 use Rattle.log_session.specs.Desk.{Desk}
 use Rattle.log_session.specs.Lends.{lend_effect}
 
@@ -74,9 +75,9 @@ bundle-small : (R : Record) (o : Option Record) → bundle_fault R o ≤ 14
 bundle-small R none = omega arith
 bundle-small R (some B) = orelse-small 14 (record_join_fault R B) _ (lent-small R (edit_rows B) (constraint_rows B)) (given-small 14 8 (not (sound (unite R B))) (omega arith))
 
-turn_small : (opened : ℕ) (t : Turned) → (turned_answer opened t).number ≤ 14
-turn_small opened (To page) = omega arith
-turn_small opened Refused = omega arith
+turn_small : (page : prelude.Option ℕ) → turn_fault page ≤ 14
+turn_small (Some page) = omega arith
+turn_small None = omega arith
 
 pub judge-small : (L : Ledger) (call : Call) → judge L call ≤ 14
 unfolding judge
@@ -91,7 +92,7 @@ judge-small L (hide x) =
 judge-small L (show x) =
     first_small 14 2 (not (is_name x)) _ (omega arith)
     (first_small 14 5 (not (mem x (written L.multilog))) _ (omega arith) (given-small 14 9 (not (mem x L.hidden)) (omega arith)))
-judge-small L (turn n) = turn_small L.opened (turned L.opened (last L) n)
+judge-small L (turn n) = turn_small (turned L.opened (last L) n)
 judge-small L (adopt e P roll) = orelse-small 14 (election_fault e P roll) _ (election-fault-small e P roll) (bundle-small L.multilog (winner (cast e P roll)))
 
 draft-small : (M Q : Record) → draft_fault M Q ≤ 14
@@ -119,21 +120,29 @@ bundle-number-small edits constraints e =
     (first_small 14 5 (not (mem e (written (decoded edits constraints)))) _ (omega arith) (given-small 14 8 (not (sound (decoded edits constraints))) (omega arith)))) in
     by (eqb n 0) (λ (q : eqb n 0 ≡ true). rw q (omega arith)) (λ (q : eqb n 0 ≡ false). rw q s)
 
-tested-small : (edits constraints : Rows) (row : List ℕ) → (row_answer_of edits constraints row).number ≤ 14
-unfolding row_answer_of record_fault
-tested-small edits constraints row =
-    let n = record_fault edits constraints in
-    let s : n ≤ 14 = orelse-small 14 _ _ (lent-small empty_tables edits constraints) (given-small 14 8 (not (sound (decoded edits constraints))) (omega arith)) in
-    by (eqb n 0) (λ (q : eqb n 0 ≡ true). rw q (omega arith)) (λ (q : eqb n 0 ≡ false). rw q s)
+tested-small : (edits constraints : Rows) → record_fault edits constraints ≤ 14
+unfolding record_fault
+tested-small edits constraints = orelse-small 14 _ _ (lent-small empty_tables edits constraints) (given-small 14 8 (not (sound (decoded edits constraints))) (omega arith))
 
-pub test-number-small : (L : Lent) (k : ℕ) → (row_in L k).number ≤ 14
-unfolding row_in
-test-number-small L k = by (is_lent k) (λ (e : ltb k 9 ≡ true). rw e (tested-small (L.edits k) (L.constraints k) L.row)) (λ (e : ltb k 9 ≡ false). rw e (omega arith))
+pub test-number-small : (L : Lent) (k : ℕ) → tested_fault L k ≤ 14
+unfolding tested_fault
+test-number-small L k = by (is_lent k) (λ (e : ltb k 9 ≡ true). rw e (tested-small (L.edits k) (L.constraints k))) (λ (e : ltb k 9 ≡ false). rw e (omega arith))
 
-pub suggest-number-small : (R : Record) (first second kind : ℕ) → suggest_fault R first second kind ≤ 14
+suggest-small : (R : Record) (first second kind : ℕ) → suggest_fault R first second kind ≤ 14
 unfolding suggest_fault
-suggest-number-small R first second kind =
+suggest-small R first second kind =
     first_small 14 2 (not (is_name first && (is_name second && ltb kind 2))) _ (omega arith) (given-small 14 5 (not (mem first (written R) && mem second (written R))) (omega arith))
+
+pair-small : (a b : Row) (kind : ℕ) → pair_fault a b kind ≤ 14
+unfolding pair_fault
+pair-small a b kind =
+    by (edit_in_range a && (edit_in_range b && ltb kind 2))
+    (λ (e : (edit_in_range a && (edit_in_range b && ltb kind 2)) ≡ true). rw e (omega arith))
+    (λ (e : (edit_in_range a && (edit_in_range b && ltb kind 2)) ≡ false). rw e (omega arith))
+
+pub suggest-number-small : (R : Record) (first second kind : ℕ) → suggestion_fault R first second kind ≤ 14
+unfolding suggestion_fault
+suggest-number-small R first second kind = orelse-small 14 _ _ (suggest-small R first second kind) (pair-small _ _ kind)
 
 pub lend-number-small : (D : Desk) (lend : Lend) → (lend_effect D lend).number ≤ 14
 unfolding lend_effect rows_fault seat_number name_number
@@ -164,7 +173,7 @@ module _ (e : ℕ) (P : Proposals) (roll : List RollRow) (f : (row : RollRow) �
   counted-small z =
       let l = cast e P roll in
       let r : roll_faulty roll ≡ false = given-none 13 (roll_faulty roll) (orelse-none (14 given roll_faulty roll) _ (orelse-none (first_given (proposal_fault P) benches) _ z).1).0 in
-      let t : total l < 4294967296 = omega (arith, cast-total e P roll f, rows_few (roll_of roll) roll refl r) in
+      let t : total l < 4294967296 = omega (arith, cast-total e P roll f, rows_few roll r) in
       record { number = omega arith; greatest = omega (arith, greatest-le l l); silent = omega (arith, weigh-le is_silent l); total = t }
 
   pub election-small : SmallElection (election_of e P roll)

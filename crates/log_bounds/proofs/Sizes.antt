@@ -22,7 +22,7 @@ use Rattle.record_rows.specs.row.Row.{cell, edit_in_range, constraint_in_range, 
 use Rattle.record_rows.proofs.row.Cells.{edit-bounds, constraint-bounds}
 use Rattle.record_tables.specs.Checked.{Checked}
 use Rattle.record_tables.proofs.Tables.{stored_back}
-use Rattle.catalogue.specs.declared.Cell.{Cell}
+use Rattle.std.specs.Prelude.{Option, Some, None}
 use Rattle.catalogue.specs.declared.Entry.{Entry}
 use Rattle.catalogue.specs.Entries.{place_of, absent_entry}
 use Rattle.catalogue.specs.Chips as chips
@@ -219,10 +219,15 @@ module _ (edits : List Edit) (few : length edits ≤ 127) (small : (e : Edit) �
       head-size (bytes "last=#\n") (length edits ∷ []) 7620 (texts_from page_line 1 edits) (omega arith, tt) refl
       (omega (arith, from-size page_line 60 128 1 edits (omega arith) (λ i e h m. line-size (bytes "page=# edit=@\n") (i ∷ e.name ∷ []) 60 (omega arith, ((small e m).name, tt)) refl)))
 
+-- the value of a cell fits; a blank cell has none
+abbrev pub ValueFits : Option ℕ → Type 0
+ValueFits None = Unit
+ValueFits (Some value) = value < 4294967296
+
 -- an entry of at most four cells whose values fit
 pub record SmallEntry (entry : Entry) : Type 0 where
   pub few : length entry.cells ≤ 4
-  pub values : (c : Cell) → Has c entry.cells → c.value < 4294967296
+  pub values : (c : Option ℕ) → Has c entry.cells → ValueFits c
 
 cell_room : (owner : Owner) (field : ℕ) → leb (room (cell_form owner field)) 45 ≡ true
 unfolding room cell_form bytes is_mark
@@ -235,11 +240,9 @@ cell_room Page (suc zero) = refl
 cell_room Page (suc (suc zero)) = refl
 cell_room Page (suc (suc (suc n))) = refl
 
-cell-size : (owner : Owner) (label field : ℕ) (c : Cell) → label < 4294967296 → c.value < 4294967296 → size_of (cell_line owner label field c) ≤ 45
-cell-size owner label field c h v =
-    by c.filled
-    (λ (e : c.filled ≡ true). rw e (line-size (cell_form owner field) (label ∷ c.value ∷ []) 45 (h, (v, tt)) (cell_room owner field)))
-    (λ (e : c.filled ≡ false). rw e (omega (arith, size_none)))
+cell-size : (owner : Owner) (label field : ℕ) (c : Option ℕ) → label < 4294967296 → ValueFits c → size_of (cell_line owner label field c) ≤ 45
+cell-size owner label field None h v = omega (arith, size_none)
+cell-size owner label field (Some value) h v = line-size (cell_form owner field) (label ∷ value ∷ []) 45 (h, (v, tt)) (cell_room owner field)
 
 cells-size : (owner : Owner) (label : ℕ) (entry : Entry) → label < 4294967296 → SmallEntry entry → size_of (cells_text owner label entry.cells) ≤ 180
 cells-size owner label entry h s =

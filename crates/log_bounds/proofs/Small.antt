@@ -14,11 +14,11 @@ use Rattle.record.specs.declared.Edit.{Edit}
 use Rattle.record.specs.Stored.{padded}
 use Rattle.record_rows.specs.row.Row.{field_number, body_cells, edit_row}
 use Rattle.pages.specs.Pages.{touched, run_edit, run, kept, empty_catalogue, view_of}
-use Rattle.catalogue.specs.declared.Cell.{Cell}
+use Rattle.std.specs.Prelude.{Option, Some, None}
 use Rattle.catalogue.specs.declared.Entry.{Entry}
-use Rattle.catalogue.specs.Entries.{place_of, blank, absent_entry, run_body}
+use Rattle.catalogue.specs.Entries.{place_of, absent_entry, run_body}
 use Rattle.catalogue.specs.Chips.{cells, places, rows, chips, chips_view}
-use Rattle.log_bounds.proofs.Sizes.{SmallEdit, SmallEntry}
+use Rattle.log_bounds.proofs.Sizes.{ValueFits, SmallEdit, SmallEntry}
 
 module _ {A : Type 0} (P : A → Type 0) where
   abbrev pub Each : List A → Type 0
@@ -50,13 +50,10 @@ module _ {A : Type 0} (P : A → Type 0) where
   each_set (y ∷ l) (suc i) v f p x (inl e) = f x (inl e)
   each_set (y ∷ l) (suc i) v f p x (inr m) = each_set l i v (λ z w. f z (inr w)) p x m
 
-abbrev ValueFits : Cell → Type 0
-ValueFits c = c.value < 4294967296
-
-blank-small : (entry : Entry) → entry.cells ≡ replicate cells blank → SmallEntry entry
+blank-small : (entry : Entry) → entry.cells ≡ replicate cells None → SmallEntry entry
 blank-small entry e = record {
-  few = rw e (omega (arith, length-replicate cells blank));
-  values = rw e (each-filled ValueFits cells blank (omega arith));
+  few = rw e (omega (arith, length-replicate {A = Option ℕ} cells None));
+  values = rw e (each-filled ValueFits cells None tt);
 }
 
 absent-small : SmallEntry (absent_entry cells)
@@ -72,8 +69,8 @@ body_run (Insert place) v entry s = either-small entry.present _ _ s (blank-smal
 body_run (Set place field value) v entry s =
     either-small entry.present _ _
     (record {
-      few = rw (length-set entry.cells (field_number field) (record { filled = true; value = value })) s.few;
-      values = each_set ValueFits entry.cells (field_number field) (record { filled = true; value = value }) s.values v;
+      few = rw (length-set entry.cells (field_number field) (Some value)) s.few;
+      values = each_set ValueFits entry.cells (field_number field) (Some value) s.values v;
     })
     s
 body_run (Remove place) v entry s = absent-small

@@ -7,7 +7,7 @@ use mathlib.Core.List.{List, [], ◌∷◌, ◌++◌, map}
 use mathlib.Core.Option.{Option, none, some}
 use Prim.Native.Nat.{ℕ, ◌≤◌, ◌<◌}
 use native.Mathlib.Omega.{arith}
-use borrow.Author.Tests.{eq-eqb, lt-ltb, le-ltb, ltb-true, ltb-false}
+use borrow.Author.Tests.{lt-ltb, le-ltb, ltb-true, ltb-false}
 use lib.Dec.{ltb}
 use lib.IntN.{pos, neg_ℤ}
 use lib.ListN.{length, get_or}
@@ -18,7 +18,11 @@ use Rattle.text_forms.specs.decimal.Decimal.{decimal}
 use Rattle.text_forms.specs.Spelling.{bytes, starts_with, number_spelling, name_spelling, answer_spelling}
 use Rattle.text_forms.specs.Form.{is_mark, spelling, fill, taken}
 use Rattle.text_forms.proofs.Forms.{differ, slots, spelled, spelled-all, separate, taken-fill, room, AllSmall, fill-room}
+use Rattle.std.specs.Prelude.{Result, Ok, Err}
+use Rattle.refusals.specs.declared.Refusal.{Refusal}
+use Rattle.refusals.specs.declared.Refusal.TheVariants.{NotInForm, OutOfRange}
 use Rattle.text_lines.specs.declared.Line.{Line}
+use Rattle.text_lines.specs.declared.Line.TheVariants.{Edit, Constraint}
 use Rattle.text_lines.specs.Line.{Shape, edit_shape, set_form, edit_form, rule_form, edit_line, constraint_line, set_shapes, rule_shapes, shapes, fits_word, line_limit, line_read}
 use Rattle.text_lines.specs.Row.{is_edit_row, is_constraint_row}
 use Rattle.text_lines.proofs.RoundTrip.{edit-line-read, constraint-line-read}
@@ -30,7 +34,7 @@ use Rattle.log_commands.specs.declared.Lend.TheVariants.{EditRow}
 use Rattle.log_commands.specs.declared.Call.TheVariants.{AddEdit, AddConstraint, Merge, Hide, Show, Turn, Adopt}
 use Rattle.log_commands.specs.declared.Vote.TheVariants.{Winner}
 use Rattle.log_commands.specs.declared.Command.{Command}
-use Rattle.log_commands.specs.declared.Command.TheVariants.{Refused, Lend, Call, Vote}
+use Rattle.log_commands.specs.declared.Command.TheVariants.{Lend, Call, Vote}
 use Rattle.log_commands.proofs.Exchanged.{line-added}
 
 grammar-apart : apart grammar ≡ true
@@ -41,10 +45,10 @@ pub unambiguous : Unambiguous grammar
 unambiguous = apart-unambiguous grammar grammar-apart
 
 -- a line that a form takes has its meaning
-pub line-meant : (production : Production Command) → Has production grammar → (s ns : List ℕ) → length s ≤ line_limit → taken production.form s ≡ some ns
-    → command_read s ≡ cond (all fits_word ns) (production.meaning (λ k. get_or ns k 0)) (Refused 2)
+pub line-meant : (production : Production (Result Command Refusal)) → Has production grammar → (s ns : List ℕ) → length s ≤ line_limit → taken production.form s ≡ some ns
+    → command_read s ≡ cond (all fits_word ns) (production.meaning (λ k. get_or ns k 0)) (Err OutOfRange)
 unfolding command_read
-line-meant production m s ns h e = rw (le-ltb line_limit (length s) h) (parse-has Refused production grammar s ns grammar-apart m e)
+line-meant production m s ns h e = rw (le-ltb line_limit (length s) h) (parse-has Err production grammar s ns grammar-apart m e)
 
 -- every form reads back what it gives, and no line with numbers of 32 bits is too long
 grammar-fine : all (λ p. separate p.form && ltb (room p.form) 102) grammar ≡ true
@@ -57,7 +61,7 @@ small [] h = tt
 small (n ∷ ns) h = (ltb-true n 4294967296 (and_l (fits_word n) (all fits_word ns) h), small ns (and_r (fits_word n) (all fits_word ns) h))
 
 -- the line of a form with these numbers
-pub line_read_lem : (production : Production Command) → Has production grammar → (ns : List ℕ) → length ns ≡ slots production.form
+pub line_read_lem : (production : Production (Result Command Refusal)) → Has production grammar → (ns : List ℕ) → length ns ≡ slots production.form
     → spelled production.form ns ≡ true → all fits_word ns ≡ true → command_read (fill production.form ns) ≡ production.meaning (λ k. get_or ns k 0)
 line_read_lem production m ns l k h =
     let f = production.form in
@@ -72,11 +76,11 @@ unfolding command_forms grammar shapes set_shapes rule_shapes
 grammar-size = refl
 
 -- the production of a form
-unfoldable formed : List (Production Command) → List ℕ → Option (Production Command)
+unfoldable formed : List (Production (Result Command Refusal)) → List ℕ → Option (Production (Result Command Refusal))
 formed [] f = none
 formed (production ∷ rest) f = cond (starts_with production.form f) (some production) (formed rest f)
 
-formed-has : (productions : List (Production Command)) (production : Production Command) → formed productions production.form ≡ some production → Has production productions
+formed-has : (productions : List (Production (Result Command Refusal))) (production : Production (Result Command Refusal)) → formed productions production.form ≡ some production → Has production productions
 unfolding formed
 formed-has [] production = λ e. none-some refl e
 formed-has (first ∷ rest) production =
@@ -89,37 +93,37 @@ unfolding all
 one-fits n h = rw (lt-ltb n 4294967296 h)
 
 -- a form with one number
-number_read : (production : Production Command) → formed grammar production.form ≡ some production → (n : ℕ) → 1 ≡ slots production.form → spelled production.form (n ∷ []) ≡ true
+number_read : (production : Production (Result Command Refusal)) → formed grammar production.form ≡ some production → (n : ℕ) → 1 ≡ slots production.form → spelled production.form (n ∷ []) ≡ true
     → n < 4294967296 → command_read (fill production.form (n ∷ [])) ≡ production.meaning (λ k. get_or (n ∷ []) k 0)
 number_read production e n l k h = line_read_lem production (formed-has grammar production e) (n ∷ []) l k (one-fits n h)
 
 module _ (n : ℕ) (h : n < 4294967296) where
-  pub merge-line : command_read (bytes "do=merge lent=" ++ (decimal n ++ bytes "\n")) ≡ Call (Merge n)
+  pub merge-line : command_read (bytes "do=merge lent=" ++ (decimal n ++ bytes "\n")) ≡ Ok (Call (Merge n))
   unfolding command_forms grammar formed starts_with bytes is_mark spelling number_spelling fill slots spelled
-  merge-line = number_read ("do=merge lent=#" means (λ n. Call (Merge (n 0)))) refl n refl refl h
+  merge-line = number_read ("do=merge lent=#" means (λ n. Ok (Call (Merge (n 0))))) refl n refl refl h
 
-  pub hide-line : command_read (bytes "do=hide edit=" ++ (decimal n ++ bytes "\n")) ≡ Call (Hide n)
+  pub hide-line : command_read (bytes "do=hide edit=" ++ (decimal n ++ bytes "\n")) ≡ Ok (Call (Hide n))
   unfolding command_forms grammar formed starts_with bytes is_mark spelling number_spelling fill slots spelled
-  hide-line = number_read ("do=hide edit=#" means (λ n. Call (Hide (n 0)))) refl n refl refl h
+  hide-line = number_read ("do=hide edit=#" means (λ n. Ok (Call (Hide (n 0))))) refl n refl refl h
 
-  pub show-line : command_read (bytes "do=show edit=" ++ (decimal n ++ bytes "\n")) ≡ Call (Show n)
+  pub show-line : command_read (bytes "do=show edit=" ++ (decimal n ++ bytes "\n")) ≡ Ok (Call (Show n))
   unfolding command_forms grammar formed starts_with bytes is_mark spelling number_spelling fill slots spelled
-  show-line = number_read ("do=show edit=#" means (λ n. Call (Show (n 0)))) refl n refl refl h
+  show-line = number_read ("do=show edit=#" means (λ n. Ok (Call (Show (n 0))))) refl n refl refl h
 
-  pub adopt-line : command_read (bytes "do=adopt edit=" ++ (decimal n ++ bytes "\n")) ≡ Call (Adopt n)
+  pub adopt-line : command_read (bytes "do=adopt edit=" ++ (decimal n ++ bytes "\n")) ≡ Ok (Call (Adopt n))
   unfolding command_forms grammar formed starts_with bytes is_mark spelling number_spelling fill slots spelled
-  adopt-line = number_read ("do=adopt edit=#" means (λ n. Call (Adopt (n 0)))) refl n refl refl h
+  adopt-line = number_read ("do=adopt edit=#" means (λ n. Ok (Call (Adopt (n 0))))) refl n refl refl h
 
-  pub winner-line : command_read (bytes "do=winner edit=" ++ (decimal n ++ bytes "\n")) ≡ Vote (Winner n)
+  pub winner-line : command_read (bytes "do=winner edit=" ++ (decimal n ++ bytes "\n")) ≡ Ok (Vote (Winner n))
   unfolding command_forms grammar formed starts_with bytes is_mark spelling number_spelling fill slots spelled
-  winner-line = number_read ("do=winner edit=#" means (λ n. Vote (Winner (n 0)))) refl n refl refl h
+  winner-line = number_read ("do=winner edit=#" means (λ n. Ok (Vote (Winner (n 0))))) refl n refl refl h
 
 -- the number of pages of a turn is any i32
-pub turn-line : (n : ℕ) → n < 2147483648 → command_read (bytes "do=turn pages=" ++ (decimal n ++ bytes "\n")) ≡ Call (Turn (pos n))
+pub turn-line : (n : ℕ) → n < 2147483648 → command_read (bytes "do=turn pages=" ++ (decimal n ++ bytes "\n")) ≡ Ok (Call (Turn (pos n)))
 unfolding command_forms grammar formed starts_with turn_forward bytes is_mark spelling number_spelling fill slots spelled
 turn-line n h = number_read ("do=turn pages=#" means (λ n. turn_forward (n 0))) refl n refl refl (omega arith) ∙ rw (lt-ltb n 2147483648 h)
 
-pub turn-back-line : (n : ℕ) → n ≤ 2147483648 → command_read (bytes "do=turn pages=-" ++ (decimal n ++ bytes "\n")) ≡ Call (Turn (neg_ℤ (pos n)))
+pub turn-back-line : (n : ℕ) → n ≤ 2147483648 → command_read (bytes "do=turn pages=-" ++ (decimal n ++ bytes "\n")) ≡ Ok (Call (Turn (neg_ℤ (pos n))))
 unfolding command_forms grammar formed starts_with turn_back bytes is_mark spelling number_spelling fill slots spelled
 turn-back-line n h =
     let l : n < 2147483649 = omega arith in
@@ -135,11 +139,11 @@ has_right : {A : Type 0} (x : A) (s t : List A) → Has x t → Has x (s ++ t)
 has_right x [] t m = m
 has_right x (y ∷ s) t m = inr (has_right x s t m)
 
-added-has : (production : Production Command) → Has production (map add_form shapes) → Has production grammar
+added-has : (production : Production (Result Command Refusal)) → Has production (map add_form shapes) → Has production grammar
 unfolding grammar
 added-has production m = has_right production command_forms (map add_form shapes ++ map lend_form shapes) (has_left production (map add_form shapes) (map lend_form shapes) m)
 
-lent-has : (production : Production Command) → Has production (map lend_form shapes) → Has production grammar
+lent-has : (production : Production (Result Command Refusal)) → Has production (map lend_form shapes) → Has production grammar
 unfolding grammar
 lent-has production m = has_right production command_forms (map add_form shapes ++ map lend_form shapes) (has_right production (map add_form shapes) (map lend_form shapes) m)
 
@@ -149,38 +153,27 @@ added-form shape m = added-has (add_form shape) (has-map add_form shape shapes m
 pub lent-form : (shape : Shape) → Has shape shapes → Has (lend_form shape) grammar
 lent-form shape m = lent-has (lend_form shape) (has-map lend_form shape shapes m)
 
-adding-calls : {P : Type 0} (line : Line) → adding line ≡ Refused 1 → P
-adding-calls line =
-    by line.isedit
-    (λ (i : line.isedit ≡ true). rw i (λ (e : Call (AddEdit (edit_cells_of line.edit)) ≡ Refused 1). absurd (let z : ◌≡◌ {A = ℕ} 0 1 = cc in omega arith)))
-    (λ (i : line.isedit ≡ false). rw i (λ (e : Call (AddConstraint (constraint_cells_of line.constraint)) ≡ Refused 1). absurd (let z : ◌≡◌ {A = ℕ} 0 1 = cc in omega arith)))
-
-read-within : (s : List ℕ) → (line_read s).number ≡ 0 → length s ≤ line_limit
+read-within : (s : List ℕ) {line : Line} → line_read s ≡ Ok line → length s ≤ line_limit
 unfolding line_read
-read-within s =
+read-within s {line} =
     by (ltb line_limit (length s))
-    (λ (e : ltb line_limit (length s) ≡ true). rw e (λ z. absurd (omega arith)))
+    (λ (e : ltb line_limit (length s) ≡ true). rw e (λ z. let y : ⊥ = cc in absurd y))
     (λ (e : ltb line_limit (length s) ≡ false) z. ltb-false line_limit (length s) e)
 
 -- a line of the exchanged text adds the row that it says
-pub text-line : (s : List ℕ) → (line_read s).number ≡ 0 → command_read s ≡ adding (line_read s)
-text-line s h =
+pub text-line : (s : List ℕ) (line : Line) → line_read s ≡ Ok line → command_read s ≡ Ok (adding line)
+text-line s line h =
     let near = read-within s h in
-    let a : line_adds (line_read s) ≡ adding (line_read s) = rw (eq-eqb (line_read s).number 0 h) in
-    let q : line_adds (line_read s) ≡ parse Refused (map add_form shapes) s = line-added s near refl in
-    parse-by Refused (map add_form shapes) s
-    (λ e. adding-calls (line_read s) (sym a ∙ (q ∙ e)))
-    (λ production ns m t e. line-meant production (added-has production m) s ns near t ∙ (sym e ∙ (sym q ∙ a)))
+    let q : Ok (adding line) ≡ parse Err (map add_form shapes) s = ap line_adds (sym h) ∙ line-added s near refl in
+    parse-by Err (map add_form shapes) s
+    (λ e. let z : Ok (adding line) ≡ Err NotInForm = q ∙ e in let y : ⊥ = cc in absurd y)
+    (λ production ns m t e. line-meant production (added-has production m) s ns near t ∙ (sym e ∙ sym q))
 
-pub edit-line-adds : (row : List ℕ) → is_edit_row row ≡ true → command_read (edit_line row) ≡ Call (AddEdit (edit_cells_of row))
-edit-line-adds row h =
-    let e = edit-line-read row h in
-    text-line (edit_line row) (ap (λ (l : Line). l.number) e) ∙ ap adding e
+pub edit-line-adds : (row : List ℕ) → is_edit_row row ≡ true → command_read (edit_line row) ≡ Ok (Call (AddEdit (edit_cells_of row)))
+edit-line-adds row h = text-line (edit_line row) (Edit row) (edit-line-read row h)
 
-pub constraint-line-adds : (row : List ℕ) → is_constraint_row row ≡ true → command_read (constraint_line row) ≡ Call (AddConstraint (constraint_cells_of row))
-constraint-line-adds row h =
-    let e = constraint-line-read row h in
-    text-line (constraint_line row) (ap (λ (l : Line). l.number) e) ∙ ap adding e
+pub constraint-line-adds : (row : List ℕ) → is_constraint_row row ≡ true → command_read (constraint_line row) ≡ Ok (Call (AddConstraint (constraint_cells_of row)))
+constraint-line-adds row h = text-line (constraint_line row) (Constraint row) (constraint-line-read row h)
 
 three-fit : (m n p : ℕ) → m < 4294967296 → n < 4294967296 → p < 4294967296 → all fits_word (m ∷ n ∷ p ∷ []) ≡ true
 unfolding all
@@ -192,7 +185,7 @@ insert-known = inl refl
 
 pub lent-insert-line : (lent name place : ℕ) → lent < 4294967296 → name < 4294967296 → place < 4294967296
     → command_read (fill (bytes "lent=# edit=@ do=insert chip=#\n") (lent ∷ name ∷ place ∷ []))
-    ≡ Lend (EditRow lent (record { name = name; kind = 0; place = place; field = 0; value = 0 }))
+    ≡ Ok (Lend (EditRow lent (record { name = name; kind = 0; place = place; field = 0; value = 0 })))
 unfolding edit_form bytes is_mark slots mem
 lent-insert-line lent name place a b c =
     line_read_lem (lend_form (edit_shape 0 0)) (lent-form (edit_shape 0 0) insert-known) (lent ∷ name ∷ place ∷ []) refl

@@ -1,37 +1,28 @@
 -- Commands made of numbers. Assumes nothing.
 use mathlib.Core.Path.{◌≡◌, refl, ap, ◌∙◌}
-use mathlib.Core.Bool.{cond}
-use mathlib.Core.Logic.{◌≢◌}
 use Prim.Native.Nat.{ℕ, zero, suc, ◌-◌, ◌≤◌, ◌<◌}
 use native.Mathlib.Omega.{arith}
-use lib.Dec.{eqb}
 use lib.IntN.{ℤ, pos, negsuc, neg_ℤ, ◌-ℤ◌}
-use borrow.Author.Tests.{lt-ltb, le-ltb, eq-eqb, ne_eqb}
+use borrow.Author.Tests.{lt-ltb, le-ltb}
 use mir.Syntax.{w32, w64}
 use mir.Val.{SFits, to_z, of_z}
 use mir.Facts.{to_z-of_z, to_z_pos}
+use Rattle.std.specs.Prelude.{Ok, Err}
+use Rattle.refusals.specs.declared.Refusal.TheVariants.{OutOfRange}
 use Rattle.log_commands.specs.Grammar.{turn_forward, turn_back}
 use Rattle.log_commands.specs.declared.Call.TheVariants.{Turn}
-use Rattle.log_commands.specs.declared.Command.{Command}
-use Rattle.log_commands.specs.declared.Command.TheVariants.{Refused, Call}
-
-module _ (number : ℕ) (command : Command) where
-  pub number-refused : number ≢ 0 → Refused number ≡ cond (eqb number 0) command (Refused number)
-  number-refused h = rw (ne_eqb number 0 h)
-
-  pub number_fits : number ≡ 0 → command ≡ cond (eqb number 0) command (Refused number)
-  number_fits h = rw (eq-eqb number 0 h)
+use Rattle.log_commands.specs.declared.Command.TheVariants.{Call}
 
 module _ (n : ℕ) where
-  pub forward-far : 2147483647 < n → Refused 2 ≡ turn_forward n
+  pub forward-far : 2147483647 < n → Err OutOfRange ≡ turn_forward n
   unfolding turn_forward
   forward-far h = rw (le-ltb n 2147483648 (omega arith))
 
-  pub forward-near : n ≤ 2147483647 → Call (Turn (to_z w32 n)) ≡ turn_forward n
+  pub forward-near : n ≤ 2147483647 → Ok (Call (Turn (to_z w32 n))) ≡ turn_forward n
   unfolding turn_forward
-  forward-near h = let l : n < 2147483648 = omega arith in let q : Call (Turn (pos n)) ≡ turn_forward n = rw (lt-ltb n 2147483648 l) in ap (λ (z : ℤ). Call (Turn z)) (to_z_pos w32 l) ∙ q
+  forward-near h = let l : n < 2147483648 = omega arith in let q : Ok (Call (Turn (pos n))) ≡ turn_forward n = rw (lt-ltb n 2147483648 l) in ap (λ (z : ℤ). Ok (Call (Turn z))) (to_z_pos w32 l) ∙ q
 
-  pub back-far : 2147483648 < n → Refused 2 ≡ turn_back n
+  pub back-far : 2147483648 < n → Err OutOfRange ≡ turn_back n
   unfolding turn_back
   back-far h = rw (le-ltb n 2147483649 (omega arith))
 
@@ -60,6 +51,6 @@ module _ (n : ℕ) (h : n ≤ 2147483648) where
   pub back-narrow : SFits w32 (to_z w64 (of_z w64 (pos 0 -ℤ to_z w64 n)))
   back-narrow = rw back-value (negative_fits n h)
 
-  pub back-near : Call (Turn (to_z w32 (of_z w32 (to_z w64 (of_z w64 (pos 0 -ℤ to_z w64 n)))))) ≡ turn_back n
+  pub back-near : Ok (Call (Turn (to_z w32 (of_z w32 (to_z w64 (of_z w64 (pos 0 -ℤ to_z w64 n))))))) ≡ turn_back n
   unfolding turn_back
-  back-near = let l : n < 2147483649 = omega arith in let q : Call (Turn (neg_ℤ (pos n))) ≡ turn_back n = rw (lt-ltb n 2147483649 l) in ap (λ (z : ℤ). Call (Turn z)) (to_z-of_z back-narrow ∙ back-value) ∙ q
+  back-near = let l : n < 2147483649 = omega arith in let q : Ok (Call (Turn (neg_ℤ (pos n)))) ≡ turn_back n = rw (lt-ltb n 2147483649 l) in ap (λ (z : ℤ). Ok (Call (Turn z))) (to_z-of_z back-narrow ∙ back-value) ∙ q

@@ -2,13 +2,14 @@
 // that alone is tried.
 #![tactic(auto)]
 
-ghost use Rattle.std.specs.Prelude.{◌≡◌, cond, ◌+◌, ◌≤◌, eqb, length, drop};
+ghost use Rattle.std.specs.Prelude.{◌≡◌, ◌+◌, ◌≤◌, length, drop};
 ghost use Rattle.text_forms.specs.decimal.Decimal.{numeral_size};
 ghost use Rattle.text_lines.specs.Line.{line_read, line_limit};
-ghost use Rattle.log_commands.specs.Grammar.{turn_forward, turn_back, edit_cells_of, constraint_cells_of, command_read};
-ghost use Rattle.log_commands.specs.Groups.{read_starting, line_adds, line_lends, lent_number, lent_line_read};
+ghost use Rattle.log_commands.specs.Grammar.{turn_forward, turn_back, edit_cells_of, constraint_cells_of, adding, lending_to, command_read};
+ghost use Rattle.log_commands.specs.Groups.{read_starting, line_adds, lent_number, lent_line_read};
 
 use log_forms::productions;
+use refusals::Refusal;
 use text_forms::decimal;
 use text_forms::decimal::Numeral;
 use text_lines::Line;
@@ -23,12 +24,38 @@ pub struct EditCells {
     pub value: u32,
 }
 
+impl From<[u32; 5]> for EditCells {
+    ghost from_gives = { λ row cells. cells ≡ edit_cells_of row };
+
+    fn from(row: [u32; 5]) -> EditCells {
+        EditCells {
+            name: row[0],
+            kind: row[1],
+            place: row[2],
+            field: row[3],
+            value: row[4],
+        }
+    }
+}
+
 // A row of constraints.
 #[derive(Clone, Copy)]
 pub struct ConstraintCells {
     pub left: u32,
     pub rule: u32,
     pub right: u32,
+}
+
+impl From<[u32; 3]> for ConstraintCells {
+    ghost from_gives = { λ row cells. cells ≡ constraint_cells_of row };
+
+    fn from(row: [u32; 3]) -> ConstraintCells {
+        ConstraintCells {
+            left: row[0],
+            rule: row[1],
+            right: row[2],
+        }
+    }
 }
 
 // A proposal from the record `lent` and the old proposal `old`, into a table of so many edits and rules.
@@ -96,10 +123,8 @@ pub enum Ask {
     Page,
 }
 
-// Refused 1: the line is not in form; 2: a number in it is too large.
 #[derive(Clone, Copy)]
 pub enum Command {
-    Refused(u32),
     Lend(Lend),
     Propose(Proposing),
     Call(Call),
@@ -107,370 +132,330 @@ pub enum Command {
     Ask(Ask),
 }
 
-// The command where the form takes the line.
-fn unless_refused(number: u32, command: Command) -> Command
-    ensures { result ≡ cond (eqb number 0) command (Command.Refused number) }
-{
-    if number != 0 {
-        return Command::Refused(number);
-    }
-    command
-}
-
-fn turn_forward(pages: u32) -> Command
+fn turn_forward(pages: u32) -> Result<Command, Refusal>
     ensures { result ≡ turn_forward pages }
 {
     if 2147483647 < pages {
-        return Command::Refused(2);
+        return Err(Refusal::OutOfRange);
     }
-    Command::Call(Call::Turn(pages as i32))
+    Ok(Command::Call(Call::Turn(pages as i32)))
 }
 
 // The least i32 has no opposite among the i32.
-fn turn_back(pages: u32) -> Command
+fn turn_back(pages: u32) -> Result<Command, Refusal>
     ensures { result ≡ turn_back pages }
 {
     if 2147483648 < pages {
-        return Command::Refused(2);
+        return Err(Refusal::OutOfRange);
     }
-    Command::Call(Call::Turn((0 - (pages as i64)) as i32))
+    Ok(Command::Call(Call::Turn((0 - (pages as i64)) as i32)))
 }
 
 // The forms that start so, by the letter after it; so below.
-fn read_ask(bytes: &[u8]) -> Command
+fn read_ask(bytes: &[u8]) -> Result<Command, Refusal>
     ensures { result ≡ read_starting "ask=" bytes.now }
 {
     let letter = text_lines::byte_at(bytes, 4);
     match letter {
         b't' => {
-            let w = productions::read_words(b"ask=text\n", bytes);
-            unless_refused(w.number, Command::Ask(Ask::Text))
+            productions::read_words(b"ask=text\n", bytes)?;
+            Ok(Command::Ask(Ask::Text))
         }
         b'r' => {
-            let w = productions::read_words(b"ask=report\n", bytes);
-            unless_refused(w.number, Command::Ask(Ask::Report))
+            productions::read_words(b"ask=report\n", bytes)?;
+            Ok(Command::Ask(Ask::Report))
         }
         b'h' => {
-            let w = productions::read_words(b"ask=hidden\n", bytes);
-            unless_refused(w.number, Command::Ask(Ask::Hidden))
+            productions::read_words(b"ask=hidden\n", bytes)?;
+            Ok(Command::Ask(Ask::Hidden))
         }
         b's' => {
-            let w = productions::read_words(b"ask=schedule\n", bytes);
-            unless_refused(w.number, Command::Ask(Ask::Schedule))
+            productions::read_words(b"ask=schedule\n", bytes)?;
+            Ok(Command::Ask(Ask::Schedule))
         }
         b'c' => {
-            let w = productions::read_words(b"ask=catalogue\n", bytes);
-            unless_refused(w.number, Command::Ask(Ask::Catalogue))
+            productions::read_words(b"ask=catalogue\n", bytes)?;
+            Ok(Command::Ask(Ask::Catalogue))
         }
         b'j' => {
-            let w = productions::read_words(b"ask=journal\n", bytes);
-            unless_refused(w.number, Command::Ask(Ask::Journal))
+            productions::read_words(b"ask=journal\n", bytes)?;
+            Ok(Command::Ask(Ask::Journal))
         }
         b'p' => {
-            let w = productions::read_words(b"ask=page\n", bytes);
-            unless_refused(w.number, Command::Ask(Ask::Page))
+            productions::read_words(b"ask=page\n", bytes)?;
+            Ok(Command::Ask(Ask::Page))
         }
-        _ => Command::Refused(1),
+        _ => Err(Refusal::NotInForm),
     }
 }
 
 // No number begins with a minus sign.
-fn read_turn(bytes: &[u8]) -> Command
+fn read_turn(bytes: &[u8]) -> Result<Command, Refusal>
     ensures { result ≡ read_starting "do=turn pages=" bytes.now }
 {
     let letter = text_lines::byte_at(bytes, 14);
     match letter {
         b'-' => {
-            let w = productions::read_words(b"do=turn pages=-#\n", bytes);
-            unless_refused(w.number, turn_back(w.first))
+            let words = productions::read_words(b"do=turn pages=-#\n", bytes)?;
+            turn_back(words[0])
         }
         _ => {
-            let w = productions::read_words(b"do=turn pages=#\n", bytes);
-            unless_refused(w.number, turn_forward(w.first))
+            let words = productions::read_words(b"do=turn pages=#\n", bytes)?;
+            turn_forward(words[0])
         }
     }
 }
 
-fn read_turn_or_test(bytes: &[u8]) -> Command
+fn read_turn_or_test(bytes: &[u8]) -> Result<Command, Refusal>
     ensures { result ≡ read_starting "do=t" bytes.now }
 {
     let letter = text_lines::byte_at(bytes, 4);
     match letter {
         b'u' => read_turn(bytes),
         b'e' => {
-            let w = productions::read_words(b"do=test lent=#\n", bytes);
-            unless_refused(w.number, Command::Vote(Vote::Test(w.first)))
+            let words = productions::read_words(b"do=test lent=#\n", bytes)?;
+            Ok(Command::Vote(Vote::Test(words[0])))
         }
-        _ => Command::Refused(1),
+        _ => Err(Refusal::NotInForm),
     }
 }
 
-fn read_show_or_suggest(bytes: &[u8]) -> Command
+fn read_show_or_suggest(bytes: &[u8]) -> Result<Command, Refusal>
     ensures { result ≡ read_starting "do=s" bytes.now }
 {
     let letter = text_lines::byte_at(bytes, 4);
     match letter {
         b'h' => {
-            let w = productions::read_words(b"do=show edit=#\n", bytes);
-            unless_refused(w.number, Command::Call(Call::Show(w.first)))
+            let words = productions::read_words(b"do=show edit=#\n", bytes)?;
+            Ok(Command::Call(Call::Show(words[0])))
         }
         b'u' => {
-            let w = productions::read_words(b"do=suggest first=# second=# case=#\n", bytes);
+            let words = productions::read_words(b"do=suggest first=# second=# case=#\n", bytes)?;
             let suggesting = Suggesting {
-                first: w.first,
-                second: w.second,
-                case: w.third,
+                first: words[0],
+                second: words[1],
+                case: words[2],
             };
-            unless_refused(w.number, Command::Vote(Vote::Suggest(suggesting)))
+            Ok(Command::Vote(Vote::Suggest(suggesting)))
         }
-        _ => Command::Refused(1),
+        _ => Err(Refusal::NotInForm),
     }
 }
 
-fn read_do(bytes: &[u8]) -> Command
+fn read_do(bytes: &[u8]) -> Result<Command, Refusal>
     ensures { result ≡ read_starting "do=" bytes.now }
 {
     let letter = text_lines::byte_at(bytes, 3);
     match letter {
         b'm' => {
-            let w = productions::read_words(b"do=merge lent=#\n", bytes);
-            unless_refused(w.number, Command::Call(Call::Merge(w.first)))
+            let words = productions::read_words(b"do=merge lent=#\n", bytes)?;
+            Ok(Command::Call(Call::Merge(words[0])))
         }
         b'h' => {
-            let w = productions::read_words(b"do=hide edit=#\n", bytes);
-            unless_refused(w.number, Command::Call(Call::Hide(w.first)))
+            let words = productions::read_words(b"do=hide edit=#\n", bytes)?;
+            Ok(Command::Call(Call::Hide(words[0])))
         }
         b's' => read_show_or_suggest(bytes),
         b't' => read_turn_or_test(bytes),
         b'a' => {
-            let w = productions::read_words(b"do=adopt edit=#\n", bytes);
-            unless_refused(w.number, Command::Call(Call::Adopt(w.first)))
+            let words = productions::read_words(b"do=adopt edit=#\n", bytes)?;
+            Ok(Command::Call(Call::Adopt(words[0])))
         }
         b'e' => {
-            let w = productions::read_words(b"do=elect edit=#\n", bytes);
-            unless_refused(w.number, Command::Vote(Vote::Elect(w.first)))
+            let words = productions::read_words(b"do=elect edit=#\n", bytes)?;
+            Ok(Command::Vote(Vote::Elect(words[0])))
         }
         b'b' => {
-            let w = productions::read_words(b"do=bundle edit=# lent=#\n", bytes);
-            unless_refused(w.number, Command::Vote(Vote::Bundle(w.first, w.second)))
+            let words = productions::read_words(b"do=bundle edit=# lent=#\n", bytes)?;
+            Ok(Command::Vote(Vote::Bundle(words[0], words[1])))
         }
         b'p' => {
-            let w = productions::read_words(
+            let words = productions::read_words(
                 b"do=propose lent=# old=# edits=# rules=# keep=?\n",
                 bytes,
-            );
+            )?;
             let proposing = Proposing {
-                lent: w.first,
-                old: w.second,
-                edits: w.third,
-                rules: w.fourth,
-                keep: w.fifth != 0,
+                lent: words[0],
+                old: words[1],
+                edits: words[2],
+                rules: words[3],
+                keep: words[4] != 0,
             };
-            unless_refused(w.number, Command::Propose(proposing))
+            Ok(Command::Propose(proposing))
         }
         b'w' => {
-            let w = productions::read_words(b"do=winner edit=#\n", bytes);
-            unless_refused(w.number, Command::Vote(Vote::Winner(w.first)))
+            let words = productions::read_words(b"do=winner edit=#\n", bytes)?;
+            Ok(Command::Vote(Vote::Winner(words[0])))
         }
-        _ => Command::Refused(1),
+        _ => Err(Refusal::NotInForm),
     }
 }
 
-fn read_roll(bytes: &[u8]) -> Command
+fn read_roll(bytes: &[u8]) -> Result<Command, Refusal>
     ensures { result ≡ read_starting "roll=" bytes.now }
 {
     let letter = text_lines::byte_at(bytes, 5);
     match letter {
         b'n' => {
-            let w = productions::read_words(b"roll=none\n", bytes);
-            unless_refused(w.number, Command::Lend(Lend::NoRoll))
+            productions::read_words(b"roll=none\n", bytes)?;
+            Ok(Command::Lend(Lend::NoRoll))
         }
         _ => {
-            let w = productions::read_words(b"roll=# weight=#\n", bytes);
-            unless_refused(w.number, Command::Lend(Lend::RollRow(w.first, w.second)))
+            let words = productions::read_words(b"roll=# weight=#\n", bytes)?;
+            Ok(Command::Lend(Lend::RollRow(words[0], words[1])))
         }
     }
 }
 
-fn read_row(bytes: &[u8]) -> Command
+fn read_row(bytes: &[u8]) -> Result<Command, Refusal>
     ensures { result ≡ read_starting "row=" bytes.now }
 {
     let letter = text_lines::byte_at(bytes, 4);
     match letter {
         b'n' => {
-            let w = productions::read_words(b"row=none\n", bytes);
-            unless_refused(w.number, Command::Lend(Lend::NoRow))
+            productions::read_words(b"row=none\n", bytes)?;
+            Ok(Command::Lend(Lend::NoRow))
         }
         _ => {
-            let w = productions::read_words(b"row=#\n", bytes);
-            unless_refused(w.number, Command::Lend(Lend::RowName(w.first)))
+            let words = productions::read_words(b"row=#\n", bytes)?;
+            Ok(Command::Lend(Lend::RowName(words[0])))
         }
     }
 }
 
 // The record's number ends at `number`.
-fn read_rows(bytes: &[u8], number: usize) -> Command
+fn read_rows(bytes: &[u8], number: usize) -> Result<Command, Refusal>
     requires { (length bytes.now ≤ line_limit) × (number ≡ 5 + numeral_size (drop 5 bytes.now)) }
     ensures { result ≡ read_starting "lent=# rows=" bytes.now }
 {
     let letter = text_lines::byte_at(bytes, number + 6);
     match letter {
         b'n' => {
-            let w = productions::read_words(b"lent=# rows=none\n", bytes);
-            unless_refused(w.number, Command::Lend(Lend::NoRows(w.first)))
+            let words = productions::read_words(b"lent=# rows=none\n", bytes)?;
+            Ok(Command::Lend(Lend::NoRows(words[0])))
         }
         b'b' => {
-            let w = productions::read_words(b"lent=# rows=bench\n", bytes);
-            unless_refused(w.number, Command::Lend(Lend::BenchRows(w.first)))
+            let words = productions::read_words(b"lent=# rows=bench\n", bytes)?;
+            Ok(Command::Lend(Lend::BenchRows(words[0])))
         }
-        _ => Command::Refused(1),
-    }
-}
-
-fn edit_cells(row: [u32; 5]) -> EditCells
-    ensures { result ≡ edit_cells_of row }
-{
-    EditCells {
-        name: row[0],
-        kind: row[1],
-        place: row[2],
-        field: row[3],
-        value: row[4],
-    }
-}
-
-fn constraint_cells(row: [u32; 3]) -> ConstraintCells
-    ensures { result ≡ constraint_cells_of row }
-{
-    ConstraintCells {
-        left: row[0],
-        rule: row[1],
-        right: row[2],
+        _ => Err(Refusal::NotInForm),
     }
 }
 
 fn add_line(line: Line) -> Command
-    ensures { result ≡ line_adds line }
+    ensures { result ≡ adding line }
 {
-    if line.number != 0 {
-        return Command::Refused(line.number);
+    match line {
+        Line::Edit(row) => Command::Call(Call::AddEdit(EditCells::from(row))),
+        Line::Constraint(row) => Command::Call(Call::AddConstraint(ConstraintCells::from(row))),
     }
-    if line.isedit {
-        let edit = line.edit;
-        return Command::Call(Call::AddEdit(edit_cells(edit)));
-    }
-    let constraint = line.constraint;
-    Command::Call(Call::AddConstraint(constraint_cells(constraint)))
 }
 
-fn lend_line(lent: u64, line: Line) -> Command
-    ensures { result ≡ line_lends lent line }
+fn lend_line(lent: u32, line: Line) -> Command
+    ensures { result ≡ lending_to lent line }
 {
-    if line.number != 0 {
-        return Command::Refused(line.number);
+    match line {
+        Line::Edit(row) => Command::Lend(Lend::EditRow(lent, EditCells::from(row))),
+        Line::Constraint(row) => Command::Lend(Lend::ConstraintRow(
+            lent,
+            ConstraintCells::from(row),
+        )),
     }
-    if 4294967295 < lent {
-        return Command::Refused(2);
-    }
-    if line.isedit {
-        let edit = line.edit;
-        return Command::Lend(Lend::EditRow(lent as u32, edit_cells(edit)));
-    }
-    let constraint = line.constraint;
-    Command::Lend(Lend::ConstraintRow(lent as u32, constraint_cells(constraint)))
 }
 
 // A line of the exchanged text.
-fn read_added(bytes: &[u8]) -> Command
+fn read_added(bytes: &[u8]) -> Result<Command, Refusal>
     ensures { result ≡ line_adds (line_read bytes.now) }
 {
-    let line = text_lines::read_line(bytes);
-    add_line(line)
+    let line = text_lines::read_line(bytes)?;
+    Ok(add_line(line))
 }
 
-// The record's number that a line begins with; its size is 0 where there is none.
-fn lent_number(bytes: &[u8]) -> Numeral
+// The record's number that a line begins with.
+fn lent_number(bytes: &[u8]) -> Option<Numeral>
     ensures { result ≡ lent_number bytes.now }
 {
-    let start = 0;
-    let end = 5;
-    if bytes.len() < end {
-        return Numeral { size: 0, value: 0 };
+    if !bytes.starts_with(b"lent=") {
+        return None;
     }
-    let word = text_forms::read_form(b"lent=", &bytes[start..end]);
-    if !word.fits {
-        return Numeral { size: 0, value: 0 };
-    }
-    decimal::read_number(&bytes[end..])
+    decimal::read_number(&bytes[5..])
 }
 
 // A line of the exchanged text after a record's number.
-fn read_lent_line(bytes: &[u8]) -> Command
+fn read_lent_line(bytes: &[u8]) -> Result<Command, Refusal>
     requires { length bytes.now ≤ line_limit }
     ensures { result ≡ lent_line_read bytes.now }
 {
-    let lent = lent_number(bytes);
-    if lent.size == 0 {
-        return Command::Refused(1);
-    }
+    let Some(lent) = lent_number(bytes) else {
+        return Err(Refusal::NotInForm);
+    };
     let at = 5 + lent.size;
     let space = text_lines::byte_at(bytes, at);
     if space != b' ' {
-        return Command::Refused(1);
+        return Err(Refusal::NotInForm);
     }
     let start = at + 1;
-    let line = text_lines::read_line(&bytes[start..]);
-    lend_line(lent.value, line)
+    let line = text_lines::read_line(&bytes[start..])?;
+    let number = text_lines::word(lent.value)?;
+    Ok(lend_line(number, line))
 }
 
 // Rows of numbers are tried before lines of the exchanged text.
-fn read_lent(bytes: &[u8]) -> Command
+fn read_lent(bytes: &[u8]) -> Result<Command, Refusal>
     requires { length bytes.now ≤ line_limit }
     ensures { result ≡ read_starting "lent=# " bytes.now }
 {
     let number = text_lines::number_end(bytes, 5);
     let letter = text_lines::byte_at(bytes, number + 1);
     match letter {
-        b'e' => {
-            let w = productions::read_words(
-                b"lent=# edit=# kind=# chip=# field=# value=#\n",
-                bytes,
-            );
-            if w.number == 1 {
-                return read_lent_line(bytes);
+        b'e' => match productions::read_words(
+            b"lent=# edit=# kind=# chip=# field=# value=#\n",
+            bytes,
+        ) {
+            Ok(words) => {
+                let cells = EditCells {
+                    name: words[1],
+                    kind: words[2],
+                    place: words[3],
+                    field: words[4],
+                    value: words[5],
+                };
+                Ok(Command::Lend(Lend::EditRow(words[0], cells)))
             }
-            let cells = EditCells {
-                name: w.second,
-                kind: w.third,
-                place: w.fourth,
-                field: w.fifth,
-                value: w.sixth,
-            };
-            unless_refused(w.number, Command::Lend(Lend::EditRow(w.first, cells)))
-        }
-        b'l' => {
-            let w = productions::read_words(b"lent=# left=# rule=# right=#\n", bytes);
-            if w.number == 1 {
-                return read_lent_line(bytes);
+            Err(refusal) => {
+                if refusal == Refusal::NotInForm {
+                    return read_lent_line(bytes);
+                }
+                Err(refusal)
             }
-            let cells = ConstraintCells {
-                left: w.second,
-                rule: w.third,
-                right: w.fourth,
-            };
-            unless_refused(w.number, Command::Lend(Lend::ConstraintRow(w.first, cells)))
-        }
+        },
+        b'l' => match productions::read_words(b"lent=# left=# rule=# right=#\n", bytes) {
+            Ok(words) => {
+                let cells = ConstraintCells {
+                    left: words[1],
+                    rule: words[2],
+                    right: words[3],
+                };
+                Ok(Command::Lend(Lend::ConstraintRow(words[0], cells)))
+            }
+            Err(refusal) => {
+                if refusal == Refusal::NotInForm {
+                    return read_lent_line(bytes);
+                }
+                Err(refusal)
+            }
+        },
         b'r' => read_rows(bytes, number),
-        _ => Command::Refused(1),
+        _ => Err(Refusal::NotInForm),
     }
 }
 
 // What a line of a log says, its end included. The third letter tells the groups of forms.
-pub fn read_command(bytes: &[u8]) -> Command
+pub fn read_command(bytes: &[u8]) -> Result<Command, Refusal>
     ensures { result ≡ command_read bytes.now }
 {
     if text_lines::LINE_LIMIT < bytes.len() {
-        return Command::Refused(1);
+        return Err(Refusal::NotInForm);
     }
     let third = text_lines::byte_at(bytes, 2);
     match third {
@@ -481,6 +466,6 @@ pub fn read_command(bytes: &[u8]) -> Command
         b'k' => read_ask(bytes),
         b'l' => read_roll(bytes),
         b'w' => read_row(bytes),
-        _ => Command::Refused(1),
+        _ => Err(Refusal::NotInForm),
     }
 }

@@ -175,24 +175,3 @@ module _ {A : Type 0} (text : ℕ → A → Texts) where
   texts-next k a i d h =
       let l : length (take i a) ≡ i = length-take-le i a (omega arith) in
       rw (add-one, take-suc a i d h, texts-append k (take i a) (get_or a i d ∷ []), l, append-nil)
-
-  pub record Printing (k : ℕ) (a : List A) (n : ℕ) (before : List ℕ) (start : ℕ) (out : List ℕ) (at i : ℕ) : Type 0 where
-    pub few : n ≤ length a
-    pub near : i ≤ n
-    pub so_far : Printed (texts_from text k (take i a)) before start out at
-
-  module _ (k : ℕ) (a : List A) (n : ℕ) (before : List ℕ) (start : ℕ) where
-    pub printing-start : n ≤ length a → Printing k a n before start before start 0
-    unfolding texts_from
-    printing-start few = record { few = few; near = omega arith; so_far = printed-nothing before start }
-
-    module _ {out : List ℕ} {at i : ℕ} (w : Printing k a n before start out at i) where
-      pub printing-next : (d : A) (j : ℕ) → j ≡ k + i → i < n → {after : List ℕ} {end : ℕ} → Printed (text j (get_or a i d)) out at after end → Printing k a n before start after end (i + 1)
-      printing-next d j e h p = record {
-        few = w.few;
-        near = omega arith;
-        so_far = rw (texts-next k a i d (omega (arith, w.few)), ← e) (printed-both (texts_from text k (take i a)) (text j (get_or a i d)) before start w.so_far p);
-      }
-
-      pub printing-end : n ≤ i → Printed (texts_from text k (take n a)) before start out at
-      printing-end h = let e : i ≡ n = omega (arith, w.near) in rw e at w.so_far

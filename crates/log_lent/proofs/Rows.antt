@@ -7,7 +7,7 @@ use native.Mathlib.Omega.{arith}
 use native.Mathlib.Nat.{mul-le-mul_right}
 use lib.Dec.{eqb, leb, ltb}
 use lib.ListN.{length, get_or, set, take, drop, length-drop, length-set, length-map}
-use lib.Seq.{take-suc, take-set-le, drop-set-lt, drop-set-add, take-suc-set, set_out, get_or-set_same, get_or-set_other, length-take-le}
+use lib.Seq.{take_all, take-suc, take-set-le, drop-set-lt, drop-set-add, take-suc-set, get_or-set_same, get_or-set_other, length-take-le}
 use borrow.Author.Tests.{eq-eqb, ne_eqb, lt-ltb, le-ltb, le-leb, lt-leb}
 use Rattle.lists.proofs.Lists.{is-by, le-by}
 use Rattle.record_rows.specs.row.Row.{Row}
@@ -88,39 +88,32 @@ module _ {places : ℕ} {tables : ℕ → Rows} {counts : List ℕ} {kept : Rows
         next : take (get_or counts k 0 + 1) (drop (k * places) (set kept (k * places + get_or counts k 0) row)) ≡ tables k ++ (row ∷ [])
         next = let e : get_or counts k 0 + 1 ≡ suc (get_or counts k 0) = omega arith in rw e own-more
 
--- what a row more comes to, in a table of a size: a refused one is placed past the end
-module _ {places : ℕ} {tables : ℕ → Rows} {counts : List ℕ} {kept : Rows} (T : Tables places tables counts kept) {size : ℕ} (s : length kept ≡ size) (k : ℕ) (row : Row) where
-  not-stored : set kept size row ≡ kept
-  not-stored = set_out kept size row (omega arith)
-
-  pub no_record : lent_records ≤ k → (2 ≡ rows_fault places tables k) × Tables places (added places tables k row) counts (set kept size row)
+-- what a row more comes to
+module _ {places : ℕ} {tables : ℕ → Rows} {counts : List ℕ} {kept : Rows} (T : Tables places tables counts kept) (k : ℕ) (row : Row) where
+  pub no_record : lent_records ≤ k → (2 ≡ rows_fault places tables k) × Tables places (added places tables k row) counts kept
   unfolding rows_fault added
-  no_record h = let e : ltb k 9 ≡ false = le-ltb k 9 h in rw (e, not-stored) (refl, T)
+  no_record h = let e : ltb k 9 ≡ false = le-ltb k 9 h in rw e (refl, T)
 
   module _ (h : k < lent_records) where
-    pub no-lent-place : places ≤ get_or counts k 0 → (3 ≡ rows_fault places tables k) × Tables places (added places tables k row) counts (set kept size row)
+    pub no-lent-place : places ≤ get_or counts k 0 → (3 ≡ rows_fault places tables k) × Tables places (added places tables k row) counts kept
     unfolding rows_fault added
     no-lent-place g =
         let e : ltb k 9 ≡ true = lt-ltb k 9 h in
         let f : leb places (length (tables k)) ≡ true = rw (lent-table-length T k h) (le-leb places (get_or counts k 0) g) in
-        rw (e, f, not-stored) (refl, T)
+        rw (e, f) (refl, T)
 
-    pub row-placed : get_or counts k 0 < places
-        → (0 ≡ rows_fault places tables k) × Tables places (added places tables k row) (set counts k (get_or counts k 0 + 1)) (set kept (k * places + get_or counts k 0) row)
-    row-placed g = (has-place T k h row g, one-more-row T k h row g)
+    module _ (g : get_or counts k 0 < places) where
+      pub row-placed : (0 ≡ rows_fault places tables k) × Tables places (added places tables k row) (set counts k (get_or counts k 0 + 1)) (set kept (k * places + get_or counts k 0) row)
+      row-placed = (has-place T k h row g, one-more-row T k h row g)
 
-pub past_end : {N : Type 0} {places : ℕ} {tables : ℕ → Rows} {counts : List ℕ} (kept : Rows) (place : ℕ) (row : Row) → length kept ≤ place
-    → N × Tables places tables counts (set kept place row) → N × Tables places tables counts kept
-past_end kept place row h p = rw (set_out kept place row h) at p
+      pub row-inside : k * places + get_or counts k 0 < length kept
+      row-inside = let a = within T k h in omega arith
 
 -- tables that are the same where they are kept
 pub tables-same : {places : ℕ} {f g : ℕ → Rows} {counts : List ℕ} {kept : Rows} → ((j : ℕ) → j < lent_records → f j ≡ g j) → Tables places f counts kept → Tables places g counts kept
 tables-same e T = record { size = T.size; nine = T.nine; few = T.few; rows = λ j l. T.rows j l ∙ e j l }
 
 module _ {places : ℕ} {tables : ℕ → Rows} {counts : List ℕ} {kept : Rows} (T : Tables places tables counts kept) (k : ℕ) where
-  pub no_table : lent_records ≤ k → Tables places (with k [] tables) counts kept
-  no_table h = tables-same (λ j l. sym (with-other k j [] tables (λ e. omega arith))) T
-
   module _ (h : k < lent_records) where
     pub no_rows : Tables places (with k [] tables) (set counts k 0) kept
     no_rows = record {
@@ -136,32 +129,6 @@ module _ {places : ℕ} {tables : ℕ → Rows} {counts : List ℕ} {kept : Rows
       where
         counted : k < length counts
         counted = rw T.nine h
-
-pub table-start : (places k : ℕ) → k < lent_records → k * places ≤ 8 * places
-table-start places k h = let l : k ≤ 8 = omega arith in mul-le-mul_right places l
-
--- the part of a table of a size where the rows of table k stand
-module _ (places : ℕ) (counts : List ℕ) (size k : ℕ) where
-  abbrev Stands : ℕ → ℕ → Type 0
-  Stands start stop =
-      (start ≤ stop) × (stop ≤ size)
-      × ((tables : ℕ → Rows) (kept : Rows) → Tables places tables counts kept → length kept ≡ size → k < lent_records → take (stop - start) (drop start kept) ≡ tables k)
-
-  pub no_part : lent_records ≤ k → Stands 0 0
-  no_part h = (omega arith, omega arith, λ tables kept T s l. absurd (omega arith))
-
-  pub part-too-long : places < get_or counts k 0 → Stands 0 0
-  part-too-long g = (omega arith, omega arith, λ tables kept T s l. absurd (let f = T.few k in omega arith))
-
-  pub part-outside : size < k * places + get_or counts k 0 → Stands 0 0
-  part-outside g = (omega arith, omega arith, λ tables kept T s l. absurd (let a = within T k l in let f = T.few k in omega arith))
-
-  pub part-whole : k * places + get_or counts k 0 ≤ size → Stands (k * places) (k * places + get_or counts k 0)
-  part-whole g = (
-    omega arith,
-    g,
-    λ tables kept T s l. let e : k * places + get_or counts k 0 - k * places ≡ get_or counts k 0 = omega arith in rw e (T.rows k l),
-  )
 
 -- the rows of a list join an empty table one after the other
 module _ {A : Type 0} (f : A → Row) (l : List A) {places : ℕ} (tables : ℕ → Rows) (k : ℕ) (h : k < lent_records) where
@@ -192,15 +159,19 @@ module _ {A : Type 0} (f : A → Row) (l : List A) {places : ℕ} (tables : ℕ 
 module _ {A : Type 0} (f : A → Row) (l : List A) (places k : ℕ) (counts₀ : List ℕ) (kept₀ : Rows) where
   abbrev pub RowsJoined : ℕ → List ℕ → Rows → Type 0
   RowsJoined i counts kept =
-      (tables : ℕ → Rows) → Tables places tables counts₀ kept₀ → tables k ≡ [] → k < lent_records → Tables places (with k (map f (take i l)) tables) counts kept
+      (tables : ℕ → Rows) → Tables places tables counts₀ kept₀ → tables k ≡ [] → k < lent_records → length l ≤ places → Tables places (with k (map f (take i l)) tables) counts kept
 
   pub rows-joined-none : RowsJoined 0 counts₀ kept₀
-  rows-joined-none tables T e h = lent-rows-none f l tables k h e T
+  rows-joined-none tables T e h few = lent-rows-none f l tables k h e T
 
-  pub rows-joined-next : (i : ℕ) (d : A) → i < length l → i < places → {row : Row} → row ≡ f (get_or l i d) → {number : ℕ} {counts counts' : List ℕ} {kept kept' : Rows}
+  pub rows-joined-next : (i : ℕ) (d : A) → i < length l → {row : Row} → row ≡ f (get_or l i d) → {number : ℕ} {counts counts' : List ℕ} {kept kept' : Rows}
       → ((tables : ℕ → Rows) → Tables places tables counts kept → (number ≡ rows_fault places tables k) × Tables places (added places tables k row) counts' kept')
       → RowsJoined i counts kept → RowsJoined (i + 1) counts' kept'
-  rows-joined-next i d a b q step J tables T e h = lent-rows-next f l tables k h i d a b q (step (with k (map f (take i l)) tables) (J tables T e h)).1
+  rows-joined-next i d a q step J tables T e h few = lent-rows-next f l tables k h i d a (omega arith) q (step (with k (map f (take i l)) tables) (J tables T e h few)).1
+
+  pub rows-joined-all : (i : ℕ) → length l ≤ i → {counts : List ℕ} {kept : Rows} → RowsJoined i counts kept
+      → (tables : ℕ → Rows) → Tables places tables counts₀ kept₀ → tables k ≡ [] → k < lent_records → length l ≤ places → Tables places (with k (map f l) tables) counts kept
+  rows-joined-all i m J tables T e h few = rw (take_all i l m) at (J tables T e h few)
 
 -- eight tables, each the one that is lent
 pub eight-lent : (f : ℕ → Rows) {a b c d e g h i : Rows} → (1 < lent_records → a ≡ f 1) → (2 < lent_records → b ≡ f 2) → (3 < lent_records → c ≡ f 3) → (4 < lent_records → d ≡ f 4) → (5 < lent_records → e ≡ f 5)

@@ -1,7 +1,7 @@
 -- What each line that lends leaves. Assumes nothing.
 use mathlib.Core.Path.{◌≡◌, refl, sym, ap, ◌∙◌}
 use mathlib.Core.Bool.{true, false, and-false}
-use mathlib.Core.List.{List, [], ◌∷◌, ◌++◌, map}
+use mathlib.Core.List.{List, [], ◌∷◌, ◌++◌}
 use Prim.Native.Nat.{ℕ, suc, ◌+◌, ◌≤◌, ◌<◌}
 use native.Mathlib.Omega.{arith}
 use lib.Dec.{leb, ltb}
@@ -13,12 +13,12 @@ use Rattle.record.specs.Record.{Record}
 use Rattle.record.specs.Stored.{stored, padded}
 use Rattle.lists.proofs.Lists.{is-by, le-by}
 use Rattle.lists.proofs.Arrays.{get_or-zeros}
-use Rattle.record_rows.specs.row.Row.{Row, edit_row, constraint_row}
+use Rattle.record_rows.specs.row.Row.{Row}
 use Rattle.record_rows.specs.grounds.Ground.{Rows}
 use Rattle.record_tables.specs.Table.{edit_rows, constraint_rows}
 use Rattle.voting.specs.declared.RollRow.{RollRow}
 use Rattle.log_lent.specs.declared.Lending.{Lending}
-use Rattle.log_lent.specs.Lent.{Lent, nothing_lent, edit_places, constraint_places, roll_places, row_places, with, rows_fault, added, with_edit, with_constraint, with_record, record_number, seat_number, with_seat, without_roll, name_number, with_name, without_row}
+use Rattle.log_lent.specs.Lent.{Lent, nothing_lent, lent_records, edit_places, constraint_places, roll_places, row_places, with, rows_fault, added, with_edit, with_constraint, with_record, record_number, seat_number, with_seat, without_roll, name_number, with_name, without_row}
 use Rattle.log_lent.specs.Kept.{Tables, Listed, Kept}
 use Rattle.log_lent.proofs.Rows.{with-same, with-other, tables-same}
 
@@ -68,6 +68,16 @@ none_kept seats s edits constraints e c = record {
     zeros : {places : ℕ} (k : ℕ) → get_or (replicate 9 0) k 0 ≤ places
     zeros k = rw (no-count k) (omega arith)
 
+-- the elements of a record as it is stored
+module _ (R : Record) (multilog : declared.Record) (q : multilog ≡ stored R) where
+  pub edits-held : take multilog.editcount multilog.edits ≡ R.edits
+  unfolding padded
+  edits-held = rw q (take-append_seam R.edits _)
+
+  pub constraints-held : take multilog.constraintcount multilog.constraints ≡ R.constraints
+  unfolding padded
+  constraints-held = rw q (take-append_seam R.constraints _)
+
 module _ {L : Lent} {lending : Lending} {edits constraints : Rows} (K : Kept L lending edits constraints) where
   pub edit-lent : (k : ℕ) (row : Row) {number : ℕ} {counts : List ℕ} {after : Rows}
       → (number ≡ rows_fault edit_places L.edits k) × Tables edit_places (added edit_places L.edits k row) counts after
@@ -82,60 +92,45 @@ module _ {L : Lent} {lending : Lending} {edits constraints : Rows} (K : Kept L l
   constraint-lent k row p = (p.0, record { edits = K.edits; constraints = p.1; roll = K.roll; row = K.row })
 
   module _ (k : ℕ) (R : Record) where
-    pub no-such-record : 8 < k → (2 ≡ record_number k) × Kept (with_record L k R) lending edits constraints
+    pub no-such-record : lent_records ≤ k → (2 ≡ record_number k) × Kept (with_record L k R) lending edits constraints
     unfolding with_record
-    no-such-record h = let e : ltb k 9 ≡ false = le-ltb k 9 (omega arith) in rw e (refl, K)
+    no-such-record h = let e : ltb k 9 ≡ false = le-ltb k 9 h in rw e (refl, K)
 
-    module _ (multilog : declared.Record) (q : multilog ≡ stored R) where
-      pub edits-many {ℓ} : {P : Type ℓ} → length R.edits ≤ 127 → 127 < multilog.editcount → P
-      edits-many a b = absurd (let e : multilog.editcount ≡ length R.edits = ap (λ (x : declared.Record). x.editcount) q in omega arith)
+    twice : (f : ℕ → Rows) (rows : Rows) (j : ℕ) → j < 9 → with k rows (with k [] f) j ≡ with k rows f j
+    twice f rows j h = is-by j k
+        (λ m. rw (m, with-same k rows (with k [] f), with-same k rows f) refl)
+        (λ m. rw (with-other k j rows (with k [] f) m, with-other k j [] f m, with-other k j rows f m) refl)
 
-      pub constraints-many {ℓ} : {P : Type ℓ} → length R.constraints ≤ 512 → 512 < multilog.constraintcount → P
-      constraints-many a b = absurd (let e : multilog.constraintcount ≡ length R.constraints = ap (λ (x : declared.Record). x.constraintcount) q in omega arith)
-
-      edits-held : take multilog.editcount multilog.edits ≡ R.edits
-      unfolding padded
-      edits-held = rw q (take-append_seam R.edits _)
-
-      constraints-held : take multilog.constraintcount multilog.constraints ≡ R.constraints
-      unfolding padded
-      constraints-held = rw q (take-append_seam R.constraints _)
-
-      twice : (f : ℕ → Rows) (rows rows' : Rows) → rows ≡ rows' → (j : ℕ) → j < 9 → with k rows (with k [] f) j ≡ with k rows' f j
-      twice f rows rows' e j h = is-by j k
-          (λ m. rw (m, with-same k rows (with k [] f), with-same k rows' f) e)
-          (λ m. rw (with-other k j rows (with k [] f) m, with-other k j [] f m, with-other k j rows' f m) refl)
-
-      pub record-lent : k ≤ 8 → {editcounts constraintcounts : List ℕ} {editrows constraintrows : Rows}
-          → Tables edit_places (with k (map edit_row (take multilog.editcount multilog.edits)) (with k [] L.edits)) editcounts editrows
-          → Tables constraint_places (with k (map constraint_row (take multilog.constraintcount multilog.constraints)) (with k [] L.constraints)) constraintcounts constraintrows
-          → (0 ≡ record_number k) × Kept (with_record L k R) (record { editcounts = editcounts; constraintcounts = constraintcounts; roll = lending.roll; rollcount = lending.rollcount; row = lending.row; rowcount = lending.rowcount }) editrows constraintrows
-      unfolding with_record
-      record-lent h S T =
-          let e : ltb k 9 ≡ true = lt-ltb k 9 (omega arith) in
-          rw e (
-            refl,
-            record {
-              edits = tables-same (twice L.edits _ (edit_rows R) (ap (map edit_row) edits-held)) S;
-              constraints = tables-same (twice L.constraints _ (constraint_rows R) (ap (map constraint_row) constraints-held)) T;
-              roll = K.roll;
-              row = K.row;
-            },
-          )
+    pub record-lent : k < 9 → {editcounts constraintcounts : List ℕ} {editrows constraintrows : Rows}
+        → Tables edit_places (with k (edit_rows R) (with k [] L.edits)) editcounts editrows
+        → Tables constraint_places (with k (constraint_rows R) (with k [] L.constraints)) constraintcounts constraintrows
+        → (0 ≡ record_number k) × Kept (with_record L k R) (record { editcounts = editcounts; constraintcounts = constraintcounts; roll = lending.roll; rollcount = lending.rollcount; row = lending.row; rowcount = lending.rowcount }) editrows constraintrows
+    unfolding with_record
+    record-lent h S T =
+        let e : ltb k 9 ≡ true = lt-ltb k 9 h in
+        rw e (
+          refl,
+          record {
+            edits = tables-same (twice L.edits (edit_rows R)) S;
+            constraints = tables-same (twice L.constraints (constraint_rows R)) T;
+            roll = K.roll;
+            row = K.row;
+          },
+        )
 
   module _ (bench weight : ℕ) where
-    pub seat-bench : 255 < bench → (2 ≡ seat_number bench weight) × Kept (with_seat L bench weight) lending edits constraints
+    pub seat-bench : 256 ≤ bench → (2 ≡ seat_number bench weight) × Kept (with_seat L bench weight) lending edits constraints
     unfolding with_seat seat_number
-    seat-bench h = let e : ltb bench 256 ≡ false = le-ltb bench 256 (omega arith) in rw e (refl, K)
+    seat-bench h = let e : ltb bench 256 ≡ false = le-ltb bench 256 h in rw e (refl, K)
 
-    pub seat-weight : 65535 < weight → (2 ≡ seat_number bench weight) × Kept (with_seat L bench weight) lending edits constraints
+    pub seat-weight : 65536 ≤ weight → (2 ≡ seat_number bench weight) × Kept (with_seat L bench weight) lending edits constraints
     unfolding with_seat seat_number
-    seat-weight h = let e : ltb weight 65536 ≡ false = le-ltb weight 65536 (omega arith) in rw (e, and-false (ltb bench 256)) (refl, K)
+    seat-weight h = let e : ltb weight 65536 ≡ false = le-ltb weight 65536 h in rw (e, and-false (ltb bench 256)) (refl, K)
 
-    module _ (a : bench ≤ 255) (b : weight ≤ 65535) where
+    module _ (a : bench < 256) (b : weight < 65536) where
       seated : seat_number bench weight ≡ 0
       unfolding seat_number
-      seated = let d : ltb bench 256 ≡ true = lt-ltb bench 256 (omega arith) in let e : ltb weight 65536 ≡ true = lt-ltb weight 65536 (omega arith) in rw (d, e) refl
+      seated = let d : ltb bench 256 ≡ true = lt-ltb bench 256 a in let e : ltb weight 65536 ≡ true = lt-ltb weight 65536 b in rw (d, e) refl
 
       pub seat-past : roll_places ≤ lending.rollcount → (0 ≡ seat_number bench weight) × Kept (with_seat L bench weight) lending edits constraints
       unfolding with_seat

@@ -1,57 +1,53 @@
 // A proposal made from the records that the lines of a call log lend (document 01, "Proposals and votes").
 ghost use Rattle.std.specs.Prelude.{◌≡◌};
-ghost use Rattle.record_rows.specs.grounds.Ground.{Rows};
-ghost use Rattle.voting_proposals.specs.Propose.{new_outcome};
+ghost use Rattle.refusals.specs.Numbers.{Gives};
+ghost use Rattle.record.specs.Record as theory;
+ghost use Rattle.record.specs.Stored.{stored};
+ghost use Rattle.record_rows.specs.grounds.Ground.{◌given◌};
+ghost use Rattle.voting_proposals.specs.Propose.{too_short};
 ghost use Rattle.log_lent.specs.Lent.{Lent};
 ghost use Rattle.log_lent.specs.Kept.{Kept};
-ghost use Rattle.log_lent.specs.lent_proposals.Made.{tables_with, proposal_of, proposal_in};
+ghost use Rattle.log_lent.specs.lent_proposals.Made.{lent_proposal_fault, proposal_made};
 
 use crate::Lending;
-use record_joining::Joined;
+use record::Record;
 use record_rows::row::{ConstraintRow, EditRow};
+use refusals::Refusal;
 
 // A new proposal, if n edits and m constraints have a place for it.
-fn fitted(new: Joined, n: u32, m: u32) -> Joined
-    ensures { (E C D F : Rows) → new ≡ new_outcome E C D F → result ≡ proposal_of (tables_with E C D F n m) }
+fn fitted(new: Record, n: u32, m: u32) -> Result<Record, Refusal>
+    ensures { (P : theory.Record) → new ≡ stored P → Gives (12 given too_short n m P) (stored P) result }
 {
-    if new.number != 0 {
-        return new;
+    if (n as usize) < new.editcount {
+        return Err(Refusal::NoRoom);
     }
-    let after = new.after;
-    if (n as usize) < after.editcount {
-        return voting_proposals::stopped(12);
+    if (m as usize) < new.constraintcount {
+        return Err(Refusal::NoRoom);
     }
-    if (m as usize) < after.constraintcount {
-        return voting_proposals::stopped(12);
-    }
-    new
+    Ok(new)
 }
 
 // The new proposal from record k and the old one, where n edits and m constraints have a place.
 pub fn propose_lent(
-    lending: Lending,
+    lending: &Lending,
     edits: &[EditRow],
     constraints: &[ConstraintRow],
     k: u32,
     old: u32,
     n: u32,
     m: u32,
-) -> Joined
-    ensures { (L : Lent) → Kept L lending edits.now constraints.now → result ≡ proposal_in L k old n m }
+) -> Result<Record, Refusal>
+    ensures { (L : Lent) → Kept L lending.now edits.now constraints.now → Gives (lent_proposal_fault L k old n m) (stored (proposal_made L k old n m)) result }
 {
-    if 8 < k {
-        return voting_proposals::stopped(2);
-    }
-    if 8 < old {
-        return voting_proposals::stopped(2);
-    }
-    let a = lending.editcounts;
-    let b = lending.constraintcounts;
+    let place = crate::record_place(k)?;
+    let oldplace = crate::record_place(old)?;
+    let record = lending.record(edits, constraints, place);
+    let proposal = lending.record(edits, constraints, oldplace);
     let new = voting_proposals::new_proposal(
-        crate::edits_of(a, edits, k as usize),
-        crate::constraints_of(b, constraints, k as usize),
-        crate::edits_of(a, edits, old as usize),
-        crate::constraints_of(b, constraints, old as usize),
-    );
+        record.edits,
+        record.constraints,
+        proposal.edits,
+        proposal.constraints,
+    )?;
     fitted(new, n, m)
 }

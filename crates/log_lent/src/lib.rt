@@ -5,19 +5,22 @@
 pub mod lent_calls;
 pub mod lent_proposals;
 
-ghost use Rattle.std.specs.Prelude.{◌≡◌, [], map, ℕ, ◌-◌, ◌<◌, ◌≤◌, length, set, take, drop};
+ghost use Rattle.std.specs.Prelude.{◌≡◌, [], map, ℕ, ◌<◌, ◌≤◌, length, take, MatchResult};
+ghost use Rattle.refusals.specs.Numbers.{number, number_of};
 ghost use Rattle.record.specs.Record as theory;
 ghost use Rattle.record.specs.Stored.{stored};
-ghost use Rattle.record_rows.specs.row.Row.{Row, edit_row, constraint_row};
 ghost use Rattle.record_rows.specs.grounds.Ground.{Rows};
-ghost use Rattle.voting_roll.specs.Election.{benches};
-ghost use Rattle.log_lent.specs.Lent.{Lent, nothing_lent, lent_records, with, edit_places, constraint_places, rows_fault, added, with_edit, with_constraint, with_record, record_number, seat_number, with_seat, without_roll, name_number, with_name, without_row};
+ghost use Rattle.voting_count.specs.Count.{lent};
+ghost use Rattle.log_lent.specs.Lent.{Lent, nothing_lent, lent_records, with, edit_places, constraint_places, roll_places, rows_fault, added, with_edit, with_constraint, with_record, record_number, seat_number, with_seat, without_roll, name_number, with_name, without_row};
 ghost use Rattle.log_lent.specs.Kept.{Tables, Kept};
+ghost use Rattle.log_lent.specs.lent_calls.Calls.{proposals_of};
 
-use record::{CONSTRAINTS, Constraint, EDITS, Edit, Record};
-use record_rows::row;
+use record::{CONSTRAINTS, EDITS, Record};
+use record_rows::element::Element;
 use record_rows::row::{ConstraintRow, EditRow};
+use refusals::Refusal;
 use voting::RollRow;
+use voting_count::{LentProposals, LentRecord};
 
 // The records that lines lend to, and how many rows of each kind are kept; specs/Lent.antt has the same numbers, and why.
 pub const RECORDS: usize = 9;
@@ -30,6 +33,8 @@ pub const ROW_PLACES: usize = EDITS + 2;
 
 pub const ROLL_PLACES: usize = 9;
 
+// Kept: arrays with their counts, since no line may allocate; the two lent tables stand beside it, since a struct that held `&mut` to them would ask
+// each function to ensure which references it keeps.
 // How many rows each table has; the first rows of the roll; the row to be tested.
 #[derive(Clone, Copy)]
 pub struct Lending {
@@ -41,418 +46,239 @@ pub struct Lending {
     pub rowcount: usize,
 }
 
-// What one row more comes to: the number of a refusal, 0 for none; the row's place, past the end for a refusal; how many rows each table has then.
-#[derive(Clone, Copy)]
-pub struct Placing {
-    pub number: u32,
-    pub place: usize,
-    pub counts: [usize; RECORDS],
+// The place of record k among those that lines lend to.
+fn record_place(k: u32) -> Result<usize, Refusal>
+    ensures { MatchResult result (λ place. (place ≡ k) × (k < lent_records)) (λ refusal. (number refusal ≡ 2) × (lent_records ≤ k)) }
+{
+    let place = k as usize;
+    if place < RECORDS {
+        Ok(place)
+    } else {
+        Err(Refusal::OutOfRange)
+    }
 }
 
-// Where a row joins table k, of tables with so many places each that stand in one of a size.
-fn next_place(counts: [usize; RECORDS], places: usize, size: usize, k: usize) -> Placing
+// A row joins table k of a kind, of which each table has so many places.
+fn add_row<const CELLS: usize>(
+    counts: &mut [usize; RECORDS],
+    places: usize,
+    kept: &mut [[u32; CELLS]],
+    k: u32,
+    row: &[u32; CELLS],
+) -> Result<(), Refusal>
     requires { places ≤ constraint_places }
-    ensures { (tables : ℕ → Rows) (kept : Rows) (row : Row) → Tables places tables counts kept → length kept ≡ size
-        → (result.number ≡ rows_fault places tables k) × Tables places (added places tables k row) result.counts (set kept result.place row) }
+    ensures { (tables : ℕ → Rows) → Tables places tables counts.old kept.old
+        → (number_of result ≡ rows_fault places tables k) × Tables places (added places tables k row.now) counts.new kept.new }
 {
-    if RECORDS <= k {
-        return Placing {
-            number: 2,
-            place: size,
-            counts: counts,
-        };
-    }
-    let n = counts[k];
+    let table = record_place(k)?;
+    let n = counts[table];
     if places <= n {
-        return Placing {
-            number: 3,
-            place: size,
-            counts: counts,
-        };
+        return Err(Refusal::NoPlace);
     }
-    let mut more = counts;
-    more[k] = n + 1;
-    Placing {
-        number: 0,
-        place: k * places + n,
-        counts: more,
-    }
-}
-
-// A row joins table k of the lent edits.
-fn add_edit(counts: [usize; RECORDS], kept: &mut [EditRow], k: usize, row: EditRow) -> Placing
-    ensures { (tables : ℕ → Rows) → Tables edit_places tables counts kept.old
-        → (result.number ≡ rows_fault edit_places tables k) × Tables edit_places (added edit_places tables k row) result.counts kept.new }
-{
-    let placing = next_place(counts, EDIT_PLACES, kept.len(), k);
-    let place = placing.place;
+    let place = table * places + n;
     if place < kept.len() {
-        kept[place] = row;
+        kept[place] = *row;
     }
-    placing
+    counts[table] = n + 1;
+    Ok(())
 }
 
-// A row joins table k of the lent constraints.
-fn add_constraint(
-    counts: [usize; RECORDS],
-    kept: &mut [ConstraintRow],
-    k: usize,
-    row: ConstraintRow,
-) -> Placing
-    ensures { (tables : ℕ → Rows) → Tables constraint_places tables counts kept.old
-        → (result.number ≡ rows_fault constraint_places tables k) × Tables constraint_places (added constraint_places tables k row) result.counts kept.new }
-{
-    let placing = next_place(counts, CONSTRAINT_PLACES, kept.len(), k);
-    let place = placing.place;
-    if place < kept.len() {
-        kept[place] = row;
-    }
-    placing
-}
-
-// Table k has no rows.
-fn without_rows(counts: [usize; RECORDS], k: usize) -> [usize; RECORDS]
-    ensures { (places : ℕ) (tables : ℕ → Rows) (kept : Rows) → Tables places tables counts kept → Tables places (with k [] tables) result kept }
-{
-    let mut fewer = counts;
-    if k < RECORDS {
-        fewer[k] = 0;
-    }
-    fewer
-}
-
-// The rows of n edits join table k.
-fn add_edits(
-    counts: [usize; RECORDS],
-    kept: &mut [EditRow],
-    k: usize,
-    edits: [Edit; EDITS],
-    n: usize,
-) -> [usize; RECORDS]
-    requires { n ≤ 127 }
-    ensures { (tables : ℕ → Rows) → Tables edit_places tables counts kept.old → tables k ≡ [] → k < lent_records
-        → Tables edit_places (with k (map edit_row (take n edits)) tables) result kept.new }
-{
-    let mut more = counts;
-    let mut i = 0;
-    while i < n {
-        let e = edits[i];
-        let row = row::edit_row(e);
-        let added = add_edit(more, &mut kept[..], k, row);
-        more = added.counts;
-        i += 1;
-    }
-    more
-}
-
-// The rows of n constraints join table k.
-fn add_constraints(
-    counts: [usize; RECORDS],
-    kept: &mut [ConstraintRow],
-    k: usize,
-    constraints: [Constraint; CONSTRAINTS],
-    n: usize,
-) -> [usize; RECORDS]
-    requires { n ≤ 512 }
-    ensures { (tables : ℕ → Rows) → Tables constraint_places tables counts kept.old → tables k ≡ [] → k < lent_records
-        → Tables constraint_places (with k (map constraint_row (take n constraints)) tables) result kept.new }
-{
-    let mut more = counts;
-    let mut i = 0;
-    while i < n {
-        let c = constraints[i];
-        let row = row::constraint_row(c);
-        let added = add_constraint(more, &mut kept[..], k, row);
-        more = added.counts;
-        i += 1;
-    }
-    more
-}
-
-// Where the rows of a table stand: from a place up to another.
-#[derive(Clone, Copy)]
-pub struct Part {
-    pub start: usize,
-    pub stop: usize,
-}
-
-// Where the rows of table k stand, of tables with so many places each that stand in one of a size.
-fn part_of(counts: [usize; RECORDS], places: usize, size: usize, k: usize) -> Part
+// The rows of these elements join table k. None is refused: an empty table has a place for each.
+fn add_elements<const CELLS: usize, T: Element<CELLS>>(
+    counts: &mut [usize; RECORDS],
+    places: usize,
+    kept: &mut [[u32; CELLS]],
+    k: u32,
+    elements: &[T],
+)
     requires { places ≤ constraint_places }
-    ensures { (result.start ≤ result.stop) × (result.stop ≤ size)
-        × ((tables : ℕ → Rows) (kept : Rows) → Tables places tables counts kept → length kept ≡ size → k < lent_records
-        → take (result.stop - result.start) (drop result.start kept) ≡ tables k) }
+    ensures { (tables : ℕ → Rows) → Tables places tables counts.old kept.old → tables k ≡ [] → k < lent_records → length elements.now ≤ places
+        → Tables places (with k (map T.row_of elements.now) tables) counts.new kept.new }
 {
-    let none = Part { start: 0, stop: 0 };
-    if RECORDS <= k {
-        return none;
-    }
-    let n = counts[k];
-    if places < n {
-        return none;
-    }
-    let start = k * places;
-    let stop = start + n;
-    if size < stop {
-        return none;
-    }
-    Part {
-        start: start,
-        stop: stop,
+    for element in elements {
+        let row = element.row();
+        let _added = add_row(counts, places, kept, k, &row);
     }
 }
 
-// The rows of table k of the lent edits.
-pub fn edits_of<'a>(counts: [usize; RECORDS], kept: &'a [EditRow], k: usize) -> &'a [EditRow]
-    ensures { (tables : ℕ → Rows) → Tables edit_places tables counts kept.now → k < lent_records → result.now ≡ tables k }
-{
-    let part = part_of(counts, EDIT_PLACES, kept.len(), k);
-    let start = part.start;
-    let stop = part.stop;
-    &kept[start..stop]
-}
-
-// The rows of table k of the lent constraints.
-pub fn constraints_of<'a>(
-    counts: [usize; RECORDS],
-    kept: &'a [ConstraintRow],
+// The rows of table k of a kind, of which each table has so many places.
+fn rows_of<'a, const CELLS: usize>(
+    counts: &[usize; RECORDS],
+    places: usize,
+    kept: &'a [[u32; CELLS]],
     k: usize,
-) -> &'a [ConstraintRow]
-    ensures { (tables : ℕ → Rows) → Tables constraint_places tables counts kept.now → k < lent_records → result.now ≡ tables k }
+) -> &'a [[u32; CELLS]]
+    requires { places ≤ constraint_places }
+    ensures { (tables : ℕ → Rows) → Tables places tables counts.now kept.now → k < lent_records → result.now ≡ tables k }
 {
-    let part = part_of(counts, CONSTRAINT_PLACES, kept.len(), k);
-    let start = part.start;
-    let stop = part.stop;
-    &kept[start..stop]
-}
-
-// The lent edits of the eight proposals.
-pub fn proposed_edits<'a>(counts: [usize; RECORDS], kept: &'a [EditRow]) -> [&'a [EditRow]; 8]
-    ensures { (tables : ℕ → Rows) → Tables edit_places tables counts kept.now → map (λ x. x.now) result ≡ map tables benches }
-{
-    [
-        edits_of(counts, kept, 1),
-        edits_of(counts, kept, 2),
-        edits_of(counts, kept, 3),
-        edits_of(counts, kept, 4),
-        edits_of(counts, kept, 5),
-        edits_of(counts, kept, 6),
-        edits_of(counts, kept, 7),
-        edits_of(counts, kept, 8),
-    ]
-}
-
-// The lent constraints of the eight proposals.
-pub fn proposed_constraints<'a>(
-    counts: [usize; RECORDS],
-    kept: &'a [ConstraintRow],
-) -> [&'a [ConstraintRow]; 8]
-    ensures { (tables : ℕ → Rows) → Tables constraint_places tables counts kept.now → map (λ x. x.now) result ≡ map tables benches }
-{
-    [
-        constraints_of(counts, kept, 1),
-        constraints_of(counts, kept, 2),
-        constraints_of(counts, kept, 3),
-        constraints_of(counts, kept, 4),
-        constraints_of(counts, kept, 5),
-        constraints_of(counts, kept, 6),
-        constraints_of(counts, kept, 7),
-        constraints_of(counts, kept, 8),
-    ]
-}
-
-// The number of a refusal, 0 for none, and what is lent then.
-#[derive(Clone, Copy)]
-pub struct Setting {
-    pub number: u32,
-    pub lending: Lending,
+    if RECORDS <= k {
+        return &[];
+    }
+    let start = (k * places).min(kept.len());
+    let rows = &kept[start..];
+    &rows[..counts[k].min(rows.len())]
 }
 
 pub fn nothing_lent() -> Lending
     ensures { (edits constraints : Rows) → length edits ≡ 1152 → length constraints ≡ 4617 → Kept nothing_lent result edits constraints }
 {
-    let counts = [0usize; RECORDS];
     let seat = RollRow {
         bench: 0,
         weight: 0,
     };
-    let roll = [seat; ROLL_PLACES];
-    let row = [0u32; ROW_PLACES];
     Lending {
-        editcounts: counts,
-        constraintcounts: counts,
-        roll: roll,
+        editcounts: [0; RECORDS],
+        constraintcounts: [0; RECORDS],
+        roll: [seat; ROLL_PLACES],
         rollcount: 0,
-        row: row,
+        row: [0; ROW_PLACES],
         rowcount: 0,
     }
 }
 
-// A row of edits for record k.
-pub fn lend_edit(lending: Lending, kept: &mut [EditRow], k: u32, row: EditRow) -> Setting
-    ensures { (L : Lent) (constraints : Rows) → Kept L lending kept.old constraints
-        → (result.number ≡ rows_fault edit_places L.edits k) × Kept (with_edit L k row) result.lending kept.new constraints }
-{
-    let counts = lending.editcounts;
-    let added = add_edit(counts, &mut kept[..], k as usize, row);
-    let more = added.counts;
-    let mut lent = lending;
-    lent.editcounts = more;
-    Setting {
-        number: added.number,
-        lending: lent,
+impl Lending {
+    // Record k as it is lent.
+    fn record<'a>(
+        &self,
+        edits: &'a [EditRow],
+        constraints: &'a [ConstraintRow],
+        k: usize,
+    ) -> LentRecord<'a>
+        ensures { (L : Lent) → Kept L self.now edits.now constraints.now → k < lent_records → (result.edits.now ≡ L.edits k) × (result.constraints.now ≡ L.constraints k) }
+    {
+        LentRecord {
+            edits: rows_of(&self.editcounts, EDIT_PLACES, edits, k),
+            constraints: rows_of(&self.constraintcounts, CONSTRAINT_PLACES, constraints, k),
+        }
     }
-}
 
-// A row of constraints for record k.
-pub fn lend_constraint(
-    lending: Lending,
-    kept: &mut [ConstraintRow],
-    k: u32,
-    row: ConstraintRow,
-) -> Setting
-    ensures { (L : Lent) (edits : Rows) → Kept L lending edits kept.old
-        → (result.number ≡ rows_fault constraint_places L.constraints k) × Kept (with_constraint L k row) result.lending edits kept.new }
-{
-    let counts = lending.constraintcounts;
-    let added = add_constraint(counts, &mut kept[..], k as usize, row);
-    let more = added.counts;
-    let mut lent = lending;
-    lent.constraintcounts = more;
-    Setting {
-        number: added.number,
-        lending: lent,
+    // The proposals of the eight benches: records 1 to 8.
+    fn proposals<'a>(
+        &self,
+        edits: &'a [EditRow],
+        constraints: &'a [ConstraintRow],
+    ) -> LentProposals<'a>
+        ensures { (L : Lent) → Kept L self.now edits.now constraints.now → lent result ≡ proposals_of L }
+    {
+        [
+            self.record(edits, constraints, 1),
+            self.record(edits, constraints, 2),
+            self.record(edits, constraints, 3),
+            self.record(edits, constraints, 4),
+            self.record(edits, constraints, 5),
+            self.record(edits, constraints, 6),
+            self.record(edits, constraints, 7),
+            self.record(edits, constraints, 8),
+        ]
     }
-}
 
-// Record k is this one.
-pub fn lend_record(
-    lending: Lending,
-    edits: &mut [EditRow],
-    constraints: &mut [ConstraintRow],
-    k: u32,
-    multilog: Record,
-) -> Setting
-    ensures { (L : Lent) (R : theory.Record) → Kept L lending edits.old constraints.old → multilog ≡ stored R
-        → length R.edits ≤ 127 → length R.constraints ≤ 512
-        → (result.number ≡ record_number k) × Kept (with_record L k R) result.lending edits.new constraints.new }
-{
-    if 8 < k {
-        return Setting {
-            number: 2,
-            lending: lending,
-        };
+    // The rows of the roll that are kept.
+    fn seats(&self) -> &[RollRow]
+        ensures { (L : Lent) (edits constraints : Rows) → Kept L self.now edits constraints → result.now ≡ take roll_places L.roll }
+    {
+        &self.roll[..self.rollcount.min(ROLL_PLACES)]
     }
-    let place = k as usize;
-    let n = multilog.editcount;
-    let m = multilog.constraintcount;
-    if EDITS < n {
-        return Setting {
-            number: 2,
-            lending: lending,
-        };
-    }
-    if CONSTRAINTS < m {
-        return Setting {
-            number: 2,
-            lending: lending,
-        };
-    }
-    let editrows = multilog.edits;
-    let constraintrows = multilog.constraints;
-    let oldedits = lending.editcounts;
-    let oldconstraints = lending.constraintcounts;
-    let noedits = without_rows(oldedits, place);
-    let noconstraints = without_rows(oldconstraints, place);
-    let editcounts = add_edits(noedits, &mut edits[..], place, editrows, n);
-    let constraintcounts = add_constraints(
-        noconstraints,
-        &mut constraints[..],
-        place,
-        constraintrows,
-        m,
-    );
-    let mut lent = lending;
-    lent.editcounts = editcounts;
-    lent.constraintcounts = constraintcounts;
-    Setting {
-        number: 0,
-        lending: lent,
-    }
-}
 
-// A row of the roll. After nine rows it need not be kept: with them the roll is faulty already.
-pub fn lend_seat(lending: Lending, bench: u32, weight: u32) -> Setting
-    ensures { (L : Lent) (edits constraints : Rows) → Kept L lending edits constraints
-        → (result.number ≡ seat_number bench weight) × Kept (with_seat L bench weight) result.lending edits constraints }
-{
-    if 255 < bench {
-        return Setting {
-            number: 2,
-            lending: lending,
-        };
+    // A row of edits for record k.
+    pub fn lend_edit(&mut self, kept: &mut [EditRow], k: u32, row: EditRow) -> Result<(), Refusal>
+        ensures { (L : Lent) (constraints : Rows) → Kept L self.old kept.old constraints
+            → (number_of result ≡ rows_fault edit_places L.edits k) × Kept (with_edit L k row) self.new kept.new constraints }
+    {
+        add_row(&mut self.editcounts, EDIT_PLACES, kept, k, &row)
     }
-    if 65535 < weight {
-        return Setting {
-            number: 2,
-            lending: lending,
-        };
-    }
-    let n = lending.rollcount;
-    if ROLL_PLACES <= n {
-        return Setting {
-            number: 0,
-            lending: lending,
-        };
-    }
-    let seat = RollRow {
-        bench: bench as u8,
-        weight: weight as u16,
-    };
-    let mut lent = lending;
-    lent.roll[n] = seat;
-    lent.rollcount = n + 1;
-    Setting {
-        number: 0,
-        lending: lent,
-    }
-}
 
-// No roll.
-pub fn lend_no_roll(lending: Lending) -> Lending
-    ensures { (L : Lent) (edits constraints : Rows) → Kept L lending edits constraints → Kept (without_roll L) result edits constraints }
-{
-    let mut lent = lending;
-    lent.rollcount = 0;
-    lent
-}
+    // A row of constraints for record k.
+    pub fn lend_constraint(
+        &mut self,
+        kept: &mut [ConstraintRow],
+        k: u32,
+        row: ConstraintRow,
+    ) -> Result<(), Refusal>
+        ensures { (L : Lent) (edits : Rows) → Kept L self.old edits kept.old
+            → (number_of result ≡ rows_fault constraint_places L.constraints k) × Kept (with_constraint L k row) self.new edits kept.new }
+    {
+        add_row(&mut self.constraintcounts, CONSTRAINT_PLACES, kept, k, &row)
+    }
 
-// A name of the row to be tested.
-pub fn lend_name(lending: Lending, name: u32) -> Setting
-    ensures { (L : Lent) (edits constraints : Rows) → Kept L lending edits constraints
-        → (result.number ≡ name_number L) × Kept (with_name L name) result.lending edits constraints }
-{
-    let n = lending.rowcount;
-    if ROW_PLACES <= n {
-        return Setting {
-            number: 3,
-            lending: lending,
+    // Record k is this one.
+    pub fn lend_record(
+        &mut self,
+        edits: &mut [EditRow],
+        constraints: &mut [ConstraintRow],
+        k: u32,
+        multilog: Record,
+    ) -> Result<(), Refusal>
+        ensures { (L : Lent) (R : theory.Record) → Kept L self.old edits.old constraints.old → multilog ≡ stored R
+            → length R.edits ≤ 127 → length R.constraints ≤ 512
+            → (number_of result ≡ record_number k) × Kept (with_record L k R) self.new edits.new constraints.new }
+    {
+        let place = record_place(k)?;
+        self.editcounts[place] = 0;
+        self.constraintcounts[place] = 0;
+        add_elements(
+            &mut self.editcounts,
+            EDIT_PLACES,
+            edits,
+            k,
+            multilog.edit_slice(),
+        );
+        add_elements(
+            &mut self.constraintcounts,
+            CONSTRAINT_PLACES,
+            constraints,
+            k,
+            multilog.constraint_slice(),
+        );
+        Ok(())
+    }
+
+    // A row of the roll. After nine rows it need not be kept: with them the roll is faulty already.
+    pub fn lend_seat(&mut self, bench: u32, weight: u32) -> Result<(), Refusal>
+        ensures { (L : Lent) (edits constraints : Rows) → Kept L self.old edits constraints
+            → (number_of result ≡ seat_number bench weight) × Kept (with_seat L bench weight) self.new edits constraints }
+    {
+        let Ok(bench) = u8::try_from(bench) else {
+            return Err(Refusal::OutOfRange);
         };
+        let Ok(weight) = u16::try_from(weight) else {
+            return Err(Refusal::OutOfRange);
+        };
+        let n = self.rollcount;
+        if n < ROLL_PLACES {
+            self.roll[n] = RollRow {
+                bench: bench,
+                weight: weight,
+            };
+            self.rollcount = n + 1;
+        }
+        Ok(())
     }
-    let mut lent = lending;
-    lent.row[n] = name;
-    lent.rowcount = n + 1;
-    Setting {
-        number: 0,
-        lending: lent,
-    }
-}
 
-// No row to be tested.
-pub fn lend_no_row(lending: Lending) -> Lending
-    ensures { (L : Lent) (edits constraints : Rows) → Kept L lending edits constraints → Kept (without_row L) result edits constraints }
-{
-    let mut lent = lending;
-    lent.rowcount = 0;
-    lent
+    // No roll.
+    pub fn lend_no_roll(&mut self)
+        ensures { (L : Lent) (edits constraints : Rows) → Kept L self.old edits constraints → Kept (without_roll L) self.new edits constraints }
+    {
+        self.rollcount = 0;
+    }
+
+    // A name of the row to be tested.
+    pub fn lend_name(&mut self, name: u32) -> Result<(), Refusal>
+        ensures { (L : Lent) (edits constraints : Rows) → Kept L self.old edits constraints
+            → (number_of result ≡ name_number L) × Kept (with_name L name) self.new edits constraints }
+    {
+        let n = self.rowcount;
+        if ROW_PLACES <= n {
+            return Err(Refusal::NoPlace);
+        }
+        self.row[n] = name;
+        self.rowcount = n + 1;
+        Ok(())
+    }
+
+    // No row to be tested.
+    pub fn lend_no_row(&mut self)
+        ensures { (L : Lent) (edits constraints : Rows) → Kept L self.old edits constraints → Kept (without_row L) self.new edits constraints }
+    {
+        self.rowcount = 0;
+    }
 }

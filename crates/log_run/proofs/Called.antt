@@ -6,6 +6,8 @@ use Prim.Native.Nat.{ℕ, ◌≤◌, ◌<◌}
 use native.Mathlib.Omega.{arith}
 use borrow.Author.Tests.{lt-ltb}
 use lib.IntN.{pos, neg_ℤ}
+use Rattle.std.specs.Prelude.{Result, Ok, Err}
+use Rattle.refusals.specs.declared.Refusal.{Refusal}
 use Rattle.text_forms.specs.decimal.Decimal.{decimal}
 use Rattle.text_forms.specs.Spelling.{bytes}
 use Rattle.text_lines.specs.Line.{edit_line, constraint_line}
@@ -17,7 +19,7 @@ use Rattle.log_commands.specs.declared.ConstraintCells.{ConstraintCells}
 use Rattle.log_commands.specs.declared.Call.{Call as Calls}
 use Rattle.log_commands.specs.declared.Call.TheVariants.{AddEdit, AddConstraint, Merge, Hide, Show, Turn, Adopt}
 use Rattle.log_commands.specs.declared.Command.{Command}
-use Rattle.log_commands.specs.declared.Command.TheVariants.{Refused, Lend, Propose, Call, Vote, Ask}
+use Rattle.log_commands.specs.declared.Command.TheVariants.{Lend, Propose, Call, Vote, Ask}
 use Rattle.log_commands.specs.Grammar.{command_read}
 use Rattle.log_commands.proofs.Lines.{edit-line-adds, constraint-line-adds, merge-line, hide-line, show-line, turn-line, turn-back-line, adopt-line}
 use Rattle.log_lent.specs.Lent.{lent_records}
@@ -25,7 +27,7 @@ use Rattle.log_lent.specs.lent_calls.Calls.{proposals_of}
 use Rattle.log_session.specs.Desk.{Desk, Request, make, ledger_of, requested}
 use Rattle.log_session.specs.Lends.{edit_cells_row, constraint_cells_row}
 use Rattle.log_session.specs.Requests.{request_of}
-use Rattle.log_session.specs.calls.Lines.{call_kind, call_text, call_effect}
+use Rattle.log_session.specs.calls.Lines.{call_text, call_effect}
 use Rattle.log_session.specs.votes.Votes.{proposal_effect}
 use Rattle.log_session.specs.questions.Questions.{ask_effect}
 use Rattle.log_session.proofs.calls.Telling.{lend-calls}
@@ -34,12 +36,12 @@ use Rattle.log_run.specs.Log.{Run, run_line}
 use Rattle.log_run.proofs.Performed.{same-desk}
 
 -- ANY LINE that makes a call, and then the line of each
-pub call-runs : (r : Run) (line : List ℕ) (call : Calls) (made : LedgerCall) → command_read line ≡ Call call → request_of r.desk call ≡ make made
+pub call-runs : (r : Run) (line : List ℕ) (call : Calls) (made : LedgerCall) → command_read line ≡ Ok (Call call) → request_of r.desk call ≡ make made
     → ledger_of (run_line r line).desk ≡ (step (ledger_of r.desk) made).after
 unfolding run_line effect call_effect requested ledger_of
 call-runs r line call made e q =
-    ap (λ (command : Command). ledger_of (effect r.desk command).after) e
-    ∙ (ap (λ (asked : Request). ledger_of (requested r.desk (λ a L. call_text (call_kind call) a L.opened (last L)) asked).after) q ∙ fed-more start r.desk.calls made)
+    ap (λ (command : Result Command Refusal). ledger_of (effect r.desk command).after) e
+    ∙ (ap (λ (asked : Request). ledger_of (requested r.desk (λ a L. call_text call a L.opened (last L)) asked).after) q ∙ fed-more start r.desk.calls made)
 
 -- a line of the exchanged text adds its row
 pub edit-runs : (r : Run) (cells : EditCells) → is_edit_row (edit_cells_row cells) ≡ true
@@ -84,16 +86,16 @@ pub turn-back-runs : (r : Run) (n : ℕ) → n ≤ 2147483648
 unfolding request_of
 turn-back-runs r n h = call-runs r (bytes "do=turn pages=-" ++ (decimal n ++ bytes "\n")) (Turn (neg_ℤ (pos n))) (turn (neg_ℤ (pos n))) (turn-back-line n h) refl
 
-other-calls : (D : Desk) (command : Command) → ((call : Calls) → command ≡ Call call → ⊥) → (effect D command).after.calls ≡ D.calls
+other-calls : (D : Desk) (command : Result Command Refusal) → ((call : Calls) → command ≡ Ok (Call call) → ⊥) → (effect D command).after.calls ≡ D.calls
 unfolding effect proposal_effect ask_effect
-other-calls D (Refused number) h = refl
-other-calls D (Lend lend) h = lend-calls D lend
-other-calls D (Propose asked) h = refl
-other-calls D (Call call) h = absurd (h call refl)
-other-calls D (Vote vote) h = ap (λ (E : Desk). E.calls) (same-desk D vote)
-other-calls D (Ask ask) h = refl
+other-calls D (Err refusal) h = refl
+other-calls D (Ok (Lend lend)) h = lend-calls D lend
+other-calls D (Ok (Propose asked)) h = refl
+other-calls D (Ok (Call call)) h = absurd (h call refl)
+other-calls D (Ok (Vote vote)) h = ap (λ (E : Desk). E.calls) (same-desk D vote)
+other-calls D (Ok (Ask ask)) h = refl
 
 -- ANY OTHER LINE
-pub other-runs : (r : Run) (line : List ℕ) → ((call : Calls) → command_read line ≡ Call call → ⊥) → ledger_of (run_line r line).desk ≡ ledger_of r.desk
+pub other-runs : (r : Run) (line : List ℕ) → ((call : Calls) → command_read line ≡ Ok (Call call) → ⊥) → ledger_of (run_line r line).desk ≡ ledger_of r.desk
 unfolding run_line ledger_of
 other-runs r line h = ap (fed start) (other-calls r.desk (command_read line) h)

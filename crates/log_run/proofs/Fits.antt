@@ -9,6 +9,9 @@ use native.Mathlib.Omega.{arith}
 use borrow.Author.Tests.{ltb-true}
 use lib.Dec.{ltb}
 use lib.ListN.{length, get_or}
+use Rattle.std.specs.Prelude.{Result, Ok, Err}
+use Rattle.refusals.specs.declared.Refusal.{Refusal}
+use Rattle.refusals.specs.Numbers.{number}
 use Rattle.lists.specs.Lists.{all}
 use Rattle.lists.proofs.Lists.{by, and_l, and_r}
 use Rattle.text_forms.specs.Form.{taken}
@@ -20,10 +23,10 @@ use Rattle.log_forms.proofs.Printing.{printed-whole}
 use Rattle.log_bounds.proofs.Sizes.{size_of}
 use Rattle.log_commands.specs.Grammar.{turn_forward, turn_back, command_forms, add_form, lend_form, grammar, command_read}
 use Rattle.log_commands.specs.declared.Command.{Command}
-use Rattle.log_commands.specs.declared.Command.TheVariants.{Refused, Lend, Propose, Call, Vote, Ask}
+use Rattle.log_commands.specs.declared.Command.TheVariants.{Lend, Propose, Call, Vote, Ask}
 use Rattle.log_session.specs.Desk.{Desk, printed_of}
 use Rattle.log_bounds.specs.Bounded.{answer_limit, Bounded}
-use Rattle.log_session.specs.calls.Lines.{call_kind, call_text, call_effect}
+use Rattle.log_session.specs.calls.Lines.{call_text, call_effect}
 use Rattle.log_session.specs.questions.Questions.{ask_effect}
 use Rattle.log_bounds.proofs.Bounds.{CallLineFits, LendLineFits, call-bounded, lend-bounded, proposal-bounded}
 use Rattle.log_bounds.proofs.Lengths.{ask-size, call-size, proposal-size, vote-size, lend-size, refusal-size}
@@ -32,23 +35,23 @@ use Rattle.log_run.specs.Log.{Run, run_line, run_lines}
 use Rattle.log_run.proofs.Performed.{same-desk}
 
 -- a command whose numbers fit
-abbrev CommandFits : Command → Type 0
-CommandFits (Refused number) = number ≤ 14
-CommandFits (Lend lend) = LendLineFits lend
-CommandFits (Propose asked) = Unit
-CommandFits (Call call) = CallLineFits call
-CommandFits (Vote vote) = Unit
-CommandFits (Ask ask) = Unit
+abbrev CommandFits : Result Command Refusal → Type 0
+CommandFits (Err refusal) = number refusal ≤ 14
+CommandFits (Ok (Lend lend)) = LendLineFits lend
+CommandFits (Ok (Propose asked)) = Unit
+CommandFits (Ok (Call call)) = CallLineFits call
+CommandFits (Ok (Vote vote)) = Unit
+CommandFits (Ok (Ask ask)) = Unit
 
 -- a production of the grammar gives such a command to numbers of 32 bits
-abbrev Fits : Production Command → Type 0
+abbrev Fits : Production (Result Command Refusal) → Type 0
 Fits production = (n : ℕ → ℕ) → ((k : ℕ) → n k < 4294967296) → CommandFits (production.meaning n)
 
-abbrev AllFit : List (Production Command) → Type 0
+abbrev AllFit : List (Production (Result Command Refusal)) → Type 0
 AllFit [] = Unit
 AllFit (production ∷ rest) = Fits production × AllFit rest
 
-both-fit : (s t : List (Production Command)) → AllFit s → AllFit t → AllFit (s ++ t)
+both-fit : (s t : List (Production (Result Command Refusal))) → AllFit s → AllFit t → AllFit (s ++ t)
 both-fit [] t f g = g
 both-fit (p ∷ s) t f g = (f.0, both-fit s t f.1 g)
 
@@ -58,18 +61,18 @@ number_fits [] h k = omega arith
 number_fits (n ∷ ns) h zero = ltb-true n 4294967296 (and_l (fits_word n) (all fits_word ns) h)
 number_fits (n ∷ ns) h (suc k) = number_fits ns (and_r (fits_word n) (all fits_word ns) h) k
 
-meant-fits : (meaning : (ℕ → ℕ) → Command) (o : Option (List ℕ)) (other : Command) → ((n : ℕ → ℕ) → ((k : ℕ) → n k < 4294967296) → CommandFits (meaning n)) → CommandFits other
-    → CommandFits (meant Refused meaning o other)
+meant-fits : (meaning : (ℕ → ℕ) → Result Command Refusal) (o : Option (List ℕ)) (other : Result Command Refusal) → ((n : ℕ → ℕ) → ((k : ℕ) → n k < 4294967296) → CommandFits (meaning n)) → CommandFits other
+    → CommandFits (meant Err meaning o other)
 meant-fits meaning none other f g = g
 meant-fits meaning (some ns) other f g =
     by (all fits_word ns)
     (λ (e : all fits_word ns ≡ true). rw e (f (λ k. get_or ns k 0) (number_fits ns e)))
     (λ (e : all fits_word ns ≡ false). rw e (omega arith))
 
-parse-fits : (productions : List (Production Command)) → AllFit productions → (s : List ℕ) → CommandFits (parse Refused productions s)
+parse-fits : (productions : List (Production (Result Command Refusal))) → AllFit productions → (s : List ℕ) → CommandFits (parse Err productions s)
 unfolding parse
 parse-fits [] f s = omega arith
-parse-fits (p ∷ rest) f s = meant-fits p.meaning (taken p.form s) (parse Refused rest s) f.0 (parse-fits rest f.1 s)
+parse-fits (p ∷ rest) f s = meant-fits p.meaning (taken p.form s) (parse Err rest s) f.0 (parse-fits rest f.1 s)
 
 forward-fits : (n : ℕ) → CommandFits (turn_forward n)
 unfolding turn_forward
@@ -101,23 +104,23 @@ command-fits line =
     (λ (e : ltb line_limit (length line) ≡ false). rw e (parse-fits grammar (both-fit command_forms _ forms-fit (both-fit (map add_form shapes) _ added-fit lent-fit)) line))
 
 -- by the kind of line
-after-bounded : (D : Desk) → Bounded D → (command : Command) → CommandFits command → Bounded (effect D command).after
+after-bounded : (D : Desk) → Bounded D → (command : Result Command Refusal) → CommandFits command → Bounded (effect D command).after
 unfolding effect call_effect ask_effect
-after-bounded D B (Refused number) c = B
-after-bounded D B (Lend lend) c = lend-bounded D B lend c
-after-bounded D B (Propose asked) c = proposal-bounded D B asked
-after-bounded D B (Call call) c = call-bounded D B (λ a L. call_text (call_kind call) a L.opened (last L)) call c
-after-bounded D B (Vote vote) c = rw (same-desk D vote) B
-after-bounded D B (Ask ask) c = B
+after-bounded D B (Err refusal) c = B
+after-bounded D B (Ok (Lend lend)) c = lend-bounded D B lend c
+after-bounded D B (Ok (Propose asked)) c = proposal-bounded D B asked
+after-bounded D B (Ok (Call call)) c = call-bounded D B (λ a L. call_text call a L.opened (last L)) call c
+after-bounded D B (Ok (Vote vote)) c = rw (same-desk D vote) B
+after-bounded D B (Ok (Ask ask)) c = B
 
-answered : (D : Desk) → Bounded D → (number : ℕ) → number < 2 ^ 64 → (command : Command) → CommandFits command → size_of (printed_of (effect D command) number) ≤ answer_limit
+answered : (D : Desk) → Bounded D → (number : ℕ) → number < 2 ^ 64 → (command : Result Command Refusal) → CommandFits command → size_of (printed_of (effect D command) number) ≤ answer_limit
 unfolding effect ask_effect printed_of
-answered D B number l (Refused n) c = refusal-size number l n c
-answered D B number l (Lend lend) c = lend-size D B number l lend
-answered D B number l (Propose asked) c = proposal-size D B number l asked
-answered D B number l (Call call) c = call-size D B number l call c
-answered D B number l (Vote vote) c = vote-size D B number l vote
-answered D B number l (Ask ask) c = ask-size D B ask
+answered D B n l (Err refusal) c = refusal-size n l (number refusal) c
+answered D B number l (Ok (Lend lend)) c = lend-size D B number l lend
+answered D B number l (Ok (Propose asked)) c = proposal-size D B number l asked
+answered D B number l (Ok (Call call)) c = call-size D B number l call c
+answered D B number l (Ok (Vote vote)) c = vote-size D B number l vote
+answered D B number l (Ok (Ask ask)) c = ask-size D B ask
 
 module _ (D : Desk) (B : Bounded D) (line : List ℕ) where
   -- THE GREATEST ANSWER

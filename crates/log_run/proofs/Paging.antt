@@ -1,19 +1,16 @@
 -- Lines that turn pages or ask for the open page: the turner tells what they come to, and the bench is opened after the last. Assumes nothing.
 use mathlib.Core.Path.{◌≡◌, refl, sym, ap, ◌∙◌}
-use mathlib.Core.Bool.{Bool, true, false}
 use mathlib.Core.List.{List}
 use Prim.Native.Nat.{ℕ, suc, ◌+◌, ◌-◌, ◌≤◌, ◌<◌}
 use native.Mathlib.Omega.{arith}
 use lib.IntN.{ℤ}
 use lib.ListN.{length, take, drop}
-use mir.Syntax.{w32}
-use mir.Val.{SFits, to_z, of_z}
+use Rattle.std.specs.Prelude.{Option, Some, None, is_some, IsSome, Result, Ok, Err}
+use Rattle.refusals.specs.declared.Refusal.{Refusal}
 use Rattle.lists.proofs.Lists.{is-by, clash}
 use Rattle.record_rows.specs.grounds.Ground.{Rows}
 use Rattle.pages_turner.specs.declared.Turner.{Turner}
-use Rattle.pages_turner.specs.declared.turning.Turning.{Turning}
-use Rattle.pages_turner.specs.turning.Turning.{turning_of}
-use Rattle.ledger.specs.declared.Answer.{Answer}
+use Rattle.pages_turner.specs.turning.Turning.{turner_fault, after_turn}
 use Rattle.ledger.specs.declared.Bench.{Bench}
 use Rattle.ledger.specs.Ledger.{turn, plain_answer}
 use Rattle.ledger.specs.Bench.{Answers, bench_of}
@@ -23,22 +20,21 @@ use Rattle.log_forms.specs.Printed.{Printed}
 use Rattle.text_lines.specs.Lines.{first_line}
 use Rattle.text_lines.proofs.Ends.{first_taken}
 use Rattle.log_answers.specs.bench_answers.Asks.{page_text}
-use Rattle.log_commands.specs.declared.Call.TheVariants.{AddEdit, AddConstraint, Merge, Hide, Show, Turn, Adopt}
+use Rattle.log_commands.specs.declared.Call.{Call as Calls}
+use Rattle.log_commands.specs.declared.Call.TheVariants.{AddEdit, AddConstraint, Merge, Hide, Show, Turn as TurnPages, Adopt}
 use Rattle.log_commands.specs.declared.Ask.TheVariants.{Text, Report, Hidden, Schedule, Catalogue, Journal, Page}
 use Rattle.log_commands.specs.declared.Command.{Command}
-use Rattle.log_commands.specs.declared.Command.TheVariants.{Refused, Lend, Propose, Call, Vote, Ask}
+use Rattle.log_commands.specs.declared.Command.TheVariants.{Lend, Propose, Call, Vote, Ask}
 use Rattle.log_commands.specs.Grammar.{command_read}
 use Rattle.log_lent.specs.declared.Lending.{Lending}
 use Rattle.log_session.specs.Desk.{Desk, make, ledger_of, bench_in, replied}
 use Rattle.log_session.specs.Requests.{request_of}
-use Rattle.log_session.specs.declared.calls.Kind.{Kind}
-use Rattle.log_session.specs.declared.calls.Kind.TheVariants.{PageTurn}
-use Rattle.log_session.specs.calls.Lines.{Holds, call_kind, outcome_text}
+use Rattle.log_session.specs.calls.Lines.{Holds, outcome_text}
 use Rattle.log_session.specs.questions.Questions.{ask_text}
 use Rattle.log_session.proofs.Cases.{ledger-valid}
 use Rattle.log_run.specs.declared.PageLine.{PageLine}
-use Rattle.log_run.specs.declared.PageLine.TheVariants.{Pages, Question, Other}
-use Rattle.log_run.specs.Branches.{paging_of, is_turn, is_other}
+use Rattle.log_run.specs.declared.PageLine.TheVariants.{Turn, Question}
+use Rattle.log_run.specs.Branches.{paging_of}
 use Rattle.log_run.specs.Effects.{effect}
 use Rattle.log_run.specs.Running.{Running}
 use Rattle.log_run.proofs.Performed.{Performed, call-performed, ask-performed}
@@ -49,84 +45,81 @@ pub open-again : (D : Desk) {bench : Bench} → bench ≡ bench_in D → {turner
 unfolding bench_in
 open-again D {bench} e t = sym (ap (λ (u : Turner). open_at bench u.opened) (sym t) ∙ open-same (ledger_of D) (ledger-valid D) bench e)
 
--- which command it is
-paging-by : {P : Type 0} (command : Command) {paging : PageLine} → paging_of command ≡ paging → is_other paging ≡ false
-    → ((pages : ℤ) → paging ≡ Pages pages → command ≡ Call (Turn pages) → P) → (paging ≡ Question → command ≡ Ask Page → P) → P
-unfolding call_kind
-paging-by (Refused number) e n f g = clash (sym (ap is_other e)) n
-paging-by (Lend lend) e n f g = clash (sym (ap is_other e)) n
-paging-by (Propose asked) e n f g = clash (sym (ap is_other e)) n
-paging-by (Call (AddEdit cells)) e n f g = clash (sym (ap is_other e)) n
-paging-by (Call (AddConstraint cells)) e n f g = clash (sym (ap is_other e)) n
-paging-by (Call (Merge k)) e n f g = clash (sym (ap is_other e)) n
-paging-by (Call (Hide edit)) e n f g = clash (sym (ap is_other e)) n
-paging-by (Call (Show edit)) e n f g = clash (sym (ap is_other e)) n
-paging-by (Call (Turn pages)) e n f g = f pages (sym e) refl
-paging-by (Call (Adopt edit)) e n f g = clash (sym (ap is_other e)) n
-paging-by (Vote vote) e n f g = clash (sym (ap is_other e)) n
-paging-by (Ask Text) e n f g = clash (sym (ap is_other e)) n
-paging-by (Ask Report) e n f g = clash (sym (ap is_other e)) n
-paging-by (Ask Hidden) e n f g = clash (sym (ap is_other e)) n
-paging-by (Ask Schedule) e n f g = clash (sym (ap is_other e)) n
-paging-by (Ask Catalogue) e n f g = clash (sym (ap is_other e)) n
-paging-by (Ask Journal) e n f g = clash (sym (ap is_other e)) n
-paging-by (Ask Page) e n f g = g (sym e) refl
+-- the line that a turn or a question is
+abbrev line_of : PageLine → Result Command Refusal
+line_of (Turn pages) = Ok (Call (TurnPages pages))
+line_of Question = Ok (Ask Page)
 
-command-turn : (command : Command) {pages : ℤ} → paging_of command ≡ Pages pages → command ≡ Call (Turn pages)
-command-turn command {pages} e =
-    paging-by command e refl (λ by q h. let z : by ≡ pages = cc in h ∙ ap (λ (k : ℤ). Call (Turn k)) z) (λ q h. clash refl (ap is_turn q))
+abbrev told_in : Option PageLine → PageLine
+told_in None = Question
+told_in (Some paging) = paging
 
-command-question : (command : Command) → paging_of command ≡ Question → command ≡ Ask Page
-command-question command e = paging-by command e refl (λ by q h. clash (ap is_turn q) refl) (λ q h. h)
+no-line : {P : Type 0} {paging : PageLine} → ◌≡◌ {A = Option PageLine} None (Some paging) → P
+no-line e = clash refl (sym (ap is_some e))
 
-turn-only : {P : Type 0} (paging : PageLine) → is_turn paging ≡ true → is_other paging ≡ true → P
-turn-only Other t o = clash t refl
-turn-only (Pages pages) t o = clash o refl
-turn-only Question t o = clash t refl
+pub paging-line : (command : Result Command Refusal) {paging : PageLine} → paging_of command ≡ Some paging → command ≡ line_of paging
+paging-line (Err refusal) e = no-line e
+paging-line (Ok (Lend lend)) e = no-line e
+paging-line (Ok (Propose asked)) e = no-line e
+paging-line (Ok (Call (AddEdit cells))) e = no-line e
+paging-line (Ok (Call (AddConstraint cells))) e = no-line e
+paging-line (Ok (Call (Merge k))) e = no-line e
+paging-line (Ok (Call (Hide edit))) e = no-line e
+paging-line (Ok (Call (Show edit))) e = no-line e
+paging-line (Ok (Call (TurnPages pages))) e = ap line_of (ap told_in e)
+paging-line (Ok (Call (Adopt edit))) e = no-line e
+paging-line (Ok (Vote vote)) e = no-line e
+paging-line (Ok (Ask Text)) e = no-line e
+paging-line (Ok (Ask Report)) e = no-line e
+paging-line (Ok (Ask Hidden)) e = no-line e
+paging-line (Ok (Ask Schedule)) e = no-line e
+paging-line (Ok (Ask Catalogue)) e = no-line e
+paging-line (Ok (Ask Journal)) e = no-line e
+paging-line (Ok (Ask Page)) e = ap line_of (ap told_in e)
 
 -- a turn of the bench's turner is the ledger's
-turn-replied : (turner : Turner) (pages : ℤ) → SFits w32 pages → (t : Turning) → t ≡ turning_of turner (to_z w32 (of_z w32 pages))
-    → (D : Desk) (bench : Bench) → bench ≡ bench_in D → bench.turner ≡ turner → turn_reply bench t ≡ replied D (make (turn pages))
+turn-replied : (D : Desk) (bench : Bench) → bench ≡ bench_in D → {turner : Turner} → bench.turner ≡ turner → (pages : ℤ)
+    → turn_reply bench (turner_fault turner pages) (after_turn turner pages) ≡ replied D (make (turn pages))
 unfolding replied Answers ledger_of bench_in
-turn-replied turner pages fits t h D bench b q =
-    turn-answers bench pages fits t (h ∙ ap (λ (u : Turner). turning_of u (to_z w32 (of_z w32 pages))) (sym q)) D.calls b
+turn-replied D bench b t pages = ap (λ (v : Turner). turn_reply bench (turner_fault v pages) (after_turn v pages)) (sym t) ∙ turn-answers bench pages D.calls b
 
-module _ (D : Desk) (line : ℕ) (command : Command) {bench : Bench} {lending : Lending} {edits constraints : Rows} (H : Holds D bench lending edits constraints)
+module _ (D : Desk) (line : ℕ) (command : Result Command Refusal) {bench : Bench} {lending : Lending} {edits constraints : Rows} (H : Holds D bench lending edits constraints)
     {turner : Turner} (t : bench.turner ≡ turner) {before after : List ℕ} {at end : ℕ} where
-  pub page-performed : paging_of command ≡ Question → Printed (page_text turner.opened turner.last) before at after end
+  pub page-performed : paging_of command ≡ Some Question → Printed (page_text turner.opened turner.last) before at after end
       → Performed line (open_at bench turner.opened) lending edits constraints before at after end (effect D command)
   unfolding ask_text
   page-performed p q =
       let x : page_text turner.opened turner.last ≡ ask_text Page D =
       ap (λ (u : Turner). page_text u.opened u.last) (sym t ∙ ap (λ (b : Bench). b.turner) H.benched) in
-      rw (sym (open-again D H.benched t)) (ask-performed D line Page (command-question command p) H (rw x at q))
+      rw (sym (open-again D H.benched t)) (ask-performed D line Page (paging-line command p) H (rw x at q))
 
-  pub turn-performed : (pages : ℤ) → SFits w32 pages → paging_of command ≡ Pages pages → (r : Turning) → r ≡ turning_of turner (to_z w32 (of_z w32 pages))
-      → (a : Answer) → a ≡ plain_answer r.number → (kind : Kind) → kind ≡ PageTurn pages → Printed (outcome_text kind a r.turner line) before at after end
-      → Performed line (open_at bench r.turner.opened) lending edits constraints before at after end (effect D command)
-  unfolding turn_reply open_at request_of call_kind
-  turn-performed pages fits p r h a q kind k w =
-      let u : r.turner ≡ record { opened = r.turner.opened; last = bench.turner.last } =
-      λ i. record { opened = r.turner.opened; last = (ap (λ (v : Turning). v.turner.last) h ∙ ap (λ (v : Turner). v.last) (sym t)) i } in
-      call-performed D line (Turn pages) (command-turn command p) (turn_reply bench r) (turn-replied turner pages fits r h D bench H.benched t) (rw (q, u, k) at w) H
+  pub turn-performed : (pages : ℤ) → paging_of command ≡ Some (Turn pages) → {by : ℤ} → by ≡ pages → {call : Calls} → call ≡ TurnPages pages
+      → Printed (outcome_text call (plain_answer (turner_fault turner by)) (after_turn turner by) line) before at after end
+      → Performed line (open_at bench (after_turn turner by).opened) lending edits constraints before at after end (effect D command)
+  unfolding turn_reply open_at request_of
+  turn-performed pages p {by} b {call} k w =
+      let o = after_turn turner pages in
+      let l : o ≡ record { opened = o.opened; last = bench.turner.last } = λ i. record { opened = o.opened; last = ap (λ (v : Turner). v.last) (sym t) i } in
+      rw b (call-performed D line (TurnPages pages) (paging-line command p) (turn_reply bench (turner_fault turner pages) o) (turn-replied D bench H.benched t pages) (rw (b, k, l) at w) H)
 
 -- the line that starts at a place, as it is read
-read_first : (log : List ℕ) (from : ℕ) {end : ℕ} → end ≡ from + length (first_line (drop from log)) → {command : Command} → command ≡ command_read (take (end - from) (drop from log))
+read_first : (log : List ℕ) (from : ℕ) {end : ℕ} → end ≡ from + length (first_line (drop from log)) → {command : Result Command Refusal} → command ≡ command_read (take (end - from) (drop from log))
     → command ≡ command_read (first_line (drop from log))
 read_first log from {end} e q = let n : end - from ≡ length (first_line (drop from log)) = omega arith in rw (n, first_taken (drop from log)) at q
 
-pub first-turn : (log : List ℕ) (from : ℕ) {end : ℕ} → end ≡ from + length (first_line (drop from log)) → (command : Command) → command ≡ command_read (take (end - from) (drop from log))
-    → {paging : PageLine} → paging ≡ paging_of command → {r : Bool} → r ≡ is_turn paging → r ≡ true → is_turn (paging_of (command_read (first_line (drop from log)))) ≡ true
-first-turn log from e command o k q t = ap (λ (x : Command). is_turn (paging_of x)) (sym (read_first log from e o)) ∙ (ap is_turn (sym k) ∙ (sym q ∙ t))
+pub first-turn : (log : List ℕ) (from : ℕ) {end : ℕ} → end ≡ from + length (first_line (drop from log)) → {command : Result Command Refusal} → command ≡ command_read (take (end - from) (drop from log))
+    → {paging : PageLine} → paging_of command ≡ Some paging → IsSome (paging_of (command_read (first_line (drop from log))))
+first-turn log from e o {paging} t = let q : paging_of (command_read (first_line (drop from log))) ≡ Some paging = ap paging_of (sym (read_first log from e o)) ∙ t in rw q refl
 
 -- where lines stop that start with a turn
-pub stopped-after : (log : List ℕ) {start from : ℕ} → start ≤ from → is_turn (paging_of (command_read (first_line (drop start log)))) ≡ true
-    → {end : ℕ} → end ≡ from + length (first_line (drop from log)) → (command : Command) → command ≡ command_read (take (end - from) (drop from log))
-    → {paging : PageLine} → paging ≡ paging_of command → {r : Bool} → r ≡ is_other paging → r ≡ true → start < from
-stopped-after log {start} {from} h p e command o {paging} k q f =
+pub stopped-after : (log : List ℕ) {start from : ℕ} → start ≤ from → IsSome (paging_of (command_read (first_line (drop start log))))
+    → {end : ℕ} → end ≡ from + length (first_line (drop from log)) → {command : Result Command Refusal} → command ≡ command_read (take (end - from) (drop from log))
+    → paging_of command ≡ None → start < from
+stopped-after log {start} {from} h p e o n =
     is-by from start
-    (λ s. turn-only paging (ap is_turn k ∙ (ap (λ (x : Command). is_turn (paging_of x)) (read_first log from e o) ∙ (ap (λ (n : ℕ). is_turn (paging_of (command_read (first_line (drop n log))))) s ∙ p))) (sym q ∙ f))
-    (λ n. omega arith)
+    (λ s. clash (let q : paging_of (command_read (first_line (drop start log))) ≡ None =
+    ap (λ (m : ℕ). paging_of (command_read (first_line (drop m log)))) (sym s) ∙ (ap paging_of (sym (read_first log from e o)) ∙ n) in rw q at p) refl)
+    (λ m. omega arith)
 
 -- a run of lines whose bench is opened at another page
 module _ (log : List ℕ) (D : Desk) (count : ℕ) (before : List ℕ) (start : ℕ) {from : ℕ} {bench : Bench} {lending : Lending} {edits constraints : Rows} {n : ℕ} {out : List ℕ} {at limit : ℕ}
@@ -152,7 +145,7 @@ opened-there log D count before start {bench = bench} page R S o =
 -- one such line more
 module _ (log : List ℕ) (D : Desk) (count : ℕ) (before : List ℕ) (start : ℕ) {from : ℕ} (bench : Bench) {lending : Lending} {edits constraints : Rows} {n : ℕ} {out : List ℕ} {at limit : ℕ} (held : Turner)
     (R : Running log D count before start from (open_at bench held.opened) lending edits constraints n out at limit) (l : bench.turner.last ≡ held.last) where
-  pub paged-next : (h : from < length log) → at ≤ limit → {end : ℕ} → end ≡ from + length (first_line (drop from log)) → {m : ℕ} → m ≡ suc n → {command : Command} → command ≡ command_read (take (end - from) (drop from log))
+  pub paged-next : (h : from < length log) → at ≤ limit → {end : ℕ} → end ≡ from + length (first_line (drop from log)) → {m : ℕ} → m ≡ suc n → {command : Result Command Refusal} → command ≡ command_read (take (end - from) (drop from log))
       → {after : List ℕ} {place : ℕ} (page : ℕ)
       → ((E : Desk) (b : Bench) (lending : Lending) (edits constraints : Rows) → Holds E b lending edits constraints → b.turner ≡ held
       → Performed m (open_at b page) lending edits constraints out at after place (effect E command))

@@ -4,6 +4,8 @@ use mathlib.Core.List.{List}
 use Prim.Native.Nat.{ℕ, suc, ◌+◌, ◌-◌, ◌≤◌, ◌<◌}
 use native.Mathlib.Omega.{arith}
 use lib.ListN.{length, take, drop}
+use Rattle.std.specs.Prelude.{Result}
+use Rattle.refusals.specs.declared.Refusal.{Refusal}
 use Rattle.record_rows.specs.grounds.Ground.{Rows}
 use Rattle.lists.proofs.Lists.{is-by}
 use Rattle.ledger.specs.declared.Bench.{Bench}
@@ -34,7 +36,7 @@ module _ (log : List ℕ) (D : Desk) (count : ℕ) (before : List ℕ) (start : 
     running-few h k = let f = R.few in omega arith
 
     pub running-next : (h : from < length log) → at ≤ limit → {end : ℕ} → end ≡ from + length (first_line (drop from log)) → {m : ℕ} → m ≡ suc n
-        → {command : Command} → command ≡ command_read (take (end - from) (drop from log))
+        → {command : Result Command Refusal} → command ≡ command_read (take (end - from) (drop from log))
         → {held : Bench} {lent : Lending} {editsafter constraintsafter : Rows} {after : List ℕ} {place : ℕ}
         → ((E : Desk) → Holds E bench lending edits constraints → Performed m held lent editsafter constraintsafter out at after place (effect E command))
         → Running log D count before start end held lent editsafter constraintsafter m after place limit

@@ -1,43 +1,29 @@
 -- Inner: what the turner alone tells of a line: a turn of pages, or a question for the open page. Assumes nothing.
-use Rattle.std.specs.Prelude.{Bool, true, false}
-use Rattle.log_commands.specs.declared.Ask.{Ask as Asks}
+use Rattle.std.specs.Prelude.{Option, Some, None, Result, Ok, Err}
+use Rattle.refusals.specs.declared.Refusal.{Refusal}
+use Rattle.log_commands.specs.declared.Call.TheVariants.{AddEdit, AddConstraint, Merge, Hide, Show, Turn as TurnPages, Adopt}
 use Rattle.log_commands.specs.declared.Ask.TheVariants.{Text, Report, Hidden, Schedule, Catalogue, Journal, Page}
 use Rattle.log_commands.specs.declared.Command.{Command}
-use Rattle.log_commands.specs.declared.Command.TheVariants.{Refused, Lend, Propose, Call, Vote, Ask}
-use Rattle.log_session.specs.declared.calls.Kind.{Kind}
-use Rattle.log_session.specs.declared.calls.Kind.TheVariants.{Change, PageTurn, Adoption}
-use Rattle.log_session.specs.calls.Lines.{call_kind}
+use Rattle.log_commands.specs.declared.Command.TheVariants.{Lend, Propose, Call, Vote, Ask}
 use Rattle.log_run.specs.declared.PageLine.{PageLine}
-use Rattle.log_run.specs.declared.PageLine.TheVariants.{Other, Pages, Question}
+use Rattle.log_run.specs.declared.PageLine.TheVariants.{Turn, Question}
 
-abbrev pub turn_told : Kind → PageLine
-turn_told Change = Other
-turn_told (PageTurn pages) = Pages pages
-turn_told Adoption = Other
-
-abbrev pub question_of : Asks → PageLine
-question_of Text = Other
-question_of Report = Other
-question_of Hidden = Other
-question_of Schedule = Other
-question_of Catalogue = Other
-question_of Journal = Other
-question_of Page = Question
-
-abbrev pub paging_of : Command → PageLine
-paging_of (Refused number) = Other
-paging_of (Lend lend) = Other
-paging_of (Propose asked) = Other
-paging_of (Call call) = turn_told (call_kind call)
-paging_of (Vote vote) = Other
-paging_of (Ask ask) = question_of ask
-
-abbrev pub is_turn : PageLine → Bool
-is_turn Other = false
-is_turn (Pages pages) = true
-is_turn Question = false
-
-abbrev pub is_other : PageLine → Bool
-is_other Other = true
-is_other (Pages pages) = false
-is_other Question = false
+abbrev pub paging_of : Result Command Refusal → Option PageLine
+paging_of (Err refusal) = None
+paging_of (Ok (Lend lend)) = None
+paging_of (Ok (Propose asked)) = None
+paging_of (Ok (Call (AddEdit cells))) = None
+paging_of (Ok (Call (AddConstraint cells))) = None
+paging_of (Ok (Call (Merge k))) = None
+paging_of (Ok (Call (Hide edit))) = None
+paging_of (Ok (Call (Show edit))) = None
+paging_of (Ok (Call (TurnPages pages))) = Some (Turn pages)
+paging_of (Ok (Call (Adopt edit))) = None
+paging_of (Ok (Vote vote)) = None
+paging_of (Ok (Ask Text)) = None
+paging_of (Ok (Ask Report)) = None
+paging_of (Ok (Ask Hidden)) = None
+paging_of (Ok (Ask Schedule)) = None
+paging_of (Ok (Ask Catalogue)) = None
+paging_of (Ok (Ask Journal)) = None
+paging_of (Ok (Ask Page)) = Some Question

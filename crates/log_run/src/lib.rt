@@ -1,7 +1,8 @@
 // A call log, run line by line on a bench and what is lent.
 #![tactic(auto)]
 
-ghost use Rattle.std.specs.Prelude.{◌≡◌, true, false, List, ℕ, suc, ◌+◌, ◌<◌, ◌≤◌, length, drop};
+ghost use Rattle.std.specs.Prelude.{◌≡◌, List, ℕ, suc, ◌+◌, ◌<◌, ◌≤◌, length, drop, Result, IsSome};
+ghost use Rattle.refusals.specs.declared.Refusal.{Refusal};
 ghost use Rattle.text_lines.specs.Lines.{lines, first_line};
 ghost use Rattle.record_rows.specs.grounds.Ground.{Rows};
 ghost use Rattle.ledger.specs.declared.Bench.{Bench};
@@ -11,153 +12,115 @@ ghost use Rattle.log_commands.specs.declared.Command.{Command};
 ghost use Rattle.log_commands.specs.Grammar.{command_read};
 ghost use Rattle.log_lent.specs.declared.Lending.{Lending};
 ghost use Rattle.log_session.specs.Desk.{Desk, printed_of};
-ghost use Rattle.log_session.specs.calls.Lines.{Holds};
-ghost use Rattle.log_session.specs.votes.Votes.{vote_effect};
-ghost use Rattle.log_run.specs.Branches.{turn_told, question_of, paging_of, is_turn, is_other};
+ghost use Rattle.log_session.specs.calls.Lines.{Holds, call_effect};
+ghost use Rattle.log_run.specs.Branches.{paging_of};
 ghost use Rattle.log_run.specs.Effects.{effect};
 ghost use Rattle.log_run.specs.Log.{begun, run_lines};
 ghost use Rattle.log_run.specs.Running.{Running, Stops};
 
 use ledger::Bench;
 use log_answers::bench_answers;
-use log_commands::{Ask, Command, Vote};
+use log_commands::{Ask, Call, Command};
 use log_lent::Lending;
-use log_session::calls::Kind;
 use log_session::{calls, questions, votes};
 use pages_turner::{Turner, turning};
 use record_rows::row::{ConstraintRow, EditRow};
+use refusals::Refusal;
 
-// What the turner alone tells of a line: a turn by so many pages, the question for the open page, and of any other line nothing.
+// What the turner alone tells of a line: a turn by so many pages, or the question for the open page.
 #[derive(Clone, Copy)]
 enum PageLine {
-    Other,
-    Pages(i32),
+    Turn(i32),
     Question,
 }
 
-fn turn_of(kind: Kind) -> PageLine
-    ensures { result ≡ turn_told kind }
+fn paging_of(read: Result<Command, Refusal>) -> Option<PageLine>
+    ensures { result ≡ paging_of read }
 {
-    match kind {
-        Kind::Change => PageLine::Other,
-        Kind::PageTurn(pages) => PageLine::Pages(pages),
-        Kind::Adoption => PageLine::Other,
+    match read {
+        Ok(Command::Call(Call::Turn(pages))) => Some(PageLine::Turn(pages)),
+        Ok(Command::Ask(Ask::Page)) => Some(PageLine::Question),
+        _ => None,
     }
-}
-
-fn question_of(ask: Ask) -> PageLine
-    ensures { result ≡ question_of ask }
-{
-    match ask {
-        Ask::Text => PageLine::Other,
-        Ask::Report => PageLine::Other,
-        Ask::Hidden => PageLine::Other,
-        Ask::Schedule => PageLine::Other,
-        Ask::Catalogue => PageLine::Other,
-        Ask::Journal => PageLine::Other,
-        Ask::Page => PageLine::Question,
-    }
-}
-
-fn paging_of(command: Command) -> PageLine
-    ensures { result ≡ paging_of command }
-{
-    match command {
-        Command::Refused(_) => PageLine::Other,
-        Command::Lend(_) => PageLine::Other,
-        Command::Propose(_) => PageLine::Other,
-        Command::Call(call) => turn_of(calls::kind_of(call)),
-        Command::Vote(_) => PageLine::Other,
-        Command::Ask(ask) => question_of(ask),
-    }
-}
-
-fn is_turn(paging: PageLine) -> bool
-    ensures { result ≡ is_turn paging }
-{
-    match paging {
-        PageLine::Other => false,
-        PageLine::Pages(_) => true,
-        PageLine::Question => false,
-    }
-}
-
-fn is_other(paging: PageLine) -> bool
-    ensures { result ≡ is_other paging }
-{
-    match paging {
-        PageLine::Other => true,
-        PageLine::Pages(_) => false,
-        PageLine::Question => false,
-    }
-}
-
-// The turner after a line that turns pages or asks for the open page, and the place after what it printed.
-#[derive(Clone, Copy)]
-struct Paged {
-    turner: Turner,
-    at: usize,
 }
 
 // A line that turns pages or asks for the open page. The bench itself is not needed: what a row of turns comes to is opened once, after the last.
-fn run_page(turner: Turner, paging: PageLine, line: usize, out: &mut [u8], at: usize) -> Paged
-    ensures { (result.turner.last ≡ turner.last)
-        × ((D : Desk) (command : Command) (bench : Bench) (lending : Lending) (edits constraints : Rows) → Holds D bench lending edits constraints → bench.turner ≡ turner
-        → paging_of command ≡ paging → is_other paging ≡ false
-        → Holds (effect D command).after (open_at bench result.turner.opened) lending edits constraints
-        × Printed (printed_of (effect D command) line) out.old at out.new result.at) }
+fn run_page(turner: &mut Turner, paging: PageLine, line: usize, out: &mut [u8], at: usize) -> usize
+    ensures { (turner.new.last ≡ turner.old.last)
+        × ((D : Desk) (read : Result Command Refusal) (bench : Bench) (lending : Lending) (edits constraints : Rows) → Holds D bench lending edits constraints → bench.turner ≡ turner.old
+        → paging_of read ≡ Some paging
+        → Holds (effect D read).after (open_at bench turner.new.opened) lending edits constraints
+        × Printed (printed_of (effect D read) line) out.old at out.new result) }
 {
     match paging {
-        PageLine::Other => Paged {
-            turner: turner,
-            at: at,
-        },
-        PageLine::Pages(pages) => {
-            let turning = turning::turned(turner, pages);
-            let after = turning.turner;
-            let answer = bench::plain_answer(turning.number as u32);
-            let kind = Kind::PageTurn(pages);
-            let place = calls::print_outcome(answer, after, kind, line, &mut out[..], at);
-            Paged {
-                turner: after,
-                at: place,
-            }
+        PageLine::Turn(pages) => {
+            let turned = turning::turn(turner, pages);
+            let answer = bench::plain_answer(refusals::number_of(&turned));
+            calls::print_outcome(answer, *turner, Call::Turn(pages), line, out, at)
         }
-        PageLine::Question => {
-            let place = bench_answers::print_page(&mut out[..], at, turner);
-            Paged {
-                turner: turner,
-                at: place,
-            }
-        }
+        PageLine::Question => bench_answers::print_page(out, at, *turner),
     }
 }
 
-// A line about votes that makes no proposal. The record is taken out here, so that no other line copies it.
-fn print_vote(
-    bench: Bench,
-    lending: Lending,
+// A call on the bench, and what it prints.
+fn run_call(
+    bench: &mut Bench,
+    lending: &Lending,
     edits: &[EditRow],
     constraints: &[ConstraintRow],
-    vote: Vote,
+    call: Call,
     line: usize,
     out: &mut [u8],
     at: usize,
 ) -> usize
-    ensures { (D : Desk) → Holds D bench lending edits.now constraints.now
-        → Printed (printed_of (vote_effect D vote) line) out.old at out.new result }
+    ensures { (D : Desk) → Holds D bench.old lending.now edits.now constraints.now
+        → Holds (call_effect D call).after bench.new lending.now edits.now constraints.now
+        × Printed (printed_of (call_effect D call) line) out.old at out.new result }
 {
-    let multilog = bench.multilog;
-    votes::print_vote(
-        lending,
-        edits,
-        constraints,
-        multilog,
-        vote,
-        line,
-        &mut out[..],
-        at,
-    )
+    let outcome = log_session::make_call(*bench, lending, edits, constraints, call);
+    *bench = outcome.bench;
+    calls::print_outcome(outcome.answer, bench.turner, call, line, out, at)
+}
+
+// A line: what it leaves, and the place after what it printed. Only a call copies the bench: any other line reads it where it is.
+fn run_command(
+    bench: &mut Bench,
+    lending: &mut Lending,
+    edits: &mut [EditRow],
+    constraints: &mut [ConstraintRow],
+    read: Result<Command, Refusal>,
+    line: usize,
+    out: &mut [u8],
+    at: usize,
+) -> usize
+    ensures { (D : Desk) → Holds D bench.old lending.old edits.old constraints.old
+        → Holds (effect D read).after bench.new lending.new edits.new constraints.new
+        × Printed (printed_of (effect D read) line) out.old at out.new result }
+{
+    let command = match read {
+        Ok(command) => command,
+        Err(refusal) => return log_answers::print_refusal(refusal.number(), line, out, at),
+    };
+    match command {
+        Command::Lend(lend) => {
+            calls::run_lend(bench, lending, edits, constraints, lend, line, out, at)
+        }
+        Command::Propose(asked) => {
+            votes::print_proposal(lending, edits, constraints, asked, line, out, at)
+        }
+        Command::Call(call) => run_call(bench, lending, edits, constraints, call, line, out, at),
+        Command::Vote(vote) => votes::print_vote(
+            lending,
+            edits,
+            constraints,
+            &bench.multilog,
+            vote,
+            line,
+            out,
+            at,
+        ),
+        Command::Ask(ask) => questions::print_ask(bench, ask, out, at),
+    }
 }
 
 // The number of the next line. Past 2^62 lines it stays, which no log reaches.
@@ -179,6 +142,7 @@ struct Turns {
     from: usize,
 }
 
+// Kept: a line is found from a place in the bytes; an iterator over lines would hold the same place, and a row of turns is part of the walk.
 // A row of such lines, from the one at a place on: only the turner moves, and the bench is opened at its page after the last.
 fn run_turns(
     turner: Turner,
@@ -189,7 +153,7 @@ fn run_turns(
     at: usize,
     limit: usize,
 ) -> Turns
-    requires { (start < length log.now) × (at ≤ limit) × (is_turn (paging_of (command_read (first_line (drop start log.now)))) ≡ true) }
+    requires { (start < length log.now) × (at ≤ limit) × (IsSome (paging_of (command_read (first_line (drop start log.now))))) }
     ensures { (start < result.from) × (result.from ≤ length log.now)
         × ((D : Desk) (first : ℕ) (before : List ℕ) (begin : ℕ) (bench : Bench) (lending : Lending) (edits constraints : Rows)
         → Running log.now D first before begin start bench lending edits constraints count out.old at limit → bench.turner ≡ turner
@@ -202,15 +166,12 @@ fn run_turns(
     let mut from = start;
     while from < log.len() && place <= limit {
         let end = text_lines::line_end(log, from);
-        let command = log_commands::read_command(&log[from..end]);
-        let paging = paging_of(command);
-        if is_other(paging) {
+        let read = log_commands::read_command(&log[from..end]);
+        let Some(paging) = paging_of(read) else {
             break;
-        }
+        };
         n = next(n);
-        let paged = run_page(held, paging, n, &mut out[..], place);
-        held = paged.turner;
-        place = paged.at;
+        place = run_page(&mut held, paging, n, out, place);
         from = end;
     }
     Turns {
@@ -231,6 +192,7 @@ pub struct Logged {
     pub from: usize,
 }
 
+// Kept: a place in the bytes, as in the row of turns, which moves it past several lines.
 // The run of lines of a log until what they print passes the limit, or the log ends. Only a call or a row of turns copies the bench: any
 // other line reads it where it is.
 pub fn run_some(
@@ -256,80 +218,26 @@ pub fn run_some(
     let mut from = 0;
     while from < log.len() && place <= limit {
         let end = text_lines::line_end(log, from);
-        let command = log_commands::read_command(&log[from..end]);
-        if is_turn(paging_of(command)) {
-            let turner = held.turner;
-            let turns = run_turns(turner, log, from, n, &mut out[..], place, limit);
-            let after = turns.turner;
-            let opened = bench::open_at(held, after.opened);
-            held = opened;
+        let read = log_commands::read_command(&log[from..end]);
+        if let Some(PageLine::Turn(_)) = paging_of(read) {
+            let turns = run_turns(held.turner, log, from, n, out, place, limit);
+            held = bench::open_at(held, turns.turner.opened);
             n = turns.count;
             place = turns.at;
             from = turns.from;
         } else {
             n = next(n);
             from = end;
-            match command {
-                Command::Refused(number) => {
-                    place = calls::print_refused(number, n, &mut out[..], place);
-                }
-                Command::Lend(lend) => {
-                    let told = calls::run_lend(
-                        held,
-                        lent,
-                        &mut edits[..],
-                        &mut constraints[..],
-                        lend,
-                        n,
-                        &mut out[..],
-                        place,
-                    );
-                    lent = told.lending;
-                    place = told.at;
-                }
-                Command::Propose(asked) => {
-                    let told = votes::print_proposal(
-                        lent,
-                        &mut edits[..],
-                        &mut constraints[..],
-                        asked,
-                        n,
-                        &mut out[..],
-                        place,
-                    );
-                    lent = told.lending;
-                    place = told.at;
-                }
-                Command::Call(call) => {
-                    let outcome = log_session::make_call(
-                        held,
-                        lent,
-                        &edits[..],
-                        &constraints[..],
-                        call,
-                    );
-                    let answer = outcome.answer;
-                    held = outcome.bench;
-                    let turner = held.turner;
-                    let kind = calls::kind_of(call);
-                    place = calls::print_outcome(answer, turner, kind, n, &mut out[..], place);
-                }
-                Command::Vote(vote) => {
-                    place = print_vote(
-                        held,
-                        lent,
-                        &edits[..],
-                        &constraints[..],
-                        vote,
-                        n,
-                        &mut out[..],
-                        place,
-                    );
-                }
-                Command::Ask(ask) => {
-                    place = questions::print_ask(held, ask, &mut out[..], place);
-                }
-            }
+            place = run_command(
+                &mut held,
+                &mut lent,
+                edits,
+                constraints,
+                read,
+                n,
+                out,
+                place,
+            );
         }
     }
     Logged {
@@ -362,12 +270,12 @@ pub fn run_log(
     run_some(
         bench,
         lending,
-        &mut edits[..],
-        &mut constraints[..],
+        edits,
+        constraints,
         log,
         count,
-        &mut out[..],
+        out,
         at,
-        18446744073709551615,
+        usize::MAX,
     )
 }

@@ -7,6 +7,7 @@ pub mod votes;
 pub mod winners;
 
 ghost use Rattle.std.specs.Prelude.{◌≡◌};
+ghost use Rattle.refusals.specs.Numbers.{number_of};
 ghost use Rattle.log_lent.specs.Kept.{Kept};
 ghost use Rattle.log_session.specs.Desk.{Desk, bench_in, replied};
 ghost use Rattle.log_session.specs.Lends.{edit_cells_row, constraint_cells_row, lend_effect};
@@ -15,16 +16,11 @@ ghost use Rattle.log_session.specs.Requests.{request_of};
 use bench_edits::visibility;
 use ledger::{Bench, Outcome};
 use log_commands::{Call, ConstraintCells, EditCells, Lend};
-use log_lent::{Lending, Setting, lent_calls};
+use log_lent::{Lending, lent_calls};
 use record_rows::row::{ConstraintRow, EditRow};
+use refusals::Refusal;
 
-// What is lent after a line that makes no call, and the place after what it printed. Such a line hands back no bench, which is long to copy.
-#[derive(Clone, Copy)]
-pub struct Told {
-    pub lending: Lending,
-    pub at: usize,
-}
-
+// Kept: neither the cells nor the rows are types of this crate, so that no `From` for them can stand here.
 fn edit_row(cells: EditCells) -> EditRow
     ensures { result ≡ edit_cells_row cells }
 {
@@ -43,60 +39,46 @@ fn constraint_row(cells: ConstraintCells) -> ConstraintRow
     [cells.left, cells.rule, cells.right]
 }
 
-fn set(lending: Lending) -> Setting
-    ensures { result ≡ record { number = 0; lending = lending } }
-{
-    Setting {
-        number: 0,
-        lending: lending,
-    }
-}
-
 // A line that lends.
 pub fn lend_line(
-    lending: Lending,
+    lending: &mut Lending,
     edits: &mut [EditRow],
     constraints: &mut [ConstraintRow],
-    bench: Bench,
+    bench: &Bench,
     lend: Lend,
-) -> Setting
-    ensures { (D : Desk) → Kept D.lent lending edits.old constraints.old → bench ≡ bench_in D
-        → (result.number ≡ (lend_effect D lend).number) × Kept (lend_effect D lend).after.lent result.lending edits.new constraints.new }
+) -> Result<(), Refusal>
+    ensures { (D : Desk) → Kept D.lent lending.old edits.old constraints.old → bench.now ≡ bench_in D
+        → (number_of result ≡ (lend_effect D lend).number) × Kept (lend_effect D lend).after.lent lending.new edits.new constraints.new }
 {
     match lend {
-        Lend::EditRow(k, cells) => {
-            log_lent::lend_edit(lending, &mut edits[..], k, edit_row(cells))
-        }
+        Lend::EditRow(k, cells) => lending.lend_edit(edits, k, edit_row(cells)),
         Lend::ConstraintRow(k, cells) => {
-            log_lent::lend_constraint(lending, &mut constraints[..], k, constraint_row(cells))
+            lending.lend_constraint(constraints, k, constraint_row(cells))
         }
-        Lend::NoRows(k) => log_lent::lend_record(
-            lending,
-            &mut edits[..],
-            &mut constraints[..],
-            k,
-            record::empty(),
-        ),
-        Lend::BenchRows(k) => {
-            let multilog = bench.multilog;
-            log_lent::lend_record(lending, &mut edits[..], &mut constraints[..], k, multilog)
+        Lend::NoRows(k) => lending.lend_record(edits, constraints, k, record::empty()),
+        Lend::BenchRows(k) => lending.lend_record(edits, constraints, k, bench.multilog),
+        Lend::RollRow(seat, weight) => lending.lend_seat(seat, weight),
+        Lend::NoRoll => {
+            lending.lend_no_roll();
+            Ok(())
         }
-        Lend::RollRow(seat, weight) => log_lent::lend_seat(lending, seat, weight),
-        Lend::NoRoll => set(log_lent::lend_no_roll(lending)),
-        Lend::RowName(name) => log_lent::lend_name(lending, name),
-        Lend::NoRow => set(log_lent::lend_no_row(lending)),
+        Lend::RowName(name) => lending.lend_name(name),
+        Lend::NoRow => {
+            lending.lend_no_row();
+            Ok(())
+        }
     }
 }
 
 // A call on the bench.
 pub fn make_call(
     bench: Bench,
-    lending: Lending,
+    lending: &Lending,
     edits: &[EditRow],
     constraints: &[ConstraintRow],
     call: Call,
 ) -> Outcome
-    ensures { (D : Desk) → bench ≡ bench_in D → Kept D.lent lending edits.now constraints.now
+    ensures { (D : Desk) → bench ≡ bench_in D → Kept D.lent lending.now edits.now constraints.now
         → result ≡ replied D (request_of D call) }
 {
     match call {

@@ -1,5 +1,5 @@
 // What the election on an edit has won: whether the edit must stand in the won bundle, or can never, and the bundle.
-ghost use Rattle.std.specs.Prelude.{◌≡◌, cond, List};
+ghost use Rattle.std.specs.Prelude.{◌≡◌, List};
 ghost use Rattle.lists.specs.Lists.{◌among◌};
 ghost use Rattle.record.specs.Record as theory;
 ghost use Rattle.record.specs.Stored.{stored};
@@ -17,25 +17,25 @@ use graph::indexes;
 use record::Record;
 use voting_count::Counted;
 
-// Whether an edit must stand, and whether it can never; 1 for yes. Neither: it is left open.
+// Whether an edit must stand, and whether it can never. Neither: it is left open.
 #[derive(Clone, Copy)]
 pub struct Verdict {
-    pub must: u64,
-    pub never: u64,
+    pub must: bool,
+    pub never: bool,
 }
 
 // Of an edit that a record knows.
 fn verdict_of(multilog: Record, edit: u32) -> Verdict
     ensures { (R : theory.Record) → multilog ≡ stored R → Fit R → edit among theory.names R
-        → result ≡ record { must = cond (theory_judgement.must R edit) 1 0; never = cond (theory_judgement.never R edit) 1 0 } }
+        → result ≡ record { must = theory_judgement.must R edit; never = theory_judgement.never R edit } }
 {
     let table = indexes::index_table(multilog);
-    let index = indexes::index_of(&table, numbers::index32(edit));
+    let index = table.index_of(edit as usize);
     let musts = judgement::musts(multilog);
     let nevers = judgement::nevers(multilog);
     Verdict {
-        must: numbers::wide8(musts[index]),
-        never: numbers::wide8(nevers[index]),
+        must: musts[index] == 1,
+        never: nevers[index] == 1,
     }
 }
 
@@ -45,18 +45,18 @@ fn print_won(edit: u32, bundle: Record, out: &mut [u8], at: usize) -> usize
 {
     let said = verdict_of(bundle, edit);
     let head = log_forms::print(
-        &mut out[..],
+        out,
         at,
         b"edit=@ must=? never=? edits=# rules=#\n",
         &[
-            edit as u64,
-            said.must,
-            said.never,
+            u64::from(edit),
+            u64::from(said.must),
+            u64::from(said.never),
             bundle.editcount as u64,
             bundle.constraintcount as u64,
         ],
     );
-    log_answers::print_text(&mut out[..], head, bundle)
+    log_answers::print_text(out, head, bundle)
 }
 
 // The election's answer or its refusal; of one that is won the bundle.
@@ -66,9 +66,9 @@ pub fn print_winner(edit: u32, counted: Counted, line: usize, out: &mut [u8], at
 {
     let election = counted.election;
     let bundle = counted.bundle;
-    let head = votes::print_election(election, line, &mut out[..], at);
+    let head = votes::print_election(election, line, out, at);
     if !election.won {
         return head;
     }
-    print_won(edit, bundle, &mut out[..], head)
+    print_won(edit, bundle, out, head)
 }

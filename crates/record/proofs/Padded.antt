@@ -7,9 +7,7 @@ use native.Mathlib.Omega.{arith}
 use lib.ListN.{length, take, drop, get_or, set, replicate, length-append, length-replicate, get_or-append}
 use lib.Seq.{take-append-le, set_at, get_or-append-add, slice}
 use Rattle.lists.proofs.Arrays.{get_or-filled}
-use Rattle.record.specs.declared.Record as declared
-use Rattle.record.specs.Record.{Record}
-use Rattle.record.specs.Stored.{padded, stored, edit_limit, constraint_limit, filler_edit, filler_constraint}
+use Rattle.record.specs.Stored.{padded}
 
 module _ {A : Type 0} (n : ℕ) (filler : A) where
   pub length-padded : (l : List A) → length l ≤ n → length (padded n filler l) ≡ n
@@ -37,11 +35,6 @@ module _ {A : Type 0} (n : ℕ) (filler : A) where
   pub padded-more : (l : List A) (a : A) → length l < n → set (padded n filler l) (length l) a ≡ padded n filler (l ++ (a ∷ []))
   padded-more l a h = padded-next l (length l) a refl h
 
-  -- what fits
-  pub padded-fits : (l : List A) → length (padded n filler l) ≡ n → length l ≤ n
-  unfolding padded
-  padded-fits l h = omega (arith, length-append l (replicate (n - length l) filler), length-replicate (n - length l) filler)
-
   pub get_or-padded : (l : List A) (i : ℕ) (d : A) → i < length l → get_or (padded n filler l) i d ≡ get_or l i d
   unfolding padded
   get_or-padded l i d h = get_or-append l (replicate (n - length l) filler) d i h
@@ -53,10 +46,3 @@ module _ {A : Type 0} (n : ℕ) (filler : A) where
       let e : length l + (i - length l) ≡ i = omega arith in
       ap (λ (j : ℕ). get_or (l ++ replicate (n - length l) filler) j filler) (sym e)
       ∙ get_or-append-add l (replicate (n - length l) filler) (i - length l) filler ∙ get_or-filled filler (n - length l) (i - length l)
-
--- a stored record is within the limits
-pub edits-within : (r : declared.Record) (R : Record) → r ≡ stored R → length r.edits ≡ edit_limit → r.editcount ≤ edit_limit
-edits-within r R e h = rw e (padded-fits edit_limit filler_edit R.edits (rw e at h))
-
-pub constraints-within : (r : declared.Record) (R : Record) → r ≡ stored R → length r.constraints ≡ constraint_limit → r.constraintcount ≤ constraint_limit
-constraints-within r R e h = rw e (padded-fits constraint_limit filler_constraint R.constraints (rw e at h))

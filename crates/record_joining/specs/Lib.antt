@@ -1,2 +1,1 @@
-pub mod Join
 pub mod insertion

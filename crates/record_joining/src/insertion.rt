@@ -1,80 +1,49 @@
 // A table of constraints in order that single rows join (document 01, "The record"): an added constraint, and the rows that making a proposal
 // adds, which come in no order of their own. Functions are pub for the crates of this workspace that add and that make proposals.
-ghost use Rattle.std.specs.Prelude.{◌≡◌, false, not, ◌&&◌, List, ◌≤◌, ◌<◌, ltb, get_or, take, length};
+ghost use Rattle.std.specs.Prelude.{◌≡◌, not, ◌&&◌, List, Some, ◌≤◌, ◌<◌, ltb, get_or, length};
 ghost use Rattle.record.specs.declared.Constraint.{Constraint};
 ghost use Rattle.record.specs.Record as theory;
 ghost use Rattle.record.specs.Stored.{stored, filler_constraint, constraint_limit};
 ghost use Rattle.lists.specs.Keyed.{precedes, Ascending, inserted};
 ghost use Rattle.record_tables.specs.Table.{constraint_key};
-ghost use Rattle.record_joining.specs.insertion.Insertion.{full_table, held_table, Place, put_at};
+ghost use Rattle.record_joining.specs.insertion.Insertion.{held_table, Place, put_at};
 
 use record::{CONSTRAINTS, Constraint, Record};
+use record_rows::element::Element;
 
-// Rows past the count hold a filler. A row that had no place left has made it full, and then nothing else is kept.
+// Rows past the count hold a filler.
 #[derive(Clone, Copy)]
 pub struct Constraints {
     pub rows: [Constraint; CONSTRAINTS],
     pub count: usize,
-    pub full: bool,
-}
-
-fn full_table() -> Constraints
-    ensures { result ≡ full_table }
-{
-    let filler = Constraint {
-        left: 0,
-        rule: 0,
-        right: 0,
-    };
-    let rows = [filler; CONSTRAINTS];
-    Constraints {
-        rows: rows,
-        count: 0,
-        full: true,
-    }
 }
 
 // The table of a record.
 pub fn table_of(multilog: Record) -> Constraints
-    ensures { (R : theory.Record) → multilog ≡ stored R → length R.constraints ≤ constraint_limit → result ≡ held_table R.constraints }
+    ensures { (R : theory.Record) → multilog ≡ stored R → length R.constraints ≤ constraint_limit → Some result ≡ held_table R.constraints }
 {
     let rows = multilog.constraints;
     Constraints {
         rows: rows,
         count: multilog.constraintcount,
-        full: false,
     }
 }
 
-// How many of the first n rows precede c, by halving.
-fn place(rows: [Constraint; CONSTRAINTS], n: usize, c: Constraint) -> usize
-    requires { n ≤ constraint_limit }
-    ensures { (Ascending constraint_key (take n rows) → Place constraint_key c (take n rows) result) × (result ≤ n) }
+// How many rows precede c, by halving.
+fn place(rows: &[Constraint], c: Constraint) -> usize
+    ensures { (Ascending constraint_key rows.now → Place constraint_key c rows.now result) × (result ≤ length rows.now) }
 {
-    let mut low = 0;
-    let mut high = n;
-    while low < high {
-        let middle = low + (high - low) / 2;
-        let y = rows[middle];
-        if record_union::constraint_below(y, c) {
-            low = middle + 1;
-        } else {
-            high = middle;
-        }
-    }
-    low
+    rows.partition_point(|row| Element::below(*row, c))
 }
 
 // Whether c stands at its place p.
-fn stands(rows: [Constraint; CONSTRAINTS], n: usize, p: usize, c: Constraint) -> bool
-    requires { n ≤ constraint_limit }
-    ensures { result ≡ (ltb p n && not (precedes (constraint_key c) (constraint_key (get_or rows p filler_constraint)))) }
+fn stands(rows: &[Constraint], p: usize, c: Constraint) -> bool
+    ensures { result ≡ (ltb p (length rows.now) && not (precedes (constraint_key c) (constraint_key (get_or rows.now p filler_constraint)))) }
 {
-    if n <= p {
-        return false;
+    if p < rows.len() {
+        return !Element::below(c, rows[p]);
     }
-    let y = rows[p];
-    !record_union::constraint_below(c, y)
+    false
 }
 
 fn put_at(
@@ -87,46 +56,35 @@ fn put_at(
     ensures { result ≡ put_at n p c rows }
 {
     let mut out = rows;
-    let mut j = n;
-    while p < j {
-        let y = out[j - 1];
-        out[j] = y;
-        j -= 1;
-    }
+    out.copy_within(p..n, p + 1);
     out[p] = c;
     out
 }
 
-// The table joined by one row.
-pub fn insert(table: Constraints, c: Constraint) -> Constraints
+// The table joined by one row; none, where a row that had no place left has joined it.
+pub fn insert(table: Option<Constraints>, c: Constraint) -> Option<Constraints>
     ensures { (l : List Constraint) → table ≡ held_table l → Ascending constraint_key l → result ≡ held_table (inserted constraint_key c l) }
 {
-    if table.full {
-        return table;
-    }
-    let n = table.count;
-    if CONSTRAINTS < n {
-        return table;
-    }
-    let rows = table.rows;
-    let p = place(rows, n, c);
-    if stands(rows, n, p, c) {
-        return table;
+    let table = table?;
+    let n = table.count.min(CONSTRAINTS);
+    let p = place(&table.rows[..n], c);
+    if stands(&table.rows[..n], p, c) {
+        return Some(table);
     }
     if CONSTRAINTS <= n {
-        return full_table();
+        return None;
     }
+    let rows = table.rows;
     let more = put_at(rows, n, p, c);
-    Constraints {
+    Some(Constraints {
         rows: more,
         count: n + 1,
-        full: false,
-    }
+    })
 }
 
-// The record with the constraints of a table that is not full.
+// The record with the constraints of a table.
 pub fn with_table(multilog: Record, table: Constraints) -> Record
-    ensures { (R : theory.Record) (l : List Constraint) → multilog ≡ stored R → table ≡ held_table l → table.full ≡ false → result ≡ stored (record { edits = R.edits; constraints = l }) }
+    ensures { (R : theory.Record) (l : List Constraint) → multilog ≡ stored R → Some table ≡ held_table l → result ≡ stored (record { edits = R.edits; constraints = l }) }
 {
     let rows = table.rows;
     let mut r = multilog;

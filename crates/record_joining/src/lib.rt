@@ -1,151 +1,85 @@
 // Rows that join a record (document 01, "The record" and "What is turned away"): a lent record, an add, a merge, a record that joins another.
-// Each call refuses with a number, or gives the union. A record handed in is one that these calls, or `record::empty`, left.
+// Each call is refused, and then the record that came in stands, or gives the union. A record handed in is one that these calls, or `record::empty`, left.
 #![tactic(auto)]
 
 pub mod insertion;
 
-ghost use Rattle.std.specs.Prelude.{◌≡◌, [], ◌∷◌, map, ◌≤◌, take};
+ghost use Rattle.std.specs.Prelude.{◌≡◌, [], ◌∷◌, map, ◌≤◌, length, take};
 ghost use Rattle.record.specs.Record as theory;
-ghost use Rattle.record.specs.Stored.{stored, edit_limit, constraint_limit};
-ghost use Rattle.record_rows.specs.row.Row.{edit_row, constraint_row};
+ghost use Rattle.record.specs.Stored.{stored};
 ghost use Rattle.record_tables.specs.Table.{decoded, empty_tables, lent_fault, add_edit_fault, add_constraint_fault, record_join_fault, unite};
 ghost use Rattle.record_tables.specs.Checked.{Checked};
-ghost use Rattle.record_joining.specs.Join.{joined_of};
+ghost use Rattle.refusals.specs.Numbers.{Gives};
 
 use record::{CONSTRAINTS, Constraint, EDITS, Edit, Record};
+use record_rows::element::Element;
 use record_rows::row;
 use record_rows::row::{CONSTRAINT_CELLS, ConstraintRow, EDIT_CELLS, EditRow};
-
-// number: 0, or that of the refusal; after: the record afterwards.
-#[derive(Clone, Copy)]
-pub struct Joined {
-    pub number: u32,
-    pub after: Record,
-}
+use refusals::Refusal;
 
 // A lent record by itself.
-pub fn lent(edits: &[EditRow], constraints: &[ConstraintRow]) -> Joined
-    ensures { result ≡ joined_of (lent_fault empty_tables edits.now constraints.now) empty_tables (decoded edits.now constraints.now) }
+pub fn lent(edits: &[EditRow], constraints: &[ConstraintRow]) -> Result<Record, Refusal>
+    ensures { Gives (lent_fault empty_tables edits.now constraints.now) (stored (decoded edits.now constraints.now)) result }
 {
-    let number = record_refusal::lent_fault(edits, constraints);
-    if number != 0 {
-        return Joined {
-            number: number,
-            after: record::empty(),
-        };
-    }
-    Joined {
-        number: 0,
-        after: record_union::decode(edits, constraints),
-    }
+    record_refusal::lent_fault(edits, constraints)?;
+    Ok(record_union::decode(edits, constraints))
 }
 
 // A lent record joins a record.
-pub fn merge(joined: Record, edits: &[EditRow], constraints: &[ConstraintRow]) -> Joined
-    ensures { (R : theory.Record) → joined ≡ stored R → Checked R → result ≡ joined_of (lent_fault R edits.now constraints.now) R (unite R (decoded edits.now constraints.now)) }
+pub fn merge(
+    joined: Record,
+    edits: &[EditRow],
+    constraints: &[ConstraintRow],
+) -> Result<Record, Refusal>
+    ensures { (R : theory.Record) → joined ≡ stored R → Checked R → Gives (lent_fault R edits.now constraints.now) (stored (unite R (decoded edits.now constraints.now))) result }
 {
-    let number = record_refusal::fault(joined, edits, constraints);
-    if number != 0 {
-        return Joined {
-            number: number,
-            after: joined,
-        };
-    }
+    record_refusal::fault(joined, edits, constraints)?;
     let joining = record_union::decode(edits, constraints);
-    Joined {
-        number: 0,
-        after: record_union::union(joined, joining),
-    }
+    Ok(record_union::union(joined, joining))
 }
 
 // One edit is added.
-pub fn add_edit(joined: Record, row: EditRow) -> Joined
-    ensures { (R : theory.Record) → joined ≡ stored R → Checked R → result ≡ joined_of (add_edit_fault R row) R (unite R (decoded (row ∷ []) [])) }
+pub fn add_edit(joined: Record, row: EditRow) -> Result<Record, Refusal>
+    ensures { (R : theory.Record) → joined ≡ stored R → Checked R → Gives (add_edit_fault R row) (stored (unite R (decoded (row ∷ []) []))) result }
 {
-    let number = record_refusal::edit_add_fault(joined, row);
-    if number != 0 {
-        return Joined {
-            number: number,
-            after: joined,
-        };
-    }
-    let joining = record_union::edit_alone(row);
-    Joined {
-        number: 0,
-        after: record_union::union(joined, joining),
-    }
+    record_refusal::edit_add_fault(joined, row)?;
+    let joining = record_union::decode(&[row], &[]);
+    Ok(record_union::union(joined, joining))
 }
 
 // One constraint is added: its place is found by halving, where a union walks through the whole table.
-pub fn add_constraint(joined: Record, row: ConstraintRow) -> Joined
-    ensures { (R : theory.Record) → joined ≡ stored R → Checked R → result ≡ joined_of (add_constraint_fault R row) R (unite R (decoded [] (row ∷ []))) }
+pub fn add_constraint(joined: Record, row: ConstraintRow) -> Result<Record, Refusal>
+    ensures { (R : theory.Record) → joined ≡ stored R → Checked R → Gives (add_constraint_fault R row) (stored (unite R (decoded [] (row ∷ [])))) result }
 {
-    let number = record_refusal::constraint_add_fault(joined, row);
-    if number != 0 {
-        return Joined {
-            number: number,
-            after: joined,
-        };
-    }
+    record_refusal::constraint_add_fault(joined, row)?;
     let table = insertion::table_of(joined);
-    let more = insertion::insert(table, row::constraint_of(row));
-    Joined {
-        number: 0,
-        after: insertion::with_table(joined, more),
-    }
+    let Some(more) = insertion::insert(Some(table), row::constraint_of(row)) else {
+        return Err(Refusal::NoPlace);
+    };
+    Ok(insertion::with_table(joined, more))
 }
 
-// The rows of the first n edits.
-fn edit_rows(a: [Edit; EDITS], n: usize) -> [EditRow; EDITS]
-    requires { n ≤ edit_limit }
-    ensures { take n result ≡ map edit_row (take n a) }
+// The rows of a table, those past its count empty.
+fn rows_of<const CELLS: usize, const PLACES: usize, T: Element<CELLS>>(
+    elements: &[T],
+) -> [[u32; CELLS]; PLACES]
+    requires { length elements.now ≤ PLACES }
+    ensures { take (length elements.now) result ≡ map T.row_of elements.now }
 {
-    let mut out = [[0u32; EDIT_CELLS]; EDITS];
-    let mut i = 0;
-    while i < n {
-        let e = a[i];
-        out[i] = row::edit_row(e);
-        i += 1;
+    let mut rows = [[0; CELLS]; PLACES];
+    for (i, element) in elements.iter().enumerate() {
+        rows[i] = element.row();
     }
-    out
-}
-
-// The rows of the first n constraints.
-fn constraint_rows(a: [Constraint; CONSTRAINTS], n: usize) -> [ConstraintRow; CONSTRAINTS]
-    requires { n ≤ constraint_limit }
-    ensures { take n result ≡ map constraint_row (take n a) }
-{
-    let mut out = [[0u32; CONSTRAINT_CELLS]; CONSTRAINTS];
-    let mut i = 0;
-    while i < n {
-        let c = a[i];
-        out[i] = row::constraint_row(c);
-        i += 1;
-    }
-    out
+    rows
 }
 
 // A record joins a record: its rows do.
-pub fn merge_record(joined: Record, joining: Record) -> Joined
-    ensures { (R S : theory.Record) → joined ≡ stored R → Checked R → joining ≡ stored S → result ≡ joined_of (record_join_fault R S) R (unite R S) }
+pub fn merge_record(joined: Record, joining: Record) -> Result<Record, Refusal>
+    ensures { (R S : theory.Record) → joined ≡ stored R → Checked R → joining ≡ stored S → Gives (record_join_fault R S) (stored (unite R S)) result }
 {
-    let n = joining.editcount;
-    let m = joining.constraintcount;
-    if EDITS < n {
-        return Joined {
-            number: 0,
-            after: joined,
-        };
-    }
-    if CONSTRAINTS < m {
-        return Joined {
-            number: 0,
-            after: joined,
-        };
-    }
-    let a = joining.edits;
-    let b = joining.constraints;
-    let edits = edit_rows(a, n);
-    let constraints = constraint_rows(b, m);
-    merge(joined, &edits[0..n], &constraints[0..m])
+    let own = joining.edit_slice();
+    let edits = rows_of::<EDIT_CELLS, EDITS, Edit>(own);
+    let rules = joining.constraint_slice();
+    let constraints = rows_of::<CONSTRAINT_CELLS, CONSTRAINTS, Constraint>(rules);
+    merge(joined, &edits[..own.len()], &constraints[..rules.len()])
 }

@@ -1,7 +1,5 @@
-pub mod Steps
 pub mod Grounds
 pub mod Walks
-pub mod Lates
 pub mod Loop
 pub mod Accepted
 pub mod Decoded

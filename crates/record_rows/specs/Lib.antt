@@ -1,2 +1,3 @@
+pub mod element
 pub mod grounds
 pub mod row

@@ -1,116 +1,78 @@
-// Grounds for refusing a row (document 01, "What is turned away"), for tables of any kind: the definitions and their laws, and the steps of the walk
-// that finds the first faulty row. The functions are pub for the crates of this workspace that walk tables.
-ghost use Rattle.std.specs.Prelude.{◌≡◌, ◌≤◌, ◌<◌};
-ghost use Rattle.record_rows.specs.grounds.Walk as walk;
-ghost use Rattle.record_rows.specs.grounds.Walk.{as_new, stepped, late_number, later_number, late_further};
+// Grounds for refusing a row (document 01, "What is turned away"), for tables of any kind: the definitions and their laws, and the place of a lent row in
+// a table in order. The functions are pub for the crates of this workspace that walk tables.
+ghost use Rattle.std.specs.Prelude.{◌≡◌, map, ◌≤◌, length, take};
+ghost use Rattle.std.specs.List.{prefix_len};
+ghost use Rattle.lists.specs.Keyed.{precedes};
+ghost use Rattle.record_rows.specs.grounds.Ground.{alike};
+ghost use Rattle.record_rows.specs.grounds.Walk.{as_new, as_known, row_joins};
 
-// A step of the walk through a table in order and the lent rows that join it: a fault, or how far it goes on in the table, in the places taken and in the rows.
-#[derive(Clone, Copy)]
-pub struct Step {
-    pub number: u32,
-    pub passed: usize,
-    pub added: usize,
-    pub judged: usize,
+use crate::element::Element;
+use refusals::Refusal;
+
+// Whether the key of the first row precedes that of the other.
+pub fn below<const CELLS: usize, T: Element<CELLS>>(a: &[u32; CELLS], b: &[u32; CELLS]) -> bool
+    ensures { result ≡ precedes (take T.KEY a.now) (take T.KEY b.now) }
+{
+    a[..T::KEY] < b[..T::KEY]
 }
 
-fn goes_on(passed: usize, added: usize, judged: usize) -> Step
-    ensures { result ≡ record { number = 0; passed = passed; added = added; judged = judged } }
+// Whether two rows have the same key.
+pub fn alike<const CELLS: usize, T: Element<CELLS>>(a: &[u32; CELLS], b: &[u32; CELLS]) -> bool
+    ensures { result ≡ alike T.KEY a.now b.now }
 {
-    Step {
-        number: 0,
-        passed: passed,
-        added: added,
-        judged: judged,
-    }
+    a[..T::KEY] == b[..T::KEY]
 }
 
-fn refused(number: u32) -> Step
-    ensures { result ≡ walk.refused_step number }
+// How many elements of a table in order stand before the row, whose length is ensured for callers that take it from a table.
+pub fn passed<const CELLS: usize, T: Element<CELLS>>(own: &[T], row: &[u32; CELLS]) -> usize
+    ensures counted { result ≡ prefix_len (λ x. precedes (take T.KEY (T.row_of x)) (take T.KEY row.now)) own.now }
+    ensures near { result ≤ length own.now }
+    ensures wide { length row.now ≡ CELLS }
 {
-    Step {
-        number: number,
-        passed: 0,
-        added: 0,
-        judged: 0,
-    }
+    own.iter()
+        .take_while(
+            |x| -> bool
+                ensures { result ≡ precedes (take T.KEY (T.row_of x.now.now)) (take T.KEY row.entry.now) }
+            { below::<CELLS, T>(&x.row(), row) },
+        )
+        .count()
 }
 
 // A lent row whose key is not in the table.
-fn as_new(full: bool) -> Step
+fn as_new(full: bool) -> Result<bool, Refusal>
     ensures { result ≡ as_new full }
 {
     if full {
-        return refused(3);
+        Err(Refusal::NoPlace)
+    } else {
+        Ok(true)
     }
-    goes_on(0, 1, 1)
 }
 
-// there: the table has a row at this place; lower, upper, equal: it is below, above, equal to the lent row; full: no place is left.
-pub fn advance(there: bool, lower: bool, upper: bool, equal: bool, full: bool) -> Step
-    ensures { result ≡ stepped there lower upper equal full }
+fn as_known(equal: bool) -> Result<bool, Refusal>
+    ensures { result ≡ as_known equal }
 {
-    if !there {
-        return as_new(full);
-    }
-    if lower {
-        return goes_on(1, 0, 0);
-    }
-    if upper {
-        return as_new(full);
-    }
     if equal {
-        return goes_on(0, 0, 1);
+        Ok(false)
+    } else {
+        Err(Refusal::OtherBody)
     }
-    refused(4)
 }
 
-// The place where it is below n, and some place below the limit otherwise, so that the array may be read. Pub for the walks of `record_refusal`, `record_tables` and
-// `record_union`, whose counts are within the limits.
-pub fn slot(place: usize, n: usize, limit: usize) -> usize
-    requires { (0 < limit) × (n ≤ limit) }
-    ensures { (result < limit) × (place < n → result ≡ place) }
+// Whether a lent row is new to a table; rest: the table from the row's place on; full: no place is left.
+pub fn joins<const CELLS: usize, T: Element<CELLS>>(
+    rest: &[T],
+    row: &[u32; CELLS],
+    full: bool,
+) -> Result<bool, Refusal>
+    ensures { result ≡ row_joins T.KEY (map T.row_of rest.now) row.now full }
 {
-    if place < n {
-        return place;
+    let [x, ..] = rest else {
+        return as_new(full);
+    };
+    let own = x.row();
+    if below::<CELLS, T>(row, &own) {
+        return as_new(full);
     }
-    0
-}
-
-// The number of a row in order: that of its step, or, where the step has judged it, a further one.
-pub fn later_number(s: Step, further: u32) -> u32
-    ensures { (result ≡ later_number s further) × (s.number ≤ result) }
-{
-    if s.number != 0 {
-        return s.number;
-    }
-    if s.judged == 0 {
-        return 0;
-    }
-    further
-}
-
-// The lowest of 3, 4 and 13 of a row that is out of order or repeated; again: it is repeated; number: that of the step at its place.
-pub fn late_number(again: bool, number: u32) -> u32
-    ensures { result ≡ late_number again number }
-{
-    if again {
-        return 13;
-    }
-    if number == 0 {
-        return 13;
-    }
-    number
-}
-
-// The same with a further number, which lies between 4 and 13.
-pub fn late_further(late: u32, further: u32) -> u32
-    ensures { result ≡ late_further late further }
-{
-    if late != 13 {
-        return late;
-    }
-    if further == 0 {
-        return 13;
-    }
-    further
+    as_known(*row == own)
 }

@@ -1,8 +1,7 @@
 // Rows of numbers (document 01, "The record"): ranges of their cells, decoding, and the comparison of rows by their first cells.
 // The functions are pub for the crates of this workspace that walk tables.
-ghost use Rattle.std.specs.Prelude.{◌≡◌, ◌&&◌, ◌≤◌, ltb, length, take};
-ghost use Rattle.lists.specs.Keyed.{precedes};
-ghost use Rattle.record_rows.specs.row.Row.{same, is_name, body_in_range, edit_in_range, is_side, constraint_in_range, field_of, body_of, edit_of, constraint_of, field_number, edit_row, constraint_row, edit_width, constraint_width};
+ghost use Rattle.std.specs.Prelude.{◌≡◌, length};
+ghost use Rattle.record_rows.specs.row.Row.{is_name, body_in_range, edit_in_range, is_side, constraint_in_range, field_of, body_of, edit_of, constraint_of, field_number, edit_row, constraint_row, edit_width, constraint_width};
 
 use record::{Body, Constraint, Edit, Field};
 
@@ -21,29 +20,21 @@ const PLACES: u32 = 64;
 
 const RULES: u32 = 3;
 
-// Bench 1 to 8, sequence 1 to 255.
+// Bench 1 to 8, sequence 1 to 255. `&` and `|` have no branch, so that the proofs here have one path.
 pub fn is_name(n: u32) -> bool
     ensures { result ≡ is_name n }
 {
     let bench = n / 256;
-    if bench < 1 {
-        return false;
-    }
-    if 8 < bench {
-        return false;
-    }
-    1 <= n % 256
+    (1 <= bench) & (bench <= 8) & (1 <= n % 256)
 }
 
 fn unused(field: u32, value: u32) -> bool
     ensures { result ≡ body_in_range 0 field value }
 {
-    if field != 0 {
-        return false;
-    }
-    value == 0
+    (field == 0) & (value == 0)
 }
 
+// Kept: kinds and fields are numbers here and below, for that is what lent rows have.
 fn body_in_range(kind: u32, field: u32, value: u32) -> bool
     ensures { result ≡ body_in_range kind field value }
 {
@@ -55,26 +46,11 @@ fn body_in_range(kind: u32, field: u32, value: u32) -> bool
     }
 }
 
-// The tests of a row in range: of its first cell, of a cell that has a bound, of the rest.
-fn cells_in_range(first: bool, cell: u32, bound: u32, rest: bool) -> bool
-    ensures { result ≡ (first && (ltb cell bound && rest)) }
-{
-    if !first {
-        return false;
-    }
-    if bound <= cell {
-        return false;
-    }
-    rest
-}
-
 // The length of the row is ensured for callers that copy it out of a slice.
 pub fn edit_in_range(row: EditRow) -> bool
     ensures { (result ≡ edit_in_range row) × (length row ≡ edit_width) }
 {
-    let named = is_name(row[0]);
-    let body = body_in_range(row[1], row[3], row[4]);
-    cells_in_range(named, row[2], PLACES, body)
+    is_name(row[0]) & (row[2] < PLACES) & body_in_range(row[1], row[3], row[4])
 }
 
 fn field_of(n: u32) -> Field
@@ -117,8 +93,7 @@ pub fn edit_of(row: EditRow) -> Edit
     }
 }
 
-// Pub for `catalogue`, where it is the place of the field's cell.
-pub fn field_number(f: Field) -> u32
+fn field_number(f: Field) -> u32
     ensures { result ≡ field_number f }
 {
     match f {
@@ -132,30 +107,25 @@ pub fn field_number(f: Field) -> u32
 pub fn edit_row(e: Edit) -> EditRow
     ensures { result ≡ edit_row e }
 {
-    let name = e.name as u32;
+    let name = u32::from(e.name);
     let body = e.body;
     match body {
-        Body::Insert(p) => [name, 0, p as u32, 0, 0],
-        Body::Set(p, f, v) => [name, 1, p as u32, field_number(f), v],
-        Body::Remove(p) => [name, 2, p as u32, 0, 0],
+        Body::Insert(p) => [name, 0, u32::from(p), 0, 0],
+        Body::Set(p, f, v) => [name, 1, u32::from(p), field_number(f), v],
+        Body::Remove(p) => [name, 2, u32::from(p), 0, 0],
     }
 }
 
 fn is_side(n: u32) -> bool
     ensures { result ≡ is_side n }
 {
-    if n == 0 {
-        return true;
-    }
-    is_name(n)
+    (n == 0) | is_name(n)
 }
 
 pub fn constraint_in_range(row: ConstraintRow) -> bool
     ensures { (result ≡ constraint_in_range row) × (length row ≡ constraint_width) }
 {
-    let left = is_side(row[0]);
-    let right = is_side(row[2]);
-    cells_in_range(left, row[1], RULES, right)
+    is_side(row[0]) & (row[1] < RULES) & is_side(row[2])
 }
 
 // A row in range as a constraint; of any other the filler.
@@ -179,41 +149,5 @@ pub fn constraint_of(row: ConstraintRow) -> Constraint
 pub fn constraint_row(c: Constraint) -> ConstraintRow
     ensures { result ≡ constraint_row c }
 {
-    let left = c.left as u32;
-    let rule = c.rule as u32;
-    let right = c.right as u32;
-    [left, rule, right]
-}
-
-// Whether the first k cells of a precede those of b. Pub for `record_refusal` and `record_tables`, whose rows have so many cells.
-pub fn below(a: &[u32], b: &[u32], k: usize) -> bool
-    requires { (k ≤ length a.now) × (k ≤ length b.now) }
-    ensures { result ≡ precedes (take k a.now) (take k b.now) }
-{
-    let mut j = 0;
-    while j < k {
-        if a[j] < b[j] {
-            return true;
-        }
-        if b[j] < a[j] {
-            return false;
-        }
-        j += 1;
-    }
-    false
-}
-
-// Whether the first k cells of a and b are equal. Pub for `voting_bundles::equality`, `record_refusal` and `record_tables`, whose rows have so many cells.
-pub fn alike(a: &[u32], b: &[u32], k: usize) -> bool
-    requires { (k ≤ length a.now) × (k ≤ length b.now) }
-    ensures { result ≡ same (take k a.now) (take k b.now) }
-{
-    let mut j = 0;
-    while j < k {
-        if a[j] != b[j] {
-            return false;
-        }
-        j += 1;
-    }
-    true
+    [u32::from(c.left), u32::from(c.rule), u32::from(c.right)]
 }

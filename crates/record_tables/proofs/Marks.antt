@@ -9,7 +9,7 @@ use native.Mathlib.Omega.{arith}
 use borrow.Author.Tests.{eqb-true, eqb-false}
 use lib.Dec.{eqb}
 use lib.ListN.{length, take, get_or, set, replicate, length-replicate}
-use lib.Seq.{take-suc, take_all, length-take-le, get_or-take, get_or-set_same, get_or-set_other}
+use lib.Seq.{take-suc, take_all, get_or-set_same, get_or-set_other}
 use Rattle.lists.proofs.Lists.{by, mem-last}
 use Rattle.record.specs.declared.Edit.{Edit}
 use Rattle.lists.specs.Lists.{mem, all}
@@ -53,14 +53,6 @@ module _ {A : Type 0} (number : A → ℕ) (good : A → Bool) (size : ℕ) (sma
 
   pub marks-end : (marks : List ℕ) (i : ℕ) → length l ≤ i → MarksNames marks (map number (take i l)) → MarksNames marks (map number l)
   marks-end marks i h k = let e : take i l ≡ l = take_all i l h in rw e at k
-
--- the same of the first n elements of an array
-pub marks-front : {A : Type 0} (number : A → ℕ) (good : A → Bool) (size : ℕ) → ((x : A) → good x ≡ true → number x < size) → (a : List A) (n : ℕ) → n ≤ length a → (marks : List ℕ) (i k : ℕ) (d : A) → i < n
-    → length marks ≡ size → (number (get_or a i d) < size → k ≡ number (get_or a i d)) → (all good (take n a) ≡ true → MarksNames marks (map number (take i (take n a)))) → all good (take n a) ≡ true
-    → MarksNames (set marks k 1) (map number (take (i + 1) (take n a)))
-marks-front number good size small a n w marks i k d h l place s =
-    let e = get_or-take n a i d h in
-    marks-next number good size small (take n a) marks i k d (omega (arith, length-take-le n a w)) l (rw e place) s
 
 pub row_small : (x : Row) → edit_in_range x ≡ true → cell x 0 < 2304
 row_small x h = name-small (cell x 0) (edit-in-range x h).name

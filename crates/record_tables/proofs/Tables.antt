@@ -1,17 +1,21 @@
 -- Two tables that join a stored record: the first fault of both. Assumes nothing.
 use mathlib.Core.Path.{◌≡◌, refl, ap, sym, ◌∙◌}
-use mathlib.Core.Bool.{true, false}
-use mathlib.Core.List.{List, [], ◌∷◌, map}
-use Prim.Native.Nat.{ℕ, ◌-◌}
-use lib.ListN.{length, replicate}
-use lib.Seq.{take-append_seam}
+use mathlib.Core.Bool.{Bool, true, false, not, ◌||◌}
+use mathlib.Core.List.{List, [], ◌∷◌, ◌++◌, map}
+use Prim.Native.Nat.{ℕ, suc, ◌-◌, ◌≤◌, ◌<◌}
+use native.Mathlib.Omega.{arith}
+use lib.ListN.{length, replicate, take, get_or, drop_of_length-le}
+use lib.Seq.{take-append_seam, take-suc, take_all}
+use Rattle.std.specs.List.{list_any}
 use Rattle.record.specs.declared.Record as declared
-use Rattle.lists.specs.Lists.{all}
+use Rattle.lists.specs.Lists.{all, any}
+use Rattle.lists.specs.Keyed.{precedes, Ascending}
+use Rattle.lists.proofs.Union.{late, late_is}
 use Rattle.record.specs.Record.{Record, written, name_of}
 use Rattle.record.specs.Stored.{padded, record_of, stored, empty_record, filler_edit, filler_constraint}
 use Rattle.lists.proofs.Logic.{all-by}
 use Rattle.record_rows.specs.row.Row.{Row, edit_in_range, edit_row}
-use Rattle.record_rows.specs.grounds.Ground.{Rows, table_fault, first_fault}
+use Rattle.record_rows.specs.grounds.Ground.{Rows, table_fault, first_fault, misplaced}
 use Rattle.record_rows.proofs.grounds.Grounds.{orelse-first, orelse-second, orelse-zero}
 use Rattle.record_rows.proofs.grounds.Accepted.{accepted-range}
 use Rattle.record_tables.specs.Table.{edit_kind, constraint_kind, edit_rows, constraint_rows, names_of, empty_tables, join_fault, lent_fault, add_edit_fault, add_constraint_fault}
@@ -81,3 +85,22 @@ module _ (r : declared.Record) (R : Record) (e : r ≡ stored R) where
   add-constraint k row marks s g =
       let named : MarksNames marks (map name_of (record_of r).edits) = s (rw held-edits k.editrange) in
       g (map name_of (record_of r).edits) named (stored-ordered k) ∙ ap (λ (x : Record). table_fault (constraint_kind (written x) true) (constraint_rows x) (row ∷ [])) held
+
+-- some row of a table, by the library's test of a list
+pub any-listed : {A : Type 0} (p : A → Bool) (l : List A) → list_any p l ≡ any p l
+unfolding any
+any-listed p [] = refl
+any-listed p (x ∷ l) = ap (λ b. p x || b) (any-listed p l)
+
+-- a row below the row before it
+module _ (k : ℕ) (t : Rows) (row : Row) where
+  pub follows-none : length t < 1 → not true ≡ misplaced k t row
+  unfolding misplaced any
+  follows-none h = let e : t ≡ [] = drop_of_length-le t {i = 0} (omega arith) in rw e
+
+  pub follows-last : 1 ≤ length t → {x : Row} → x ≡ get_or t (length t - 1) x → {b : Bool} → b ≡ precedes (take k x) (take k row) → Ascending (take k) t → not b ≡ misplaced k t row
+  unfolding misplaced
+  follows-last h {x} e f a =
+      let n = length t - 1 in
+      let s : t ≡ take n t ++ (x ∷ []) = sym (take_all (suc n) t (omega arith)) ∙ take-suc t n x (omega arith) ∙ rw (← e) in
+      ap not f ∙ sym (ap (λ (l : Rows). late (take k) l (take k row)) s ∙ late_is (take k) (take n t) x (take k row) (rw s at a))

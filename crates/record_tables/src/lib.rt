@@ -1,171 +1,129 @@
 // Tables of edits and of constraints that join a record (document 01, "What is turned away"): their definitions and theorems, and the tests of one row
-// below the rows above it. The functions are pub for the crates of this workspace that walk tables or read rows one after the other; these hand a row
-// of the table, so the functions require it.
+// below the rows above it. The functions are pub for the crates of this workspace that walk tables or read rows one after the other.
 #![tactic(auto)]
 
 pub mod lookup;
 
-ghost use Rattle.std.specs.Prelude.{◌≡◌, true, not, List, [], map, ℕ, ◌<◌, ◌≤◌, eqb, length, get_or, take};
+ghost use Rattle.std.specs.Prelude.{◌≡◌, true, not, List, map, ℕ, eqb, get_or, length, slice_set, take};
 ghost use Rattle.record.specs.Record.{name_of};
 ghost use Rattle.lists.specs.Lists.{all};
 ghost use Rattle.lists.specs.Keyed.{Ascending};
-ghost use Rattle.record.specs.Stored.{edit_limit};
-ghost use Rattle.record_rows.specs.row.Row.{edit_in_range, edit_row};
-ghost use Rattle.record_rows.specs.grounds.Ground.{known, misplaced};
+ghost use Rattle.record_rows.specs.row.Row.{edit_in_range, edit_row, name_limit};
+ghost use Rattle.record_rows.specs.grounds.Ground.{alike, known, misplaced};
 ghost use Rattle.record_tables.specs.Table.{names_of, pair_not_allowed, decision, constraint_further};
-ghost use Rattle.record_tables.specs.Checked.{MarksNames};
+ghost use Rattle.record_tables.specs.Checked.{MarksNames, marked_further};
+ghost use Rattle.refusals.specs.Numbers.{number_of};
 
-use record::{EDITS, Edit};
+use record::Edit;
+use record_rows::element::Element;
+use record_rows::grounds;
 use record_rows::row::{ConstraintRow, EditRow, NAMES};
-use record_rows::{grounds, row};
+use refusals::Refusal;
 
-// Whether row i is above the row before it. Pub for `record_refusal` and `text_reader`, which walk the rows.
-pub fn edit_follows(t: &[EditRow], i: usize) -> bool
-    requires { i < length t.now }
-    ensures { Ascending (take 1) (take i t.now) → not result ≡ misplaced 1 (take i t.now) (get_or t.now i []) }
+// Whether a row is above the row before it. Pub for `record_refusal` and `text_reader`, which walk the rows.
+pub fn follows<const CELLS: usize, T: Element<CELLS>>(
+    above: &[[u32; CELLS]],
+    row: &[u32; CELLS],
+) -> bool
+    ensures { Ascending (take T.KEY) above.now → not result ≡ misplaced T.KEY above.now row.now }
 {
-    if i == 0 {
-        return true;
+    match above {
+        [.., last] => grounds::below::<CELLS, T>(last, row),
+        [] => true,
     }
-    row::below(&t[i - 1][..], &t[i][..], 1)
 }
 
-// Whether the name of row i stands above it. Pub for `record_refusal` and `text_reader`, which walk the rows.
-pub fn edit_repeated(t: &[EditRow], i: usize) -> bool
-    requires { i < length t.now }
-    ensures { result ≡ known 1 (get_or t.now i []) (take i t.now) }
+// Whether the key of a row stands above it. Pub for `record_refusal` and `text_reader`, which walk the rows.
+pub fn is_repeated<const CELLS: usize, T: Element<CELLS>>(
+    above: &[[u32; CELLS]],
+    row: &[u32; CELLS],
+) -> bool
+    ensures { result ≡ known T.KEY row.now above.now }
 {
-    let mut j = 0;
-    while j < i {
-        if row::alike(&t[i][..], &t[j][..], 1) {
-            return true;
-        }
-        j += 1;
-    }
-    false
+    above.iter().any(
+        |other| -> bool
+            ensures { result ≡ alike T.KEY row.entry.now other.now }
+        { grounds::alike::<CELLS, T>(row, other) },
+    )
 }
 
 fn marked(marks: &[u8], n: u32) -> bool
     ensures { result ≡ eqb (get_or marks.now n 0) 1 }
 {
-    let i = n as usize;
-    if i < marks.len() {
-        return marks[i] == 1;
-    }
-    false
+    marks.get(n as usize).is_some_and(|mark| *mark == 1)
 }
 
+// `|` and `&` have no branch, so that the proofs have one path.
 fn pair_not_allowed(left: u32, rule: u32, right: u32) -> bool
     ensures { result ≡ pair_not_allowed left rule right }
 {
-    if left == 0 {
-        return true;
-    }
-    if right == 0 {
-        return rule != 1;
-    }
-    if left == right {
-        return rule != 0;
-    }
-    if rule == 2 {
-        return right < left;
-    }
-    false
+    (left == 0)
+        | ((right == 0) & (rule != 1))
+        | ((left == right) & (rule != 0))
+        | ((rule == 2) & (right < left))
 }
 
 fn is_decision(left: u32, rule: u32, right: u32) -> bool
     ensures { result ≡ decision left rule right }
 {
-    if rule == 1 {
-        return right == 0;
-    }
-    if rule == 0 {
-        return left == right;
-    }
-    false
+    ((rule == 1) & (right == 0)) | ((rule == 0) & (left == right))
 }
 
-// The lowest of 5, 6 and 7 that holds of a row.
-pub fn constraint_further(row: ConstraintRow, marks: &[u8], adding: bool) -> u32
-    ensures { (names : List ℕ) → MarksNames marks.now names → result ≡ constraint_further names adding row }
+// The lowest of 5, 6 and 7 that holds of a row, by the marks of the edits that it knows. Pub for `record_refusal`.
+pub fn marked_further(row: &ConstraintRow, marks: &[u8], adding: bool) -> Result<(), Refusal>
+    ensures { number_of result ≡ marked_further marks.now adding row.now }
 {
-    let left = row[0];
-    let rule = row[1];
-    let right = row[2];
-    if !marked(marks, left) {
-        return 5;
-    }
-    if !marked(marks, right) {
-        return 5;
+    let [left, rule, right] = *row;
+    let known = marked(marks, left) & marked(marks, right);
+    if !known {
+        return Err(Refusal::Unknown);
     }
     if pair_not_allowed(left, rule, right) {
-        return 6;
+        return Err(Refusal::NotAllowed);
     }
-    if !adding {
-        return 0;
+    let decision = adding & is_decision(left, rule, right);
+    if decision {
+        return Err(Refusal::Decision);
     }
-    if is_decision(left, rule, right) {
-        return 7;
-    }
-    0
+    Ok(())
 }
 
-// Whether row i is above the row before it. Pub for `record_refusal` and `text_reader`, which walk the rows.
-pub fn constraint_follows(t: &[ConstraintRow], i: usize) -> bool
-    requires { i < length t.now }
-    ensures { Ascending (take 3) (take i t.now) → not result ≡ misplaced 3 (take i t.now) (get_or t.now i []) }
+// The same, by the names that are marked.
+pub fn constraint_further(row: ConstraintRow, marks: &[u8], adding: bool) -> Result<(), Refusal>
+    ensures { (names : List ℕ) → MarksNames marks.now names → number_of result ≡ constraint_further names adding row }
 {
-    if i == 0 {
-        return true;
-    }
-    row::below(&t[i - 1][..], &t[i][..], 3)
+    marked_further(&row, marks, adding)
 }
 
-// Whether row i stands above it already. Pub for `record_refusal` and `text_reader`, which walk the rows.
-pub fn constraint_repeated(t: &[ConstraintRow], i: usize) -> bool
-    requires { i < length t.now }
-    ensures { result ≡ known 3 (get_or t.now i []) (take i t.now) }
+fn mark(marks: &mut [u8; NAMES], name: usize)
+    ensures { (length marks.new ≡ name_limit) × (marks.new ≡ slice_set marks.old name 1) }
 {
-    let mut j = 0;
-    while j < i {
-        if row::alike(&t[i][..], &t[j][..], 3) {
-            return true;
-        }
-        j += 1;
+    if name < NAMES {
+        marks[name] = 1;
     }
-    false
 }
 
 // The marks of the names of a table of edits in range.
+// Kept: two loops over `mark`, for a row's name is a cell and an edit's a field, and a closure over rows may not name their width.
 pub fn mark_rows(t: &[EditRow]) -> [u8; NAMES]
     ensures { all edit_in_range t.now ≡ true → MarksNames result (names_of t.now) }
 {
-    let mut marks = [0u8; NAMES];
-    marks[0] = 1;
-    let mut i = 0;
-    while i < t.len() {
-        let n = numbers::index32(t[i][0]);
-        let k = grounds::slot(n, NAMES, NAMES);
-        marks[k] = 1;
-        i += 1;
+    let mut marks = [0; NAMES];
+    mark(&mut marks, 0);
+    for row in t {
+        mark(&mut marks, row[0] as usize);
     }
     marks
 }
 
-// The marks of the first n edits, in range. Pub for `record_refusal`, whose count is of the table's rows.
-pub fn mark_edits(a: [Edit; EDITS], n: usize) -> [u8; NAMES]
-    requires { n ≤ edit_limit }
-    ensures { all (λ e. edit_in_range (edit_row e)) (take n a) ≡ true → MarksNames result (map name_of (take n a)) }
+// The marks of edits in range. Pub for `record_refusal`.
+pub fn mark_edits(edits: &[Edit]) -> [u8; NAMES]
+    ensures { all (λ e. edit_in_range (edit_row e)) edits.now ≡ true → MarksNames result (map name_of edits.now) }
 {
-    let mut marks = [0u8; NAMES];
-    marks[0] = 1;
-    let mut i = 0;
-    while i < n {
-        let e = a[i];
-        let name = e.name as usize;
-        let k = grounds::slot(name, NAMES, NAMES);
-        marks[k] = 1;
-        i += 1;
+    let mut marks = [0; NAMES];
+    mark(&mut marks, 0);
+    for edit in edits {
+        mark(&mut marks, usize::from(edit.name));
     }
     marks
 }

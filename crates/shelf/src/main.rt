@@ -2,13 +2,14 @@
 // With an argument, as --help, it prints how it is used.
 #![tactic(auto)]
 
+const USAGE: &[u8] =
+    b"usage: shelf < TEXT\n  prints the report of the text of a record, or its first fault\n";
+
 fn main(rt: HostRuntime) {
-    if 1 < stdio::arg_count(&rt) {
-        stdio::print(
-            &rt,
-            b"usage: shelf < TEXT\n  prints the report of the text of a record, or its first fault\n",
-        );
-        return;
-    }
-    stdio::text_input::show_input(&rt);
+    // The status stays 0 where reading or writing fails: standard error was told.
+    let _ = if 1 < stdio::arg_count(&rt) {
+        stdio::print(&rt, USAGE)
+    } else {
+        stdio::text_input::show_input(&rt)
+    };
 }

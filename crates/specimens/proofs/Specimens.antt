@@ -14,7 +14,7 @@ use Rattle.record.specs.Judgement.{fits, sound_row, sound, must, never, ordered,
 use Rattle.record_rows.specs.row.Row.{same, edit_row, constraint_row}
 use Rattle.voting.specs.Bundle.{leads, members, between, bundle, eligible, vote}
 use Rattle.voting.specs.Tally.{same_edit, same_constraint, same_list, same_bundle, ballots, total, weigh, greatest_of, greatest, silent, won}
-use Rattle.pages_turner.specs.Turn.{landed, turned, turned_answer}
+use Rattle.pages_turner.specs.Turn.{landed, turned, turn_fault}
 use Rattle.lists.proofs.Lists.{clash, and_l, and_r, mem-filter, filter-mem}
 use Rattle.lists.proofs.Logic.{all-has}
 use Rattle.record_rows.proofs.row.Compared.{same-eq}
@@ -84,10 +84,8 @@ voted-facts s h =
 turn-fact : (s : Turned) → turn_holds s ≡ true → Facts (turn s)
 unfolding turn_holds
 turn-fact s h =
-    let a = turned_answer s.opened (turned s.opened s.last s.by) in
-    let n = eqb-true _ _ (and_l _ _ h) in
-    let p = eqb-true _ _ (and_r (eqb a.number s.number) _ h) in
-    λ i. record { number = n i; opened = p i }
+    let t = turned s.opened s.last s.by in
+    (eqb-true _ _ (and_l _ _ h), eqb-true _ _ (and_r (eqb (turn_fault t) s.number) _ h))
 
 fact : (s : Specimen) → holds s ≡ true → Facts s
 fact (judged s) h = expected s s.sound refl h

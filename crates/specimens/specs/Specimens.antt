@@ -10,7 +10,7 @@ use Rattle.record.specs.Schedule.{schedule}
 use Rattle.record.specs.Judgement.{sound, must, never, settled, sound_row, well_formed}
 use Rattle.voting.specs.declared.RollRow.{RollRow}
 use Rattle.voting.specs.Tally.{Ballot, ballots, total, greatest, silent, won}
-use Rattle.pages_turner.specs.Turn.{turned, turned_answer}
+use Rattle.pages_turner.specs.Turn.{turned, turn_fault, open_after}
 
 -- A record: its edits and constraints, what is hidden; what is expected: is it sound, those that can never stand, must stand and are settled,
 -- the schedule, and rows that are not sound schedules.
@@ -80,8 +80,8 @@ voted_holds s =
 
 unfoldable pub turn_holds : Turned → Bool
 turn_holds s =
-    let a = turned_answer s.opened (turned s.opened s.last s.by) in
-    eqb a.number s.number && eqb a.opened s.page
+    let t = turned s.opened s.last s.by in
+    eqb (turn_fault t) s.number && eqb (open_after s.opened t) s.page
 
 -- the specimen's expectations, computed
 abbrev pub holds : Specimen → Bool
@@ -111,7 +111,7 @@ pub record VotedFacts (s : Voted) : Type 0 where
 abbrev pub Facts : Specimen → Type 0
 Facts (judged s) = Expected s s.sound
 Facts (voted s) = VotedFacts s
-Facts (turn s) = turned_answer s.opened (turned s.opened s.last s.by) ≡ record { number = s.number; opened = s.page }
+Facts (turn s) = (turn_fault (turned s.opened s.last s.by) ≡ s.number) × (open_after s.opened (turned s.opened s.last s.by) ≡ s.page)
 
 abbrev pub Each : List Specimen → Type 0
 Each [] = Unit

@@ -4,19 +4,16 @@
 
 pub mod text_input;
 
-ghost use Rattle.std.specs.Prelude.{◌≤◌, length};
+ghost use Rattle.std.specs.Prelude.{◌≤◌, length, IfOk};
 
 use std::env::FillError;
 use std::io::{Error, Read, Write};
 use std::rt::Env;
 use std::str;
 
-// What reading came to: how many bytes, and whether it failed.
+// Reading or writing failed, which standard error was told already.
 #[derive(Clone, Copy)]
-pub struct Got {
-    pub size: usize,
-    pub failed: bool,
-}
+pub struct Failed;
 
 // How many arguments the program was started with, its own name among them.
 pub fn arg_count(rt: &impl Env) -> usize {
@@ -29,7 +26,7 @@ pub fn arg_count(rt: &impl Env) -> usize {
 }
 
 // Writes a line to standard error: what failed, a colon and the system's words for the error.
-pub fn fail(rt: &impl Eprint, what: &str, error: Error) {
+pub fn fail(rt: &impl Eprint, what: &str, error: Error) -> Failed {
     let mut told = [0u8; 256];
     let mut room = &mut told[..];
     let _ = Write::write_fmt(&mut room, error);
@@ -40,6 +37,7 @@ pub fn fail(rt: &impl Eprint, what: &str, error: Error) {
         Err(_) => "",
     };
     let _ = eprintln!(rt; "{what}: {words}");
+    Failed
 }
 
 // The words of an error without its number, which std writes after them.
@@ -50,57 +48,32 @@ fn without_number(text: &str) -> &str {
     }
 }
 
-// One read of a file into a buffer. At the end of the file it has no bytes.
-pub fn read_some(rt: &impl Eprint, file: &mut impl Read, buffer: &mut [u8]) -> Got
-    ensures { result.size ≤ length buffer.old }
+// One read of a file into a buffer: how many bytes, none at the end of the file.
+pub fn read_some(rt: &impl Eprint, file: &mut impl Read, buffer: &mut [u8]) -> Result<usize, Failed>
+    ensures { IfOk result (λ size. size ≤ length buffer.old) }
 {
-    match file.read(&mut buffer[..]) {
-        Ok(size) => Got {
-            size: size,
-            failed: false,
-        },
-        Err(error) => {
-            fail(rt, "reading failed", error);
-            Got {
-                size: 0,
-                failed: true,
-            }
-        }
-    }
+    file.read(&mut buffer[..])
+        .map_err(|error| fail(rt, "reading failed", error))
 }
 
-// Reads standard input until the buffer is full or the input ends.
-pub fn read_input(rt: &(impl Input + Eprint), buffer: &mut [u8]) -> Got
-    ensures { result.size ≤ length buffer.new }
+// Reads standard input until the buffer is full or the input ends: how many bytes stand at its start.
+pub fn read_input(rt: &(impl Input + Eprint), buffer: &mut [u8]) -> Result<usize, Failed>
+    ensures { IfOk result (λ size. size ≤ length buffer.new) }
 {
     let mut input = rt.reader();
     let mut size = 0;
     while size < buffer.len() {
-        let got = read_some(rt, &mut input, &mut buffer[size..]);
-        if got.failed {
-            return Got {
-                size: size,
-                failed: true,
-            };
-        }
-        if got.size == 0 {
+        let read = read_some(rt, &mut input, &mut buffer[size..])?;
+        if read == 0 {
             break;
         }
-        size += got.size;
+        size += read;
     }
-    Got {
-        size: size,
-        failed: false,
-    }
+    Ok(size)
 }
 
-// Writes all bytes to standard output; false where that fails.
-pub fn print(rt: &(impl Print + Eprint), bytes: &[u8]) -> bool {
-    match rt.write_all(bytes) {
-        Ok(()) => true,
-        Err(error) => {
-            fail(rt, "writing failed", error);
-            false
-        }
-    }
+// Writes all bytes to standard output.
+pub fn print(rt: &(impl Print + Eprint), bytes: &[u8]) -> Result<(), Failed> {
+    rt.write_all(bytes)
+        .map_err(|error| fail(rt, "writing failed", error))
 }

@@ -6,17 +6,18 @@ use native.Mathlib.Omega.{arith}
 use borrow.Author.Tests.{lt-ltb}
 use lib.ListN.{length, take}
 use lib.Seq.{take_all, length-take-le}
+use Rattle.std.specs.Prelude.{Err}
+use Rattle.refusals.specs.declared.Refusal.TheVariants.{NotInForm}
 use Rattle.lists.proofs.Lists.{le-by}
 use Rattle.text_lines.specs.Lines.{lines}
 use Rattle.text_lines.specs.Line.{line_limit}
 use Rattle.stream.specs.Pieces.{kept_bytes, no_input, fed_pieces, stream_lines, input_of}
 use Rattle.stream.proofs.Pieces.{cut-anywhere}
-use Rattle.log_commands.specs.declared.Command.TheVariants.{Refused}
 use Rattle.log_commands.specs.Grammar.{command_read}
 use Rattle.log_run.specs.Log.{Run, run_line, run_lines}
 
 -- a longer line is not in form, whatever it says
-too_long : (line : List ℕ) → line_limit < length line → command_read line ≡ Refused 1
+too_long : (line : List ℕ) → line_limit < length line → command_read line ≡ Err NotInForm
 unfolding command_read
 too_long line h = rw (lt-ltb line_limit (length line) h)
 

@@ -1,42 +1,41 @@
 -- A call log that arrives in pieces, run as it comes, from whatever was run before. What was read no contract can say: it is some pieces. Assumes nothing.
-use Rattle.std.specs.Prelude.{◌≡◌, List, ℕ, take}
-use Rattle.record_rows.specs.grounds.Ground.{Rows}
+use Rattle.std.specs.Prelude.{◌≡◌, List, ℕ}
 use Rattle.text_lines.specs.Lines.{lines}
 use Rattle.stream.specs.Pieces.{no_input, fed_pieces, input_of}
 use Rattle.log_session.specs.Desk.{Desk}
 use Rattle.log_bounds.specs.Bounded.{Bounded}
 use Rattle.log_session.specs.calls.Lines.{Holds}
 use Rattle.log_run.specs.Log.{Run, run_lines, log_run}
-use Rattle.stdio_log.specs.declared.Fed.{Fed}
+use Rattle.stdio_log.specs.declared.Memory.{Memory}
 
 -- so many bytes are read at most, and there are no more lines
 abbrev pub most_lines : ℕ
 most_lines = 4611686018427387904
 
 -- what is in memory is that of some desk whose numbers fit
-pub record Held (fed : Fed) (edits constraints : Rows) : Type 0 where
+pub record Held (memory : Memory) : Type 0 where
   pub desk : Desk
-  pub holds : Holds desk fed.bench fed.lending edits constraints
+  pub holds : Holds desk memory.bench memory.lending memory.edits memory.constraints
   pub bounded : Bounded desk
 
 -- what is in memory after a run
-pub record Ran (run : Run) (fed : Fed) (edits constraints : Rows) : Type 0 where
-  pub held : Holds run.desk fed.bench fed.lending edits constraints
-  pub counted : fed.count ≡ run.count
+pub record Ran (run : Run) (memory : Memory) : Type 0 where
+  pub held : Holds run.desk memory.bench memory.lending memory.edits memory.constraints
+  pub counted : memory.count ≡ run.count
 
--- from a start the lines that have ended were run, and the first bytes of the chunk wait
-pub record Streaming (start : Run) (fed : Fed) (edits constraints : Rows) (chunk : List ℕ) : Type 0 where
+-- from a start the lines that have ended were run, and these bytes wait
+pub record Streaming (start : Run) (memory : Memory) (waits : List ℕ) : Type 0 where
   pub pieces : List (List ℕ)
-  pub ran : Ran (run_lines start (fed_pieces no_input pieces).told) fed edits constraints
-  pub waits : take fed.rest chunk ≡ (fed_pieces no_input pieces).waits
+  pub ran : Ran (run_lines start (fed_pieces no_input pieces).told) memory
+  pub waits_are : waits ≡ (fed_pieces no_input pieces).waits
 
 -- THE RUN of a file is that of the log which its pieces make up, wherever it was cut
-pub record Streamed (start : Run) (fed : Fed) (edits constraints : Rows) : Type 0 where
+pub record Streamed (start : Run) (memory : Memory) : Type 0 where
   pub pieces : List (List ℕ)
-  pub ran : Ran (run_lines start (lines (input_of pieces))) fed edits constraints
+  pub ran : Ran (run_lines start (lines (input_of pieces))) memory
 
 -- THE RUN of a kept log from an empty bench, and of the lines that follow it
-pub record Continued (fed : Fed) (edits constraints : Rows) : Type 0 where
+pub record Continued (memory : Memory) : Type 0 where
   pub kept : List (List ℕ)
   pub pieces : List (List ℕ)
-  pub ran : Ran (run_lines (log_run (input_of kept)) (lines (input_of pieces))) fed edits constraints
+  pub ran : Ran (run_lines (log_run (input_of kept)) (lines (input_of pieces))) memory

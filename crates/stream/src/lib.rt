@@ -2,7 +2,7 @@
 // nothing of what lines say.
 #![tactic(auto)]
 
-ghost use Rattle.std.specs.Prelude.{◌≡◌, ◌++◌, ◌+◌, ◌≤◌, length, take, drop};
+ghost use Rattle.std.specs.Prelude.{◌≡◌, ◌++◌, length, take, drop};
 ghost use Rattle.stream.specs.Pieces.{last_end, waiting};
 
 use text_lines::LINE_LIMIT;
@@ -14,25 +14,9 @@ const KEPT: usize = LINE_LIMIT + 1;
 pub fn last_end(bytes: &[u8]) -> usize
     ensures { result ≡ last_end bytes.now }
 {
-    let mut n = bytes.len();
-    while 0 < n {
-        if bytes[n - 1] == 10 {
-            return n;
-        }
-        n -= 1;
-    }
-    0
-}
-
-// The n bytes after a place move to the front.
-fn move_front(bytes: &mut [u8], from: usize, n: usize)
-    requires { from + n ≤ length bytes.old }
-    ensures { bytes.new ≡ take n (drop from bytes.old) ++ drop n bytes.old }
-{
-    let mut i = 0;
-    while i < n {
-        bytes[i] = bytes[from + i];
-        i += 1;
+    match bytes.iter().rposition(|byte| *byte == b'\n') {
+        Some(at) => at + 1,
+        None => 0,
     }
 }
 
@@ -41,9 +25,9 @@ pub fn keep_waiting(bytes: &mut [u8], filled: usize) -> usize
     ensures { (result ≡ length (waiting (take filled bytes.old)))
         × (bytes.new ≡ waiting (take filled bytes.old) ++ drop result bytes.old) }
 {
-    let size = numbers::lesser(filled, bytes.len());
-    let whole = last_end(&bytes[0..size]);
-    let rest = numbers::lesser(size - whole, KEPT);
-    move_front(&mut bytes[..], whole, rest);
+    let size = filled.min(bytes.len());
+    let whole = last_end(&bytes[..size]);
+    let rest = (size - whole).min(KEPT);
+    bytes.copy_within(whole..whole + rest, 0);
     rest
 }

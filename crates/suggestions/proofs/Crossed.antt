@@ -1,15 +1,14 @@
 -- Document 02, A1: of document 01's table of concurrent edits just two pairs moved, remove and insert, and remove and set. Assumes nothing.
 use Prim.Native.Nat.{ℕ, zero, suc}
-use mathlib.Core.Path.{◌≡◌, refl, sym, ◌∙◌}
+use mathlib.Core.Path.{◌≡◌, refl, ◌∙◌}
 use mathlib.Core.Bool.{Bool, true, false, cond}
 use mathlib.Core.Logic.{◌≢◌}
-use native.Mathlib.Omega.{arith}
 use lib.Dec.{eqb}
+use borrow.Author.Tests.{eq-eqb, ne_eqb}
 use Rattle.record_rows.specs.row.Row.{Row, cell, edit_in_range}
-use Rattle.suggestions.specs.Suggest.{concurrent_table, advised, rows_of, given, suggested}
+use Rattle.suggestions.specs.Suggest.{concurrent_table, advice_of, advised, rows_of, given, pair_fault, suggested}
 use Rattle.suggestions.specs.Crossed.{former_table, removes, crossed}
 use Rattle.suggestions.specs.declared.Advice.TheVariants.{Noncommuting}
-use Rattle.suggestions.proofs.Advised.{advise-concurrent, suggestion-accepted}
 
 -- A crossed pair was not noncommuting and is so now, whatever field is set; of any other pair the two tables say the same.
 pub just-crossed-moved : (a b : ℕ) (f : Bool) → (concurrent_table a b f ≡ cond (crossed a b) true (former_table a b f)) × (former_table a b f ≡ cond (crossed a b) false (concurrent_table a b f))
@@ -25,8 +24,9 @@ just-crossed-moved (suc (suc a)) (suc zero) f = (refl, refl)
 just-crossed-moved (suc (suc a)) (suc (suc b)) f = (refl, refl)
 
 -- The request's sentence, of the answer: of two concurrent edits of one place, one of which removes, the one row is that they are noncommuting.
-pub crossed-suggested : (a b : Row) → edit_in_range a ≡ true → edit_in_range b ≡ true → cell a 0 ≢ cell b 0 → cell a 2 ≡ cell b 2 → crossed (cell a 1) (cell b 1) ≡ true → suggested a b 1 ≡ given (rows_of Noncommuting (cell a 0) (cell b 0))
+pub crossed-suggested : (a b : Row) → edit_in_range a ≡ true → edit_in_range b ≡ true → cell a 0 ≢ cell b 0 → cell a 2 ≡ cell b 2 → crossed (cell a 1) (cell b 1) ≡ true
+    → (pair_fault a b 1 ≡ 0) × (suggested a b 1 ≡ given (rows_of Noncommuting (cell a 0) (cell b 0)))
+unfolding pair_fault suggested advised advice_of
 crossed-suggested a b h k n e x =
     let moved : concurrent_table (cell a 1) (cell b 1) (eqb (cell a 3) (cell b 3)) ≡ true = (just-crossed-moved (cell a 1) (cell b 1) (eqb (cell a 3) (cell b 3))).0 ∙ rw x in
-    let advice : Noncommuting ≡ advised 1 a b = advise-concurrent 1 a b true n e refl (λ q. absurd (omega arith)) refl moved in
-    sym (suggestion-accepted a b 1 h k (omega arith) advice refl)
+    (rw (h, k), rw (ne_eqb (cell a 0) (cell b 0) n, eq-eqb (cell a 2) (cell b 2) e, moved))

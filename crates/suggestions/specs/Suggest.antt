@@ -1,9 +1,29 @@
 -- Document 01, "Suggested constraints" (002, tables 2 and 3), as document 02, A1, changes it. Assumes nothing.
-use Rattle.std.specs.Prelude.{ℕ, zero, suc, min, max, Bool, true, false, cond, not, ◌&&◌, List, [], ◌∷◌, ltb, eqb, length, get_or, replicate}
-use Rattle.record_rows.specs.row.Row.{Row, name_cell, kind_cell, place_cell, field_cell, edit_in_range}
+use Rattle.std.specs.Prelude.{ℕ, zero, suc, min, max, Bool, true, false, cond, not, ◌&&◌, List, [], ◌∷◌, ltb, eqb}
+use Rattle.record.specs.declared.Body.{Body}
+use Rattle.record.specs.declared.Body.TheVariants.{Insert, Set, Remove}
+use Rattle.record_rows.specs.row.Row.{Row, name_cell, kind_cell, place_cell, field_cell, edit_in_range, field_number}
 use Rattle.suggestions.specs.declared.Advice.{Advice}
 use Rattle.suggestions.specs.declared.Advice.TheVariants.{Nothing, Notafter, NotafterEnables, Noncommuting}
 use Rattle.suggestions.specs.declared.Suggested.{Suggested}
+use Rattle.suggestions.specs.declared.Suggested.TheVariants as suggests
+use Rattle.suggestions.specs.declared.Suggested.TheVariants.{One, Two}
+
+-- of a body the cells of its row: its kind, its field (0 where there is none), and its place
+abbrev pub kind_of : Body → ℕ
+kind_of (Insert place) = 0
+kind_of (Set place field value) = 1
+kind_of (Remove place) = 2
+
+abbrev pub field_named : Body → ℕ
+field_named (Insert place) = 0
+field_named (Set place field value) = field_number field
+field_named (Remove place) = 0
+
+abbrev pub touched_place : Body → ℕ
+touched_place (Insert place) = place
+touched_place (Set place field value) = place
+touched_place (Remove place) = place
 
 -- The rules as tables: kind of A, kind of B (0 insert, 1 set, 2 remove), and whether both name one field.
 -- B after A by one author
@@ -44,16 +64,20 @@ advice_of (suc n) a b = cond (concurrent_table (kind_cell a) (kind_cell b) (eqb 
 unfoldable pub advised : ℕ → Row → Row → Advice
 advised kind a b = cond (not (eqb (name_cell a) (name_cell b)) && eqb (place_cell a) (place_cell b)) (advice_of kind a b) Nothing
 
-abbrev pub no_row : Row
-no_row = replicate 3 0
-
+-- rows as they are given, and given rows as a list
 abbrev pub given : List Row → Suggested
-given rows = record { number = 0; count = length rows; first = get_or rows 0 no_row; second = get_or rows 1 no_row }
+given [] = suggests.Nothing
+given (row ∷ []) = One row
+given (row ∷ next ∷ rest) = Two row next
+
+abbrev pub rules_of : Suggested → List Row
+rules_of suggests.Nothing = []
+rules_of (One row) = row ∷ []
+rules_of (Two row next) = row ∷ next ∷ []
 
 -- 2: a number outside its range
-abbrev pub refused_suggestion : Suggested
-refused_suggestion = record { number = 2; count = 0; first = no_row; second = no_row }
+unfoldable pub pair_fault : Row → Row → ℕ → ℕ
+pair_fault a b kind = cond (edit_in_range a && (edit_in_range b && ltb kind 2)) 0 2
 
 unfoldable pub suggested : Row → Row → ℕ → Suggested
-suggested a b kind =
-    cond (edit_in_range a && (edit_in_range b && ltb kind 2)) (given (rows_of (advised kind a b) (name_cell a) (name_cell b))) refused_suggestion
+suggested a b kind = given (rows_of (advised kind a b) (name_cell a) (name_cell b))

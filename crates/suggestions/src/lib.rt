@@ -1,14 +1,18 @@
 // Suggested constraints (document 01 and document 02, A1; 002, tables 2 and 3): rows for whoever asks, for two edits and the case that holds.
 #![tactic(auto)]
 
-ghost use Rattle.std.specs.Prelude.{◌≡◌, min, max, eqb};
-ghost use Rattle.suggestions.specs.Suggest.{after_table, concurrent_table, advised, rows_of, given, refused_suggestion, suggested};
+ghost use Rattle.std.specs.Prelude.{◌≡◌, eqb};
+ghost use Rattle.refusals.specs.Numbers.{Gives};
+ghost use Rattle.record_rows.specs.row.Row.{edit_row};
+ghost use Rattle.suggestions.specs.Suggest.{after_table, concurrent_table, kind_of, field_named, touched_place, advised, rows_of, given, pair_fault, suggested};
 
+use record::{Body, Edit};
 use record_rows::row;
 use record_rows::row::{ConstraintRow, EditRow};
+use refusals::Refusal;
 
 // What a pair of edits suggests: nothing, A notafter B, that and A enables B, or that they are noncommuting.
-#[derive(Clone, Copy)]
+#[derive(Clone, Copy, PartialEq, Eq)]
 pub enum Advice {
     Nothing,
     Notafter,
@@ -16,166 +20,90 @@ pub enum Advice {
     Noncommuting,
 }
 
-// Number 0, and how many rows there are; a row that is not there holds 0. Or number 2.
-#[derive(Clone, Copy)]
-pub struct Suggested {
-    pub number: u32,
-    pub count: usize,
-    pub first: ConstraintRow,
-    pub second: ConstraintRow,
+// The rows of a suggestion, in table order.
+#[derive(Clone, Copy, PartialEq, Eq)]
+pub enum Suggested {
+    Nothing,
+    One(ConstraintRow),
+    Two(ConstraintRow, ConstraintRow),
 }
 
-// B after A by one author: kinds of A and B.
-fn after(first: u32, second: u32, onefield: bool) -> Advice
-    ensures { result ≡ after_table first second onefield }
+#[tactic(auto, unfolding(crate::specs::Suggest::after_table))]
+// B after A by one author: what A and B do.
+fn after(first: Body, second: Body) -> Advice
+    ensures { result ≡ after_table (kind_of first) (kind_of second) (eqb (field_named first) (field_named second)) }
 {
-    match first {
-        0 => match second {
-            0 => Advice::Nothing,
-            _ => Advice::NotafterEnables,
-        },
-        1 => match second {
-            1 => if onefield {
-                Advice::Notafter
-            } else {
-                Advice::Nothing
-            },
-            _ => Advice::Nothing,
-        },
-        _ => match second {
-            0 => Advice::Notafter,
-            _ => Advice::Nothing,
-        },
+    match (first, second) {
+        (Body::Insert(_), Body::Insert(_)) => Advice::Nothing,
+        (Body::Insert(_), Body::Set(_, _, _) | Body::Remove(_)) => Advice::NotafterEnables,
+        (Body::Set(_, x, _), Body::Set(_, y, _)) if x == y => Advice::Notafter,
+        (Body::Set(_, _, _), Body::Insert(_) | Body::Set(_, _, _) | Body::Remove(_)) =>
+            Advice::Nothing,
+        (Body::Remove(_), Body::Insert(_)) => Advice::Notafter,
+        (Body::Remove(_), Body::Set(_, _, _) | Body::Remove(_)) => Advice::Nothing,
     }
 }
 
-// Whether concurrent edits are noncommuting: kinds of A and B.
-fn concurrent(first: u32, second: u32, onefield: bool) -> bool
-    ensures { result ≡ concurrent_table first second onefield }
+#[tactic(auto, unfolding(crate::specs::Suggest::concurrent_table))]
+// Whether concurrent edits are noncommuting: what A and B do.
+fn concurrent(first: Body, second: Body) -> bool
+    ensures { result ≡ concurrent_table (kind_of first) (kind_of second) (eqb (field_named first) (field_named second)) }
 {
-    match first {
-        0 => match second {
-            0 => true, // insert, insert
-            1 => false, // insert, set
-            _ => true, // insert, remove
-        },
-        1 => match second {
-            0 => false, // set, insert
-            1 => onefield, // set, set
-            _ => true, // set, remove
-        },
-        _ => match second {
-            0 => true, // remove, insert
-            1 => true, // remove, set
-            _ => false, // remove, remove
-        },
+    match (first, second) {
+        (Body::Insert(_), Body::Insert(_)) => true,
+        (Body::Insert(_), Body::Set(_, _, _)) => false,
+        (Body::Insert(_), Body::Remove(_)) => true,
+        (Body::Set(_, _, _), Body::Insert(_)) => false,
+        (Body::Set(_, x, _), Body::Set(_, y, _)) => x == y,
+        (Body::Set(_, _, _), Body::Remove(_)) => true,
+        (Body::Remove(_), Body::Insert(_)) => true,
+        (Body::Remove(_), Body::Set(_, _, _)) => true,
+        (Body::Remove(_), Body::Remove(_)) => false,
     }
 }
 
-fn advise(kind: u32, a: EditRow, b: EditRow) -> Advice
-    ensures { result ≡ advised kind a b }
+fn place_of(body: Body) -> u8
+    ensures { result ≡ touched_place body }
 {
-    let name = a[0];
-    let other = b[0];
-    if name == other {
-        return Advice::Nothing;
+    match body {
+        Body::Insert(place) | Body::Set(place, _, _) | Body::Remove(place) => place,
     }
-    let place = a[2];
-    let there = b[2];
-    if place != there {
-        return Advice::Nothing;
-    }
-    let onefield = same(a[3], b[3]);
-    if kind == 0 {
-        return after(a[1], b[1], onefield);
-    }
-    if concurrent(a[1], b[1], onefield) {
-        return Advice::Noncommuting;
-    }
-    Advice::Nothing
 }
 
-fn same(x: u32, y: u32) -> bool
-    ensures { result ≡ eqb x y }
+fn advise(kind: u32, a: Edit, b: Edit) -> Advice
+    ensures { result ≡ advised kind (edit_row a) (edit_row b) }
 {
-    x == y
-}
-
-fn lower(a: u32, b: u32) -> u32
-    ensures { result ≡ min a b }
-{
-    if a < b {
-        return a;
+    if a.name == b.name {
+        Advice::Nothing
+    } else if place_of(a.body) != place_of(b.body) {
+        Advice::Nothing
+    } else if kind == 0 {
+        after(a.body, b.body)
+    } else if concurrent(a.body, b.body) {
+        Advice::Noncommuting
+    } else {
+        Advice::Nothing
     }
-    b
-}
-
-fn higher(a: u32, b: u32) -> u32
-    ensures { result ≡ max a b }
-{
-    if a < b {
-        return b;
-    }
-    a
 }
 
 fn rows(advice: Advice, a: u32, b: u32) -> Suggested
     ensures { result ≡ given (rows_of advice a b) }
 {
-    let none = [0, 0, 0];
     match advice {
-        Advice::Nothing => Suggested {
-            number: 0,
-            count: 0,
-            first: none,
-            second: none,
-        },
-        Advice::Notafter => Suggested {
-            number: 0,
-            count: 1,
-            first: [a, 0, b],
-            second: none,
-        },
-        Advice::NotafterEnables => Suggested {
-            number: 0,
-            count: 2,
-            first: [a, 0, b],
-            second: [a, 1, b],
-        },
-        Advice::Noncommuting => Suggested {
-            number: 0,
-            count: 1,
-            first: [lower(a, b), 2, higher(a, b)],
-            second: none,
-        },
-    }
-}
-
-fn refuse() -> Suggested
-    ensures { result ≡ refused_suggestion }
-{
-    let none = [0, 0, 0];
-    Suggested {
-        number: 2,
-        count: 0,
-        first: none,
-        second: none,
+        Advice::Nothing => Suggested::Nothing,
+        Advice::Notafter => Suggested::One([a, 0, b]),
+        Advice::NotafterEnables => Suggested::Two([a, 0, b], [a, 1, b]),
+        Advice::Noncommuting => Suggested::One([a.min(b), 2, a.max(b)]),
     }
 }
 
 // The rows that the edits a and b suggest. Case 0: b after a by one author; 1: concurrent.
-pub fn suggest(a: EditRow, b: EditRow, kind: u32) -> Suggested
-    ensures { result ≡ suggested a b kind }
+pub fn suggest(a: EditRow, b: EditRow, kind: u32) -> Result<Suggested, Refusal>
+    ensures { Gives (pair_fault a b kind) (suggested a b kind) result }
 {
-    if !row::edit_in_range(a) {
-        return refuse();
+    if !row::edit_in_range(a) || !row::edit_in_range(b) || kind > 1 {
+        return Err(Refusal::OutOfRange);
     }
-    if !row::edit_in_range(b) {
-        return refuse();
-    }
-    if 1 < kind {
-        return refuse();
-    }
-    let advice = advise(kind, a, b);
-    rows(advice, a[0], b[0])
+    let advice = advise(kind, row::edit_of(a), row::edit_of(b));
+    Ok(rows(advice, a[0], b[0]))
 }

@@ -17,13 +17,17 @@ use Rattle.record_tables.specs.Table.{empty_tables, names_of, edit_kind, constra
 use Rattle.record_rows.proofs.grounds.Small.{orelse-small, given-small, row-fault-small}
 use Rattle.record_tables.proofs.Further.{further-small}
 use Rattle.record_tables.proofs.Records.{empty-checked, joining-editplaces, joining-constraintplaces}
+use Rattle.std.specs.Prelude.{Result, Ok, Err}
+use Rattle.refusals.specs.declared.Refusal.{Refusal}
+use Rattle.refusals.proofs.Numbers.{number-positive}
 use Rattle.text_lines.specs.declared.Line.{Line}
+use Rattle.text_lines.specs.declared.Line.TheVariants.{Edit, Constraint}
 use Rattle.text_lines.specs.Line.{line_read, line_limit}
 use Rattle.text_lines.specs.Lines.{lines, joined}
 use Rattle.text_lines.proofs.Ends.{ended-line}
-use Rattle.text_lines.proofs.RoundTrip.{line-back, Saying, fault-one, fault-two, an-edit, a-constraint, line-saying}
+use Rattle.text_lines.proofs.RoundTrip.{Faithful, line-back, Saying, fault-one, fault-two, an-edit, a-constraint, line-saying}
 use Rattle.text.specs.Text.{edit_fault, constraint_fault, line_fault, edits_with, constraints_with, Answer, Accepted, Refused, read_from, read_rows, judged, read_text}
-use Rattle.text.proofs.Rows.{line-fault-none, Given, given-none-yet, given-edit, given-constraint, given-faultless}
+use Rattle.text.proofs.Rows.{Given, given-none-yet, given-edit, given-constraint, given-faultless}
 use Rattle.text.proofs.RoundTrip.{rows-took}
 
 -- the rows of a text without fault are at most 639
@@ -35,9 +39,9 @@ given-few edits constraints g =
     omega arith
 
 -- a line without fault has at most 101 bytes
-line-limit : (l : List ℕ) → (line_read l).number ≡ 0 → length l ≤ line_limit
-unfolding line_read
-line-limit l =
+line-limit : (l : List ℕ) (edits constraints : Rows) → line_fault edits constraints (line_read l) ≡ 0 → length l ≤ line_limit
+unfolding line_read line_fault
+line-limit l edits constraints =
     by (ltb line_limit (length l))
     (λ (e : ltb line_limit (length l) ≡ true). rw e (λ z. let y : ◌≡◌ {A = ℕ} 1 0 = z in absurd (omega arith)))
     (λ (e : ltb line_limit (length l) ≡ false). λ z. ltb-false line_limit (length l) e)
@@ -106,19 +110,19 @@ module _ (n : ℕ) (edits constraints : Rows) (l : List ℕ) (ls ms : List (List
   decided-later e d = rw e d
 
 given-more : (edits constraints : Rows) (l : List ℕ) → Given edits constraints → line_fault edits constraints (line_read l) ≡ 0 → Given (edits_with (line_read l) edits) (constraints_with (line_read l) constraints)
-given-more edits constraints l g h =
-    let said = line_read l in
-    let z = line-fault-none edits constraints said h in
-    let b = line-back l z.0 in
-    by said.isedit
-    (λ (i : said.isedit ≡ true). rw i (given-edit edits constraints said.edit g (rw i at z.1) (rw i at b.1)))
-    (λ (i : said.isedit ≡ false). rw i (given-constraint edits constraints said.constraint g (rw i at z.1)))
+unfolding line_fault
+given-more edits constraints l g h = go (line_read l) (line-back l) h
+  where
+    go : (said : Result Line Refusal) → Faithful said l → line_fault edits constraints said ≡ 0 → Given (edits_with said edits) (constraints_with said constraints)
+    go (Ok (Edit row)) b f = given-edit edits constraints row g f b.1
+    go (Ok (Constraint row)) b f = given-constraint edits constraints row g f
+    go (Err refusal) b f = absurd (number-positive refusal f)
 
-count-more : (edits constraints : Rows) (said : Line) → length (edits_with said edits) + length (constraints_with said constraints) ≡ suc (length edits + length constraints)
-count-more edits constraints said =
-    by said.isedit
-    (λ (i : said.isedit ≡ true). rw i (omega (arith, length-append edits (said.edit ∷ []))))
-    (λ (i : said.isedit ≡ false). rw i (omega (arith, length-append constraints (said.constraint ∷ []))))
+count-more : (edits constraints : Rows) (said : Result Line Refusal) → line_fault edits constraints said ≡ 0 → length (edits_with said edits) + length (constraints_with said constraints) ≡ suc (length edits + length constraints)
+unfolding line_fault
+count-more edits constraints (Ok (Edit row)) f = omega (arith, length-append edits (row ∷ []))
+count-more edits constraints (Ok (Constraint row)) f = omega (arith, length-append constraints (row ∷ []))
+count-more edits constraints (Err refusal) f = absurd (number-positive refusal f)
 
 module _ (q : List ℕ) where
   -- what was to be shown of a text in this state
@@ -161,8 +165,8 @@ module _ (q : List ℕ) where
       let one : length l ≡ length f.inner + 1 = length-append f.inner (10 ∷ []) in
       ended-next n edits constraints f.inner f.rest s f.plain f.is
       (λ z.
-      let m : length l ≤ line_limit = line-limit l (line-fault-none edits constraints (line_read l) z).0 in
-      decide fuel f.rest (suc n) (edits_with (line_read l) edits) (constraints_with (line_read l) constraints) (omega arith) (given-more edits constraints l g z) (ap suc c ∙ sym (count-more edits constraints (line_read l))) (omega arith)))
+      let m : length l ≤ line_limit = line-limit l edits constraints z in
+      decide fuel f.rest (suc n) (edits_with (line_read l) edits) (constraints_with (line_read l) constraints) (omega arith) (given-more edits constraints l g z) (ap suc c ∙ sym (count-more edits constraints (line_read l) z)) (omega arith)))
       (λ (m : mem 10 s ≡ false). open-line n edits constraints s (omega (arith, given-few edits constraints g)) m)
       (first-end s)
 
@@ -174,20 +178,17 @@ first-bytes-decide first rest h =
     rw (d.first, d.second)
 
 -- The number of a refusal is at most 13, and its line at most 640.
-number_small : (l : Line) → Saying l → l.number ≤ 13
-number_small l (fault-one e) = rw e (omega arith)
-number_small l (fault-two e) = rw e (omega arith)
-number_small l (an-edit row e) = rw e (omega arith)
-number_small l (a-constraint row e) = rw e (omega arith)
+said-small : (edits constraints : Rows) (said : Result Line Refusal) → Saying said → line_fault edits constraints said ≤ 13
+unfolding line_fault edit_fault constraint_fault
+said-small edits constraints said (fault-one e) = rw e (omega arith)
+said-small edits constraints said (fault-two e) = rw e (omega arith)
+said-small edits constraints said (an-edit row e) =
+    rw e (orelse-small 13 (row_fault edit_kind [] edits row) (13 given ltb 0 (length constraints)) (row-fault-small 13 (omega arith) edit_kind [] edits row (omega arith)) (given-small 13 13 (ltb 0 (length constraints)) (omega arith)))
+said-small edits constraints said (a-constraint row e) =
+    rw e (row-fault-small 13 (omega arith) (constraint_kind (names_of edits) false) [] constraints row (further-small 13 (omega arith) (names_of edits) false row))
 
 fault-small : (edits constraints : Rows) (l : List ℕ) → line_fault edits constraints (line_read l) ≤ 13
-unfolding line_fault edit_fault constraint_fault
-fault-small edits constraints l =
-    let said = line_read l in
-    orelse-small 13 said.number _ (number_small said (line-saying l))
-    (by said.isedit
-    (λ (i : said.isedit ≡ true). rw i (orelse-small 13 (row_fault edit_kind [] edits said.edit) (13 given ltb 0 (length constraints)) (row-fault-small 13 (omega arith) edit_kind [] edits said.edit (omega arith)) (given-small 13 13 (ltb 0 (length constraints)) (omega arith))))
-    (λ (i : said.isedit ≡ false). rw i (row-fault-small 13 (omega arith) (constraint_kind (names_of edits) false) [] constraints said.constraint (further-small 13 (omega arith) (names_of edits) false said.constraint))))
+fault-small edits constraints l = said-small edits constraints (line_read l) (line-saying l)
 
 refused-small : (ls : List (List ℕ)) (n : ℕ) (edits constraints : Rows) (k m : ℕ) → Given edits constraints → n ≡ length edits + length constraints → read_from n edits constraints ls ≡ Refused k m → (k ≤ 13) × (m ≤ 640)
 unfolding read_from
@@ -196,7 +197,7 @@ refused-small (l ∷ ls) n edits constraints k m g c h =
     let number = line_fault edits constraints (line_read l) in
     by (eqb number 0)
     (λ (e : eqb number 0 ≡ true).
-    refused-small ls (suc n) (edits_with (line_read l) edits) (constraints_with (line_read l) constraints) k m (given-more edits constraints l g (eqb-true number 0 e)) (ap suc c ∙ sym (count-more edits constraints (line_read l))) (rw e at h))
+    refused-small ls (suc n) (edits_with (line_read l) edits) (constraints_with (line_read l) constraints) k m (given-more edits constraints l g (eqb-true number 0 e)) (ap suc c ∙ sym (count-more edits constraints (line_read l) (eqb-true number 0 e))) (rw e at h))
     (λ (e : eqb number 0 ≡ false).
     let q : Refused number (suc n) ≡ Refused k m = rw e at h in
     let a : number ≡ k = cc in

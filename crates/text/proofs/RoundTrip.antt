@@ -21,13 +21,18 @@ use Rattle.record_rows.proofs.grounds.Accepted.{accepted-range}
 use Rattle.record_tables.specs.Table.{edit_rows, constraint_rows, decoded, empty_tables, names_of, edit_kind, constraint_kind}
 use Rattle.record_tables.specs.Checked.{Checked}
 use Rattle.record_tables.proofs.Records.{both, empty-checked, lent-checked, checked-faultless, checked-decoded}
+use Rattle.std.specs.Prelude.{Result, Ok, Err}
+use Rattle.refusals.specs.declared.Refusal.{Refusal}
+use Rattle.refusals.proofs.Numbers.{number-positive}
+use Rattle.text_lines.specs.declared.Line.{Line}
+use Rattle.text_lines.specs.declared.Line.TheVariants.{Edit, Constraint}
 use Rattle.text_lines.specs.Line.{edit_line, constraint_line, line_read, fits_word}
 use Rattle.text_lines.specs.Lines.{lines}
 use Rattle.text_lines.specs.Row.{is_edit_row, is_constraint_row}
 use Rattle.text_lines.proofs.Ends.{concat, lines-all}
-use Rattle.text_lines.proofs.RoundTrip.{line-back, edit-line-read, constraint-line-read, edit-line-first, constraint-line-first}
+use Rattle.text_lines.proofs.RoundTrip.{Faithful, line-back, edit-line-read, constraint-line-read, edit-line-first, constraint-line-first}
 use Rattle.text.specs.Text.{joined_lines, rows_text, text_of, edit_fault, constraint_fault, line_fault, edits_with, constraints_with, Answer, Accepted, Refused, read_from, read_rows, judged, read_text, values_fit}
-use Rattle.text.proofs.Rows.{edit-in-form, constraint-in-form, value-fits, edit-fault-none, line-fault-none, Given, given-none-yet, given-edit, given-constraint, given-faultless, text-edit, text-constraint}
+use Rattle.text.proofs.Rows.{edit-in-form, constraint-in-form, value-fits, edit-fault-none, Given, given-none-yet, given-edit, given-constraint, given-faultless, text-edit, text-constraint}
 
 -- What an accepted text came to: the rows of its lines.
 pub record Came (edits constraints : Rows) (ls : List (List ℕ)) (R : Record) : Type 0 where
@@ -67,6 +72,17 @@ module _ (edits constraints : Rows) (l : List ℕ) (ls : List (List ℕ)) (R : R
         count = c.count ∙ omega (arith, length-append constraints (row ∷ []));
       }
 
+  -- one line more, whatever is said of those after it
+  came-line : (n : ℕ) (said : Result Line Refusal) → Given edits constraints → Faithful said l → line_fault edits constraints said ≡ 0
+      → read_from (suc n) (edits_with said edits) (constraints_with said constraints) ls ≡ Accepted R
+      → ((es cs : Rows) → Given es cs → read_from (suc n) es cs ls ≡ Accepted R → Came es cs ls R) → Came edits constraints (l ∷ ls) R
+  unfolding line_fault
+  came-line n (Ok (Edit row)) g b f h more =
+      came-edit row (edit-fault-none edits constraints row f).1 b.0 (more (edits ++ (row ∷ [])) constraints (given-edit edits constraints row g f b.1) h)
+  came-line n (Ok (Constraint row)) g b f h more =
+      came-constraint row b.0 (more edits (constraints ++ (row ∷ [])) (given-constraint edits constraints row g f) h)
+  came-line n (Err refusal) g b f h more = absurd (number-positive refusal f)
+
 came : (ls : List (List ℕ)) (n : ℕ) (edits constraints : Rows) (R : Record) → Given edits constraints → read_from n edits constraints ls ≡ Accepted R → Came edits constraints ls R
 unfolding read_from joined_lines
 came [] n edits constraints R g h =
@@ -82,17 +98,7 @@ came (l ∷ ls) n edits constraints R g h =
     let said = line_read l in
     by (eqb (line_fault edits constraints said) 0)
     (λ (e : eqb (line_fault edits constraints said) 0 ≡ true).
-    let z = line-fault-none edits constraints said (eqb-true _ 0 e) in
-    let b = line-back l z.0 in
-    by said.isedit
-    (λ (i : said.isedit ≡ true).
-    let f : edit_fault edits constraints said.edit ≡ 0 = rw i at z.1 in
-    came-edit edits constraints l ls R said.edit (edit-fault-none edits constraints said.edit f).1 (rw i at b.0)
-    (came ls (suc n) (edits ++ (said.edit ∷ [])) constraints R (given-edit edits constraints said.edit g f (rw i at b.1)) (rw (e, i) at h)))
-    (λ (i : said.isedit ≡ false).
-    let f : constraint_fault edits constraints said.constraint ≡ 0 = rw i at z.1 in
-    came-constraint edits constraints l ls R said.constraint (rw i at b.0)
-    (came ls (suc n) edits (constraints ++ (said.constraint ∷ [])) R (given-constraint edits constraints said.constraint g f) (rw (e, i) at h))))
+    came-line edits constraints l ls R n said g (line-back l) (eqb-true _ 0 e) (rw e at h) (λ es cs k w. came ls (suc n) es cs R k w))
     (λ (e : eqb (line_fault edits constraints said) 0 ≡ false). refused-not _ _ R (rw e at h))
 
 pub rows-came : (text : List ℕ) (R : Record) → read_rows text ≡ Accepted R → Came [] [] (lines text) R

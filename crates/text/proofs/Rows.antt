@@ -1,6 +1,6 @@
 -- The rows that a text has given so far: they are a lent record without fault, and each is in form. Assumes nothing.
 use mathlib.Core.Path.{◌≡◌, refl, ap, sym, ◌∙◌}
-use mathlib.Core.Bool.{Bool, true, false, cond, ◌&&◌, ◌||◌}
+use mathlib.Core.Bool.{Bool, true, false, ◌&&◌, ◌||◌}
 use mathlib.Core.List.{List, [], ◌∷◌, ◌++◌, map, append_assoc, append-nil, map-append}
 use Prim.Native.Nat.{ℕ, zero, suc, ◌≤◌, ◌<◌}
 use native.Mathlib.Omega.{arith}
@@ -14,10 +14,9 @@ use Rattle.record_rows.proofs.row.Cells.{edit-in-range, constraint-in-range, nam
 use Rattle.record_rows.specs.grounds.Ground.{Rows, TableKind, row_fault, first_fault, table_fault, ◌given◌}
 use Rattle.record_rows.proofs.grounds.Grounds.{orelse-none, orelse-second, given-none, Clean, clean, clean_is}
 use Rattle.record_tables.specs.Table.{empty_tables, names_of, edit_kind, constraint_kind, join_fault, lent_fault}
-use Rattle.text_lines.specs.declared.Line.{Line}
 use Rattle.text_lines.specs.Line.{fits_word, edit_line, constraint_line}
 use Rattle.text_lines.specs.Row.{is_edit_row, is_constraint_row}
-use Rattle.text.specs.Text.{edit_fault, constraint_fault, line_fault, joined_lines, rows_text}
+use Rattle.text.specs.Text.{edit_fault, constraint_fault, joined_lines, rows_text}
 
 -- a row in range whose value fits 32 bits has a line of its own
 small : (n m : ℕ) → n < m → m ≤ 4294967296 → fits_word n ≡ true
@@ -101,11 +100,6 @@ edit-fault-none edits constraints row h =
     nothing : (l : Rows) → length l ≤ 0 → l ≡ []
     nothing [] z = refl
     nothing (x ∷ l) z = absurd (omega arith)
-
-pub line-fault-none : (edits constraints : Rows) (said : Line) → line_fault edits constraints said ≡ 0 → (said.number ≡ 0) × (cond said.isedit (edit_fault edits constraints said.edit) (constraint_fault edits constraints said.constraint) ≡ 0)
-unfolding line_fault
-line-fault-none edits constraints said h =
-    orelse-none said.number (cond said.isedit (edit_fault edits constraints said.edit) (constraint_fault edits constraints said.constraint)) h
 
 -- rows without fault, each in form
 pub record Given (edits constraints : Rows) : Type 0 where

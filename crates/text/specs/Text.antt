@@ -1,12 +1,15 @@
 -- Document 01, "Text" and "What is turned away": a whole text, written and read line by line. Assumes nothing.
-use Rattle.std.specs.Prelude.{Bool, false, cond, List, [], ◌∷◌, ◌++◌, map, ℕ, suc, ltb, eqb, length}
+use Rattle.std.specs.Prelude.{Bool, false, cond, List, [], ◌∷◌, ◌++◌, map, ℕ, suc, ltb, eqb, length, Result, Ok, Err}
 use Rattle.lists.specs.Lists.{all}
 use Rattle.record.specs.Record.{Record}
 use Rattle.record.specs.Judgement.{sound}
 use Rattle.record_rows.specs.row.Row.{Row, cell, edit_row}
 use Rattle.record_rows.specs.grounds.Ground.{Rows, row_fault, ◌given◌, ◌orelse◌}
 use Rattle.record_tables.specs.Table.{edit_rows, constraint_rows, decoded, names_of, edit_kind, constraint_kind}
+use Rattle.refusals.specs.declared.Refusal.{Refusal}
+use Rattle.refusals.specs.Numbers.{number}
 use Rattle.text_lines.specs.declared.Line.{Line}
+use Rattle.text_lines.specs.declared.Line.TheVariants.{Edit, Constraint}
 use Rattle.text_lines.specs.Line.{edit_line, constraint_line, line_read, fits_word}
 use Rattle.text_lines.specs.Lines.{lines}
 
@@ -30,15 +33,20 @@ unfoldable pub constraint_fault : Rows → Rows → Row → ℕ
 constraint_fault edits constraints row = row_fault (constraint_kind (names_of edits) false) [] constraints row
 
 -- the lowest number that applies to a line: 1 where it is not in form, 2 where a number does not fit, then those of its row
-unfoldable pub line_fault : Rows → Rows → Line → ℕ
-line_fault edits constraints line =
-    line.number orelse cond line.isedit (edit_fault edits constraints line.edit) (constraint_fault edits constraints line.constraint)
+unfoldable pub line_fault : Rows → Rows → Result Line Refusal → ℕ
+line_fault edits constraints (Ok (Edit row)) = edit_fault edits constraints row
+line_fault edits constraints (Ok (Constraint row)) = constraint_fault edits constraints row
+line_fault edits constraints (Err refusal) = number refusal
 
-abbrev pub edits_with : Line → Rows → Rows
-edits_with line edits = cond line.isedit (edits ++ (line.edit ∷ [])) edits
+abbrev pub edits_with : Result Line Refusal → Rows → Rows
+edits_with (Ok (Edit row)) edits = edits ++ (row ∷ [])
+edits_with (Ok (Constraint row)) edits = edits
+edits_with (Err refusal) edits = edits
 
-abbrev pub constraints_with : Line → Rows → Rows
-constraints_with line constraints = cond line.isedit constraints (constraints ++ (line.constraint ∷ []))
+abbrev pub constraints_with : Result Line Refusal → Rows → Rows
+constraints_with (Ok (Edit row)) constraints = constraints
+constraints_with (Ok (Constraint row)) constraints = constraints ++ (row ∷ [])
+constraints_with (Err refusal) constraints = constraints
 
 -- a record, or the number of the refusal and the line, counted from 1
 pub data Answer : Type 0 where

@@ -1,6 +1,6 @@
 -- The laws that the loops over a form cite that count and write its bytes. Assumes nothing.
 use Prim.Native.Nat.{ℕ, suc, ◌+◌, ◌-◌, ◌/◌, ◌≤◌, ◌<◌, ◌^◌}
-use mathlib.Core.Path.{◌≡◌, refl, ap, sym, ◌∙◌}
+use mathlib.Core.Path.{◌≡◌, ap, sym, ◌∙◌}
 use mathlib.Core.Bool.{true, false}
 use mathlib.Core.List.{List, [], ◌∷◌, ◌++◌, append_assoc, append-nil}
 use native.Mathlib.Numerals.{add-one}
@@ -9,13 +9,13 @@ use native.Mathlib.Omega.{arith}
 use borrow.Author.Tests.{le-leb}
 use lib.Dec.{leb}
 use lib.ListN.{length, get_or, take, drop, set, length-append, length-drop, drop_of_length-le, take-append-drop}
-use lib.Seq.{drop-cons, drop-drop, get_or-drop, length-take-le, set_at, take_all, take-suc, take-append-add, drop-append-add, take-append_seam, drop-append_seam, set_split}
+use lib.Seq.{drop-cons, drop-drop, get_or-drop, length-take-le, take-append-add, drop-append-add, take-append_seam, drop-append_seam, set_split}
 use Rattle.text_forms.specs.decimal.Written.{Written}
 use Rattle.text_forms.proofs.decimal.Parts.{part_to_end, part-written}
 use Rattle.text_forms.specs.Form.{is_mark, spelling, fill}
-use Rattle.text_forms.specs.declared.Fit.{Fit}
-use Rattle.text_forms.specs.Fit.{fit_after}
-use Rattle.text_forms.proofs.Fits.{fit-nothing, fit-both}
+use Rattle.std.specs.Prelude.{Some, None}
+use Rattle.text_forms.specs.Fit.{room_after}
+use Rattle.text_forms.proofs.Fits.{room-short, room-whole, room-both}
 use Rattle.text_forms.proofs.Forms.{fill-mark, fill-byte, fill-wide}
 
 -- what the form gives from place i on with the numbers from k on
@@ -34,62 +34,46 @@ module _ (form ns : List ℕ) (i k : ℕ) where
   end-fill h = rw (drop_of_length-le form {i = i} h)
 
 -- fitting: what is left of the form leaves of what is left what the whole leaves of the room
-pub record Fitting (form ns : List ℕ) (start rest : Fit) (i k : ℕ) : Type 0 where
-  pub all : fit_after rest (length (fill (drop i form) (drop k ns))) ≡ fit_after start (length (fill form ns))
-  pub within : i ≤ length form
+pub record Fitting (form ns : List ℕ) (room left i k : ℕ) : Type 0 where
+  pub all : room_after left (length (fill (drop i form) (drop k ns))) ≡ room_after room (length (fill form ns))
   pub used : k ≤ i
 
 module _ (form ns : List ℕ) where
   pub fitting-ample : (room : ℕ) → ((k : ℕ) → get_or ns k 0 < 2 ^ 64) → length form ≤ room / 20 → true ≡ leb (length (fill form ns)) room
   fitting-ample room h l = sym (le-leb (length (fill form ns)) room (omega (arith, fill-wide form ns h)))
 
-  module _ (start : Fit) where
-    pub fitting-start : Fitting form ns start start 0 0
-    fitting-start = record { all = refl; within = omega arith; used = omega arith }
+  module _ (room left i k : ℕ) (w : Fitting form ns room left i k) where
+    size_more : (l size : ℕ) → length (fill (drop i form) (drop k ns)) ≡ size + length (fill (drop (i + 1) form) (drop l ns))
+        → size ≤ left → l ≤ i + 1 → Fitting form ns room (left - size) (i + 1) l
+    size_more l size p h u = record { all = sym (room-both left size (length (fill (drop (i + 1) form) (drop l ns))) h) ∙ ap (room_after left) (sym p) ∙ w.all; used = u }
 
-    module _ {rest : Fit} {i k : ℕ} (w : Fitting form ns start rest i k) where
-      more : (l size : ℕ) {next : Fit} → next ≡ fit_after rest size → length (fill (drop i form) (drop k ns)) ≡ size + length (fill (drop (i + 1) form) (drop l ns)) → i < length form → l ≤ i + 1 → Fitting form ns start next (i + 1) l
-      more l size e p h u = record {
-        all = ap (λ (f : Fit). fit_after f (length (fill (drop (i + 1) form) (drop l ns)))) e ∙ fit-both rest size (length (fill (drop (i + 1) form) (drop l ns))) ∙ ap (fit_after rest) (sym p) ∙ w.all;
-        within = omega arith;
-        used = u;
-      }
+    size-short : (l size : ℕ) → length (fill (drop i form) (drop k ns)) ≡ size + length (fill (drop (i + 1) form) (drop l ns))
+        → left < size → None ≡ room_after room (length (fill form ns))
+    size-short l size p h = sym (room-short left _ (omega (arith, p))) ∙ w.all
 
-      pub fitting-mark : i < length form → is_mark (get_or form i 0) ≡ true → {n : ℕ} → n ≡ get_or ns k 0 → {size : ℕ} → size ≡ length ((spelling (get_or form i 0)).write n) → {next : Fit} → next ≡ fit_after rest size → Fitting form ns start next (i + 1) (k + 1)
-      fitting-mark h m q {size} e f = more (k + 1) size f (ap length (mark-fill form ns i k h m) ∙ rw (e, q, length-append)) h (omega (arith, w.used))
+    module _ (h : i < length form) where
+      module _ (m : is_mark (get_or form i 0) ≡ true) {n size : ℕ} (q : n ≡ get_or ns k 0) (e : size ≡ length ((spelling (get_or form i 0)).write n)) where
+        mark-size : length (fill (drop i form) (drop k ns)) ≡ size + length (fill (drop (i + 1) form) (drop (k + 1) ns))
+        mark-size = ap length (mark-fill form ns i k h m) ∙ rw (e, q, length-append)
 
-      pub fitting-byte : i < length form → is_mark (get_or form i 0) ≡ false → {next : Fit} → next ≡ fit_after rest 1 → Fitting form ns start next (i + 1) k
-      fitting-byte h m f = more k 1 f (ap length (byte-fill form ns i k h m) ∙ omega arith) h (omega (arith, w.used))
+        pub fitting-mark : size ≤ left → {rest next : ℕ} → rest ≡ left - size → next ≡ k + 1 → Fitting form ns room rest (i + 1) next
+        fitting-mark l p r = rw (p, r) (size_more (k + 1) size mark-size l (omega (arith, w.used)))
 
-      pub fitting-end : length form ≤ i → rest ≡ fit_after start (length (fill form ns))
-      fitting-end h = fit-nothing rest ∙ ap (fit_after rest) (sym (ap length (end-fill form ns i k h))) ∙ w.all
+        pub fitting-no-mark : left < size → None ≡ room_after room (length (fill form ns))
+        fitting-no-mark l = size-short (k + 1) size mark-size l
 
--- a word: what is copied of it, and what stood after that before
-pub record Copying (word before out : List ℕ) (i : ℕ) : Type 0 where
-  pub so_far : out ≡ take i word ++ drop i before
-  pub near : i ≤ length word
-  pub room : length word ≤ length before
+      module _ (m : is_mark (get_or form i 0) ≡ false) where
+        byte-size : length (fill (drop i form) (drop k ns)) ≡ 1 + length (fill (drop (i + 1) form) (drop k ns))
+        byte-size = ap length (byte-fill form ns i k h m) ∙ omega arith
 
-module _ (word before : List ℕ) where
-  pub copying-start : length word ≤ length before → Copying word before before 0
-  copying-start h = record { so_far = refl; near = omega arith; room = h }
+        pub fitting-byte : 1 ≤ left → {rest next : ℕ} → rest ≡ left - 1 → next ≡ k → Fitting form ns room rest (i + 1) next
+        fitting-byte l p r = rw (p, r) (size_more k 1 byte-size l (omega (arith, w.used)))
 
-  module _ (out : List ℕ) (i : ℕ) (w : Copying word before out i) where
-    pub copying-same : length out ≡ length before
-    copying-same = ap length w.so_far ∙ rw (length-append, length-take-le i word w.near, length-drop) (omega (arith, w.near, w.room))
+        pub fitting-no-byte : left < 1 → None ≡ room_after room (length (fill form ns))
+        fitting-no-byte l = size-short k 1 byte-size l
 
-    pub copying-next : i < length word → Copying word before (set out i (get_or word i 0)) (i + 1)
-    copying-next h = record {
-      so_far = rw (w.so_far, add-one, drop-cons before i 0 (omega (arith, w.room)), take-suc word i 0 h, append_assoc)
-          (set_at (take i word) (get_or before i 0) (drop (suc i) before) (get_or word i 0) i (length-take-le i word w.near));
-      near = omega arith;
-      room = w.room;
-    }
-
-    pub copying-end : length word ≤ i → Written word before i out
-    copying-end h =
-        let e : i ≡ length word = omega (arith, w.near) in
-        (e, w.so_far ∙ rw (take_all i word h, e))
+    pub fitting-end : length form ≤ i → Some left ≡ room_after room (length (fill form ns))
+    fitting-end h = sym (room-whole left) ∙ ap (room_after left) (sym (ap length (end-fill form ns i k h))) ∙ w.all
 
 -- two pieces in front
 pub front_of : (n : ℕ) (a b c : List ℕ) → length a ≡ n → take (n + length b) (a ++ (b ++ c)) ≡ a ++ b
@@ -104,14 +88,10 @@ pub record Writing (form ns before out : List ℕ) (at i k : ℕ) : Type 0 where
   pub rest : drop at out ≡ drop at before
   pub same : length out ≡ length before
   pub inside : at ≤ length out
-  pub within : i ≤ length form
   pub used : k ≤ i
   pub enough : length (fill form ns) ≤ length before
 
 module _ (form ns before : List ℕ) where
-  pub writing_start : length (fill form ns) ≤ length before → Writing form ns before before 0 0 0
-  writing_start h = record { all = refl; rest = refl; same = refl; inside = omega arith; within = omega arith; used = omega arith; enough = h }
-
   module _ (out : List ℕ) (at i k : ℕ) (w : Writing form ns before out at i k) where
     -- one piece more
     piece-room : (piece left : List ℕ) → fill (drop i form) (drop k ns) ≡ piece ++ left → at + length piece ≤ length out
@@ -134,7 +114,6 @@ module _ (form ns before : List ℕ) where
           rest = back ∙ sym (drop-drop (length piece) at out) ∙ ap (drop (length piece)) w.rest ∙ drop-drop (length piece) at before;
           same = rw (length-append, length-append, length-drop, t) (omega (arith, w.same));
           inside = rw (length-append, length-append, length-drop, t) (omega arith);
-          within = omega arith;
           used = u;
           enough = w.enough;
         }

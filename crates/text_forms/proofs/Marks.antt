@@ -1,19 +1,20 @@
 -- The laws that the code of marks cites. Assumes nothing.
-use Prim.Native.Nat.{ℕ, ◌+◌, ◌≤◌, ◌<◌, ◌^◌}
-use mathlib.Core.Path.{◌≡◌, sym, ◌∙◌}
-use mathlib.Core.Bool.{true, false}
+use Prim.Native.Nat.{ℕ, ◌≤◌, ◌<◌, ◌^◌}
+use mathlib.Core.Path.{◌≡◌, refl, ap, sym, ◌∙◌}
+use mathlib.Core.Bool.{Bool, true, false, ◌&&◌}
+use Rattle.std.specs.Prelude.{Option, Some, None}
+use lib.Pointwise.{pointwise}
+use lib.Dec.{eqb}
 use mathlib.Core.Logic.{◌≢◌}
 use mathlib.Core.List.{List, [], ◌∷◌}
 use native.Mathlib.Omega.{arith}
 use borrow.Author.Tests.{eq-eqb, ne_eqb}
-use native.Mathlib.Numerals.{add-one}
-use lib.ListN.{length, get_or, drop, set, drop_of_length-le}
-use lib.Seq.{drop-cons}
+use lib.ListN.{length, take, set}
 use Rattle.text_forms.specs.decimal.Written.{Written}
 use Rattle.text_forms.specs.declared.decimal.Numeral.{Numeral}
 use Rattle.text_forms.proofs.decimal.Laws.{put-bytes}
 use Rattle.text_forms.specs.Spelling.{bytes, Spelling, number_spelling, name_spelling, answer_spelling, starts_with, numeral_of}
-use Rattle.text_forms.specs.Form.{is_mark, spelling}
+use Rattle.text_forms.specs.Form.{spelling}
 use Rattle.text_forms.proofs.Lawful.{lawful}
 
 -- yes and no
@@ -42,57 +43,27 @@ unfolding bytes
 yes-written n out e h = put-bytes (121 ∷ 101 ∷ 115 ∷ []) (answer_spelling.write n) out (yes-is n e) h
 
 module _ (s : List ℕ) where
-  pub read-yes : starts_with (bytes "yes") s ≡ true → record { size = 3; value = 1 } ≡ numeral_of answer_spelling s
+  pub read-yes : starts_with (bytes "yes") s ≡ true → Some (record { size = 3; value = 1 }) ≡ numeral_of answer_spelling s
   unfolding answer_spelling
   read-yes e = rw e
 
-  pub read_no : starts_with (bytes "yes") s ≡ false → starts_with (bytes "no") s ≡ true → record { size = 2; value = 0 } ≡ numeral_of answer_spelling s
+  pub read_no : starts_with (bytes "yes") s ≡ false → starts_with (bytes "no") s ≡ true → Some (record { size = 2; value = 0 }) ≡ numeral_of answer_spelling s
   unfolding answer_spelling
   read_no e f = rw (e, f)
 
-  pub read-neither : starts_with (bytes "yes") s ≡ false → starts_with (bytes "no") s ≡ false → record { size = 0; value = 0 } ≡ numeral_of answer_spelling s
+  pub read-neither : starts_with (bytes "yes") s ≡ false → starts_with (bytes "no") s ≡ false → None ≡ numeral_of answer_spelling s
   unfolding answer_spelling
   read-neither e f = rw (e, f)
 
--- a word at the start of a text, from place i on
-module _ (word s : List ℕ) (i : ℕ) where
-  pub word-short : i < length word → length s ≤ i → starts_with (drop i word) (drop i s) ≡ false
-  unfolding starts_with
-  word-short h l = rw (drop-cons word i 0 h, drop_of_length-le s {i = i} l)
-
-  pub word-other : i < length word → i < length s → get_or word i 0 ≢ get_or s i 0 → starts_with (drop i word) (drop i s) ≡ false
-  unfolding starts_with
-  word-other h l e = rw (drop-cons word i 0 h, drop-cons s i 0 l, ne_eqb (get_or word i 0) (get_or s i 0) e)
-
-  pub word_same : i < length word → i < length s → get_or word i 0 ≡ get_or s i 0 → starts_with (drop i word) (drop i s) ≡ starts_with (drop (i + 1) word) (drop (i + 1) s)
-  unfolding starts_with
-  word_same h l e = rw (add-one, drop-cons word i 0 h, drop-cons s i 0 l, eq-eqb (get_or word i 0) (get_or s i 0) e)
-
-  pub word_end : length word ≤ i → starts_with (drop i word) (drop i s) ≡ true
-  unfolding starts_with
-  word_end h = rw (drop_of_length-le word {i = i} h)
+-- the library's test of a word at the start of a text
+pub word-starts : (word s : List ℕ) → pointwise eqb word (take (length word) s) ≡ starts_with word s
+unfolding starts_with
+word-starts [] s = refl
+word-starts (c ∷ word) [] = refl
+word-starts (c ∷ word) (x ∷ s) = ap (λ (b : Bool). eqb c x && b) (word-starts word s)
 
 -- which bytes are marks
 module _ (c : ℕ) where
-  pub mark-number : c ≡ 35 → true ≡ is_mark c
-  unfolding is_mark
-  mark-number e = rw (eq-eqb c 35 e)
-
-  pub mark-name : c ≡ 64 → true ≡ is_mark c
-  unfolding is_mark
-  mark-name e = rw e
-
-  pub mark-answer : c ≡ 63 → true ≡ is_mark c
-  unfolding is_mark
-  mark-answer e = rw e
-
-  pub mark-none : c ≢ 35 → c ≢ 64 → c ≢ 63 → false ≡ is_mark c
-  unfolding is_mark
-  mark-none e f g = rw (ne_eqb c 35 e, ne_eqb c 64 f, ne_eqb c 63 g)
-
-  pub mark-above : 64 < c → false ≡ is_mark c
-  mark-above h = mark-none (λ e. omega arith) (λ e. omega arith) (λ e. omega arith)
-
   pub spells-answers : c ≡ 63 → spelling c ≡ answer_spelling
   unfolding spelling
   spells-answers e = rw (eq-eqb c 63 e)
@@ -116,5 +87,5 @@ module _ (c n : ℕ) {S : Spelling} (e : spelling c ≡ S) where
   pub written_as : (out : List ℕ) {r : ℕ} {after : List ℕ} → Written (S.write n) out r after → Written ((spelling c).write n) out r after
   written_as out w = rw e w
 
-pub numeral-as : (c : ℕ) {S : Spelling} (s : List ℕ) {r : Numeral} → spelling c ≡ S → r ≡ numeral_of S s → r ≡ numeral_of (spelling c) s
+pub numeral-as : (c : ℕ) {S : Spelling} (s : List ℕ) {r : Option Numeral} → spelling c ≡ S → r ≡ numeral_of S s → r ≡ numeral_of (spelling c) s
 numeral-as c s e p = rw e p

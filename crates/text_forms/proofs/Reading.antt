@@ -7,16 +7,16 @@ use mathlib.Core.List.{List, [], ◌∷◌, ◌++◌, append_assoc, map}
 use mathlib.Core.Option.{Option, none, some}
 use native.Mathlib.Numerals.{add-one}
 use native.Mathlib.Omega.{arith}
-use borrow.Author.Tests.{eq-eqb, ne_eqb}
-use lib.ListN.{length, get_or, take, drop, set, replicate, length-append, length-drop, length-set, length-take, drop_of_length-le}
-use lib.Seq.{drop-cons, drop-drop, set_out, set_at, take-set-lt, take-append-le, sets}
-use Rattle.lists.proofs.Lists.{le-by}
+use borrow.Author.Tests.{eq-eqb, ne_eqb, eqb-true}
+use lib.Dec.{eqb}
+use Rattle.std.specs.Prelude.{Option as Answer, Some, None}
+use lib.ListN.{length, get_or, take, drop, set, replicate, length-append, length-set, length-take, drop_of_length-le}
+use lib.Seq.{drop-cons, set_out, set_at, take-set-lt, take-append-le, sets}
+use Rattle.lists.proofs.Lists.{by, le-by}
 use Rattle.text_forms.specs.decimal.Decimal.{saturated}
 use Rattle.text_forms.specs.declared.decimal.Numeral.{Numeral}
-use Rattle.text_forms.proofs.decimal.Parts.{part_to_end}
-use Rattle.text_forms.specs.Spelling.{numeral_of}
+use Rattle.text_forms.specs.Spelling.{Spelling, numeral_of}
 use Rattle.text_forms.specs.Form.{is_mark, spelling, more, taken, filled_of}
-use Rattle.text_forms.specs.declared.Filled.{Filled}
 use Rattle.text_forms.proofs.Lawful.{lawful}
 use Rattle.text_forms.proofs.Forms.{mark-taken, mark-missing, byte-taken, byte-missing}
 
@@ -40,9 +40,9 @@ sets-kept m (v ∷ vs) pre (z ∷ zs) h =
     rw (e, ← n) (sets-kept m vs (pre ++ (v ∷ [])) zs (omega arith) ∙ rw append_assoc))
 
 -- the answer, where k numbers are stored already
-abbrev pub told_from : ℕ → List ℕ → Option (List ℕ) → Filled
-told_from k xs none = filled_of none
-told_from k xs (some ns) = record { fits = true; numbers = sets xs k (map saturated ns) }
+abbrev pub told_from : ℕ → List ℕ → Option (List ℕ) → Answer (List ℕ)
+told_from k xs none = None
+told_from k xs (some ns) = Some (sets xs k (map saturated ns))
 
 abbrev zeros : ℕ → List ℕ
 zeros n = replicate n 0
@@ -69,87 +69,99 @@ told-start (some ns) =
     let e : take 8 (vs ++ zeros 8) ≡ sets (zeros 8) 0 vs =
     zeros-behind 8 8 (8 - length vs) vs (omega arith) (omega arith)
     ∙ rw (← zeros-left (length vs) 8) (sym (sets-kept 8 vs [] (zeros 8) (omega arith))) in
-    λ i. record { fits = true; numbers = e i }
+    ap Some e
 
 told_more : (k n : ℕ) (xs : List ℕ) (o : Option (List ℕ)) → told_from k xs (more n o) ≡ told_from (suc k) (set xs k (saturated n)) o
 told_more k n xs none = refl
 told_more k n xs (some ns) = refl
 
-told_none : (k : ℕ) (xs : List ℕ) {o : Option (List ℕ)} → o ≡ none → told_from k xs o ≡ filled_of none
+told_none : (k : ℕ) (xs : List ℕ) {o : Option (List ℕ)} → o ≡ none → told_from k xs o ≡ None
 told_none k xs e = rw e
 
-left_over : (x : ℕ) (s : List ℕ) → taken [] (x ∷ s) ≡ none
+left-over : (s : List ℕ) → (length s ≡ 0 → ⊥) → taken [] s ≡ none
 unfolding taken
-left_over x s = refl
+left-over [] h = absurd (h refl)
+left-over (x ∷ s) h = refl
+
+length-zero-nil : (s : List ℕ) → length s ≡ 0 → s ≡ []
+length-zero-nil [] h = refl
+length-zero-nil (x ∷ s) h = absurd (omega arith)
+
+-- a spelled number that is there, or is not
+module _ (S : Spelling) (s : List ℕ) where
+  numeral-missing : None ≡ numeral_of S s → S.size s ≡ 0
+  numeral-missing h =
+      by (eqb (S.size s) 0)
+      (λ (e : eqb (S.size s) 0 ≡ true). eqb-true (S.size s) 0 e)
+      (λ (e : eqb (S.size s) 0 ≡ false). let q = rw e at h in (cc))
+
+  module _ {n : Numeral} (h : Some n ≡ numeral_of S s) where
+    numeral-there : S.size s ≢ 0
+    numeral-there z = let q = rw (eq-eqb (S.size s) 0 z) at h in (cc)
+
+    numeral-same : n ≡ record { size = S.size s; value = saturated (S.value s) }
+    numeral-same = let q = rw (ne_eqb (S.size s) 0 numeral-there) at h in (cc)
 
 -- reading: what is left of the form is to be read from what is left of the text
-pub record Reading (form s numbers : List ℕ) (at i k : ℕ) : Type 0 where
-  pub all : filled_of (taken form s) ≡ told_from k numbers (taken (drop i form) (drop at s))
-  pub inside : at ≤ length s
-  pub within : i ≤ length form
+pub record Reading (form s numbers rest : List ℕ) (i k : ℕ) : Type 0 where
+  pub all : filled_of (taken form s) ≡ told_from k numbers (taken (drop i form) rest)
   pub used : k ≤ i
   pub eight : length numbers ≡ 8
 
-pub reading-start : (form s : List ℕ) → Reading form s (replicate 8 0) 0 0 0
-reading-start form s = record { all = told-start (taken form s); inside = omega arith; within = omega arith; used = omega arith; eight = refl }
+pub reading-start : (form s : List ℕ) → Reading form s (replicate 8 0) s 0 0
+reading-start form s = record { all = told-start (taken form s); used = omega arith; eight = refl }
 
-module _ (form s numbers : List ℕ) (at i k : ℕ) (w : Reading form s numbers at i k) where
-  missing : {r : Filled} → taken (drop i form) (drop at s) ≡ none → r ≡ filled_of none → r ≡ filled_of (taken form s)
-  missing e q = q ∙ sym (w.all ∙ told_none k numbers e)
+module _ (form s numbers rest : List ℕ) (i k : ℕ) (w : Reading form s numbers rest i k) where
+  missing : taken (drop i form) rest ≡ none → None ≡ filled_of (taken form s)
+  missing e = sym (w.all ∙ told_none k numbers e)
 
   module _ (h : i < length form) where
     first_of : drop i form ≡ get_or form i 0 ∷ drop (i + 1) form
     first_of = rw (add-one, drop-cons form i 0 h)
 
-    module _ (m : is_mark (get_or form i 0) ≡ true) {n : Numeral} (e : n ≡ numeral_of (spelling (get_or form i 0)) (take (length s - at) (drop at s))) where
-      size_is : n.size ≡ (spelling (get_or form i 0)).size (drop at s)
-      size_is = ap (λ (x : Numeral). x.size) e ∙ rw (part_to_end at s)
+    module _ (m : is_mark (get_or form i 0) ≡ true) where
+      pub reading-no-mark : None ≡ numeral_of (spelling (get_or form i 0)) rest → None ≡ filled_of (taken form s)
+      reading-no-mark e = missing (rw first_of (mark-missing (get_or form i 0) (drop (i + 1) form) m rest (numeral-missing (spelling (get_or form i 0)) rest e)))
 
-      value-is : n.value ≡ saturated ((spelling (get_or form i 0)).value (drop at s))
-      value-is = ap (λ (x : Numeral). x.value) e ∙ rw (part_to_end at s)
+      module _ {n : Numeral} (e : Some n ≡ numeral_of (spelling (get_or form i 0)) rest) where
+        size_is : n.size ≡ (spelling (get_or form i 0)).size rest
+        size_is = ap (λ (x : Numeral). x.size) (numeral-same (spelling (get_or form i 0)) rest e)
 
-      pub reading-no-mark : {r : Filled} → n.size ≡ 0 → r ≡ filled_of none → r ≡ filled_of (taken form s)
-      reading-no-mark z q = missing (rw first_of (mark-missing (get_or form i 0) (drop (i + 1) form) m (drop at s) (sym size_is ∙ z))) q
+        value-is : n.value ≡ saturated ((spelling (get_or form i 0)).value rest)
+        value-is = ap (λ (x : Numeral). x.value) (numeral-same (spelling (get_or form i 0)) rest e)
 
-      pub mark-inside : at + n.size ≤ length s
-      mark-inside = omega (arith, size_is, (lawful (get_or form i 0)).short (drop at s), length-drop at s, w.inside)
+        pub mark-inside : n.size ≤ length rest
+        mark-inside = omega (arith, size_is, (lawful (get_or form i 0)).short rest)
 
-      pub reading-mark : {xs : List ℕ} → n.size ≢ 0 → xs ≡ set numbers k n.value → Reading form s xs (at + n.size) (i + 1) (k + 1)
-      reading-mark z q = record {
-        all = w.all
-            ∙ rw (first_of, mark-taken (get_or form i 0) (drop (i + 1) form) m (drop at s) (λ y. z (size_is ∙ y)), told_more, ← size_is, ← value-is, drop-drop, q, add-one k);
-        inside = mark-inside;
-        within = omega arith;
-        used = omega (arith, w.used);
-        eight = ap length q ∙ length-set numbers k n.value ∙ w.eight;
-      }
+        pub reading-mark : {xs : List ℕ} → xs ≡ set numbers k n.value → Reading form s xs (drop n.size rest) (i + 1) (k + 1)
+        reading-mark q = record {
+          all = w.all
+              ∙ rw (first_of, mark-taken (get_or form i 0) (drop (i + 1) form) m rest (numeral-there (spelling (get_or form i 0)) rest e), told_more, ← size_is, ← value-is, q, add-one k);
+          used = omega (arith, w.used);
+          eight = ap length q ∙ length-set numbers k n.value ∙ w.eight;
+        }
 
     module _ (m : is_mark (get_or form i 0) ≡ false) where
-      pub reading-no-byte : {r : Filled} → length s ≤ at → r ≡ filled_of none → r ≡ filled_of (taken form s)
-      reading-no-byte l q =
-          missing (rw (first_of, drop_of_length-le s {i = at} l) (byte-missing (get_or form i 0) (drop (i + 1) form) m [] refl)) q
+      pub reading-no-byte : length rest ≡ 0 → None ≡ filled_of (taken form s)
+      reading-no-byte l =
+          missing (rw (first_of, length-zero-nil rest l) (byte-missing (get_or form i 0) (drop (i + 1) form) m [] refl))
 
-      pub reading-other-byte : {r : Filled} → at < length s → get_or s at 0 ≢ get_or form i 0 → r ≡ filled_of none → r ≡ filled_of (taken form s)
-      reading-other-byte l d q =
-          missing (rw (first_of, drop-cons s at 0 l) (byte-missing (get_or form i 0) (drop (i + 1) form) m (get_or s at 0 ∷ drop (suc at) s) (ne_eqb (get_or form i 0) (get_or s at 0) (λ y. d (sym y))))) q
+      pub reading-other-byte : (x : ℕ) (xs : List ℕ) → rest ≡ x ∷ xs → x ≢ get_or form i 0 → None ≡ filled_of (taken form s)
+      reading-other-byte x xs l d =
+          missing (rw (first_of, l) (byte-missing (get_or form i 0) (drop (i + 1) form) m (x ∷ xs) (ne_eqb (get_or form i 0) x (λ y. d (sym y)))))
 
-      pub reading-byte : at < length s → get_or s at 0 ≡ get_or form i 0 → Reading form s numbers (at + 1) (i + 1) k
-      reading-byte l d =
-          let e : taken (drop i form) (drop at s) ≡ taken (drop (i + 1) form) (drop (at + 1) s) =
-          rw (first_of, drop-cons s at 0 l, add-one at)
-          (byte-taken (get_or form i 0) (drop (i + 1) form) m (get_or s at 0 ∷ drop (suc at) s) (eq-eqb (get_or form i 0) (get_or s at 0) (sym d))) in
-          record {
-            all = w.all ∙ ap (told_from k numbers) e;
-            inside = omega arith;
-            within = omega arith;
-            used = omega (arith, w.used);
-            eight = w.eight;
-          }
+      pub reading-byte : (x : ℕ) (xs : List ℕ) → rest ≡ x ∷ xs → x ≡ get_or form i 0 → Reading form s numbers xs (i + 1) k
+      reading-byte x xs l d = record {
+        all = w.all
+            ∙ ap (told_from k numbers) (rw (first_of, l) (byte-taken (get_or form i 0) (drop (i + 1) form) m (x ∷ xs) (eq-eqb (get_or form i 0) x (sym d))));
+        used = omega (arith, w.used);
+        eight = w.eight;
+      }
 
   module _ (h : length form ≤ i) where
-    pub reading-long : {r : Filled} → at < length s → r ≡ filled_of none → r ≡ filled_of (taken form s)
-    reading-long l q = missing (rw (drop_of_length-le form {i = i} h, drop-cons s at 0 l) (left_over (get_or s at 0) (drop (suc at) s))) q
+    pub reading-long : (length rest ≡ 0 → ⊥) → None ≡ filled_of (taken form s)
+    reading-long l = missing (rw (drop_of_length-le form {i = i} h) (left-over rest l))
 
-    pub reading-end : length s ≤ at → record { fits = true; numbers = numbers } ≡ filled_of (taken form s)
+    pub reading-end : length rest ≡ 0 → Some numbers ≡ filled_of (taken form s)
     unfolding taken
-    reading-end l = sym (w.all ∙ rw (drop_of_length-le form {i = i} h, drop_of_length-le s {i = at} l))
+    reading-end l = sym (w.all ∙ rw (drop_of_length-le form {i = i} h, length-zero-nil rest l))

@@ -1,7 +1,5 @@
--- How much of a room is left, and whether all that was counted fits it. Assumes nothing.
-use Rattle.std.specs.Prelude.{◌&&◌, ℕ, ◌-◌, leb}
-use Rattle.text_forms.specs.declared.Fit.{Fit}
+-- What is left of a room after so many bytes, where they fit it. Assumes nothing.
+use Rattle.std.specs.Prelude.{ℕ, ◌-◌, cond, leb, Option, Some, None}
 
--- after so many bytes more
-abbrev pub fit_after : Fit → ℕ → Fit
-fit_after fit size = record { fits = fit.fits && leb size fit.left; left = fit.left - size }
+abbrev pub room_after : ℕ → ℕ → Option ℕ
+room_after room size = cond (leb size room) (Some (room - size)) None

@@ -1,8 +1,7 @@
 -- Document 01, "Text": forms. A form is a quoted text in which # stands for a number, @ for an edit's name and ? for yes or no. Assumes nothing.
-use Rattle.std.specs.Prelude.{ℕ, Bool, true, false, cond, ◌||◌, List, [], ◌∷◌, ◌++◌, map, eqb, get_or, take, drop, replicate}
+use Rattle.std.specs.Prelude.{ℕ, Bool, false, cond, ◌||◌, List, [], ◌∷◌, ◌++◌, map, eqb, get_or, take, drop, replicate, Option as Answer, Some, None}
 use Rattle.std.proofs.Math.Option.{Option, none, some}
 use Rattle.text_forms.specs.decimal.Decimal.{saturated}
-use Rattle.text_forms.specs.declared.Filled.{Filled}
 use Rattle.text_forms.specs.Spelling.{Spelling, number_spelling, name_spelling, answer_spelling}
 
 -- the bytes of # @ ?
@@ -35,6 +34,6 @@ taken (c ∷ form) s =
     (cond (begins_with c s) (taken form (drop 1 s)) none)
 
 -- What the code answers: the first eight numbers, cut off at 2^32, and 0 past those.
-abbrev pub filled_of : Option (List ℕ) → Filled
-filled_of none = record { fits = false; numbers = replicate 8 0 }
-filled_of (some ns) = record { fits = true; numbers = take 8 (map saturated ns ++ replicate 8 0) }
+abbrev pub filled_of : Option (List ℕ) → Answer (List ℕ)
+filled_of none = None
+filled_of (some ns) = Some (take 8 (map saturated ns ++ replicate 8 0))

@@ -1,5 +1,5 @@
 -- Document 01, "Text": how a line spells a number, an edit's name, and yes or no. Assumes nothing.
-use Rattle.std.specs.Prelude.{ℕ, Bool, true, false, cond, not, ◌&&◌, ◌||◌, List, [], ◌∷◌, ltb, eqb}
+use Rattle.std.specs.Prelude.{ℕ, Bool, true, false, cond, not, ◌&&◌, ◌||◌, List, [], ◌∷◌, ltb, eqb, Option, Some, None}
 use Prim.Native.Char.{code}
 use Prim.Native.String.{String, [] as «nothing», ◌∷◌ as ◌then◌}
 use Rattle.text_forms.specs.decimal.Decimal.{decimal, is_digit, numeral_size, numeral_value, saturated}
@@ -22,9 +22,9 @@ pub record Spelling : Type 0 where
   pub begins : ℕ → Bool
   pub stops : ℕ → Bool
 
--- what the code keeps of a spelled number
-abbrev pub numeral_of : Spelling → List ℕ → Numeral
-numeral_of S s = record { size = S.size s; value = saturated (S.value s) }
+-- what the code keeps of a spelled number, where there is one
+abbrev pub numeral_of : Spelling → List ℕ → Option Numeral
+numeral_of S s = cond (eqb (S.size s) 0) None (Some (record { size = S.size s; value = saturated (S.value s) }))
 
 -- a number
 unfoldable pub number_spelling : Spelling

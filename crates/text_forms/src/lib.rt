@@ -5,21 +5,13 @@
 pub mod decimal;
 
 ghost use Rattle.std.specs.Prelude.{◌≡◌, ◌≤◌, [], ◌∷◌, ◌++◌, leb, length, get_or, set};
-ghost use Rattle.std.proofs.Math.Option.{none};
 ghost use Rattle.text_forms.specs.decimal.Decimal.{decimal};
 ghost use Rattle.text_forms.specs.decimal.Written.{Written};
-ghost use Rattle.text_forms.specs.Spelling.{name_spelling, answer_spelling, starts_with, numeral_of};
+ghost use Rattle.text_forms.specs.Spelling.{name_spelling, answer_spelling, numeral_of};
 ghost use Rattle.text_forms.specs.Form.{is_mark, spelling, fill, taken, filled_of};
-ghost use Rattle.text_forms.specs.Fit.{fit_after};
+ghost use Rattle.text_forms.specs.Fit.{room_after};
 
 use crate::decimal::Numeral;
-
-// The numbers with which a form gives a text, cut off at 2^32, or that it does not. Places past the form's own numbers hold 0.
-#[derive(Clone, Copy)]
-pub struct Filled {
-    pub numbers: [u64; 8],
-    pub fits: bool,
-}
 
 // The spelling of an edit's name.
 fn name_length(n: u64) -> usize
@@ -35,7 +27,7 @@ fn write_name(out: &mut [u8], n: u64) -> usize
     decimal::write_number(&mut out[..], n)
 }
 
-fn read_name(bytes: &[u8]) -> Numeral
+fn read_name(bytes: &[u8]) -> Option<Numeral>
     ensures { result ≡ numeral_of name_spelling bytes.now }
 {
     decimal::read_number(bytes)
@@ -66,48 +58,23 @@ fn write_answer(out: &mut [u8], n: u64) -> usize
     3
 }
 
-// The text starts with this word.
-fn starts_with(word: &[u8], bytes: &[u8]) -> bool
-    ensures { result ≡ starts_with word.now bytes.now }
-{
-    let mut i = 0;
-    while i < word.len() {
-        if bytes.len() <= i {
-            return false;
-        }
-        if word[i] != bytes[i] {
-            return false;
-        }
-        i += 1;
-    }
-    true
-}
-
-fn read_answer(bytes: &[u8]) -> Numeral
+fn read_answer(bytes: &[u8]) -> Option<Numeral>
     ensures { result ≡ numeral_of answer_spelling bytes.now }
 {
-    if starts_with(b"yes", bytes) {
-        return Numeral { size: 3, value: 1 };
+    if bytes.starts_with(b"yes") {
+        return Some(Numeral { size: 3, value: 1 });
     }
-    if starts_with(b"no", bytes) {
-        return Numeral { size: 2, value: 0 };
+    if bytes.starts_with(b"no") {
+        return Some(Numeral { size: 2, value: 0 });
     }
-    Numeral { size: 0, value: 0 }
+    None
 }
 
+#[tactic(auto, unfolding(crate::specs::Form::is_mark))]
 fn is_mark(c: u8) -> bool
     ensures { result ≡ is_mark c }
 {
-    // Letters come after all marks.
-    if b'@' < c {
-        return false;
-    }
-    match c {
-        b'#' => true,
-        b'@' => true,
-        b'?' => true,
-        _ => false,
-    }
+    matches!(c, b'#' | b'@' | b'?')
 }
 
 fn mark_length(mark: u8, n: u64) -> usize
@@ -131,7 +98,7 @@ fn write_mark(out: &mut [u8], mark: u8, n: u64) -> usize
     }
 }
 
-fn read_mark(mark: u8, bytes: &[u8]) -> Numeral
+fn read_mark(mark: u8, bytes: &[u8]) -> Option<Numeral>
     ensures { result ≡ numeral_of (spelling mark) bytes.now }
 {
     match mark {
@@ -145,54 +112,25 @@ fn read_mark(mark: u8, bytes: &[u8]) -> Numeral
 fn number_at(numbers: &[u64], k: usize) -> u64
     ensures { result ≡ get_or numbers.now k 0 }
 {
-    if k < numbers.len() {
-        return numbers[k];
-    }
-    0
+    numbers.get(k).copied().unwrap_or(0)
 }
 
-// Whether all that was counted fits a room, and how much of the room is then left.
-#[derive(Clone, Copy)]
-pub struct Fit {
-    pub fits: bool,
-    pub left: usize,
-}
-
-// What is left after so many bytes more. Pub for the crates that count lines.
-pub fn fit_more(fit: Fit, size: usize) -> Fit
-    ensures { result ≡ fit_after fit size }
+// What is left of a room after the form with these numbers, where it fits. Pub for the crates that count lines.
+pub fn form_fit(room: usize, form: &[u8], numbers: &[u64]) -> Option<usize>
+    ensures { result ≡ room_after room (length (fill form.now numbers.now)) }
 {
-    if fit.left < size {
-        return Fit {
-            fits: false,
-            left: 0,
-        };
-    }
-    Fit {
-        fits: fit.fits,
-        left: fit.left - size,
-    }
-}
-
-// What is left after the form with these numbers. Pub for `text_report`, as before.
-pub fn form_fit(fit: Fit, form: &[u8], numbers: &[u64]) -> Fit
-    ensures { result ≡ fit_after fit (length (fill form.now numbers.now)) }
-{
-    let mut rest = fit;
-    let mut i = 0;
+    let mut left = room;
     let mut k = 0;
-    while i < form.len() {
-        let c = form[i];
-        i += 1;
-        if is_mark(c) {
+    for c in form {
+        if is_mark(*c) {
             let n = number_at(numbers, k);
-            rest = fit_more(rest, mark_length(c, n));
+            left = left.checked_sub(mark_length(*c, n))?;
             k += 1;
         } else {
-            rest = fit_more(rest, 1);
+            left = left.checked_sub(1)?;
         }
     }
-    rest
+    Some(left)
 }
 
 // Whether the form with these numbers takes at most so many bytes. A byte of the form gives at most twenty, so where the room is ample
@@ -203,12 +141,7 @@ pub fn form_fits(form: &[u8], numbers: &[u64], room: usize) -> bool
     if form.len() <= room / 20 {
         return true;
     }
-    let whole = Fit {
-        fits: true,
-        left: room,
-    };
-    let fit = form_fit(whole, form, numbers);
-    fit.fits
+    form_fit(room, form, numbers).is_some()
 }
 
 // Writes a word to the start of out, and answers how many bytes that took.
@@ -216,12 +149,8 @@ fn write_word(out: &mut [u8], word: &[u8]) -> usize
     requires { length word.now ≤ length out.old }
     ensures { Written word.now out.old result out.new }
 {
-    let mut i = 0;
-    while i < word.len() {
-        out[i] = word[i];
-        i += 1;
-    }
-    i
+    out[..word.len()].copy_from_slice(word);
+    word.len()
 }
 
 // Writes a word and a number after it. Pub for `text_lines`, whose callers have seen that it fits.
@@ -249,17 +178,14 @@ pub fn write_form(out: &mut [u8], form: &[u8], numbers: &[u64]) -> usize
     ensures { Written (fill form.now numbers.now) out.old result out.new }
 {
     let mut at = 0;
-    let mut i = 0;
     let mut k = 0;
-    while i < form.len() {
-        let c = form[i];
-        i += 1;
-        if is_mark(c) {
+    for c in form {
+        if is_mark(*c) {
             let n = number_at(numbers, k);
-            at += write_mark(&mut out[at..], c, n);
+            at += write_mark(&mut out[at..], *c, n);
             k += 1;
         } else {
-            out[at] = c;
+            out[at] = *c;
             at += 1;
         }
     }
@@ -276,50 +202,26 @@ fn store(numbers: &mut [u64; 8], k: usize, n: u64)
     }
 }
 
-fn no_fit() -> Filled
-    ensures { result ≡ filled_of none }
-{
-    Filled {
-        numbers: [0; 8],
-        fits: false,
-    }
-}
-
-// The numbers with which the form gives these bytes, where it does.
-pub fn read_form(form: &[u8], bytes: &[u8]) -> Filled
+// The numbers with which the form gives these bytes, where it does, cut off at 2^32. Places past the form's own numbers hold 0.
+pub fn read_form(form: &[u8], bytes: &[u8]) -> Option<[u64; 8]>
     ensures { result ≡ filled_of (taken form.now bytes.now) }
 {
     let mut numbers = [0u64; 8];
-    let mut at = 0;
-    let mut i = 0;
+    let mut rest = bytes;
     let mut k = 0;
-    while i < form.len() {
-        let c = form[i];
-        i += 1;
-        if is_mark(c) {
-            let numeral = read_mark(c, &bytes[at..]);
-            let size = numeral.size;
-            if size == 0 {
-                return no_fit();
-            }
+    for c in form {
+        if is_mark(*c) {
+            let numeral = read_mark(*c, rest)?;
             store(&mut numbers, k, numeral.value);
-            at += size;
+            rest = &rest[numeral.size..];
             k += 1;
         } else {
-            if bytes.len() <= at {
-                return no_fit();
+            let (first, others) = rest.split_first()?;
+            if first != c {
+                return None;
             }
-            if bytes[at] != c {
-                return no_fit();
-            }
-            at += 1;
+            rest = others;
         }
     }
-    if at < bytes.len() {
-        return no_fit();
-    }
-    Filled {
-        numbers: numbers,
-        fits: true,
-    }
+    if rest.is_empty() { Some(numbers) } else { None }
 }

@@ -1,33 +1,62 @@
 -- The lines of a text: the laws of the loop that finds their ends, and of a loop over lines. Assumes nothing.
-use Prim.Native.Nat.{ℕ, suc, ◌+◌, ◌-◌, ◌≤◌, ◌<◌}
+use Prim.Native.Nat.{ℕ, suc, ◌+◌, ◌-◌, ◌≤◌, ◌<◌, min}
 use mathlib.Core.Path.{◌≡◌, refl, ap, sym, ◌∙◌}
-use mathlib.Core.Bool.{true, false}
+use mathlib.Core.Bool.{Bool, true, false}
+use Rattle.std.specs.Prelude.{◌==◌, Some, None}
+use Rattle.std.specs.List.{position, position_or_len}
 use mathlib.Core.Logic.{◌≢◌}
 use mathlib.Core.List.{List, [], ◌∷◌, ◌++◌}
-use native.Mathlib.Numerals.{add-one}
 use native.Mathlib.Omega.{arith}
-use borrow.Author.Tests.{eqb-false, eq-eqb, ne_eqb}
-use lib.Dec.{eqb}
+use borrow.Author.Tests.{eqb-false, ne_eqb, ltb-true, ltb-false}
+use lib.Dec.{eqb, ltb}
 use lib.ListN.{length, get_or, take, drop, drop_of_length-le, length-drop}
 use lib.Seq.{drop-cons, drop-drop}
 use Rattle.lists.specs.Lists.{mem}
 use Rattle.lists.proofs.Lists.{by, or-no-l, or-no-r}
 use Rattle.text_forms.proofs.Forms.{Ended}
+use Rattle.text_forms.proofs.decimal.Parts.{part_to_end}
 use Rattle.text_lines.specs.Lines.{joined, lines, first_line}
 
--- the loop that looks for an end
-module _ (s : List ℕ) (i : ℕ) where
-  pub end-here : i < length s → get_or s i 0 ≡ 10 → i + length (first_line (drop i s)) ≡ i + 1
-  unfolding first_line
-  end-here h e = rw (drop-cons s i 0 h, eq-eqb (get_or s i 0) 10 e)
+-- the search for an end
+abbrev ends : ℕ → Bool
+ends c = c == 10
 
-  pub end_later : i < length s → get_or s i 0 ≢ 10 → i + length (first_line (drop i s)) ≡ i + 1 + length (first_line (drop (i + 1) s))
-  unfolding first_line
-  end_later h e = rw (drop-cons s i 0 h, ne_eqb (get_or s i 0) 10 e, add-one) (omega arith)
+before-end : (s : List ℕ) → length (first_line s) ≡ min (suc (position_or_len ends s)) (length s)
+unfolding first_line
+before-end [] = omega arith
+before-end (c ∷ s) = by (eqb c 10) (λ (e : eqb c 10 ≡ true). rw e (omega arith)) (λ (e : eqb c 10 ≡ false). rw e (omega (arith, before-end s)))
 
-  pub end-past : length s ≤ i → i + length (first_line (drop i s)) ≡ i
+end-some : (s : List ℕ) {place : ℕ} → Some place ≡ position ends s → (length (first_line s) ≡ place + 1) × (place < length s)
+end-some s {place} h =
+    by (ltb (position_or_len ends s) (length s))
+    (λ (e : ltb (position_or_len ends s) (length s) ≡ true).
+    let l : position_or_len ends s < length s = ltb-true (position_or_len ends s) (length s) e in
+    let q : place ≡ position_or_len ends s = (let p = rw e at h in (cc)) in
+    (omega (arith, before-end s), omega arith))
+    (λ (e : ltb (position_or_len ends s) (length s) ≡ false). let p = rw e at h in let z : ⊥ = cc in absurd z)
+
+end-none : (s : List ℕ) → None ≡ position ends s → length (first_line s) ≡ length s
+end-none s h =
+    by (ltb (position_or_len ends s) (length s))
+    (λ (e : ltb (position_or_len ends s) (length s) ≡ true). let p = rw e at h in (cc))
+    (λ (e : ltb (position_or_len ends s) (length s) ≡ false). omega (arith, before-end s, ltb-false (position_or_len ends s) (length s) e))
+
+module _ (s : List ℕ) (from : ℕ) where
+  pub end-past : length s ≤ from → from ≡ from + length (first_line (drop from s))
   unfolding first_line
-  end-past h = rw (drop_of_length-le s {i = i} h) (omega arith)
+  end-past h = rw (drop_of_length-le s {i = from} h) (omega arith)
+
+  module _ (h : from < length s) where
+    pub end-found : {place : ℕ} → Some place ≡ position ends (take (length s - from) (drop from s)) → (from + place + 1 ≡ from + length (first_line (drop from s))) × (from + place < length s)
+    end-found {place} e =
+        let q : Some place ≡ position ends (drop from s) = rw (part_to_end from s) at e in
+        let r = end-some (drop from s) q in
+        (omega (arith, r.0), omega (arith, r.1, length-drop from s))
+
+    pub end-missing : None ≡ position ends (take (length s - from) (drop from s)) → length s ≡ from + length (first_line (drop from s))
+    end-missing e =
+        let q : None ≡ position ends (drop from s) = rw (part_to_end from s) at e in
+        omega (arith, end-none (drop from s) q, length-drop from s)
 
 -- the lines are the first line and the lines of the rest
 first_of : (c : ℕ) (s : List ℕ) → lines (c ∷ s) ≡ first_line (c ∷ s) ∷ lines (drop (length (first_line (c ∷ s))) (c ∷ s))

@@ -2,6 +2,7 @@
 use Prim.Native.Nat.{ℕ, zero, suc, ◌+◌, ◌≤◌}
 use mathlib.Core.Path.{◌≡◌, refl, ap, ◌∙◌}
 use mathlib.Core.Bool.{true}
+use mathlib.Core.Logic.{◌≢◌}
 use mathlib.Core.List.{List, [], ◌∷◌, ◌++◌}
 use native.Mathlib.Omega.{arith}
 use lib.ListN.{length, get_or, drop, length-append}
@@ -11,7 +12,7 @@ use Rattle.text_forms.specs.decimal.Written.{Written}
 use Rattle.text_forms.specs.Spelling.{bytes, number_spelling, name_spelling}
 use Rattle.text_forms.specs.Form.{fill, is_mark, spelling}
 use Rattle.text_forms.proofs.Forms.{plain, fill-worded, fill_end}
-use Rattle.text_lines.specs.Line.{set_form, edit_form, rule_form, edit_line, constraint_line}
+use Rattle.text_lines.specs.Line.{set_form, edit_form, rule_form, field_word, rule_word, edit_line, constraint_line}
 
 -- what is said of one text, said of an equal one
 module _ (v w : List ℕ) (e : v ≡ w) where
@@ -71,29 +72,17 @@ named (suc zero) = refl
 named (suc (suc zero)) = refl
 named (suc (suc (suc field))) = refl
 
--- what stands before the second name of a constraint, and before the value of a set
-abbrev pub rule_word : ℕ → List ℕ
-rule_word zero = bytes " rule=notafter right="
-rule_word (suc zero) = bytes " rule=enables right="
-rule_word (suc (suc n)) = bytes " rule=noncommuting right="
-
-abbrev pub field_word : ℕ → List ℕ
-field_word zero = bytes " field=id value="
-field_word (suc zero) = bytes " field=size value="
-field_word (suc (suc zero)) = bytes " field=erase value="
-field_word (suc (suc (suc n))) = bytes " field=page value="
-
 abbrev paired : List ℕ → ℕ → List ℕ → ℕ → List ℕ
 paired first c second d = first ++ (c ∷ (second ++ (d ∷ 10 ∷ [])))
 
 rule-form-is : (rule : ℕ) → (rule_form rule ≡ paired (bytes "left=") 64 (rule_word rule) 64) × (plain (rule_word rule) ≡ true)
-unfolding rule_form is_mark bytes all
+unfolding rule_form rule_word is_mark bytes all
 rule-form-is zero = (refl, refl)
 rule-form-is (suc zero) = (refl, refl)
 rule-form-is (suc (suc n)) = (refl, refl)
 
 field-form-is : (field : ℕ) → (drop 6 (set_form field) ≡ paired (bytes " do=set chip=") 35 (field_word field) 35) × (plain (field_word field) ≡ true)
-unfolding set_form is_mark bytes all
+unfolding set_form field_word is_mark bytes all
 field-form-is zero = (refl, refl)
 field-form-is (suc zero) = (refl, refl)
 field-form-is (suc (suc zero)) = (refl, refl)
@@ -130,6 +119,13 @@ module _ (m n : ℕ) where
       fill-as (drop 6 (set_form field)) (paired (bytes " do=set chip=") 35 (field_word field) 35) (m ∷ n ∷ []) (field-form-is field).0
       ∙ pair-words (bytes " do=set chip=") (field_word field) 35 35 m n [] chip-word (field-form-is field).1 number-mark number-mark
 
+  -- by a word that the code has looked up
+  pub rule-words-by : (rule : ℕ) {word : List ℕ} → word ≡ rule_word rule → fill (rule_form rule) (m ∷ n ∷ []) ≡ pair (bytes "left=") word
+  rule-words-by rule e = rw e (rule-words rule)
+
+  pub field-words-by : (field : ℕ) {word : List ℕ} → word ≡ field_word field → fill (drop 6 (set_form field)) (m ∷ n ∷ []) ≡ pair (bytes " do=set chip=") word
+  field-words-by field e = rw e (field-words field)
+
   -- an edit of a field: its name, and what stands after it
   pub set_words : (field name : ℕ) → fill (set_form field) (name ∷ m ∷ n ∷ []) ≡ (bytes "edit=" ++ decimal name) ++ fill (drop 6 (set_form field)) (m ∷ n ∷ [])
   set_words field name =
@@ -152,3 +148,24 @@ set-length-is field name place value e =
     let q : length (fill (set_form field) (name ∷ place ∷ value ∷ [])) ≡ (5 + length (decimal name)) + length rest =
     ap length (set_words place value field name) ∙ rw (length-append, length-append) in
     omega arith
+
+-- of an edit that sets nothing
+pub unset-length : (kind field m n value : ℕ) → kind ≢ 1 → {r : ℕ} → r ≡ 22 + length (decimal m) + length (decimal n) → r ≡ length (fill (edit_form kind field) (m ∷ n ∷ value ∷ []))
+unfolding bytes edit_form
+unset-length zero field m n value h e = words-length (bytes "edit=") (bytes " do=insert chip=") m n (insert-words m n field value) refl e
+unset-length (suc zero) field m n value h e = absurd (h refl)
+unset-length (suc (suc kind)) field m n value h e = words-length (bytes "edit=") (bytes " do=remove chip=") m n (remove-words m n field value) refl e
+
+-- the words are short
+pub field-word-short : (field : ℕ) → length (field_word field) ≤ 20
+unfolding field_word bytes
+field-word-short zero = omega arith
+field-word-short (suc zero) = omega arith
+field-word-short (suc (suc zero)) = omega arith
+field-word-short (suc (suc (suc n))) = omega arith
+
+pub rule-word-short : (rule : ℕ) → length (rule_word rule) ≤ 30
+unfolding rule_word bytes
+rule-word-short zero = omega arith
+rule-word-short (suc zero) = omega arith
+rule-word-short (suc (suc n)) = omega arith

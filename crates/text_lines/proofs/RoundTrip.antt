@@ -2,7 +2,7 @@
 -- of at most 101 bytes. Assumes nothing.
 use Prim.Native.Nat.{ℕ, zero, suc, ◌+◌, ◌≤◌, ◌<◌}
 use mathlib.Core.Path.{◌≡◌, refl, sym, ◌∙◌}
-use mathlib.Core.Bool.{Bool, true, false, cond, ◌&&◌, ◌||◌}
+use mathlib.Core.Bool.{Bool, true, false, ◌&&◌, ◌||◌}
 use mathlib.Core.List.{List, [], ◌∷◌, ◌++◌}
 use mathlib.Core.Option.{Option, none, some}
 use native.Mathlib.Omega.{arith}
@@ -15,10 +15,15 @@ use Rattle.lists.proofs.Lists.{by, clash, and_l, and_r}
 use Rattle.text_forms.specs.Spelling.{bytes, number_spelling, name_spelling, answer_spelling}
 use Rattle.text_forms.specs.Form.{is_mark, spelling, fill, taken}
 use Rattle.text_forms.proofs.Forms.{slots, spelled-all, separate, differ, taken-fill, fill-taken, taken-other, room, AllSmall, fill-room, one_line, Ended, fill-ended}
-use Rattle.text_lines.specs.Line.{set_form, edit_form, rule_form, edit_line, constraint_line, edit_said, constraint_said, faulty, Shape, edit_shape, rule_shape, set_shapes, rule_shapes, shapes, fits_word, said, read_as, read_by, line_read, line_limit}
+use Rattle.text_lines.specs.Line.{set_form, edit_form, rule_form, edit_line, constraint_line, Shape, edit_shape, rule_shape, set_shapes, rule_shapes, shapes, fits_word, said, read_as, read_by, line_read, line_limit}
 use Rattle.text_lines.specs.Row.{is_edit_row, is_constraint_row}
 use Rattle.text_lines.specs.Lines.{lines}
+use Rattle.std.specs.Prelude.{Result, Ok, Err, IfOk}
+use Rattle.refusals.specs.declared.Refusal.{Refusal}
+use Rattle.refusals.specs.declared.Refusal.TheVariants.{NotInForm, OutOfRange}
+use Rattle.refusals.specs.Numbers.{number_of}
 use Rattle.text_lines.specs.declared.Line.{Line}
+use Rattle.text_lines.specs.declared.Line.TheVariants.{Edit, Constraint}
 use Rattle.text_lines.proofs.Says.{edit-slots, rule-slots}
 use Rattle.text_lines.proofs.Ends.{line-of-ended}
 
@@ -106,12 +111,12 @@ unfolding read_by read_as
 as-other h hs s e = rw e
 
 found : (hs : List Shape) (h : Shape) (rest : List Shape) (ns : List ℕ) → separate h.form ≡ true → others hs h.form ≡ true → mem 63 h.form ≡ false
-    → length ns ≡ slots h.form → all fits_word ns ≡ true → eqb (h.says ns).number 1 ≡ false → read_by (hs ++ (h ∷ rest)) (fill h.form ns) ≡ h.says ns
+    → length ns ≡ slots h.form → all fits_word ns ≡ true → read_by (hs ++ (h ∷ rest)) (fill h.form ns) ≡ Ok (h.says ns)
 unfolding read_by read_as
-found [] h rest ns p q k l a n = rw (taken-fill h.form ns p (spelled-all h.form ns k) l, a, n)
-found (g ∷ hs) h rest ns p q k l a n =
+found [] h rest ns p q k l a = rw (taken-fill h.form ns p (spelled-all h.form ns k) l, a)
+found (g ∷ hs) h rest ns p q k l a =
     as-other g (hs ++ (h ∷ rest)) (fill h.form ns) (taken-other g.form h.form ns p (and_l _ (others hs h.form) q))
-    ∙ found hs h rest ns p (and_r (differ g.form h.form) _ q) k l a n
+    ∙ found hs h rest ns p (and_r (differ g.form h.form) _ q) k l a
 
 fits-cell : (ns : List ℕ) (i : ℕ) → all fits_word ns ≡ true → fits_word (get_or ns i 0) ≡ true
 fits-cell ns i h = lt-ltb (get_or ns i 0) 4294967296 (cell-small ns i h)
@@ -124,28 +129,28 @@ fits-three : (a b c : ℕ) → fits_word a ≡ true → fits_word b ≡ true →
 unfolding all
 fits-three a b c p q r = rw (p, q, r)
 
-read-insert : (n p : ℕ) → fits_word n ≡ true → fits_word p ≡ true → read_by shapes (fill (edit_form 0 0) (n ∷ p ∷ [])) ≡ edit_said (n ∷ 0 ∷ p ∷ 0 ∷ 0 ∷ [])
+read-insert : (n p : ℕ) → fits_word n ≡ true → fits_word p ≡ true → read_by shapes (fill (edit_form 0 0) (n ∷ p ∷ [])) ≡ Ok (Edit (n ∷ 0 ∷ p ∷ 0 ∷ 0 ∷ []))
 unfolding shapes set_shapes rule_shapes set_form edit_form rule_form bytes slots mem separate differ is_mark spelling name_spelling number_spelling answer_spelling
-read-insert n p a b = found [] (edit_shape 0 0) (drop 1 shapes) (n ∷ p ∷ []) refl refl refl refl (fits-two n p a b) refl
+read-insert n p a b = found [] (edit_shape 0 0) (drop 1 shapes) (n ∷ p ∷ []) refl refl refl refl (fits-two n p a b)
 
-read-remove : (n p : ℕ) → fits_word n ≡ true → fits_word p ≡ true → read_by shapes (fill (edit_form 2 0) (n ∷ p ∷ [])) ≡ edit_said (n ∷ 2 ∷ p ∷ 0 ∷ 0 ∷ [])
+read-remove : (n p : ℕ) → fits_word n ≡ true → fits_word p ≡ true → read_by shapes (fill (edit_form 2 0) (n ∷ p ∷ [])) ≡ Ok (Edit (n ∷ 2 ∷ p ∷ 0 ∷ 0 ∷ []))
 unfolding shapes set_shapes rule_shapes set_form edit_form rule_form bytes slots mem separate differ is_mark spelling name_spelling number_spelling answer_spelling
-read-remove n p a b = found (take 1 shapes) (edit_shape 2 0) (drop 2 shapes) (n ∷ p ∷ []) refl refl refl refl (fits-two n p a b) refl
+read-remove n p a b = found (take 1 shapes) (edit_shape 2 0) (drop 2 shapes) (n ∷ p ∷ []) refl refl refl refl (fits-two n p a b)
 
 read-set-line : (n p f v : ℕ) → f < 4 → fits_word n ≡ true → fits_word p ≡ true → fits_word v ≡ true
-    → read_by shapes (fill (edit_form 1 f) (n ∷ p ∷ v ∷ [])) ≡ edit_said (n ∷ 1 ∷ p ∷ f ∷ v ∷ [])
+    → read_by shapes (fill (edit_form 1 f) (n ∷ p ∷ v ∷ [])) ≡ Ok (Edit (n ∷ 1 ∷ p ∷ f ∷ v ∷ []))
 unfolding shapes set_shapes rule_shapes set_form edit_form rule_form bytes slots mem separate differ is_mark spelling name_spelling number_spelling answer_spelling
-read-set-line n p zero v h a b c = found (take 2 shapes) (edit_shape 1 0) (drop 3 shapes) (n ∷ p ∷ v ∷ []) refl refl refl refl (fits-three n p v a b c) refl
-read-set-line n p (suc zero) v h a b c = found (take 3 shapes) (edit_shape 1 1) (drop 4 shapes) (n ∷ p ∷ v ∷ []) refl refl refl refl (fits-three n p v a b c) refl
-read-set-line n p (suc (suc zero)) v h a b c = found (take 4 shapes) (edit_shape 1 2) (drop 5 shapes) (n ∷ p ∷ v ∷ []) refl refl refl refl (fits-three n p v a b c) refl
-read-set-line n p (suc (suc (suc zero))) v h a b c = found (take 5 shapes) (edit_shape 1 3) (drop 6 shapes) (n ∷ p ∷ v ∷ []) refl refl refl refl (fits-three n p v a b c) refl
+read-set-line n p zero v h a b c = found (take 2 shapes) (edit_shape 1 0) (drop 3 shapes) (n ∷ p ∷ v ∷ []) refl refl refl refl (fits-three n p v a b c)
+read-set-line n p (suc zero) v h a b c = found (take 3 shapes) (edit_shape 1 1) (drop 4 shapes) (n ∷ p ∷ v ∷ []) refl refl refl refl (fits-three n p v a b c)
+read-set-line n p (suc (suc zero)) v h a b c = found (take 4 shapes) (edit_shape 1 2) (drop 5 shapes) (n ∷ p ∷ v ∷ []) refl refl refl refl (fits-three n p v a b c)
+read-set-line n p (suc (suc (suc zero))) v h a b c = found (take 5 shapes) (edit_shape 1 3) (drop 6 shapes) (n ∷ p ∷ v ∷ []) refl refl refl refl (fits-three n p v a b c)
 read-set-line n p (suc (suc (suc (suc f)))) v h a b c = absurd (omega arith)
 
-read-rule-line : (a r b : ℕ) → r < 3 → fits_word a ≡ true → fits_word b ≡ true → read_by shapes (fill (rule_form r) (a ∷ b ∷ [])) ≡ constraint_said (a ∷ r ∷ b ∷ [])
+read-rule-line : (a r b : ℕ) → r < 3 → fits_word a ≡ true → fits_word b ≡ true → read_by shapes (fill (rule_form r) (a ∷ b ∷ [])) ≡ Ok (Constraint (a ∷ r ∷ b ∷ []))
 unfolding shapes set_shapes rule_shapes set_form edit_form rule_form bytes slots mem separate differ is_mark spelling name_spelling number_spelling answer_spelling
-read-rule-line a zero b h p q = found (take 6 shapes) (rule_shape 0) (drop 7 shapes) (a ∷ b ∷ []) refl refl refl refl (fits-two a b p q) refl
-read-rule-line a (suc zero) b h p q = found (take 7 shapes) (rule_shape 1) (drop 8 shapes) (a ∷ b ∷ []) refl refl refl refl (fits-two a b p q) refl
-read-rule-line a (suc (suc zero)) b h p q = found (take 8 shapes) (rule_shape 2) (drop 9 shapes) (a ∷ b ∷ []) refl refl refl refl (fits-two a b p q) refl
+read-rule-line a zero b h p q = found (take 6 shapes) (rule_shape 0) (drop 7 shapes) (a ∷ b ∷ []) refl refl refl refl (fits-two a b p q)
+read-rule-line a (suc zero) b h p q = found (take 7 shapes) (rule_shape 1) (drop 8 shapes) (a ∷ b ∷ []) refl refl refl refl (fits-two a b p q)
+read-rule-line a (suc (suc zero)) b h p q = found (take 8 shapes) (rule_shape 2) (drop 9 shapes) (a ∷ b ∷ []) refl refl refl refl (fits-two a b p q)
 read-rule-line a (suc (suc (suc r))) b h p q = absurd (omega arith)
 
 five : {P : Type 0} (row : List ℕ) → eqb (length row) 5 ≡ true → ((n k p f v : ℕ) → row ≡ n ∷ k ∷ p ∷ f ∷ v ∷ [] → P) → P
@@ -166,7 +171,7 @@ three (a ∷ r ∷ b ∷ c ∷ row) h q = absurd (omega (arith, eqb-true (length
 
 -- by the kind
 read-edit-cells : (n k p f v : ℕ) → all fits_word (n ∷ k ∷ p ∷ f ∷ v ∷ []) ≡ true → k < 3 → f < 4 → (eqb k 1 || (eqb f 0 && eqb v 0)) ≡ true
-    → read_by shapes (fill (edit_form k f) (n ∷ p ∷ v ∷ [])) ≡ edit_said (n ∷ k ∷ p ∷ f ∷ v ∷ [])
+    → read_by shapes (fill (edit_form k f) (n ∷ p ∷ v ∷ [])) ≡ Ok (Edit (n ∷ k ∷ p ∷ f ∷ v ∷ []))
 read-edit-cells n zero p f v a h l u =
     let row = n ∷ 0 ∷ p ∷ f ∷ v ∷ [] in
     rw (eqb-true f 0 (and_l (eqb f 0) (eqb v 0) u), eqb-true v 0 (and_r (eqb f 0) (eqb v 0) u), fill-same (edit_form 0 0) (n ∷ p ∷ 0 ∷ []) (n ∷ p ∷ []) (three-same (n ∷ p ∷ []) (omega arith)))
@@ -200,17 +205,17 @@ constraint-line-cells : (a r b : ℕ) → constraint_line (a ∷ r ∷ b ∷ [])
 unfolding constraint_line
 constraint-line-cells a r b = refl
 
-pub edit-line-read : (row : List ℕ) → is_edit_row row ≡ true → line_read (edit_line row) ≡ edit_said row
+pub edit-line-read : (row : List ℕ) → is_edit_row row ≡ true → line_read (edit_line row) ≡ Ok (Edit row)
 edit-line-read row h =
     edit-row-parts row h (λ l a x y u.
     read_short (edit_line row) (edit-line-short row a)
     ∙ five row l (λ n k p f v e. read-row n k p f v row e a x y u))
   where
     read-row : (n k p f v : ℕ) (row : List ℕ) → row ≡ n ∷ k ∷ p ∷ f ∷ v ∷ [] → all fits_word row ≡ true → get_or row 1 0 < 3 → get_or row 3 0 < 4
-        → (eqb (get_or row 1 0) 1 || (eqb (get_or row 3 0) 0 && eqb (get_or row 4 0) 0)) ≡ true → read_by shapes (edit_line row) ≡ edit_said row
+        → (eqb (get_or row 1 0) 1 || (eqb (get_or row 3 0) 0 && eqb (get_or row 4 0) 0)) ≡ true → read_by shapes (edit_line row) ≡ Ok (Edit row)
     read-row n k p f v row e a x y u = rw (e, edit-line-cells n k p f v) (read-edit-cells n k p f v (rw e at a) (rw e at x) (rw e at y) (rw e at u))
 
-pub constraint-line-read : (row : List ℕ) → is_constraint_row row ≡ true → line_read (constraint_line row) ≡ constraint_said row
+pub constraint-line-read : (row : List ℕ) → is_constraint_row row ≡ true → line_read (constraint_line row) ≡ Ok (Constraint row)
 unfolding is_constraint_row
 constraint-line-read row h =
     let h1 = and_r (eqb (length row) 3) _ h in
@@ -219,28 +224,33 @@ constraint-line-read row h =
     read_short (constraint_line row) (constraint-line-short row a)
     ∙ three row (and_l (eqb (length row) 3) _ h) (λ n k p e. read-row n k p row e a x)
   where
-    read-row : (n k p : ℕ) (row : List ℕ) → row ≡ n ∷ k ∷ p ∷ [] → all fits_word row ≡ true → get_or row 1 0 < 3 → read_by shapes (constraint_line row) ≡ constraint_said row
+    read-row : (n k p : ℕ) (row : List ℕ) → row ≡ n ∷ k ∷ p ∷ [] → all fits_word row ≡ true → get_or row 1 0 < 3 → read_by shapes (constraint_line row) ≡ Ok (Constraint row)
     read-row n k p row e a x = rw (e, constraint-line-cells n k p) (read-rule-line n k p (rw e at x) (fits-cell (n ∷ k ∷ p ∷ []) 0 (rw e at a)) (fits-cell (n ∷ k ∷ p ∷ []) 2 (rw e at a)))
 
 -- What a line says gives the line.
 abbrev pub line_text : Line → List ℕ
-line_text l = cond l.isedit (edit_line l.edit) (constraint_line l.constraint)
+line_text (Edit row) = edit_line row
+line_text (Constraint row) = constraint_line row
 
 abbrev pub row_in_form : Line → Bool
-row_in_form l = cond l.isedit (is_edit_row l.edit) (is_constraint_row l.constraint)
+row_in_form (Edit row) = is_edit_row row
+row_in_form (Constraint row) = is_constraint_row row
 
-abbrev Faithful : Line → List ℕ → Type 0
-Faithful l s = l.number ≡ 0 → (s ≡ line_text l) × (row_in_form l ≡ true)
+abbrev pub Faithful : Result Line Refusal → List ℕ → Type 0
+Faithful l s = IfOk l (λ line. (s ≡ line_text line) × (row_in_form line ≡ true))
 
 -- What a line can say.
-pub data Saying (l : Line) : Type 0 where
-  fault-one : l ≡ faulty 1 → Saying l
-  fault-two : l ≡ faulty 2 → Saying l
-  an-edit : (row : List ℕ) → l ≡ edit_said row → Saying l
-  a-constraint : (row : List ℕ) → l ≡ constraint_said row → Saying l
+pub data Saying (l : Result Line Refusal) : Type 0 where
+  fault-one : l ≡ Err NotInForm → Saying l
+  fault-two : l ≡ Err OutOfRange → Saying l
+  an-edit : (row : List ℕ) → l ≡ Ok (Edit row) → Saying l
+  a-constraint : (row : List ℕ) → l ≡ Ok (Constraint row) → Saying l
+
+saying-row : (line : Line) → Saying (Ok line)
+saying-row (Edit row) = an-edit row refl
+saying-row (Constraint row) = a-constraint row refl
 
 pub record Says (h : Shape) : Type 0 where
-  pub saying : (ns : List ℕ) → Saying (h.says ns)
   pub plain : mem 63 h.form ≡ false
   pub text : (ns : List ℕ) → length ns ≡ slots h.form → line_text (h.says ns) ≡ fill h.form ns
   pub row : (ns : List ℕ) → length ns ≡ slots h.form → all fits_word ns ≡ true → row_in_form (h.says ns) ≡ true
@@ -249,17 +259,14 @@ abbrev Each : List Shape → Type 0
 Each [] = Unit
 Each (h ∷ hs) = Says h × Each hs
 
-one_not_zero : {P : Type 0} → ◌≡◌ {A = ℕ} 1 0 → P
-one_not_zero e = absurd (omega arith)
-
 said-back : (h : Shape) (s : List ℕ) → Says h → (o : Option (List ℕ)) → taken h.form s ≡ o → Faithful (said h o) s
-said-back h s w none e = λ z. one_not_zero z
+said-back h s w none e = tt
 said-back h s w (some ns) e =
     by (all fits_word ns)
     (λ (a : all fits_word ns ≡ true).
     let t = fill-taken h.form s ns e in
-    rw a (λ z. (t.1 (spelled-all h.form ns w.plain) ∙ sym (w.text ns t.0), w.row ns t.0 a)))
-    (λ (a : all fits_word ns ≡ false). rw a (λ z. absurd (omega arith)))
+    rw a (t.1 (spelled-all h.form ns w.plain) ∙ sym (w.text ns t.0), w.row ns t.0 a))
+    (λ (a : all fits_word ns ≡ false). rw a tt)
 
 as-back : (h : Shape) (s : List ℕ) → Says h → Faithful (read_as h s) s
 unfolding read_as
@@ -267,11 +274,11 @@ as-back h s w = said-back h s w (taken h.form s) refl
 
 by-back : (hs : List Shape) (s : List ℕ) → Each hs → Faithful (read_by hs s) s
 unfolding read_by
-by-back [] s w = λ z. one_not_zero z
+by-back [] s w = tt
 by-back (h ∷ hs) s w =
-    by (eqb (read_as h s).number 1)
-    (λ (e : eqb (read_as h s).number 1 ≡ true). rw e (by-back hs s w.1))
-    (λ (e : eqb (read_as h s).number 1 ≡ false). rw e (as-back h s w.0))
+    by (eqb (number_of (read_as h s)) 1)
+    (λ (e : eqb (number_of (read_as h s)) 1 ≡ true). rw e (by-back hs s w.1))
+    (λ (e : eqb (number_of (read_as h s)) 1 ≡ false). rw e (as-back h s w.0))
 
 set-plain : (field : ℕ) → mem 63 (set_form field) ≡ false
 unfolding set_form bytes mem
@@ -305,7 +312,6 @@ edit-says : (kind field : ℕ) → fits_word kind ≡ true → fits_word field �
     → ((ns : List ℕ) → length ns ≡ slots (edit_form kind field) → (eqb kind 1 || (eqb field 0 && eqb (get_or ns 2 0) 0)) ≡ true) → Says (edit_shape kind field)
 unfolding edit_line
 edit-says kind field b d x y z = record {
-  saying = λ ns. an-edit _ refl;
   plain = edit-plain kind field;
   text = λ ns l. fill-same (edit_form kind field) (get_or ns 0 0 ∷ get_or ns 1 0 ∷ get_or ns 2 0 ∷ []) ns (three-same ns (omega (arith, edit-slots kind field)));
   row = λ ns l a. edit-row (get_or ns 0 0) kind (get_or ns 1 0) field (get_or ns 2 0) (fits-cell ns 0 a) b (fits-cell ns 1 a) d (fits-cell ns 2 a) x y (z ns l);
@@ -314,7 +320,6 @@ edit-says kind field b d x y z = record {
 rule-says : (rule : ℕ) → fits_word rule ≡ true → ltb rule 3 ≡ true → Says (rule_shape rule)
 unfolding constraint_line
 rule-says rule b x = record {
-  saying = λ ns. a-constraint _ refl;
   plain = rule-plain rule;
   text = λ ns l. fill-same (rule_form rule) (get_or ns 0 0 ∷ get_or ns 1 0 ∷ []) ns (two-same ns (omega (arith, rule-slots rule)));
   row = λ ns l a. constraint-row (get_or ns 0 0) rule (get_or ns 1 0) (fits-cell ns 0 a) b (fits-cell ns 1 a) x;
@@ -355,29 +360,29 @@ each = (
 )
 
 -- A line that says a row is that row's line, and the row is in form.
-pub line-back : (s : List ℕ) → (line_read s).number ≡ 0 → (s ≡ line_text (line_read s)) × (row_in_form (line_read s) ≡ true)
+pub line-back : (s : List ℕ) → Faithful (line_read s) s
 unfolding line_read
 line-back s =
     by (ltb line_limit (length s))
-    (λ (e : ltb line_limit (length s) ≡ true). rw e (λ z. one_not_zero z))
+    (λ (e : ltb line_limit (length s) ≡ true). rw e tt)
     (λ (e : ltb line_limit (length s) ≡ false). rw e (by-back shapes s each))
 
-said-saying : (h : Shape) → Says h → (o : Option (List ℕ)) → Saying (said h o)
-said-saying h w none = fault-one refl
-said-saying h w (some ns) =
-    by (all fits_word ns) (λ (a : all fits_word ns ≡ true). rw a (w.saying ns)) (λ (a : all fits_word ns ≡ false). rw a (fault-two refl))
+said-saying : (h : Shape) (o : Option (List ℕ)) → Saying (said h o)
+said-saying h none = fault-one refl
+said-saying h (some ns) =
+    by (all fits_word ns) (λ (a : all fits_word ns ≡ true). rw a (saying-row (h.says ns))) (λ (a : all fits_word ns ≡ false). rw a (fault-two refl))
 
-by-saying : (hs : List Shape) (s : List ℕ) → Each hs → Saying (read_by hs s)
+by-saying : (hs : List Shape) (s : List ℕ) → Saying (read_by hs s)
 unfolding read_by read_as
-by-saying [] s w = fault-one refl
-by-saying (h ∷ hs) s w =
-    by (eqb (read_as h s).number 1)
-    (λ (e : eqb (read_as h s).number 1 ≡ true). rw e (by-saying hs s w.1))
-    (λ (e : eqb (read_as h s).number 1 ≡ false). rw e (said-saying h w.0 (taken h.form s)))
+by-saying [] s = fault-one refl
+by-saying (h ∷ hs) s =
+    by (eqb (number_of (read_as h s)) 1)
+    (λ (e : eqb (number_of (read_as h s)) 1 ≡ true). rw e (by-saying hs s))
+    (λ (e : eqb (number_of (read_as h s)) 1 ≡ false). rw e (said-saying h (taken h.form s)))
 
 pub line-saying : (s : List ℕ) → Saying (line_read s)
 unfolding line_read
 line-saying s =
     by (ltb line_limit (length s))
     (λ (e : ltb line_limit (length s) ≡ true). rw e (fault-one refl))
-    (λ (e : ltb line_limit (length s) ≡ false). rw e (by-saying shapes s each))
+    (λ (e : ltb line_limit (length s) ≡ false). rw e (by-saying shapes s))

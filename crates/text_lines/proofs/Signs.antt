@@ -7,13 +7,14 @@ use mathlib.Core.Option.{none}
 use Prim.Native.String.{String}
 use Prim.Native.Nat.{ℕ, zero, suc, ◌+◌, ◌-◌, ◌≤◌}
 use native.Mathlib.Omega.{arith}
-use borrow.Author.Tests.{eqb-true, eqb-false, ne_eqb, not-true}
+use borrow.Author.Tests.{eqb-true, eqb-false, eq-eqb, ne_eqb, not-true}
 use lib.Dec.{eqb}
 use lib.ListN.{length, get_or, take, drop, drop_of_length-le, length-drop}
 use lib.Seq.{get_or-drop, drop-drop}
 use Rattle.lists.specs.Lists.{all}
 use Rattle.lists.proofs.Lists.{by, is-by, clash, and_l, and_r, or-by}
-use Rattle.text_forms.specs.decimal.Decimal.{numeral_size, numeral_read}
+use Rattle.text_forms.specs.decimal.Decimal.{numeral_size, numeral_value, numeral_read, saturated}
+use Rattle.std.specs.Prelude.{Some, None}
 use Rattle.text_forms.specs.declared.decimal.Numeral.{Numeral}
 use Rattle.text_forms.proofs.decimal.Parts.{part_to_end}
 use Rattle.text_forms.proofs.decimal.Laws.{number_short}
@@ -155,14 +156,40 @@ all_but p k [] = false
 all_but p zero (x ∷ l) = all p l
 all_but p (suc k) (x ∷ l) = p x && all_but p k l
 
+-- what a number that is read, or is not, says of the size
+pub no-numeral : (s : List ℕ) → None ≡ numeral_read s → numeral_size s ≡ 0
+no-numeral s h =
+    by (eqb (numeral_size s) 0)
+    (λ (e : eqb (numeral_size s) 0 ≡ true). eqb-true (numeral_size s) 0 e)
+    (λ (e : eqb (numeral_size s) 0 ≡ false). let q = rw e at h in (cc))
+
+module _ (s : List ℕ) {numeral : Numeral} (h : Some numeral ≡ numeral_read s) where
+  pub some-size : numeral_size s ≡ 0 → ⊥
+  some-size z = let q = rw (eq-eqb (numeral_size s) 0 z) at h in (cc)
+
+  the-numeral : numeral ≡ record { size = numeral_size s; value = saturated (numeral_value s) }
+  the-numeral = let q = rw (ne_eqb (numeral_size s) 0 some-size) at h in (cc)
+
+  pub the-size : numeral.size ≡ numeral_size s
+  the-size = ap (λ (x : Numeral). x.size) the-numeral
+
+  pub the-value : numeral.value ≡ saturated (numeral_value s)
+  the-value = ap (λ (x : Numeral). x.value) the-numeral
+
 -- the code that finds where a number ends
 module _ (s : List ℕ) (from : ℕ) where
   pub no_number : length s ≤ from → (from ≡ from + numeral_size (drop from s)) × (from ≤ from + length s)
   no_number h = let e : numeral_size (drop from s) ≡ 0 = rw (drop_of_length-le s {i = from} h) size-nothing in (omega arith, omega arith)
 
-  module _ {numeral : Numeral} (e : numeral ≡ numeral_read (take (length s - from) (drop from s))) where
+  pub not-there : None ≡ numeral_read (take (length s - from) (drop from s)) → (from ≡ from + numeral_size (drop from s)) × (from ≤ from + length s)
+  not-there h =
+      let e : None ≡ numeral_read (drop from s) = rw (part_to_end from s) at h in
+      let z : numeral_size (drop from s) ≡ 0 = no-numeral (drop from s) e in
+      (omega arith, omega arith)
+
+  module _ {numeral : Numeral} (q : Some numeral ≡ numeral_read (take (length s - from) (drop from s))) where
     number_size : numeral.size ≡ numeral_size (drop from s)
-    number_size = ap (λ (x : Numeral). x.size) e ∙ rw (part_to_end from s)
+    number_size = let e : Some numeral ≡ numeral_read (drop from s) = rw (part_to_end from s) at q in the-size (drop from s) e
 
     pub number-inside : from ≤ length s → from + numeral.size ≤ length s
     number-inside h = omega (arith, number_size, number_short (drop from s), length-drop from s)

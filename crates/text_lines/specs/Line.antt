@@ -1,10 +1,14 @@
 -- Document 01, "Text": one line to an edit or a constraint, written and read. Assumes nothing.
-use Rattle.std.specs.Prelude.{ℕ, zero, suc, Bool, true, false, cond, List, [], ◌∷◌, ◌++◌, ltb, eqb, length, get_or, replicate}
+use Rattle.std.specs.Prelude.{ℕ, zero, suc, Bool, cond, List, [], ◌∷◌, ◌++◌, ltb, eqb, length, get_or, Result, Ok, Err}
 use Rattle.std.proofs.Math.Option.{Option, none, some}
 use Rattle.lists.specs.Lists.{all}
 use Rattle.text_forms.specs.Spelling.{bytes}
 use Rattle.text_forms.specs.Form.{fill, taken}
+use Rattle.refusals.specs.declared.Refusal.{Refusal}
+use Rattle.refusals.specs.declared.Refusal.TheVariants.{NotInForm, OutOfRange}
+use Rattle.refusals.specs.Numbers.{number_of}
 use Rattle.text_lines.specs.declared.Line.{Line}
+use Rattle.text_lines.specs.declared.Line.TheVariants.{Edit, Constraint}
 
 -- An edit row: name, kind (0 insert, 1 set, 2 remove), place, field (0 id, 1 size, 2 erase, 3 page), value. A constraint row: left, rule, right.
 -- The forms, by kind, field and rule.
@@ -24,6 +28,18 @@ rule_form zero = bytes "left=@ rule=notafter right=@\n"
 rule_form (suc zero) = bytes "left=@ rule=enables right=@\n"
 rule_form (suc (suc n)) = bytes "left=@ rule=noncommuting right=@\n"
 
+-- the words between the numbers of a form
+unfoldable pub field_word : ℕ → List ℕ
+field_word zero = bytes " field=id value="
+field_word (suc zero) = bytes " field=size value="
+field_word (suc (suc zero)) = bytes " field=erase value="
+field_word (suc (suc (suc n))) = bytes " field=page value="
+
+unfoldable pub rule_word : ℕ → List ℕ
+rule_word zero = bytes " rule=notafter right="
+rule_word (suc zero) = bytes " rule=enables right="
+rule_word (suc (suc n)) = bytes " rule=noncommuting right="
+
 -- The writer.
 unfoldable pub edit_line : List ℕ → List ℕ
 edit_line row = fill (edit_form (get_or row 1 0) (get_or row 3 0)) (get_or row 0 0 ∷ get_or row 2 0 ∷ get_or row 4 0 ∷ [])
@@ -31,26 +47,16 @@ edit_line row = fill (edit_form (get_or row 1 0) (get_or row 3 0)) (get_or row 0
 unfoldable pub constraint_line : List ℕ → List ℕ
 constraint_line row = fill (rule_form (get_or row 1 0)) (get_or row 0 0 ∷ get_or row 2 0 ∷ [])
 
--- What a line says: a row, or the number of its fault, 1 or 2.
-abbrev pub edit_said : List ℕ → Line
-edit_said row = record { number = 0; isedit = true; edit = row; constraint = replicate 3 0 }
-
-abbrev pub constraint_said : List ℕ → Line
-constraint_said row = record { number = 0; isedit = false; edit = replicate 5 0; constraint = row }
-
-abbrev pub faulty : ℕ → Line
-faulty number = record { number = number; isedit = false; edit = replicate 5 0; constraint = replicate 3 0 }
-
--- The reader: the forms, each with what its numbers say.
+-- The reader: the forms, each with the row that its numbers say.
 pub record Shape : Type 0 where
   pub form : List ℕ
   pub says : List ℕ → Line
 
 abbrev pub edit_shape : ℕ → ℕ → Shape
-edit_shape kind field = record { form = edit_form kind field; says = λ ns. edit_said (get_or ns 0 0 ∷ kind ∷ get_or ns 1 0 ∷ field ∷ get_or ns 2 0 ∷ []) }
+edit_shape kind field = record { form = edit_form kind field; says = λ ns. Edit (get_or ns 0 0 ∷ kind ∷ get_or ns 1 0 ∷ field ∷ get_or ns 2 0 ∷ []) }
 
 abbrev pub rule_shape : ℕ → Shape
-rule_shape rule = record { form = rule_form rule; says = λ ns. constraint_said (get_or ns 0 0 ∷ rule ∷ get_or ns 1 0 ∷ []) }
+rule_shape rule = record { form = rule_form rule; says = λ ns. Constraint (get_or ns 0 0 ∷ rule ∷ get_or ns 1 0 ∷ []) }
 
 unfoldable pub set_shapes : List Shape
 set_shapes = edit_shape 1 0 ∷ edit_shape 1 1 ∷ edit_shape 1 2 ∷ edit_shape 1 3 ∷ []
@@ -64,25 +70,28 @@ shapes = edit_shape 0 0 ∷ edit_shape 2 0 ∷ (set_shapes ++ rule_shapes)
 abbrev pub fits_word : ℕ → Bool
 fits_word n = ltb n 4294967296
 
--- 1: not in this form; 2: a number does not fit 32 bits
-abbrev pub said : Shape → Option (List ℕ) → Line
-said shape none = faulty 1
-said shape (some ns) = cond (all fits_word ns) (shape.says ns) (faulty 2)
+abbrev pub word_read : ℕ → Result ℕ Refusal
+word_read n = cond (fits_word n) (Ok n) (Err OutOfRange)
 
-unfoldable pub read_as : Shape → List ℕ → Line
+-- refused where it is not in this form, or a number does not fit 32 bits
+abbrev pub said : Shape → Option (List ℕ) → Result Line Refusal
+said shape none = Err NotInForm
+said shape (some ns) = cond (all fits_word ns) (Ok (shape.says ns)) (Err OutOfRange)
+
+unfoldable pub read_as : Shape → List ℕ → Result Line Refusal
 read_as shape s = said shape (taken shape.form s)
 
--- the first line unless it is not in form
-abbrev pub or_else : Line → Line → Line
-or_else first second = cond (eqb first.number 1) second first
+-- what is said first unless that is not in form
+abbrev pub or_else : Result Line Refusal → Result Line Refusal → Result Line Refusal
+or_else first second = cond (eqb (number_of first) 1) second first
 
-unfoldable pub read_by : List Shape → List ℕ → Line
-read_by [] s = faulty 1
+unfoldable pub read_by : List Shape → List ℕ → Result Line Refusal
+read_by [] s = Err NotInForm
 read_by (shape ∷ rest) s = or_else (read_as shape s) (read_by rest s)
 
 -- a line has at most 100 bytes before its end
 abbrev pub line_limit : ℕ
 line_limit = 101
 
-unfoldable pub line_read : List ℕ → Line
-line_read s = cond (ltb line_limit (length s)) (faulty 1) (read_by shapes s)
+unfoldable pub line_read : List ℕ → Result Line Refusal
+line_read s = cond (ltb line_limit (length s)) (Err NotInForm) (read_by shapes s)

@@ -1,13 +1,11 @@
 -- The number of a row that joins the rows above it and no record, as the code looks for it. Assumes nothing.
-use mathlib.Core.Path.{◌≡◌, refl, ap, sym, ◌∙◌}
+use mathlib.Core.Path.{◌≡◌, ap, sym, ◌∙◌}
 use mathlib.Core.Bool.{Bool, true, false, not, ◌&&◌, and-false}
 use mathlib.Core.List.{[]}
-use Prim.Native.Nat.{ℕ, ◌≤◌, ◌<◌}
-use native.Mathlib.Omega.{arith}
-use borrow.Author.Tests.{lt-leb, le-leb, leb-false}
+use Prim.Native.Nat.{ℕ, ◌<◌}
+use borrow.Author.Tests.{leb-false}
 use lib.Dec.{leb}
-use lib.ListN.{length, take, get_or}
-use lib.Seq.{length-take-le}
+use lib.ListN.{length, take}
 use Rattle.lists.specs.Lists.{any}
 use Rattle.lists.specs.Keyed.{Ascending}
 use Rattle.lists.proofs.Union.{united-alone}
@@ -15,33 +13,17 @@ use Rattle.record_rows.specs.row.Row.{Row}
 use Rattle.record_rows.specs.grounds.Ground.{Rows, TableKind, known, no_place, other_body, misplaced, row_fault, ◌given◌, ◌orelse◌}
 use Rattle.record_rows.proofs.grounds.Grounds.{orelse-first, orelse-second, before-none}
 use Rattle.record_rows.proofs.grounds.Accepted.{row-clean}
+use Rattle.text_reader.specs.Held.{row_kind}
 
--- 3 only where the rows above take every place
-pub reader-place-left : (limit n : ℕ) (known : Bool) → n < limit → false ≡ (not known && leb limit n)
-reader-place-left limit n known h = sym (rw (lt-leb limit n h) (and-false (not known)))
-
-pub reader-place-none : (limit n : ℕ) {again known : Bool} → limit ≤ n → again ≡ known → not again ≡ (not known && leb limit n)
-reader-place-none limit n {again} h e = rw (le-leb limit n h, ← e) (one again)
-  where
-    one : (b : Bool) → not b ≡ (not b && true)
-    one true = refl
-    one false = refl
-
-module _ (K : TableKind) (t : Rows) (n : ℕ) (h : n < length t) where
-  abbrev above : Rows
-  above = take n t
-
-  abbrev row : Row
-  row = get_or t n []
-
+module _ (K : TableKind) (above : Rows) (row : Row) where
   pub alone-range : {b : Bool} → b ≡ K.in_range row → b ≡ false → 2 ≡ row_fault K [] above row
   unfolding row_fault
   alone-range p q = let e : K.in_range row ≡ false = sym p ∙ q in rw e
 
-  module _ (a : Ascending (take K.key) above) {b : Bool} (p : b ≡ K.in_range row) (q : b ≡ true) {f : Bool} (r : f ≡ (not (known K.key row above) && leb K.limit n)) where
+  module _ (a : Ascending (take K.key) above) {b : Bool} (p : b ≡ K.in_range row) (q : b ≡ true) {f : Bool} (r : f ≡ (not (known K.key row above) && leb K.limit (length above))) where
     place_is : no_place K.key K.limit [] above row ≡ f
     unfolding no_place any
-    place_is = let w : n ≤ length t = omega arith in rw (united-alone (take K.key) above a, length-take-le n t w) (sym r)
+    place_is = rw (united-alone (take K.key) above a) (sym r)
 
     pub alone-place : f ≡ true → 3 ≡ row_fault K [] above row
     unfolding row_fault
@@ -67,6 +49,11 @@ module _ (K : TableKind) (t : Rows) (n : ℕ) (h : n < length t) where
 
         pub alone-late : g ≡ false → 13 ≡ row_fault K [] above row
         alone-late u = let m : misplaced K.key above row ≡ true = sym w ∙ ap not u in sym (rest-is ∙ orelse-second (K.further row) _ e ∙ rw m)
+
+-- of a kind only what is left to say of the row counts
+pub kind-same : (K : TableKind) (above : Rows) (row : Row) {n : ℕ} → n ≡ K.further row → row_fault (row_kind K.key K.limit K.in_range n) [] above row ≡ row_fault K [] above row
+unfolding row_fault
+kind-same K above row e = rw e
 
 -- a row without fault has a place
 pub alone-room : (K : TableKind) (above : Rows) (row : Row) → Ascending (take K.key) above → row_fault K [] above row ≡ 0 → length above < K.limit

@@ -1,10 +1,17 @@
 -- Document 01, "Text": what the reader of a text answers. Assumes nothing.
-use Rattle.std.specs.Prelude.{ℕ}
-use Rattle.record.specs.Stored.{empty_record, stored}
+use Rattle.std.specs.Prelude.{◌≡◌, ℕ, Result, Ok, Err}
+use Rattle.record.specs.declared.Record as declared
+use Rattle.record.specs.Stored.{stored}
+use Rattle.refusals.specs.Numbers.{number}
 use Rattle.text.specs.Text.{Answer, Accepted, Refused}
-use Rattle.text_reader.specs.declared.Reading.{Reading}
+use Rattle.text_reader.specs.declared.Fault.{Fault}
 
--- number 0, the count of lines and the record, or the number, the line and the empty record
-abbrev pub reading_of : ℕ → Answer → Reading
-reading_of count (Accepted R) = record { number = 0; line = count; content = stored R }
-reading_of count (Refused number line) = record { number = number; line = line; content = empty_record }
+-- refused with this number, at this line
+abbrev pub FaultIs : {A : Type 0} → ℕ → ℕ → Result A Fault → Type 0
+FaultIs n line (Ok x) = ⊥
+FaultIs n line (Err fault) = (number fault.refusal ≡ n) × (fault.line ≡ line)
+
+-- the record, or the number and the line of the refusal
+abbrev pub Reads : Answer → Result declared.Record Fault → Type 0
+Reads (Accepted R) answer = answer ≡ Ok (stored R)
+Reads (Refused n line) answer = FaultIs n line answer

@@ -1,130 +1,99 @@
 // A text is read line by line into a record (document 01, "Text").
 #![tactic(auto)]
 
-ghost use Rattle.std.specs.Prelude.{◌≡◌, not, ◌&&◌, false, List, [], ℕ, ◌<◌, leb, length, get_or, take};
-ghost use Rattle.record.specs.Stored.{edit_limit, constraint_limit, empty_record};
+ghost use Rattle.std.specs.Prelude.{◌≡◌, not, ◌&&◌, List, [], ℕ, leb, length, take};
 ghost use Rattle.lists.specs.Keyed.{Ascending};
+ghost use Rattle.refusals.specs.Numbers.{number_of};
 ghost use Rattle.record_rows.specs.grounds.Ground.{known, row_fault};
-ghost use Rattle.record_tables.specs.Table.{edit_kind, constraint_kind};
 ghost use Rattle.record_tables.specs.Checked.{MarksNames};
-ghost use Rattle.text_lines.specs.Lines.{lines};
 ghost use Rattle.text.specs.Text.{read_rows, read_text};
-ghost use Rattle.text_reader.specs.Reading.{reading_of};
-ghost use Rattle.text_reader.specs.Held.{EditsHeld, ConstraintsHeld, EditTaken, ConstraintTaken, LineTaken};
+ghost use Rattle.text_reader.specs.Reading.{Reads};
+ghost use Rattle.text_reader.specs.Held.{row_kind, EditsHeld, ConstraintsHeld, EditTaken, ConstraintTaken, LineTaken};
 
-use record::{CONSTRAINTS, EDITS, Record};
-use record_rows::row;
+use record::{CONSTRAINTS, Constraint, EDITS, Edit, Record};
+use record_rows::element::Element;
 use record_rows::row::{CONSTRAINT_CELLS, ConstraintRow, EDIT_CELLS, EditRow, NAMES};
+use refusals::Refusal;
 use text_lines::Line;
 
-// The tables have one row more than there are places, for the row that is judged; specs/Held.antt has the same numbers.
-const EDIT_ROWS: usize = EDITS + 1;
-
-const CONSTRAINT_ROWS: usize = CONSTRAINTS + 1;
-
-// A record that was read, or the number and the line of the first fault. Number 0 is no fault; the line is then the count of lines.
+// Why a text is refused, and the line, counted from 1.
 #[derive(Clone, Copy)]
-pub struct Reading {
-    pub number: u32,
+pub struct Fault {
+    pub refusal: Refusal,
     pub line: usize,
-    pub content: Record,
 }
 
-// Whether row n is new and the rows above it take every place.
-fn edit_no_place(t: &[EditRow], n: usize) -> bool
-    requires { n < length t.now }
-    ensures { result ≡ (not (known 1 (get_or t.now n []) (take n t.now)) && leb edit_limit n) }
+// Whether a row is new and the rows above it take every place.
+fn no_place<const CELLS: usize, T: Element<CELLS>>(
+    above: &[[u32; CELLS]],
+    row: &[u32; CELLS],
+) -> bool
+    ensures { result ≡ (not (known T.KEY row.now above.now) && leb T.PLACES (length above.now)) }
 {
-    if n < EDITS {
+    if above.len() < T::PLACES {
         return false;
     }
-    !record_tables::edit_repeated(t, n)
+    !record_tables::is_repeated::<CELLS, T>(above, row)
 }
 
-// The number of row n below those above it.
-fn edit_row_fault(t: &[EditRow], n: usize) -> u32
-    requires { n < length t.now }
-    ensures { Ascending (take 1) (take n t.now) → result ≡ row_fault edit_kind [] (take n t.now) (get_or t.now n []) }
+// The fault of a row below those above it; `further` is that of its kind alone.
+fn row_fault<const CELLS: usize, T: Element<CELLS>>(
+    above: &[[u32; CELLS]],
+    row: &[u32; CELLS],
+    further: Result<(), Refusal>,
+) -> Result<(), Refusal>
+    ensures { Ascending (take T.KEY) above.now → number_of result ≡ row_fault (row_kind T.KEY T.PLACES T.fits (number_of further)) [] above.now row.now }
 {
-    let row = t[n];
-    if !row::edit_in_range(row) {
-        return 2;
+    if !T::in_range(row) {
+        return Err(Refusal::OutOfRange);
     }
-    if edit_no_place(t, n) {
-        return 3;
+    if no_place::<CELLS, T>(above, row) {
+        return Err(Refusal::NoPlace);
     }
-    if record_tables::edit_follows(t, n) {
-        return 0;
+    further?;
+    if !record_tables::follows::<CELLS, T>(above, row) {
+        return Err(Refusal::Misplaced);
     }
-    13
+    Ok(())
 }
 
-// The number of an edit after n edits and m constraints. Without fault it is held.
-fn take_edit(edits: &mut [EditRow], marks: &mut [u8], n: usize, m: usize, row: EditRow) -> u32
+// The fault of an edit after n edits and m constraints. Without fault it is held.
+fn take_edit(
+    edits: &mut [EditRow],
+    marks: &mut [u8],
+    n: usize,
+    m: usize,
+    row: EditRow,
+) -> Result<(), Refusal>
     requires { EditsHeld edits.old marks.old n }
-    ensures { EditTaken edits.old marks.old n m row result edits.new marks.new }
+    ensures { EditTaken edits.old marks.old n m row (number_of result) edits.new marks.new }
 {
-    edits[n] = row;
-    let number = edit_row_fault(&edits[..], n);
-    if number != 0 {
-        return number;
-    }
+    row_fault::<EDIT_CELLS, Edit>(&edits[..n], &row, Ok(()))?;
     if 0 < m {
-        return 13;
+        return Err(Refusal::Misplaced);
     }
-    let name = numbers::index32(row[0]);
-    marks[name] = 1;
-    0
+    edits[n] = row;
+    marks[row[0] as usize] = 1;
+    Ok(())
 }
 
-// Whether row m is new and the rows above it take every place.
-fn constraint_no_place(t: &[ConstraintRow], m: usize) -> bool
-    requires { m < length t.now }
-    ensures { result ≡ (not (known 3 (get_or t.now m []) (take m t.now)) && leb constraint_limit m) }
-{
-    if m < CONSTRAINTS {
-        return false;
-    }
-    !record_tables::constraint_repeated(t, m)
-}
-
-// The number of row m below those above it, where marks are those of the edits that it knows.
-fn constraint_row_fault(t: &[ConstraintRow], m: usize, marks: &[u8]) -> u32
-    requires { m < length t.now }
-    ensures { (names : List ℕ) → MarksNames marks.now names → Ascending (take 3) (take m t.now) → result ≡ row_fault (constraint_kind names false) [] (take m t.now) (get_or t.now m []) }
-{
-    let row = t[m];
-    if !row::constraint_in_range(row) {
-        return 2;
-    }
-    if constraint_no_place(t, m) {
-        return 3;
-    }
-    let further = record_tables::constraint_further(row, marks, false);
-    if further != 0 {
-        return further;
-    }
-    if record_tables::constraint_follows(t, m) {
-        return 0;
-    }
-    13
-}
-
-// The number of a constraint after m constraints. Without fault it is held.
+// The fault of a constraint after m constraints. Without fault it is held.
 fn take_constraint(
     constraints: &mut [ConstraintRow],
     m: usize,
     marks: &[u8],
     row: ConstraintRow,
-) -> u32
+) -> Result<(), Refusal>
     requires { ConstraintsHeld constraints.old m }
-    ensures { (names : List ℕ) → MarksNames marks.now names → ConstraintTaken names constraints.old m row result constraints.new }
+    ensures { (names : List ℕ) → MarksNames marks.now names → ConstraintTaken names constraints.old m row (number_of result) constraints.new }
 {
+    let further = record_tables::constraint_further(row, marks, false);
+    row_fault::<CONSTRAINT_CELLS, Constraint>(&constraints[..m], &row, further)?;
     constraints[m] = row;
-    constraint_row_fault(&constraints[..], m, marks)
+    Ok(())
 }
 
-// The number of a line after n edits and m constraints. Without fault its row is held.
+// The fault of a line's row after n edits and m constraints. Without fault it is held.
 fn take_line(
     edits: &mut [EditRow],
     marks: &mut [u8],
@@ -132,37 +101,22 @@ fn take_line(
     n: usize,
     m: usize,
     said: Line,
-) -> u32
+) -> Result<(), Refusal>
     requires { EditsHeld edits.old marks.old n × ConstraintsHeld constraints.old m }
-    ensures { LineTaken edits.old marks.old constraints.old n m said result edits.new marks.new constraints.new }
+    ensures { LineTaken edits.old marks.old constraints.old n m said (number_of result) edits.new marks.new constraints.new }
 {
-    if said.number != 0 {
-        return said.number;
-    }
-    if said.isedit {
-        let row = said.edit;
-        return take_edit(&mut edits[..], &mut marks[..], n, m, row);
-    }
-    let row = said.constraint;
-    take_constraint(&mut constraints[..], m, &marks[..], row)
-}
-
-fn refusal(number: u32, line: usize) -> Reading
-    ensures { result ≡ record { number = number; line = line; content = empty_record } }
-{
-    Reading {
-        number: number,
-        line: line,
-        content: record::empty(),
+    match said {
+        Line::Edit(row) => take_edit(&mut edits[..], &mut marks[..], n, m, row),
+        Line::Constraint(row) => take_constraint(&mut constraints[..], m, &marks[..], row),
     }
 }
 
 // Reads the rows of a text. Each line read is a row held, so that n + m counts the lines.
-fn read_rows(text: &[u8]) -> Reading
-    ensures { result ≡ reading_of (length (lines text.now)) (read_rows text.now) }
+fn read_rows(text: &[u8]) -> Result<Record, Fault>
+    ensures { Reads (read_rows text.now) result }
 {
-    let mut edits = [[0u32; EDIT_CELLS]; EDIT_ROWS];
-    let mut constraints = [[0u32; CONSTRAINT_CELLS]; CONSTRAINT_ROWS];
+    let mut edits = [[0u32; EDIT_CELLS]; EDITS];
+    let mut constraints = [[0u32; CONSTRAINT_CELLS]; CONSTRAINTS];
     let mut marks = [0u8; NAMES];
     marks[0] = 1;
     let mut n = 0;
@@ -170,33 +124,34 @@ fn read_rows(text: &[u8]) -> Reading
     let mut at = 0;
     while at < text.len() {
         let end = text_lines::line_end(text, at);
-        let said = text_lines::read_line(&text[at..end]);
-        let number = take_line(&mut edits, &mut marks, &mut constraints, n, m, said);
-        if number != 0 {
-            return refusal(number, n + m + 1);
+        let line = n + m + 1;
+        let said = match text_lines::read_line(&text[at..end]) {
+            Ok(said) => said,
+            Err(refusal) => return Err(Fault { refusal, line }),
+        };
+        match take_line(&mut edits, &mut marks, &mut constraints, n, m, said) {
+            Ok(_) => {}
+            Err(refusal) => return Err(Fault { refusal, line }),
         }
-        n += numbers::bit(said.isedit);
-        m += numbers::bit(!said.isedit);
+        match said {
+            Line::Edit(_) => n += 1,
+            Line::Constraint(_) => m += 1,
+        }
         at = end;
     }
-    Reading {
-        number: 0,
-        line: n + m,
-        content: record_union::decode(&edits[0..n], &constraints[0..m]),
-    }
+    Ok(record_union::decode(&edits[..n], &constraints[..m]))
 }
 
-// Reads a text: its rows, and then whether the record is sound.
-pub fn read_text(text: &[u8]) -> Reading
-    ensures { result ≡ reading_of (length (lines text.now)) (read_text text.now) }
+// Reads a text: its rows, and then whether the record is sound; that it is not is told of its last line.
+pub fn read_text(text: &[u8]) -> Result<Record, Fault>
+    ensures { Reads (read_text text.now) result }
 {
-    let reading = read_rows(text);
-    if reading.number != 0 {
-        return reading;
-    }
-    let content = reading.content;
+    let content = read_rows(text)?;
     if judgement::sound(content) {
-        return reading;
+        return Ok(content);
     }
-    refusal(8, reading.line)
+    Err(Fault {
+        refusal: Refusal::Unsound,
+        line: content.editcount + content.constraintcount,
+    })
 }

@@ -17,9 +17,6 @@ use Rattle.judgement.specs.Judged.{judged_of}
 use Rattle.text_report.specs.Report.{report_numbers}
 use Rattle.text_report.specs.Rows.{numbers_at, numbered}
 
-pub five-same : (name : ℕ) (j : Judged) (index : ℕ) {a b c d : ℕ} → a ≡ get_or j.must index 0 → b ≡ get_or j.never index 0 → c ≡ get_or j.settled index 0 → d ≡ get_or j.place index 0 → name ∷ a ∷ b ∷ c ∷ d ∷ [] ≡ numbers_at name j index
-five-same name j index p q r s = rw (p, q, r, s)
-
 numbered-snoc : (j : Judged) (index : ℕ) (l : List Edit) (e : Edit) → numbered j index (l ++ (e ∷ [])) ≡ numbered j index l ++ (numbers_at e.name j (index + length l) ∷ [])
 unfolding numbered
 numbered-snoc j index [] e = let z : index + 0 ≡ index = omega arith in rw z

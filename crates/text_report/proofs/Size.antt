@@ -25,6 +25,7 @@ use Rattle.text_forms.proofs.Forms.{room, fill-room}
 use Rattle.text.specs.Text.{joined_lines, Answer, Accepted, Refused, read_text}
 use Rattle.text.proofs.RoundTrip.{accepted-text}
 use Rattle.text.proofs.Limit.{refusal-small}
+use Rattle.std.specs.Prelude.{Ok}
 use Rattle.text_writer.specs.Placed.{placing}
 use Rattle.text_writer.proofs.Placing.{start-enough}
 use Rattle.text_report.specs.Report.{counts_form, report_form, refusal_form, report_numbers, report_of, refusal_line, printed}
@@ -93,5 +94,5 @@ printed-size text = go (read_text text) refl
     go (Refused k m) q = let t = refusal-small text k m q in refusal-size k m t.0 t.1
 
 -- An output of 16,384 bytes takes what is printed of any text.
-pub printed-fits : (text out : List ℕ) → 16384 ≤ length out → (placing (printed (read_text text)) 0 out).number ≡ 0
+pub printed-fits : (text out : List ℕ) → 16384 ≤ length out → placing (printed (read_text text)) 0 out ≡ Ok (length (printed (read_text text)))
 printed-fits text out h = start-enough (printed (read_text text)) out 16384 (printed-size text) h

@@ -1,5 +1,5 @@
 -- Document 01, "Text": what is printed of a text: counts, then each edit with must, never, settled and its page with nothing hidden (0: not in it); or the refusal. Assumes nothing.
-use Rattle.std.specs.Prelude.{cond, List, [], ◌∷◌, ◌++◌, map, ℕ, length}
+use Rattle.std.specs.Prelude.{◌≡◌, cond, List, [], ◌∷◌, ◌++◌, map, ℕ, length, Result, Ok, Err}
 use Rattle.record.specs.Record.{Record, written}
 use Rattle.record.specs.Schedule.{schedule}
 use Rattle.record.specs.Judgement.{must, never, settled}
@@ -8,7 +8,9 @@ use Rattle.text_forms.specs.Spelling.{bytes}
 use Rattle.text_forms.specs.Form.{fill}
 use Rattle.text.specs.Text.{joined_lines, Answer, Accepted, Refused}
 use Rattle.text_writer.specs.Placed.{placed, placing}
-use Rattle.text_report.specs.declared.Reported.{Reported}
+use Rattle.refusals.specs.declared.Refusal.{Refusal}
+use Rattle.text_reader.specs.declared.Fault.{Fault}
+use Rattle.text_reader.specs.Reading.{FaultIs}
 
 unfoldable pub counts_form : List ℕ
 counts_form = bytes "edits=# rules=#\n"
@@ -36,11 +38,15 @@ abbrev pub printed : Answer → List ℕ
 printed (Accepted R) = report_of R
 printed (Refused number line) = refusal_line number line
 
--- what the library answers: the report at the start of the output, or 12 where it does not fit; or the text's number and line
-abbrev pub reported : Answer → List ℕ → Reported
-reported (Accepted R) out =
-    record { number = (placing (report_of R) 0 out).number; line = 0; size = (placing (report_of R) 0 out).end }
-reported (Refused number line) out = record { number = number; line = line; size = 0 }
+-- at no line of a text
+abbrev pub at_no_line : Result ℕ Refusal → Result ℕ Fault
+at_no_line (Ok size) = Ok size
+at_no_line (Err refusal) = Err (record { refusal = refusal; line = 0 })
+
+-- what the library answers: the report at the start of the output, where it fits; or the text's number and line
+abbrev pub Reported : Answer → List ℕ → Result ℕ Fault → Type 0
+Reported (Accepted R) out answer = answer ≡ at_no_line (placing (report_of R) 0 out)
+Reported (Refused number line) out answer = FaultIs number line answer
 
 abbrev pub reported_out : Answer → List ℕ → List ℕ
 reported_out (Accepted R) out = placed (report_of R) 0 out

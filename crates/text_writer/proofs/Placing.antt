@@ -11,22 +11,23 @@ use lib.ListN.{length, take, drop, length-take, length-drop, length-append}
 use Rattle.lists.proofs.Lists.{by}
 use Rattle.text_forms.specs.decimal.Written.{Written}
 use Rattle.text_forms.proofs.decimal.Parts.{part-written, part_to_end}
-use Rattle.text_writer.specs.declared.Written as declared
+use Rattle.std.specs.Prelude.{Ok, Err}
+use Rattle.refusals.specs.declared.Refusal.TheVariants.{NoRoom}
 use Rattle.text_writer.specs.Placed.{placed, placing}
 
 module _ (text out : List ℕ) where
   module _ (at : ℕ) where
-    pub not-placed : length out < at + length text → (record { number = 12; end = 0 } ≡ placing text at out) × (out ≡ placed text at out)
+    pub not-placed : length out < at + length text → (Err NoRoom ≡ placing text at out) × (out ≡ placed text at out)
     unfolding placing placed
     not-placed h = let f : leb (at + length text) (length out) ≡ false = lt-leb (at + length text) (length out) h in (rw f, rw f)
 
     is-placed : at + length text ≤ length out → {end : ℕ} {after : List ℕ} → end ≡ at + length text → after ≡ take at out ++ (text ++ drop (at + length text) out)
-        → (record { number = 0; end = end } ≡ placing text at out) × (after ≡ placed text at out)
+        → (Ok end ≡ placing text at out) × (after ≡ placed text at out)
     unfolding placing placed
     is-placed h e p = let f : leb (at + length text) (length out) ≡ true = le-leb (at + length text) (length out) h in (rw (f, e), rw f p)
 
     module _ (near : at ≤ length out) {fits : Bool} (e : fits ≡ leb (length text) (length out - at)) where
-      pub no_room : fits ≡ false → (record { number = 12; end = 0 } ≡ placing text at out) × (out ≡ placed text at out)
+      pub no_room : fits ≡ false → (Err NoRoom ≡ placing text at out) × (out ≡ placed text at out)
       no_room h = not-placed (omega (arith, leb-false (length text) (length out - at) (sym e ∙ h)))
 
       module _ (h : fits ≡ true) where
@@ -37,38 +38,33 @@ module _ (text out : List ℕ) where
         has_room = rw (part_to_end at out, length-drop) (omega (arith, enough))
 
         module _ {r : ℕ} {after : List ℕ} (w : Written text (take (length out - at) (drop at out)) r after) where
-          pub end_fits : at + r ≤ length out
-          end_fits = omega (arith, w.0, enough)
-
-          pub written-there : (record { number = 0; end = at + r } ≡ placing text at out) × (take at out ++ (after ++ drop (length out - at) (drop at out)) ≡ placed text at out)
+          pub written-there : (Ok (at + r) ≡ placing text at out) × (take at out ++ (after ++ drop (length out - at) (drop at out)) ≡ placed text at out)
           written-there = is-placed enough (ap (λ (k : ℕ). at + k) w.0) (part-written at out after text enough w.1)
 
   -- at the start
-  pub start-enough : (n : ℕ) → length text ≤ n → n ≤ length out → (placing text 0 out).number ≡ 0
+  pub start-enough : (n : ℕ) → length text ≤ n → n ≤ length out → placing text 0 out ≡ Ok (length text)
   unfolding placing
-  start-enough n p q = rw (le-leb (0 + length text) (length out) (omega arith))
+  start-enough n p q = rw (le-leb (0 + length text) (length out) (omega arith), zero-add)
 
   module _ {fits : Bool} (e : fits ≡ leb (length text) (length out)) where
-    pub start_none : fits ≡ false → (record { number = 12; end = 0 } ≡ placing text 0 out) × (out ≡ placed text 0 out)
+    pub start_none : fits ≡ false → (Err NoRoom ≡ placing text 0 out) × (out ≡ placed text 0 out)
     start_none h = not-placed 0 (omega (arith, leb-false (length text) (length out) (sym e ∙ h)))
 
     module _ (h : fits ≡ true) where
       pub start-room : length text ≤ length out
       start-room = leb-true (length text) (length out) (sym e ∙ h)
 
-      pub start-written : {r : ℕ} {after : List ℕ} → Written text out r after → (record { number = 0; end = r } ≡ placing text 0 out) × (after ≡ placed text 0 out)
+      pub start-written : {r : ℕ} {after : List ℕ} → Written text out r after → (Ok r ≡ placing text 0 out) × (after ≡ placed text 0 out)
       start-written w = is-placed 0 (omega (arith, start-room)) (w.0 ∙ sym (zero-add (length text))) (w.1 ∙ rw (zero-add (length text)))
 
 -- what is written ends inside the output
-pub placed-inside : (text out : List ℕ) (at : ℕ) {w : declared.Written} {after : List ℕ} → (w ≡ placing text at out) × (after ≡ placed text at out) → w.end ≤ length after
+pub placed-inside : (text out : List ℕ) (at : ℕ) {end : ℕ} {after : List ℕ} → Ok end ≡ placing text at out → after ≡ placed text at out → end ≤ length after
 unfolding placing placed
-placed-inside text out at {w} {after} p =
+placed-inside text out at {end} {after} p r =
     by (leb (at + length text) (length out))
     (λ (h : leb (at + length text) (length out) ≡ true).
-    let e : w.end ≡ at + length text = ap (λ (x : declared.Written). x.end) (rw h at p.0) in
+    let e : end ≡ at + length text = (let q = rw h at p in (cc)) in
     let n : at + length text ≤ length out = leb-true (at + length text) (length out) h in
-    let q : length after ≡ length (take at out) + length (text ++ drop (at + length text) out) = ap length (rw h at p.1) ∙ length-append (take at out) (text ++ drop (at + length text) out) in
+    let q : length after ≡ length (take at out) + length (text ++ drop (at + length text) out) = ap length (rw h at r) ∙ length-append (take at out) (text ++ drop (at + length text) out) in
     omega (arith, length-take at out, length-append text (drop (at + length text) out)))
-    (λ (h : leb (at + length text) (length out) ≡ false).
-    let e : w.end ≡ 0 = ap (λ (x : declared.Written). x.end) (rw h at p.0) in
-    omega arith)
+    (λ (h : leb (at + length text) (length out) ≡ false). let q = rw h at p in let z : ⊥ = cc in absurd z)

@@ -1,60 +1,43 @@
--- The text of a record by its stored tables, whatever their counts. Assumes nothing.
-use mathlib.Core.Path.{◌≡◌}
-use mathlib.Core.Bool.{true}
-use mathlib.Core.List.{List, ◌++◌, map, map-map}
-use Prim.Native.Nat.{ℕ, ◌+◌, ◌-◌, ◌≤◌, min}
-use native.Mathlib.Omega.{arith}
-use lib.Dec.{leb}
-use lib.ListN.{length, take, drop, length-append}
-use Rattle.lists.proofs.Arrays.{take-least}
+-- The text of a stored record: the lines of its edits, and those of its constraints. Assumes nothing.
+use Rattle.std.proofs.Common.{◌≡◌, sym, true, false, List, ◌++◌, map, ℕ, ◌+◌, ◌-◌, ◌≤◌, leb, take, Some, None, arith}
+use mathlib.Core.List.{map-map}
+use borrow.Author.Tests.{le-leb, lt-leb, leb-true, leb-false}
+use Rattle.std.specs.Prelude.{is_some}
+use Rattle.lists.proofs.Lists.{by}
 use Rattle.record.specs.declared.Record as declared
-use Rattle.record.specs.Stored.{edit_limit, constraint_limit, record_of}
+use Rattle.record.specs.Stored.{record_of}
 use Rattle.record_rows.specs.row.Row.{edit_row, constraint_row}
-use Rattle.text_forms.specs.decimal.Written.{Written}
-use Rattle.text_forms.proofs.decimal.Parts.{inside, second-room, written_both}
+use Rattle.text_forms.specs.Fit.{room_after}
 use Rattle.text_lines.specs.Line.{edit_line, constraint_line}
 use Rattle.text.specs.Text.{joined_lines, rows_text, text_of}
-use Rattle.text_forms.specs.declared.Fit.{Fit}
-use Rattle.text_forms.specs.Fit.{fit_after}
 use Rattle.text_writer.specs.Placed.{edit_text, constraint_text}
-use Rattle.text_writer.proofs.Writing.{fits_both}
 
--- a count past the table's end takes all of it
-taken : {A : Type 0} (a : List A) (n limit : ℕ) {r : ℕ} → length a ≡ limit → r ≡ min n limit → take r a ≡ take n a
-taken a n limit l e = rw e (take-least n limit a l)
+abbrev pub edits-text : declared.Record → List ℕ
+edits-text content = joined_lines (map edit_text (take content.editcount content.edits))
 
-module _ (content : declared.Record) (a : length content.edits ≡ edit_limit) (b : length content.constraints ≡ constraint_limit) {n m : ℕ} (e : n ≡ min content.editcount edit_limit) (f : m ≡ min content.constraintcount constraint_limit) where
-  abbrev edits-text : List ℕ
-  edits-text = joined_lines (map edit_text (take n content.edits))
+abbrev pub constraints-text : declared.Record → List ℕ
+constraints-text content = joined_lines (map constraint_text (take content.constraintcount content.constraints))
 
-  abbrev constraints-text : List ℕ
-  constraints-text = joined_lines (map constraint_text (take m content.constraints))
+pub text-is : (content : declared.Record) → text_of (record_of content) ≡ edits-text content ++ constraints-text content
+unfolding rows_text
+text-is content =
+    rw (map-map edit_line edit_row (take content.editcount content.edits), map-map constraint_line constraint_row (take content.constraintcount content.constraints))
 
-  text-is : text_of (record_of content) ≡ edits-text ++ constraints-text
-  unfolding rows_text
-  text-is =
-      rw (taken content.edits content.editcount edit_limit a e, taken content.constraints content.constraintcount constraint_limit b f, map-map edit_line edit_row (take content.editcount content.edits), map-map constraint_line constraint_row (take content.constraintcount content.constraints))
+-- what two texts leave of a room
+module _ (room m n : ℕ) where
+  pub both-short : None ≡ room_after room m → false ≡ leb (m + n) room
+  both-short h =
+      by (leb m room)
+      (λ (e : leb m room ≡ true). let q = rw e at h in (cc))
+      (λ (e : leb m room ≡ false). sym (lt-leb (m + n) room (omega (arith, leb-false m room e))))
 
-  pub text-fits : (room : ℕ) {edits all : Fit} → edits ≡ fit_after (record { fits = true; left = room }) (length edits-text) → all ≡ fit_after edits (length constraints-text) → all.fits ≡ leb (length (text_of (record_of content))) room
-  text-fits room p q = rw text-is (fits_both edits-text constraints-text room p q)
-
-  module _ (out : List ℕ) (h : length (text_of (record_of content)) ≤ length out) where
-    both-fit : length (edits-text ++ constraints-text) ≤ length out
-    both-fit = rw text-is at h
-
-    pub edits-fit : length edits-text ≤ length out
-    edits-fit = omega (arith, both-fit, length-append edits-text constraints-text)
-
-    module _ {at : ℕ} {after : List ℕ} (w : Written edits-text out at after) where
-      pub edits-inside : at ≤ length after
-      edits-inside = inside edits-text out w edits-fit
-
-      pub constraints-fit : length constraints-text ≤ length (take (length after - at) (drop at after))
-      constraints-fit = second-room edits-text out w constraints-text both-fit
-
-      module _ {r : ℕ} {last : List ℕ} (v : Written constraints-text (take (length after - at) (drop at after)) r last) where
-        pub both_at : at + r ≤ length out
-        both_at = omega (arith, (written_both edits-text out w constraints-text both-fit v).0, both-fit)
-
-        pub both-written : Written (text_of (record_of content)) out (at + r) (take at after ++ (last ++ drop (length after - at) (drop at after)))
-        both-written = rw text-is (written_both edits-text out w constraints-text both-fit v)
+  pub both-fit : {left : ℕ} → Some left ≡ room_after room m → is_some (room_after left n) ≡ leb (m + n) room
+  both-fit {left} h =
+      by (leb m room)
+      (λ (e : leb m room ≡ true).
+      let l : m ≤ room = leb-true m room e in
+      let p : left ≡ room - m = (let q = rw e at h in (cc)) in
+      by (leb n left)
+      (λ (f : leb n left ≡ true). rw (f, le-leb (m + n) room (omega (arith, leb-true n left f))))
+      (λ (f : leb n left ≡ false). rw (f, lt-leb (m + n) room (omega (arith, leb-false n left f)))))
+      (λ (e : leb m room ≡ false). let q = rw e at h in (cc))

@@ -1,35 +1,57 @@
 -- Lines written one after the other, for any kind of line: whether they fit, and what they leave. Assumes nothing.
-use mathlib.Core.Path.{◌≡◌, refl, ap, sym, ◌∙◌}
-use mathlib.Core.Bool.{true}
-use mathlib.Core.List.{List, [], ◌∷◌, ◌++◌, map, map-append, append_assoc, append-nil}
-use Prim.Native.Nat.{ℕ, ◌+◌, ◌-◌, ◌≤◌, ◌<◌}
-use native.Mathlib.Numerals.{add-one}
-use native.Mathlib.Omega.{arith}
-use lib.Dec.{leb}
-use lib.ListN.{length, get_or, take, drop, length-append}
-use lib.Seq.{take-suc, take-add}
+use Rattle.std.proofs.Common.{◌≡◌, refl, ap, sym, ◌∙◌, List, [], ◌∷◌, ◌++◌, map, append_assoc, ℕ, ◌+◌, ◌-◌, ◌≤◌, ◌<◌, length, get_or, take, drop, Some, None, add-one, length-append, drop-cons, arith}
+use mathlib.Core.List.{map-append, append-nil}
+use lib.ListN.{drop_of_length-le}
+use lib.Seq.{take-suc, take_all, take-add}
 use Rattle.text_forms.specs.decimal.Written.{Written}
-use Rattle.text_forms.proofs.decimal.Parts.{out-length, second-room, inside, written_both}
+use Rattle.text_forms.proofs.decimal.Parts.{second-room, written_both}
+use Rattle.text_forms.specs.Fit.{room_after}
+use Rattle.text_forms.proofs.Fits.{room-short, room-whole, room-both}
 use Rattle.text.specs.Text.{joined_lines}
-use Rattle.text_forms.specs.declared.Fit.{Fit}
-use Rattle.text_forms.specs.Fit.{fit_after}
-use Rattle.text_forms.proofs.Fits.{fit-nothing, fit-both}
 
 pub joined-append : (s t : List (List ℕ)) → joined_lines (s ++ t) ≡ joined_lines s ++ joined_lines t
 unfolding joined_lines
 joined-append [] t = refl
 joined-append (l ∷ s) t = ap (λ (x : List ℕ). l ++ x) (joined-append s t) ∙ sym (append_assoc l (joined_lines s) (joined_lines t))
 
--- two texts, one after the other
-pub fits_both : (s t : List ℕ) (room : ℕ) {first both : Fit} → first ≡ fit_after (record { fits = true; left = room }) (length s) → both ≡ fit_after first (length t) → both.fits ≡ leb (length (s ++ t)) room
-fits_both s t room p q =
-    let start : Fit = record { fits = true; left = room } in
-    ap (λ (f : Fit). f.fits) (q ∙ ap (λ (f : Fit). fit_after f (length t)) p ∙ fit-both start (length s) (length t) ∙ ap (fit_after start) (sym (length-append s t)))
-
--- the lines of the first i of some elements
+-- the lines of some elements
 module _ {A : Type 0} (line : A → List ℕ) (a : List A) where
+  abbrev pub lines : List A → List ℕ
+  lines l = joined_lines (map line l)
+
+  first-line : (i : ℕ) (d : A) → i < length a → lines (drop i a) ≡ line (get_or a i d) ++ lines (drop (i + 1) a)
+  unfolding joined_lines
+  first-line i d h = rw (add-one, drop-cons a i d h)
+
+  no-lines : (i : ℕ) → length a ≤ i → lines (drop i a) ≡ []
+  unfolding joined_lines
+  no-lines i h = rw (drop_of_length-le a {i = i} h)
+
+  -- what is left of a room: what the lines from i on leave of it is what all leave of the room
+  pub record Leaves (room left i : ℕ) : Type 0 where
+    pub is : room_after left (length (lines (drop i a))) ≡ room_after room (length (lines a))
+
+  module _ (room : ℕ) where
+    pub leaves_all : Leaves room room 0
+    leaves_all = record { is = refl }
+
+    module _ {left i : ℕ} (w : Leaves room left i) where
+      module _ (x : A) (q : x ≡ get_or a i x) (h : i < length a) {size : ℕ} (e : size ≡ length (line x)) where
+        size-first : length (lines (drop i a)) ≡ size + length (lines (drop (i + 1) a))
+        size-first = ap length (first-line i x h) ∙ length-append (line (get_or a i x)) (lines (drop (i + 1) a)) ∙ rw (e, ← q)
+
+        pub leaves-next : size ≤ left → {rest : ℕ} → rest ≡ left - size → Leaves room rest (i + 1)
+        leaves-next l p = rw p (record { is = sym (room-both left size (length (lines (drop (i + 1) a))) l) ∙ ap (room_after left) (sym size-first) ∙ w.is })
+
+        pub leaves-none : left < size → None ≡ room_after room (length (lines a))
+        leaves-none l = sym (room-short left _ (omega (arith, size-first))) ∙ w.is
+
+      pub leaves-end : length a ≤ i → Some left ≡ room_after room (length (lines a))
+      leaves-end h = sym (room-whole left) ∙ ap (room_after left) (sym (ap length (no-lines i h))) ∙ w.is
+
+  -- what is written: the lines of the first i
   abbrev pub upto : ℕ → List ℕ
-  upto i = joined_lines (map line (take i a))
+  upto i = lines (take i a)
 
   next-line : (i : ℕ) (d : A) → i < length a → upto (i + 1) ≡ upto i ++ line (get_or a i d)
   unfolding joined_lines
@@ -38,67 +60,38 @@ module _ {A : Type 0} (line : A → List ℕ) (a : List A) where
   shorter : (i k : ℕ) → length (upto i) ≤ length (upto (i + k))
   shorter i k = rw (take-add i k a, map-append, joined-append (map line (take i a)) (map line (take k (drop i a))), length-append) (omega arith)
 
-  longest : (i n : ℕ) → i ≤ n → length (upto i) ≤ length (upto n)
-  longest i n h = let e : i + (n - i) ≡ n = omega arith in rw e at (shorter i (n - i))
+  shortest : (i : ℕ) → i ≤ length a → length (upto i) ≤ length (lines a)
+  shortest i h = let e : i + (length a - i) ≡ length a = omega arith in let q = rw e at (shorter i (length a - i)) in rw (take_all (length a) a (omega arith)) at q
 
-  module _ (n : ℕ) where
-    -- what is left of a room
-    pub record Leaves (start rest : Fit) (i : ℕ) : Type 0 where
-      pub few : n ≤ length a
-      pub near : i ≤ n
-      pub is : rest ≡ fit_after start (length (upto i))
+  pub record Writes (before out : List ℕ) (at i : ℕ) : Type 0 where
+    pub near : i ≤ length a
+    pub room : length (lines a) ≤ length before
+    pub so_far : Written (upto i) before at out
 
-    module _ (start : Fit) where
-      pub leaves_all : n ≤ length a → Leaves start start 0
-      unfolding joined_lines
-      leaves_all few = record { few = few; near = omega arith; is = fit-nothing start }
+  pub writes-none : (before : List ℕ) → length (lines a) ≤ length before → Writes before before 0 0
+  unfolding joined_lines
+  writes-none before h = record { near = omega arith; room = h; so_far = (refl, refl) }
 
-      pub leaves-next : {rest : Fit} {i : ℕ} → Leaves start rest i → (d : A) → i < n → {size : ℕ} → size ≡ length (line (get_or a i d)) → {next : Fit} → next ≡ fit_after rest size → Leaves start next (i + 1)
-      leaves-next {rest} {i} w d h {size} e {next} f =
-          let p : length (upto (i + 1)) ≡ length (upto i) + size = ap length (next-line i d (omega (arith, w.few))) ∙ length-append (upto i) (line (get_or a i d)) ∙ ap (λ (k : ℕ). length (upto i) + k) (sym e) in
-          record { few = w.few; near = omega arith; is = f ∙ ap (λ (x : Fit). fit_after x size) w.is ∙ fit-both start (length (upto i)) size ∙ ap (fit_after start) (sym p) }
+  module _ (before : List ℕ) {out : List ℕ} {at i : ℕ} (w : Writes before out at i) where
+    module _ (x : A) (q : x ≡ get_or a i x) (h : i < length a) where
+      line-more : upto (i + 1) ≡ upto i ++ line x
+      line-more = next-line i x h ∙ ap (λ (y : A). upto i ++ line y) (sym q)
 
-      pub leaves-end : {rest : Fit} {i : ℕ} → Leaves start rest i → n ≤ i → rest ≡ fit_after start (length (upto n))
-      leaves-end {rest} {i} w h = let e : i ≡ n = omega (arith, w.near) in rw e at w.is
+      fits_next : length (upto i ++ line x) ≤ length before
+      fits_next =
+          let l : length (upto (i + 1)) ≤ length before = omega (arith, w.room, shortest (i + 1) (omega arith)) in
+          rw line-more at l
 
-    -- what is written
-    pub record Writes (before out : List ℕ) (at i : ℕ) : Type 0 where
-      pub few : n ≤ length a
-      pub near : i ≤ n
-      pub room : length (upto n) ≤ length before
-      pub so_far : Written (upto i) before at out
+      pub writes-room : length (line x) ≤ length (take (length out - at) (drop at out))
+      writes-room = second-room (upto i) before w.so_far (line x) fits_next
 
-    pub writes-none : (before : List ℕ) → n ≤ length a → length (upto n) ≤ length before → Writes before before 0 0
-    unfolding joined_lines
-    writes-none before few h = record { few = few; near = omega arith; room = h; so_far = (refl, refl) }
+      pub writes-next : {r : ℕ} {after : List ℕ} → Written (line x) (take (length out - at) (drop at out)) r after → Writes before (take at out ++ (after ++ drop (length out - at) (drop at out))) (at + r) (i + 1)
+      writes-next v =
+          record {
+            near = omega arith;
+            room = w.room;
+            so_far = rw line-more (written_both (upto i) before w.so_far (line x) fits_next v);
+          }
 
-    module _ (before : List ℕ) {out : List ℕ} {at i : ℕ} (w : Writes before out at i) where
-      pub writes-inside : at ≤ length out
-      writes-inside = inside (upto i) before w.so_far (omega (arith, w.room, longest i n w.near))
-
-      pub writes-same : length out ≡ length before
-      writes-same = out-length (upto i) before w.so_far (omega (arith, w.room, longest i n w.near))
-
-      module _ (d : A) (h : i < n) where
-        fits_next : length (upto i ++ line (get_or a i d)) ≤ length before
-        fits_next =
-            let q : length (upto (i + 1)) ≤ length before = omega (arith, w.room, longest (i + 1) n (omega arith)) in
-            rw (next-line i d (omega (arith, w.few))) at q
-
-        pub writes-room : length (line (get_or a i d)) ≤ length (take (length out - at) (drop at out))
-        writes-room = second-room (upto i) before w.so_far (line (get_or a i d)) fits_next
-
-        pub writes-next : {r : ℕ} {after : List ℕ} → Written (line (get_or a i d)) (take (length out - at) (drop at out)) r after → Writes before (take at out ++ (after ++ drop (length out - at) (drop at out))) (at + r) (i + 1)
-        writes-next v =
-            record {
-              few = w.few;
-              near = omega arith;
-              room = w.room;
-              so_far = rw (next-line i d (omega (arith, w.few))) (written_both (upto i) before w.so_far (line (get_or a i d)) fits_next v);
-            }
-
-        pub writes_at : {r : ℕ} {after : List ℕ} → Written (line (get_or a i d)) (take (length out - at) (drop at out)) r after → at + r ≤ length before
-        writes_at v = omega (arith, (written_both (upto i) before w.so_far (line (get_or a i d)) fits_next v).0, fits_next)
-
-      pub writes_end : n ≤ i → Written (upto n) before at out
-      writes_end h = let e : i ≡ n = omega (arith, w.near) in rw e at w.so_far
+    pub writes_end : length a ≤ i → Written (lines a) before at out
+    writes_end h = let q = w.so_far in rw (take_all i a h) at q

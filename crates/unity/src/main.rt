@@ -11,6 +11,7 @@ fn read_full(file: &mut impl Read, text: &mut [u8]) -> usize
     ensures { result ≤ length text.new }
 {
     let mut done = 0;
+    // Kept: a `while` over what is read, since a read takes what there is, and no iterator says how much.
     while done < text.len() {
         match file.read(&mut text[done..]) {
             Ok(0) | Err(_) => break,
@@ -25,7 +26,7 @@ fn main(rt: HostRuntime) {
     let mut input = rt.reader();
     let n = read_full(&mut input, &mut text);
     let mut out = [0u8; 1024];
-    let written = unity_text::print_unity(&text[..n], &mut out);
-    let end = written.end;
-    let _ = rt.write_all(&out[..end]);
+    if let Ok(end) = unity_text::print_unity(&text[..n], &mut out) {
+        let _ = rt.write_all(&out[..end]);
+    }
 }

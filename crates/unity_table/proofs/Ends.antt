@@ -1,30 +1,34 @@
 -- What all the answers come to: the last row is known. Assumes nothing.
 use mathlib.Core.Path.{◌≡◌, refl, ap, sym, ◌∙◌}
-use mathlib.Core.Bool.{Bool, true, false, not, cond, and-true}
+use mathlib.Core.Bool.{Bool, true, false, not, cond, ◌&&◌, and-true}
 use mathlib.Core.Logic.{◌≢◌}
 use mathlib.Core.List.{List, [], ◌∷◌, ◌++◌}
-use Prim.Native.Nat.{◌*◌, ◌/◌, ◌<◌}
+use Prim.Native.Nat.{◌*◌, ◌≤◌, ◌<◌}
 use native.Mathlib.Omega.{arith}
 use native.Mathlib.Nat.{div-le_self}
 use borrow.Author.Tests.{ne_eqb, ltb-true, lt-ltb, lt-leb}
 use lib.Dec.{leb}
 use lib.ListN.{length}
+use Rattle.std.specs.Prelude.{Option, Some, None, Ok, Err}
+use Rattle.std.specs.Option.{ok_or}
+use Rattle.refusals.specs.Numbers.{number}
+use Rattle.refusals.proofs.Numbers.{number-positive}
 use Rattle.lists.specs.Lists.{filter}
-use Rattle.lists.proofs.Lists.{by}
+use Rattle.lists.proofs.Lists.{by, and_l}
 use Rattle.record_rows.specs.grounds.Ground.{◌given◌}
 use Rattle.fraction.specs.declared.Fraction.{Fraction}
-use Rattle.fraction.specs.declared.BoundedFraction.{BoundedFraction}
 use Rattle.fraction.specs.Divisor.{gcd}
 use Rattle.fraction.specs.Fraction.{lowest_terms, zero_fraction, sum_of, mean, least_fraction}
 use Rattle.fraction.specs.Bounded.{limit64, fits64, bounded_fraction}
 use Rattle.fraction.proofs.Fractions.{common-positive}
-use Rattle.fraction.proofs.Bounds.{fraction-told, fraction-value}
+use Rattle.fraction.proofs.Bounds.{fraction-told, fraction-wide}
 use Rattle.unity_table.specs.declared.Weights.{Weights}
 use Rattle.unity_table.specs.declared.Summed.{Summed}
-use Rattle.unity_table.specs.Unity.{election_limit, shares, out_of_range, too_wide, weights_fault, Fault, deciding_fault, summary, refused_unity, unity_of}
-use Rattle.unity_table.specs.Summed.{running, summed, summed_of, accepted_unity}
+use Rattle.unity_table.specs.declared.RowFault.{RowFault}
+use Rattle.unity_table.specs.Unity.{election_limit, shares, out_of_range, too_wide, weights_fault, Fault, deciding_fault, summary, refused_unity, unity_of, fault_of, answer_told}
+use Rattle.unity_table.specs.Summed.{running, summed, Open, united_answer}
 use Rattle.unity_table.proofs.Faults.{no_fault, stays, table-ends}
-use Rattle.unity_table.proofs.Sums.{shares-positive, passes, passed, state-faulty, open-summed}
+use Rattle.unity_table.proofs.Sums.{shares-positive, passes, passed, running-stays}
 
 -- the mean's denominator does not fit
 abbrev pub late-row : List Weights → Bool
@@ -62,83 +66,87 @@ late-none = refl
 pub last-decides : (l : List Weights) → (running l).number ≡ 0 → deciding_fault weights_fault [] l ≡ cond (late-row l) (record { number = 17; row = length l }) no_fault
 last-decides l z = table-ends weights_fault late-row fault-last late-none l z
 
+-- the mean's numerator is no greater than the sum's
+pub mean-small : (l : List Fraction) → (mean l).numerator ≤ (sum_of l).numerator
+unfolding mean lowest_terms
+mean-small [] = omega arith
+mean-small (f ∷ l) = div-le_self (sum_of (f ∷ l)).numerator (gcd (sum_of (f ∷ l)).numerator ((sum_of (f ∷ l)).denominator * length (f ∷ l)))
+
 none_is : (m : List Fraction) → length m ≡ 0 → m ≡ []
 none_is [] h = refl
 none_is (f ∷ m) h = absurd (omega arith)
 
-module _ (s : Summed) (l : List Weights) (e : s ≡ summed_of l) where
-  pub end_refused : s.number ≢ 0 → refused_unity (record { number = s.number; row = s.row }) ≡ unity_of l
-  unfolding unity_of
-  end_refused n =
-      let g = state-faulty s l e n in
-      let f : deciding_fault weights_fault [] l ≡ record { number = s.number; row = s.row } = stays weights_fault fault-stays [] l (λ z. n (sym (ap (λ (x : Fault). x.number) g) ∙ z)) ∙ g in
-      rw (f, ne_eqb s.number 0 n)
+module _ (s : Summed) (l : List Weights) (o : Open s l) where
+  end-divisor : 0 < s.sum.denominator
+  unfolding summed sum_of
+  end-divisor = rw o.is (common-positive (shares l) (shares-positive l))
 
-  module _ (z : s.number ≡ 0) where
-    end-accepts : late-row l ≡ false → accepted_unity s (mean (shares l)) ≡ unity_of l
-    unfolding unity_of summary summed
-    end-accepts h =
-        let o = open-summed s l e z in
-        let f : deciding_fault weights_fault [] l ≡ no_fault = last-decides l o.none ∙ rw h in
-        rw f (ap (λ (x : Summed). accepted_unity x (mean (shares l))) o.is)
+  -- what the code divides
+  pub end-divided : s.entered ≢ 0 → (0 < s.sum.denominator) × (0 < s.entered)
+  end-divided some = (end-divisor, omega (arith, some))
 
-    -- no share entered
-    pub end_none : s.entered ≡ 0 → accepted_unity s s.least ≡ unity_of l
-    unfolding summed mean least_fraction
-    end_none n =
-        let o = open-summed s l e z in
-        let g : length (shares l) ≡ 0 = sym (ap (λ (x : Summed). x.entered) o.is) ∙ n in
-        let m = none_is (shares l) g in
-        let a : mean (shares l) ≡ zero_fraction = rw m in
-        let b : s.least ≡ zero_fraction = ap (λ (x : Summed). x.least) o.is ∙ rw m in
-        ap (accepted_unity s) (b ∙ sym a) ∙ end-accepts (rw a)
+  mean-some : (m : List Fraction) → length m ≢ 0 → mean m ≡ lowest_terms (sum_of m).numerator ((sum_of m).denominator * length m)
+  unfolding mean
+  mean-some [] n = absurd (n refl)
+  mean-some (f ∷ m) n = refl
 
-    module _ (some : s.entered ≢ 0) where
-      pub end-divisor : 0 < s.sum.denominator
-      unfolding summed sum_of
-      end-divisor = rw (open-summed s l e z).is (common-positive (shares l) (shares-positive l))
+  pub mean-divided : s.entered ≢ 0 → {r : Option Fraction} → r ≡ bounded_fraction (lowest_terms s.sum.numerator (s.sum.denominator * s.entered)) → r ≡ bounded_fraction (mean (shares l))
+  unfolding summed
+  mean-divided some q =
+      q
+      ∙ ap (λ (x : Summed). bounded_fraction (lowest_terms x.sum.numerator (x.sum.denominator * x.entered))) o.is
+      ∙ ap bounded_fraction (sym (mean-some (shares l) (λ n. some (ap (λ (x : Summed). x.entered) o.is ∙ n))))
 
-      pub end-count : 0 < s.entered
-      end-count = omega (arith, some)
+  -- no share entered
+  pub mean_none : s.entered ≡ 0 → Some s.least ≡ bounded_fraction (mean (shares l))
+  unfolding summed mean least_fraction bounded_fraction
+  mean_none n =
+      let g : length (shares l) ≡ 0 = sym (ap (λ (x : Summed). x.entered) o.is) ∙ n in
+      let m = none_is (shares l) g in
+      let b : s.least ≡ zero_fraction = ap (λ (x : Summed). x.least) o.is ∙ rw m in
+      rw (m, b)
 
-      abbrev divided : Fraction
-      divided = lowest_terms s.sum.numerator (s.sum.denominator * s.entered)
+  -- the numerator is no greater than the sum's
+  numerator-fits : fits64 (mean (shares l)).numerator ≡ true
+  numerator-fits =
+      let n = ltb-true (sum_of (shares l)).numerator limit64 (passed l o.none).numerator in
+      let d = mean-small (shares l) in
+      lt-ltb (mean (shares l)).numerator limit64 (omega arith)
 
-      mean-some : (m : List Fraction) → length m ≢ 0 → mean m ≡ lowest_terms (sum_of m).numerator ((sum_of m).denominator * length m)
-      unfolding mean
-      mean-some [] n = absurd (n refl)
-      mean-some (f ∷ m) n = refl
+  end-wide : None ≡ bounded_fraction (mean (shares l)) → (wide : RowFault) → fault_of wide ≡ record { number = 17; row = s.rows } → answer_told (Err wide) ≡ unity_of l
+  unfolding unity_of summed
+  end-wide e wide f =
+      let m = numerator-fits in
+      let w : (fits64 (mean (shares l)).denominator && fits64 (mean (shares l)).numerator) ≡ false = fraction-wide (mean (shares l)) e in
+      let d : fits64 (mean (shares l)).denominator ≡ false = sym (and-true (fits64 (mean (shares l)).denominator)) ∙ (rw m at w) in
+      let h : late-row l ≡ true = rw d in
+      let g : deciding_fault weights_fault [] l ≡ record { number = 17; row = length l } = last-decides l o.none ∙ rw h in
+      ap refused_unity f ∙ rw g (ap (λ (x : Summed). refused_unity (record { number = 17; row = x.rows })) o.is)
 
-      mean-is : mean (shares l) ≡ divided
-      unfolding summed
-      mean-is =
-          let i = (open-summed s l e z).is in
-          mean-some (shares l) (λ q. some (ap (λ (x : Summed). x.entered) i ∙ q)) ∙ sym (ap (λ (x : Summed). lowest_terms x.sum.numerator (x.sum.denominator * x.entered)) i)
+  end-mean : (m : Fraction) → Some m ≡ bounded_fraction (mean (shares l)) → answer_told (Ok (united_answer s m)) ≡ unity_of l
+  unfolding unity_of summary summed
+  end-mean m e =
+      let w = fraction-told (mean (shares l)) m e in
+      let d = and_l (fits64 (mean (shares l)).denominator) (fits64 (mean (shares l)).numerator) w.fits in
+      let h : late-row l ≡ false = rw d in
+      let f : deciding_fault weights_fault [] l ≡ no_fault = last-decides l o.none ∙ rw h in
+      rw f (ap (λ (x : Fraction). answer_told (Ok (united_answer s x))) w.value ∙ ap (λ (x : Summed). answer_told (Ok (united_answer x (mean (shares l))))) o.is)
 
-      -- the numerator is no greater than the sum's
-      numerator-fits : fits64 divided.numerator ≡ true
-      unfolding lowest_terms summed
-      numerator-fits =
-          let i = (open-summed s l e z).is in
-          let n = ltb-true (sum_of (shares l)).numerator limit64 (passed l (open-summed s l e z).none).numerator in
-          let q : s.sum.numerator ≡ (sum_of (shares l)).numerator = ap (λ (x : Summed). x.sum.numerator) i in
-          let d = div-le_self s.sum.numerator (gcd s.sum.numerator (s.sum.denominator * s.entered)) in
-          lt-ltb (s.sum.numerator / gcd s.sum.numerator (s.sum.denominator * s.entered)) limit64 (omega arith)
+  -- the mean, or that it does not fit
+  module _ (wide : RowFault) (f : fault_of wide ≡ record { number = 17; row = s.rows }) where
+    pub end-refused : (m : Option Fraction) → m ≡ bounded_fraction (mean (shares l)) → {r : RowFault} → ok_or m wide ≡ Err r → answer_told (Err r) ≡ unity_of l
+    end-refused None e {r = r} q = let w : wide ≡ r = cc in ap (λ (x : RowFault). answer_told (Err x)) (sym w) ∙ end-wide e wide f
+    end-refused (Some m) e q = cc
 
-      module _ (r : BoundedFraction) (h : r ≡ bounded_fraction divided) where
-        told : r.fits ≡ fits64 divided.denominator
-        told = fraction-told divided r h ∙ rw (numerator-fits, and-true)
+    pub end-accepted : (m : Option Fraction) → m ≡ bounded_fraction (mean (shares l)) → {v : Fraction} → ok_or m wide ≡ Ok v → answer_told (Ok (united_answer s v)) ≡ unity_of l
+    end-accepted None e q = cc
+    end-accepted (Some m) e {v = v} q = let w : m ≡ v = cc in ap (λ (x : Fraction). answer_told (Ok (united_answer s x))) (sym w) ∙ end-mean m e
 
-        pub end-wide : r.fits ≡ false → refused_unity (record { number = 17; row = s.row }) ≡ unity_of l
-        unfolding unity_of summed
-        end-wide t =
-            let o = open-summed s l e z in
-            let d : fits64 divided.denominator ≡ false = sym told ∙ t in
-            let w : late-row l ≡ true = rw (mean-is, d) in
-            let f : deciding_fault weights_fault [] l ≡ record { number = 17; row = length l } = last-decides l o.none ∙ rw w in
-            rw f (ap (λ (x : Summed). refused_unity (record { number = 17; row = x.row })) o.is)
-
-        pub end-mean : r.fits ≡ true → accepted_unity s r.fraction ≡ unity_of l
-        end-mean t =
-            let d : fits64 divided.denominator ≡ true = sym told ∙ t in
-            ap (accepted_unity s) (fraction-value divided r h t ∙ sym mean-is) ∙ end-accepts (rw (mean-is, d))
+-- a table whose first rows have a fault, whatever follows
+pub table-refused : (l m : List Weights) (f : RowFault) → running l ≡ fault_of f → answer_told (Err f) ≡ unity_of (l ++ m)
+unfolding unity_of
+table-refused l m f e =
+    let n : (running l).number ≢ 0 = λ z. number-positive f.refusal (sym (ap (λ (x : Fault). x.number) e) ∙ z) in
+    let r = running-stays l m n in
+    let g : deciding_fault weights_fault [] (l ++ m) ≡ fault_of f = stays weights_fault fault-stays [] (l ++ m) (λ z. n (sym (ap (λ (x : Fault). x.number) r) ∙ z)) ∙ r ∙ e in
+    rw (g, ne_eqb (number f.refusal) 0 (number-positive f.refusal))

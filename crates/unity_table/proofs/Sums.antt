@@ -2,13 +2,14 @@
 use mathlib.Core.Path.{◌≡◌, refl, ap, sym, ◌∙◌}
 use mathlib.Core.Bool.{Bool, true, false, not, ◌&&◌, ◌||◌, cond}
 use mathlib.Core.Logic.{◌≢◌}
-use mathlib.Core.List.{List, [], ◌∷◌, ◌++◌, map-append, append-nil}
+use mathlib.Core.List.{List, [], ◌∷◌, ◌++◌, map-append, append_assoc, append-nil}
 use Prim.Native.Nat.{ℕ, suc, ◌+◌, ◌*◌, ◌≤◌, ◌<◌}
 use native.Mathlib.Omega.{arith}
 use native.Mathlib.Nat.{div-le_self}
 use borrow.Author.Tests.{eqb-true, eqb-false, eq-eqb, ne_eqb, ltb-false, le-ltb, leb-true, leb-false, le-leb, lt-leb}
 use lib.Dec.{eqb, ltb, leb}
 use lib.ListN.{length, length-append, length-map}
+use Rattle.std.specs.Option.{ok_or}
 use Rattle.lists.specs.Lists.{filter}
 use Rattle.lists.proofs.Lists.{by, and_l, and_r, or-no-l, or-no-r}
 use Rattle.lists.proofs.Front.{filter-append, filter-length}
@@ -21,8 +22,9 @@ use Rattle.fraction.proofs.Reordered.{Reduced, reduced-positive}
 use Rattle.fraction.proofs.Extremes.{least_more, greatest-fraction-more}
 use Rattle.unity_table.specs.declared.Weights.{Weights}
 use Rattle.unity_table.specs.declared.Summed.{Summed}
-use Rattle.unity_table.specs.Unity.{election_limit, total_limit, is_empty, is_won, share_of, shares, out_of_range, too_wide, weights_fault, Fault, count_by}
-use Rattle.unity_table.specs.Summed.{running, summed, stopped_at, summed_of, WithinTotals, Room, with_empty, with_sum, with_share}
+use Rattle.unity_table.specs.declared.RowFault.{RowFault}
+use Rattle.unity_table.specs.Unity.{election_limit, total_limit, is_empty, is_won, share_of, shares, out_of_range, too_wide, weights_fault, Fault, deciding_fault, count_by, fault_of}
+use Rattle.unity_table.specs.Summed.{running, summed, Open, WithinTotals, Room, with_empty, with_sum, with_share, SummedTo}
 use Rattle.unity_table.proofs.Faults.{no_fault, fault_at, running_more, running-keeps}
 
 -- how many pass a test, of one answer more
@@ -167,139 +169,117 @@ passed-more above a p z =
 pub passed : (l : List Weights) → (running l).number ≡ 0 → Passed l
 passed l z = running-keeps (λ above a. weights_fault above a false) Passed passed-more [] l passed_none z
 
--- a state without fault is that of its rows
-pub record Open (s : Summed) (l : List Weights) : Type 0 where
-  pub none : (running l).number ≡ 0
-  pub is : s ≡ summed l
-
-pub open-summed : (s : Summed) (l : List Weights) → s ≡ summed_of l → s.number ≡ 0 → Open s l
-unfolding summed_of
-open-summed s l e z =
-    by (eqb (running l).number 0)
-    (λ (h : eqb (running l).number 0 ≡ true). record { none = eqb-true (running l).number 0 h; is = rw h at e })
-    (λ (h : eqb (running l).number 0 ≡ false). absurd (eqb-false (running l).number 0 h (let q : s ≡ stopped_at (running l).number (running l).row = rw h at e in sym (ap (λ (x : Summed). x.number) q) ∙ z)))
-
--- a state with a fault has that of its rows
-pub state-faulty : (s : Summed) (l : List Weights) → s ≡ summed_of l → s.number ≢ 0 → running l ≡ record { number = s.number; row = s.row }
-unfolding summed_of summed
-state-faulty s l e n =
-    by (eqb (running l).number 0)
-    (λ (h : eqb (running l).number 0 ≡ true). absurd (n (let q : s ≡ summed l = rw h at e in ap (λ (x : Summed). x.number) q)))
-    (λ (h : eqb (running l).number 0 ≡ false). let q : s ≡ stopped_at (running l).number (running l).row = rw h at e in sym (ap (λ (x : Summed). record { number = x.number; row = x.row }) q))
-
 -- one row more
 pub running-row : (l : List Weights) (a : Weights) → (running l).number ≡ 0 → running (l ++ (a ∷ [])) ≡ fault_at (weights_fault l a false) (length l)
 running-row l a z = running_more (λ above a. weights_fault above a false) [] l a ∙ rw (eq-eqb (running l).number 0 z)
 
-module _ (s : Summed) (l : List Weights) (a : Weights) (e : s ≡ summed_of l) where
-  -- after a faulty row nothing changes
-  pub answer-after : s.number ≢ 0 → s ≡ summed_of (l ++ (a ∷ []))
-  unfolding summed_of
-  answer-after n =
-      let g = state-faulty s l e n in
-      let q : eqb (running l).number 0 ≡ false = ne_eqb (running l).number 0 (λ z. n (sym (ap (λ (x : Fault). x.number) g) ∙ z)) in
-      let r : running (l ++ (a ∷ [])) ≡ running l = running_more (λ above a. weights_fault above a false) [] l a ∙ rw q in
-      rw (r, q) (rw q at e)
+-- after a faulty row nothing changes
+pub running-stays : (l m : List Weights) → (running l).number ≢ 0 → running (l ++ m) ≡ running l
+running-stays l [] n = rw (append-nil l)
+running-stays l (a ∷ m) n =
+    let r : running (l ++ (a ∷ [])) ≡ running l = running_more (λ above a. weights_fault above a false) [] l a ∙ rw (ne_eqb (running l).number 0 n) in
+    ap running (sym (append_assoc l (a ∷ []) m)) ∙ running-stays (l ++ (a ∷ [])) m (λ z. n (sym (ap (λ (f : Fault). f.number) r) ∙ z)) ∙ r
 
-  module _ (z : s.number ≡ 0) where
-    pub weights-row-is : s.row ≡ length l
-    unfolding summed
-    weights-row-is = ap (λ (x : Summed). x.row) (open-summed s l e z).is
+-- the state after no rows
+pub open-none : {s : Summed} → s ≡ summed [] → Open s []
+unfolding deciding_fault
+open-none e = record { none = refl; is = e }
 
-    pub row-few : s.row ≤ election_limit
-    row-few = let q = weights-row-is in let p = (passed l (open-summed s l e z).none).few in omega arith
+module _ (s : Summed) (l : List Weights) (a : Weights) (o : Open s l) where
+  pub weights-row-is : s.rows ≡ length l
+  unfolding summed
+  weights-row-is = ap (λ (x : Summed). x.rows) o.is
 
-    -- a faulty row
-    answer-stops : (number : ℕ) → weights_fault l a false ≡ number → number ≢ 0 → stopped_at number (s.row + 1) ≡ summed_of (l ++ (a ∷ []))
-    unfolding summed_of
-    answer-stops number f n =
-        let r : running (l ++ (a ∷ [])) ≡ record { number = number; row = suc (length l) } = running-row l a (open-summed s l e z).none ∙ rw (f, ne_eqb number 0 n) in
-        let q : s.row + 1 ≡ suc (length l) = let p = weights-row-is in omega arith in
-        rw (r, ne_eqb number 0 n, q)
+  pub row-few : s.rows ≤ election_limit
+  row-few = let q = weights-row-is in let p = (passed l o.none).few in omega arith
 
-    pub answer-range : out_of_range a ≡ true → stopped_at 2 (s.row + 1) ≡ summed_of (l ++ (a ∷ []))
-    answer-range h = answer-stops 2 (fault-range l a h) (λ q. omega arith)
+  -- a faulty row
+  answer-stops : (number : ℕ) → weights_fault l a false ≡ number → number ≢ 0 → running (l ++ (a ∷ [])) ≡ record { number = number; row = s.rows + 1 }
+  answer-stops number f n =
+      let q : suc (length l) ≡ s.rows + 1 = let p = weights-row-is in omega arith in
+      running-row l a o.none ∙ rw (f, ne_eqb number 0 n, q)
 
-    module _ (h : out_of_range a ≡ false) where
-      pub answer-place : election_limit ≤ s.row → stopped_at 3 (s.row + 1) ≡ summed_of (l ++ (a ∷ []))
-      answer-place p = let q = weights-row-is in answer-stops 3 (fault-place l a h (omega arith)) (λ q. omega arith)
+  pub answer-range : out_of_range a ≡ true → running (l ++ (a ∷ [])) ≡ record { number = 2; row = s.rows + 1 }
+  answer-range h = answer-stops 2 (fault-range l a h) (λ q. omega arith)
 
-      module _ (p : s.row < election_limit) where
-        -- there is room for it
-        pub answer-room : Room s
-        unfolding summed count_by sum_of
-        answer-room =
-            let o = open-summed s l e z in
-            let k = passed l o.none in
-            let i = o.is in
-            record {
-              row = p;
-              entered = rw i (shares-few l);
-              won = rw i (filter-length is_won l);
-              empty = rw i (filter-length is_empty l);
-              divisor = rw i (common-positive (shares l) (shares-positive l));
-              least = rw i k.least;
-              greatest = rw i k.greatest;
-            }
+  module _ (h : out_of_range a ≡ false) where
+    pub answer-place : election_limit ≤ s.rows → running (l ++ (a ∷ [])) ≡ record { number = 3; row = s.rows + 1 }
+    answer-place p = let q = weights-row-is in answer-stops 3 (fault-place l a h (omega arith)) (λ q. omega arith)
 
-        -- a row without fault
-        answer-adds : weights_fault l a false ≡ 0 → summed (l ++ (a ∷ [])) ≡ summed_of (l ++ (a ∷ []))
-        unfolding summed_of
-        answer-adds f =
-            let r : running (l ++ (a ∷ [])) ≡ no_fault = running-row l a (open-summed s l e z).none ∙ rw f in
-            rw r
+    module _ (p : s.rows < election_limit) where
+      -- there is room for it
+      pub answer-room : Room s
+      unfolding summed count_by sum_of
+      answer-room =
+          let k = passed l o.none in
+          let i = o.is in
+          record {
+            rows = p;
+            entered = rw i (shares-few l);
+            won = rw i (filter-length is_won l);
+            empty = rw i (filter-length is_empty l);
+            divisor = rw i (common-positive (shares l) (shares-positive l));
+            least = rw i k.least;
+            greatest = rw i k.greatest;
+          }
 
-        row_next : length l + 1 ≡ length (l ++ (a ∷ []))
-        row_next = sym (length-append l (a ∷ []))
+      -- a row without fault
+      answer-adds : weights_fault l a false ≡ 0 → {r : Summed} → r ≡ summed (l ++ (a ∷ [])) → Open r (l ++ (a ∷ []))
+      answer-adds f e =
+          let r : running (l ++ (a ∷ [])) ≡ no_fault = running-row l a o.none ∙ rw f in
+          record { none = ap (λ (x : Fault). x.number) r; is = e }
 
-        pub answer-empty : a.total ≡ 0 → with_empty s ≡ summed_of (l ++ (a ∷ []))
+      row_next : length l + 1 ≡ length (l ++ (a ∷ []))
+      row_next = sym (length-append l (a ∷ []))
+
+      pub answer-empty : a.total ≡ 0 → Open (with_empty s) (l ++ (a ∷ []))
+      unfolding summed
+      answer-empty t =
+          let k = passed l o.none in
+          let i = o.is in
+          let q = shares-empty l a t in
+          let g = in-range a h in
+          let w : is_won a ≡ false = le-ltb a.total (2 * a.greatest) (let x = g.together in omega arith) in
+          let won : count_by is_won l ≡ count_by is_won (l ++ (a ∷ [])) = sym (count-more is_won l a ∙ rw w (omega arith)) in
+          let empty : count_by is_empty l + 1 ≡ count_by is_empty (l ++ (a ∷ [])) = sym (count-more is_empty l a ∙ rw (eq-eqb a.total 0 t)) in
+          let f : weights_fault l a false ≡ 0 = fault-none l a h (let n = weights-row-is in omega arith) (rw q k.denominator) (rw q k.numerator) in
+          answer-adds f (rw i (rw (won, empty, row_next, ← q)))
+
+      module _ (t : 0 < a.total) where
+        -- what the code adds
+        abbrev added : Fraction
+        added = plus s.sum (share_of a)
+
+        sum-next : sum_of (shares (l ++ (a ∷ []))) ≡ added
         unfolding summed
-        answer-empty t =
-            let o = open-summed s l e z in
-            let k = passed l o.none in
+        sum-next =
             let i = o.is in
-            let q = shares-empty l a t in
-            let g = in-range a h in
-            let w : is_won a ≡ false = le-ltb a.total (2 * a.greatest) (let x = g.together in omega arith) in
-            let won : count_by is_won l ≡ count_by is_won (l ++ (a ∷ [])) = sym (count-more is_won l a ∙ rw w (omega arith)) in
-            let empty : count_by is_empty l + 1 ≡ count_by is_empty (l ++ (a ∷ [])) = sym (count-more is_empty l a ∙ rw (eq-eqb a.total 0 t)) in
-            let f : weights_fault l a false ≡ 0 = fault-none l a h (let n = weights-row-is in omega arith) (rw q k.denominator) (rw q k.numerator) in
-            rw i (rw (won, empty, row_next, ← q) (answer-adds f))
+            rw (shares-more l a t, i) (sum_more (shares l) (share_of a) (shares-positive l) (lowest-positive a.greatest a.total t))
 
-        module _ (t : 0 < a.total) where
-          -- what the code adds
-          abbrev added : Fraction
-          added = plus s.sum (share_of a)
+        -- the state with it, field by field
+        with-sum-is : with_sum s a (share_of a) added ≡ summed (l ++ (a ∷ []))
+        unfolding summed
+        with-sum-is =
+            let q = shares-more l a t in
+            let i = o.is in
+            let sum : added ≡ sum_of (shares (l ++ (a ∷ []))) = sym sum-next in
+            let lower : cond (eqb (length (shares l)) 0 || is_below (share_of a) (least_fraction (shares l))) (share_of a) (least_fraction (shares l)) ≡ least_fraction (shares (l ++ (a ∷ []))) = rw q (sym (least_more (shares l) (share_of a))) in
+            let higher : cond (eqb (length (shares l)) 0 || is_below (greatest_fraction (shares l)) (share_of a)) (share_of a) (greatest_fraction (shares l)) ≡ greatest_fraction (shares (l ++ (a ∷ []))) = rw q (sym (greatest-fraction-more (shares l) (share_of a))) in
+            let entered : length (shares l) + 1 ≡ length (shares (l ++ (a ∷ []))) = rw q (sym (length-append (shares l) (share_of a ∷ []))) in
+            let won = sym (count-more is_won l a) in
+            let empty : count_by is_empty l ≡ count_by is_empty (l ++ (a ∷ [])) = sym (count-more is_empty l a ∙ rw (ne_eqb a.total 0 (λ x. omega arith)) (omega arith)) in
+            ap (λ (x : Summed). with_sum x a (share_of a) added) i
+            ∙ (λ j. record { rows = row_next j; sum = sum j; least = lower j; greatest = higher j; entered = entered j; won = won j; empty = empty j })
 
-          sum-next : sum_of (shares (l ++ (a ∷ []))) ≡ added
-          unfolding summed
-          sum-next =
-              let i = (open-summed s l e z).is in
-              rw (shares-more l a t, i) (sum_more (shares l) (share_of a) (shares-positive l) (lowest-positive a.greatest a.total t))
-
-          -- the state with it, field by field
-          with-sum-is : with_sum s a (share_of a) added ≡ summed (l ++ (a ∷ []))
-          unfolding summed
-          with-sum-is =
-              let q = shares-more l a t in
-              let i = (open-summed s l e z).is in
-              let sum : added ≡ sum_of (shares (l ++ (a ∷ []))) = sym sum-next in
-              let lower : cond (eqb (length (shares l)) 0 || is_below (share_of a) (least_fraction (shares l))) (share_of a) (least_fraction (shares l)) ≡ least_fraction (shares (l ++ (a ∷ []))) = rw q (sym (least_more (shares l) (share_of a))) in
-              let higher : cond (eqb (length (shares l)) 0 || is_below (greatest_fraction (shares l)) (share_of a)) (share_of a) (greatest_fraction (shares l)) ≡ greatest_fraction (shares (l ++ (a ∷ []))) = rw q (sym (greatest-fraction-more (shares l) (share_of a))) in
-              let entered : length (shares l) + 1 ≡ length (shares (l ++ (a ∷ []))) = rw q (sym (length-append (shares l) (share_of a ∷ []))) in
-              let won = sym (count-more is_won l a) in
-              let empty : count_by is_empty l ≡ count_by is_empty (l ++ (a ∷ [])) = sym (count-more is_empty l a ∙ rw (ne_eqb a.total 0 (λ x. omega arith)) (omega arith)) in
-              ap (λ (x : Summed). with_sum x a (share_of a) added) i
-              ∙ (λ j. record { number = 0; row = row_next j; sum = sum j; least = lower j; greatest = higher j; entered = entered j; won = won j; empty = empty j })
-
-          pub answer-share : with_share s a ≡ summed_of (l ++ (a ∷ []))
-          unfolding with_share
-          answer-share =
-              let m = sum-next in
-              let few : length l < election_limit = let n = weights-row-is in omega arith in
-              by (fits64 added.denominator && fits64 added.numerator)
-              (λ (w : (fits64 added.denominator && fits64 added.numerator) ≡ true).
-              let d = and_l (fits64 added.denominator) (fits64 added.numerator) w in
-              let n = and_r (fits64 added.denominator) (fits64 added.numerator) w in
-              rw w (with-sum-is ∙ answer-adds (fault-none l a h few (rw m d) (rw m n))))
-              (λ (w : (fits64 added.denominator && fits64 added.numerator) ≡ false). rw w (answer-stops 17 (fault-wide l a h few (rw m w)) (λ q. omega arith)))
+        -- the state with it, or that its sum does not fit
+        pub answer-share : (wide : RowFault) → fault_of wide ≡ record { number = 17; row = s.rows + 1 } → SummedTo (l ++ (a ∷ [])) (ok_or (with_share s a) wide)
+        unfolding with_share
+        answer-share wide f =
+            let m = sum-next in
+            let few : length l < election_limit = let n = weights-row-is in omega arith in
+            by (fits64 added.denominator && fits64 added.numerator)
+            (λ (w : (fits64 added.denominator && fits64 added.numerator) ≡ true).
+            let d = and_l (fits64 added.denominator) (fits64 added.numerator) w in
+            let n = and_r (fits64 added.denominator) (fits64 added.numerator) w in
+            rw w (answer-adds (fault-none l a h few (rw m d) (rw m n)) with-sum-is))
+            (λ (w : (fits64 added.denominator && fits64 added.numerator) ≡ false). rw w (answer-stops 17 (fault-wide l a h few (rw m w)) (λ q. omega arith) ∙ sym f))

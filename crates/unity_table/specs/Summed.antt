@@ -1,12 +1,13 @@
 -- Inner: the answers so far as the code holds them, one by one; Unity.antt says what is answered. Assumes nothing.
-use Rattle.std.specs.Prelude.{◌≡◌, Bool, false, cond, ◌&&◌, ◌||◌, List, [], ◌∷◌, ◌++◌, ℕ, ◌+◌, ◌≤◌, ◌<◌, eqb, length}
+use Rattle.std.specs.Prelude.{◌≡◌, Bool, false, cond, ◌&&◌, ◌||◌, List, [], ◌∷◌, ◌++◌, ℕ, ◌+◌, ◌≤◌, ◌<◌, eqb, length, Option, Some, None, Result, Ok, Err}
 use Rattle.fraction.specs.declared.Fraction.{Fraction}
-use Rattle.fraction.specs.Fraction.{sum_of, no_fraction, is_below, least_fraction, greatest_fraction}
-use Rattle.fraction.specs.Bounded.{fits64, plus}
+use Rattle.fraction.specs.Fraction.{sum_of, mean, is_below, least_fraction, greatest_fraction}
+use Rattle.fraction.specs.Bounded.{fits64, plus, bounded_fraction}
 use Rattle.unity_table.specs.declared.Weights.{Weights}
 use Rattle.unity_table.specs.declared.Summed.{Summed}
 use Rattle.unity_table.specs.declared.Unity.{Unity}
-use Rattle.unity_table.specs.Unity.{election_limit, total_limit, is_empty, is_won, share_of, shares, weights_fault, Fault, deciding_fault, count_by, unity_of}
+use Rattle.unity_table.specs.declared.RowFault.{RowFault}
+use Rattle.unity_table.specs.Unity.{election_limit, total_limit, is_empty, is_won, share_of, shares, weights_fault, Fault, deciding_fault, count_by, unity_of, fault_of, answer_told}
 
 -- no row is taken for the last one
 abbrev pub running_fault : List Weights → Weights → Bool → ℕ
@@ -17,25 +18,32 @@ running l = deciding_fault running_fault [] l
 
 unfoldable pub summed : List Weights → Summed
 summed l =
-    record { number = 0; row = length l; sum = sum_of (shares l); least = least_fraction (shares l); greatest = greatest_fraction (shares l); entered = length (shares l); won = count_by is_won l; empty = count_by is_empty l }
+    record { rows = length l; sum = sum_of (shares l); least = least_fraction (shares l); greatest = greatest_fraction (shares l); entered = length (shares l); won = count_by is_won l; empty = count_by is_empty l }
 
-abbrev pub stopped_at : ℕ → ℕ → Summed
-stopped_at number row = record { number = number; row = row; sum = no_fraction; least = no_fraction; greatest = no_fraction; entered = 0; won = 0; empty = 0 }
-
-unfoldable pub summed_of : List Weights → Summed
-summed_of l = cond (eqb (running l).number 0) (summed l) (stopped_at (running l).number (running l).row)
+-- the state after rows without fault
+pub record Open (s : Summed) (l : List Weights) : Type 0 where
+  pub none : (running l).number ≡ 0
+  pub is : s ≡ summed l
 
 -- what some answers left
 pub record Left (s : Summed) : Type 0 where
   pub answers : List Weights
-  pub is : s ≡ summed_of answers
+  pub after : Open s answers
 
--- what an answer more has to leave, and what all of them come to
-abbrev pub Adds : Summed → Weights → Summed → Type 0
-Adds s a r = (l : List Weights) → s ≡ summed_of l → r ≡ summed_of (l ++ (a ∷ []))
+-- what some answers come to so far: their state, or their first fault
+abbrev pub SummedTo : List Weights → Result Summed RowFault → Type 0
+SummedTo l (Ok s) = Open s l
+SummedTo l (Err f) = running l ≡ fault_of f
 
-abbrev pub Ends : Summed → Unity → Type 0
-Ends s r = (l : List Weights) → s ≡ summed_of l → r ≡ unity_of l
+-- what an answer more has to leave, their mean, and what all of them come to
+abbrev pub Adds : Summed → Weights → Result Summed RowFault → Type 0
+Adds s a r = (l : List Weights) → Open s l → SummedTo (l ++ (a ∷ [])) r
+
+abbrev pub Means : Summed → Option Fraction → Type 0
+Means s r = (l : List Weights) → Open s l → r ≡ bounded_fraction (mean (shares l))
+
+abbrev pub Ends : Summed → Result Unity RowFault → Type 0
+Ends s r = (l : List Weights) → Open s l → answer_told r ≡ unity_of l
 
 -- the numbers of a share, which are at most those of its row
 pub record WithinTotals (f : Fraction) : Type 0 where
@@ -44,17 +52,17 @@ pub record WithinTotals (f : Fraction) : Type 0 where
 
 -- there is a place for one row more
 pub record Room (s : Summed) : Type 0 where
-  pub row : s.row < election_limit
-  pub entered : s.entered ≤ s.row
-  pub won : s.won ≤ s.row
-  pub empty : s.empty ≤ s.row
+  pub rows : s.rows < election_limit
+  pub entered : s.entered ≤ s.rows
+  pub won : s.won ≤ s.rows
+  pub empty : s.empty ≤ s.rows
   pub divisor : 0 < s.sum.denominator
   pub least : WithinTotals s.least
   pub greatest : WithinTotals s.greatest
 
 -- one row more, by the step that the code makes
 abbrev pub with_empty : Summed → Summed
-with_empty s = record { number = s.number; row = s.row + 1; sum = s.sum; least = s.least; greatest = s.greatest; entered = s.entered; won = s.won; empty = s.empty + 1 }
+with_empty s = record { rows = s.rows + 1; sum = s.sum; least = s.least; greatest = s.greatest; entered = s.entered; won = s.won; empty = s.empty + 1 }
 
 abbrev pub extreme : Summed → Bool → Fraction → Fraction → Fraction
 extreme s before known share = cond (eqb s.entered 0 || before) share known
@@ -62,8 +70,7 @@ extreme s before known share = cond (eqb s.entered 0 || before) share known
 abbrev pub with_sum : Summed → Weights → Fraction → Fraction → Summed
 with_sum s a share sum =
     record {
-      number = 0;
-      row = s.row + 1;
+      rows = s.rows + 1;
       sum = sum;
       least = extreme s (is_below share s.least) s.least share;
       greatest = extreme s (is_below s.greatest share) s.greatest share;
@@ -72,10 +79,10 @@ with_sum s a share sum =
       empty = s.empty;
     }
 
-unfoldable pub with_share : Summed → Weights → Summed
+unfoldable pub with_share : Summed → Weights → Option Summed
 with_share s a =
     let sum = plus s.sum (share_of a) in
-    cond (fits64 sum.denominator && fits64 sum.numerator) (with_sum s a (share_of a) sum) (stopped_at 17 (s.row + 1))
+    cond (fits64 sum.denominator && fits64 sum.numerator) (Some (with_sum s a (share_of a) sum)) None
 
-abbrev pub accepted_unity : Summed → Fraction → Unity
-accepted_unity s mean = record { number = 0; row = 0; mean = mean; least = s.least; greatest = s.greatest; won = s.won; empty = s.empty }
+abbrev pub united_answer : Summed → Fraction → Unity
+united_answer s m = record { mean = m; least = s.least; greatest = s.greatest; won = s.won; empty = s.empty }

@@ -1,13 +1,15 @@
 -- Document 02, A9: how united the benches are, from the answers of up to 200 elections. A share is the greatest group's part of the whole roll's weight, in the field's term its support.
 -- Whole numbers of any size. Assumes nothing.
-use Rattle.std.specs.Prelude.{◌≡◌, Bool, true, false, not, ◌&&◌, ◌||◌, cond, ◌≢◌, List, [], ◌∷◌, ◌++◌, map, ℕ, suc, ◌+◌, ◌*◌, leb, ltb, eqb, length, get_or}
+use Rattle.std.specs.Prelude.{◌≡◌, Bool, true, false, not, ◌&&◌, ◌||◌, cond, ◌≢◌, List, [], ◌∷◌, ◌++◌, map, ℕ, suc, ◌+◌, ◌*◌, leb, ltb, eqb, length, get_or, Result, Ok, Err}
 use Rattle.lists.specs.Lists.{filter}
 use Rattle.record_rows.specs.grounds.Ground.{◌given◌, ◌orelse◌}
 use Rattle.fraction.specs.declared.Fraction.{Fraction}
 use Rattle.fraction.specs.Fraction.{lowest_terms, sum_of, no_fraction, mean, least_fraction, greatest_fraction}
 use Rattle.fraction.specs.Bounded.{fits64}
 use Rattle.unity_table.specs.declared.Weights.{Weights}
+use Rattle.refusals.specs.Numbers.{number}
 use Rattle.unity_table.specs.declared.Unity.{Unity}
+use Rattle.unity_table.specs.declared.RowFault.{RowFault}
 
 -- a row of the lent table: greatest group, silent weight, total
 abbrev pub weights_of : List ℕ → Weights
@@ -79,15 +81,33 @@ pub record FirstFaulty {A : Type 0} (f : List A → A → Bool → ℕ) (l : Lis
 unfoldable pub count_by : (Weights → Bool) → List Weights → ℕ
 count_by p l = length (filter p l)
 
-unfoldable pub summary : List Weights → Unity
+-- what is answered: of a faulty table the number and the row, and every other part is 0
+pub record UnityAnswer : Type 0 where
+  pub number : ℕ
+  pub row : ℕ
+  pub mean : Fraction
+  pub least : Fraction
+  pub greatest : Fraction
+  pub won : ℕ
+  pub empty : ℕ
+
+unfoldable pub summary : List Weights → UnityAnswer
 summary l =
     record { number = 0; row = 0; mean = mean (shares l); least = least_fraction (shares l); greatest = greatest_fraction (shares l); won = count_by is_won l; empty = count_by is_empty l }
 
-abbrev pub refused_unity : Fault → Unity
+abbrev pub refused_unity : Fault → UnityAnswer
 refused_unity f = record { number = f.number; row = f.row; mean = no_fraction; least = no_fraction; greatest = no_fraction; won = 0; empty = 0 }
 
-abbrev pub unity_by : Fault → List Weights → Unity
+abbrev pub unity_by : Fault → List Weights → UnityAnswer
 unity_by f l = cond (eqb f.number 0) (summary l) (refused_unity f)
 
-unfoldable pub unity_of : List Weights → Unity
+unfoldable pub unity_of : List Weights → UnityAnswer
 unity_of l = unity_by (deciding_fault weights_fault [] l) l
+
+-- what the code answers
+abbrev pub fault_of : RowFault → Fault
+fault_of f = record { number = number f.refusal; row = f.row }
+
+abbrev pub answer_told : Result Unity RowFault → UnityAnswer
+answer_told (Ok u) = record { number = 0; row = 0; mean = u.mean; least = u.least; greatest = u.greatest; won = u.won; empty = u.empty }
+answer_told (Err f) = refused_unity (fault_of f)

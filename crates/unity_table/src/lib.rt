@@ -6,6 +6,7 @@ ghost use Rattle.unity_table.specs.Unity as unity;
 ghost use Rattle.unity_table.specs.Summed as held;
 
 use fraction::Fraction;
+use refusals::Refusal;
 
 const ELECTION_LIMIT: usize = 200;
 // Eight benches of the greatest weight.
@@ -19,13 +20,22 @@ pub struct Weights {
     pub total: u64,
 }
 
-// Number 0: mean, least and greatest share, how many elections are won, and how many have total 0. Any other: that of the refusal and the
-// faulty row, from 1; every other part is 0.
-#[repr(C)]
+impl From<[u32; 3]> for Weights {
+    ghost from_gives = { λ row weights. weights ≡ unity.weights_of row };
+
+    fn from(row: [u32; 3]) -> Weights {
+        let [greatest, silent, total] = row;
+        Weights {
+            greatest: u64::from(greatest),
+            silent: u64::from(silent),
+            total: u64::from(total),
+        }
+    }
+}
+
+// The mean, the least and the greatest share, how many elections are won, and how many have total 0.
 #[derive(Clone, Copy)]
 pub struct Unity {
-    pub number: u32,
-    pub row: usize,
     pub mean: Fraction,
     pub least: Fraction,
     pub greatest: Fraction,
@@ -33,12 +43,17 @@ pub struct Unity {
     pub empty: usize,
 }
 
-// The answers so far: how many, the sum of their shares over the least common denominator, and how many shares that are. After a faulty
-// row its number and the row are kept.
+// Why a table is refused: the ground of its first faulty row, and that row, from 1.
+#[derive(Clone, Copy)]
+pub struct RowFault {
+    pub refusal: Refusal,
+    pub row: usize,
+}
+
+// The answers so far: how many, the sum of their shares over the least common denominator, and how many shares that are.
 #[derive(Clone, Copy)]
 pub struct Summed {
-    pub number: u32,
-    pub row: usize,
+    pub rows: usize,
     pub sum: Fraction,
     pub least: Fraction,
     pub greatest: Fraction,
@@ -50,44 +65,18 @@ pub struct Summed {
 fn is_out_of_range(a: Weights) -> bool
     ensures { result ≡ unity.out_of_range a }
 {
-    if TOTAL_LIMIT < a.total {
-        return true;
-    }
-    if a.total < a.greatest {
-        return true;
-    }
-    a.total - a.greatest < a.silent
-}
-
-fn stopped(number: u32, row: usize) -> Summed
-    ensures { result ≡ held.stopped_at number row }
-{
-    let none = Fraction {
-        numerator: 0,
-        denominator: 0,
-    };
-    Summed {
-        number: number,
-        row: row,
-        sum: none,
-        least: none,
-        greatest: none,
-        entered: 0,
-        won: 0,
-        empty: 0,
-    }
+    TOTAL_LIMIT < a.total || a.total < a.greatest.saturating_add(a.silent)
 }
 
 pub fn nothing_summed() -> Summed
-    ensures { result ≡ held.summed_of [] }
+    ensures { held.Open result [] }
 {
     let zero = Fraction {
         numerator: 0,
         denominator: 1,
     };
     Summed {
-        number: 0,
-        row: 0,
+        rows: 0,
         sum: zero,
         least: zero,
         greatest: zero,
@@ -101,13 +90,7 @@ pub fn nothing_summed() -> Summed
 fn extreme(none: bool, before: bool, known: Fraction, share: Fraction) -> Fraction
     ensures { result ≡ cond (none || before) share known }
 {
-    if none {
-        return share;
-    }
-    if before {
-        return share;
-    }
-    known
+    if none || before { share } else { known }
 }
 
 // One election with total 0 more.
@@ -115,10 +98,11 @@ fn with_empty(s: Summed) -> Summed
     requires { held.Room s }
     ensures { result ≡ held.with_empty s }
 {
-    let mut r = s;
-    r.row = s.row + 1;
-    r.empty = s.empty + 1;
-    r
+    Summed {
+        rows: s.rows + 1,
+        empty: s.empty + 1,
+        ..s
+    }
 }
 
 // One election more whose share enters the sum.
@@ -127,18 +111,15 @@ fn with_sum(s: Summed, a: Weights, share: Fraction, sum: Fraction) -> Summed
     ensures { result ≡ held.with_sum s a share sum }
 {
     let none = s.entered == 0;
-    let known = s.least;
-    let lower = extreme(none, fraction::is_below(share, known), known, share);
-    let top = s.greatest;
-    let higher = extreme(none, fraction::is_below(top, share), top, share);
+    let lower = fraction::is_below(share, s.least);
+    let higher = fraction::is_below(s.greatest, share);
     Summed {
-        number: 0,
-        row: s.row + 1,
-        sum: sum,
-        least: lower,
-        greatest: higher,
+        rows: s.rows + 1,
+        sum,
+        least: extreme(none, lower, s.least, share),
+        greatest: extreme(none, higher, s.greatest, share),
         entered: s.entered + 1,
-        won: s.won + numbers::bit(a.total < 2 * a.greatest),
+        won: s.won + usize::from(a.total < 2 * a.greatest),
         empty: s.empty,
     }
 }
@@ -149,116 +130,81 @@ fn share_of(a: Weights) -> Fraction
     fraction::lowest_terms(a.greatest, a.total)
 }
 
-fn with_share(s: Summed, a: Weights) -> Summed
+// The same, where the sum fits.
+fn with_share(s: Summed, a: Weights) -> Option<Summed>
     requires { held.Room s × ((unity.out_of_range a ≡ false) × (0 < a.total)) }
     ensures { result ≡ held.with_share s a }
 {
     let share = share_of(a);
-    let before = s.sum;
-    let sum = fraction::plus(before, share);
-    if !sum.fits {
-        return stopped(17, s.row + 1);
-    }
-    let next = sum.fraction;
-    with_sum(s, a, share, next)
+    let sum = fraction::plus(s.sum, share)?;
+    Some(with_sum(s, a, share, sum))
 }
 
 // The answers so far with one more. Pub for `unity_text`, which hands them in line by line.
-pub fn with_answer(s: Summed, a: Weights) -> Summed
+pub fn with_answer(s: Summed, a: Weights) -> Result<Summed, RowFault>
     requires { held.Left s }
     ensures { held.Adds s a result }
 {
-    if s.number != 0 {
-        return s;
-    }
+    let row = s.rows + 1;
     if is_out_of_range(a) {
-        return stopped(2, s.row + 1);
+        return Err(RowFault {
+            refusal: Refusal::OutOfRange,
+            row,
+        });
     }
-    if ELECTION_LIMIT <= s.row {
-        return stopped(3, s.row + 1);
+    if ELECTION_LIMIT <= s.rows {
+        return Err(RowFault {
+            refusal: Refusal::NoPlace,
+            row,
+        });
     }
     if a.total == 0 {
-        return with_empty(s);
+        return Ok(with_empty(s));
     }
-    with_share(s, a)
-}
-
-// Pub for `unity_text`, whose lines may not be in form.
-pub fn refused(number: u32, row: usize) -> Unity
-    ensures { result ≡ unity.refused_unity (record { number = number; row = row }) }
-{
-    let none = Fraction {
-        numerator: 0,
-        denominator: 0,
+    let wide = RowFault {
+        refusal: Refusal::TooWide,
+        row,
     };
-    Unity {
-        number: number,
-        row: row,
-        mean: none,
-        least: none,
-        greatest: none,
-        won: 0,
-        empty: 0,
-    }
+    with_share(s, a).ok_or(wide)
 }
 
-fn accepted(s: Summed, mean: Fraction) -> Unity
-    ensures { result ≡ held.accepted_unity s mean }
+// The mean of the shares, where it fits. Of no shares the least one is 0/1, and so is the mean.
+fn mean_of(s: Summed) -> Option<Fraction>
+    requires { held.Left s }
+    ensures { held.Means s result }
 {
-    let least = s.least;
-    let greatest = s.greatest;
-    Unity {
-        number: 0,
-        row: 0,
-        mean: mean,
-        least: least,
-        greatest: greatest,
-        won: s.won,
-        empty: s.empty,
+    if s.entered == 0 {
+        return Some(s.least);
     }
+    fraction::divided(s.sum, s.entered as u64)
 }
 
 // What all the answers come to: the last one is known to be the last. Pub for `unity_text`.
-pub fn finished(s: Summed) -> Unity
+pub fn finished(s: Summed) -> Result<Unity, RowFault>
     requires { held.Left s }
     ensures { held.Ends s result }
 {
-    if s.number != 0 {
-        return refused(s.number, s.row);
-    }
-    let least = s.least;
-    if s.entered == 0 {
-        // Of no shares the least one is 0/1, and so is the mean.
-        return accepted(s, least);
-    }
-    let sum = s.sum;
-    let mean = fraction::divided(sum, s.entered as u64);
-    if !mean.fits {
-        return refused(17, s.row);
-    }
-    let whole = mean.fraction;
-    accepted(s, whole)
-}
-
-fn weights_of(row: [u32; 3]) -> Weights
-    ensures { result ≡ unity.weights_of row }
-{
-    Weights {
-        greatest: numbers::wide32(row[0]),
-        silent: numbers::wide32(row[1]),
-        total: numbers::wide32(row[2]),
-    }
+    let wide = RowFault {
+        refusal: Refusal::TooWide,
+        row: s.rows,
+    };
+    let mean = mean_of(s).ok_or(wide)?;
+    Ok(Unity {
+        mean,
+        least: s.least,
+        greatest: s.greatest,
+        won: s.won,
+        empty: s.empty,
+    })
 }
 
 // HOW UNITED the benches are, from a lent table of answers.
-pub fn unity_of(answers: &[[u32; 3]]) -> Unity
-    ensures { result ≡ unity.unity_of (map unity.weights_of answers.now) }
+pub fn unity_of(answers: &[[u32; 3]]) -> Result<Unity, RowFault>
+    ensures { unity.answer_told result ≡ unity.unity_of (map unity.weights_of answers.now) }
 {
-    let mut s = nothing_summed();
-    let mut i = 0;
-    while i < answers.len() {
-        s = with_answer(s, weights_of(answers[i]));
-        i += 1;
+    let mut summed = nothing_summed();
+    for row in answers {
+        summed = with_answer(summed, Weights::from(*row))?;
     }
-    finished(s)
+    finished(summed)
 }

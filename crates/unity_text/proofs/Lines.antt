@@ -1,7 +1,6 @@
 -- The laws of the loop over the lines of a text. Assumes nothing.
-use mathlib.Core.Path.{◌≡◌, refl, ap, sym, ◌∙◌}
-use mathlib.Core.Bool.{true, false}
-use mathlib.Core.Logic.{◌≢◌}
+use mathlib.Core.Path.{◌≡◌, refl, ap, sym, subst, ◌∙◌}
+use mathlib.Core.Bool.{true}
 use mathlib.Core.List.{List, [], ◌∷◌, ◌++◌, map, map-append, append-nil, append_assoc}
 use Prim.Native.Nat.{ℕ, suc, ◌+◌, ◌-◌, ◌≤◌, ◌<◌}
 use native.Mathlib.Omega.{arith}
@@ -10,50 +9,45 @@ use Rattle.lists.specs.Lists.{all}
 use Rattle.lists.proofs.Front.{all_append}
 use Rattle.text_lines.specs.Lines.{lines, first_line}
 use Rattle.text_lines.proofs.Ends.{NextLine, next-line, no_lines}
+use Rattle.std.specs.Prelude.{Some, None, Result, Ok, Err}
+use Rattle.refusals.proofs.Numbers.{number-positive}
+use Rattle.unity_table.specs.declared.Weights.{Weights}
 use Rattle.unity_table.specs.declared.Summed.{Summed}
 use Rattle.unity_table.specs.declared.Unity.{Unity}
-use Rattle.unity_table.specs.Unity.{election_limit, weights_of, Fault, deciding_fault, refused_unity}
-use Rattle.unity_table.specs.Summed.{running, summed, summed_of, Left, Adds, Ends}
-use Rattle.unity_table.proofs.Sums.{state-faulty, open-summed, weights-row-is, row-few}
-use Rattle.unity_text.specs.declared.Said.{Said}
+use Rattle.unity_table.specs.declared.RowFault.{RowFault}
+use Rattle.unity_table.specs.Unity.{election_limit, weights_of, Fault, deciding_fault, refused_unity, fault_of, answer_told}
+use Rattle.unity_table.specs.Summed.{running, Open, Left, SummedTo, Adds, Ends}
+use Rattle.unity_table.proofs.Sums.{weights-row-is, row-few}
 use Rattle.unity_text.specs.Text.{numbers_in, in_form, weights_in, weights_line_fault, text_unity}
 use Rattle.unity_text.specs.Said.{said_of}
-use Rattle.unity_text.proofs.Reading.{cut-same}
+use Rattle.unity_text.proofs.Reading.{SaysAnswer, said-some, said-none, cut-same}
 use Rattle.unity_text.proofs.Faults.{stops-unformed, stops-faulty, unity-text-refused, text-formed}
 
--- the lines read so far: all are in form, and their answers leave a state without fault
+-- the lines read so far: all are in form, and their answers leave this state
 pub record SummedUpto (text : List ℕ) (s : Summed) (at : ℕ) : Type 0 where
   pub inside : at ≤ length text
   pub done : List (List ℕ)
   pub lines_are : lines text ≡ done ++ lines (drop at text)
   pub formed : all in_form done ≡ true
-  pub is : s ≡ summed_of (map weights_in done)
-  pub none : s.number ≡ 0
-
-none_yet : (summed_of []).number ≡ 0
-unfolding summed_of deciding_fault summed
-none_yet = refl
+  pub after : Open s (map weights_in done)
 
 nothing-formed : all in_form [] ≡ true
 unfolding all
 nothing-formed = refl
 
-pub summed-start : (text : List ℕ) {s : Summed} → s ≡ summed_of [] → SummedUpto text s 0
-summed-start text e = record { inside = omega arith; done = []; lines_are = refl; formed = nothing-formed; is = e; none = ap (λ (x : Summed). x.number) e ∙ none_yet }
+pub summed-start : (text : List ℕ) {s : Summed} → Open s [] → SummedUpto text s 0
+summed-start text o = record { inside = omega arith; done = []; lines_are = refl; formed = nothing-formed; after = o }
 
 module _ (text : List ℕ) {s : Summed} {at : ℕ} (u : SummedUpto text s at) where
   pub upto_left : Left s
-  upto_left = record { answers = map weights_in u.done; is = u.is }
+  upto_left = record { answers = map weights_in u.done; after = u.after }
 
-  rows_none : (running (map weights_in u.done)).number ≡ 0
-  rows_none = (open-summed s (map weights_in u.done) u.is u.none).none
+  pub upto-few : s.rows ≤ election_limit
+  upto-few = row-few s (map weights_in u.done) (weights_of []) u.after
 
-  pub upto-few : s.row ≤ election_limit
-  upto-few = row-few s (map weights_in u.done) (weights_of []) u.is u.none
-
-  pub summed-end : length text ≤ at → {r : Unity} → Ends s r → r ≡ text_unity text
-  summed-end h f =
-      f (map weights_in u.done) u.is ∙ sym (text-formed text u.done (u.lines_are ∙ rw (no_lines text at h) (append-nil u.done)) u.formed)
+  pub summed-end : length text ≤ at → (r : Result Unity RowFault) → Ends s r → answer_told r ≡ text_unity text
+  summed-end h r f =
+      f (map weights_in u.done) u.after ∙ sym (text-formed text u.done (u.lines_are ∙ rw (no_lines text at h) (append-nil u.done)) u.formed)
 
   module _ (h : at < length text) {end : ℕ} (e : end ≡ at + length (first_line (drop at text))) where
     abbrev line : List ℕ
@@ -65,40 +59,38 @@ module _ (text : List ℕ) {s : Summed} {at : ℕ} (u : SummedUpto text s at) wh
     next-lines : lines text ≡ u.done ++ (line ∷ lines (drop end text))
     next-lines = u.lines_are ∙ ap (λ (l : List (List ℕ)). u.done ++ l) next.lines_are
 
-    module _ {said : Said} (t : said ≡ said_of (numbers_in line)) where
-      line-formed : in_form line ≡ said.fits
-      line-formed = sym (ap (λ (x : Said). x.fits) t)
+    pub upto-unformed : None ≡ said_of (numbers_in line) → refused_unity (record { number = 1; row = s.rows + 1 }) ≡ text_unity text
+    upto-unformed q =
+        let f : deciding_fault weights_line_fault [] (lines text) ≡ record { number = 1; row = suc (length u.done) } =
+        ap (deciding_fault weights_line_fault []) next-lines ∙ stops-unformed u.done line (lines (drop end text)) u.formed u.after.none (said-none (numbers_in line) q) in
+        let w : s.rows + 1 ≡ suc (length u.done) = let x = weights-row-is s (map weights_in u.done) (weights_of []) u.after ∙ length-map u.done weights_in in omega arith in
+        ap (λ (k : ℕ). refused_unity (record { number = 1; row = k })) w ∙ sym (unity-text-refused text (record { number = 1; row = suc (length u.done) }) f (λ z. omega arith))
 
-      pub upto-unformed : said.fits ≡ false → {r : Unity} → r ≡ refused_unity (record { number = 1; row = s.row + 1 }) → r ≡ text_unity text
-      upto-unformed n q =
-          let f : deciding_fault weights_line_fault [] (lines text) ≡ record { number = 1; row = suc (length u.done) } =
-          ap (deciding_fault weights_line_fault []) next-lines ∙ stops-unformed u.done line (lines (drop end text)) u.formed rows_none (line-formed ∙ n) in
-          let w : s.row + 1 ≡ suc (length u.done) = let x = weights-row-is s (map weights_in u.done) (weights_of []) u.is u.none ∙ length-map u.done weights_in in omega arith in
-          q ∙ ap (λ (k : ℕ). refused_unity (record { number = 1; row = k })) w ∙ sym (unity-text-refused text (record { number = 1; row = suc (length u.done) }) f (λ z. omega arith))
+    module _ {a : Weights} (q : Some a ≡ said_of (numbers_in line)) where
+      says : SaysAnswer (numbers_in line) a
+      says = said-some (numbers_in line) q
 
-      module _ (y : said.fits ≡ true) {after : Summed} (a : Adds s said.answer after) where
-        after_is : after ≡ summed_of (map weights_in u.done ++ (weights_in line ∷ []))
-        after_is =
-            a (map weights_in u.done) u.is
-            ∙ ap (λ (x : Said). summed_of (map weights_in u.done ++ (x.answer ∷ []))) t
-            ∙ cut-same s (map weights_in u.done) (weights_in line) u.is u.none
+      summed-to : (r : Result Summed RowFault) → Adds s a r → SummedTo (map weights_in u.done ++ (weights_in line ∷ [])) r
+      summed-to r f =
+          cut-same s (map weights_in u.done) (weights_in line) u.after r
+          (subst (λ (x : Weights). SummedTo (map weights_in u.done ++ (x ∷ [])) r) says.is (f (map weights_in u.done) u.after))
 
-        pub upto-faulty : after.number ≢ 0 → {r : Unity} → r ≡ refused_unity (record { number = after.number; row = after.row }) → r ≡ text_unity text
-        upto-faulty n q =
-            let g = state-faulty after (map weights_in u.done ++ (weights_in line ∷ [])) after_is n in
-            let f : deciding_fault weights_line_fault [] (lines text) ≡ record { number = after.number; row = after.row } =
-            ap (deciding_fault weights_line_fault []) next-lines
-            ∙ stops-faulty u.done line (lines (drop end text)) u.formed rows_none (line-formed ∙ y) (λ z. n (sym (ap (λ (k : Fault). k.number) g) ∙ z))
-            ∙ g in
-            q ∙ sym (unity-text-refused text (record { number = after.number; row = after.row }) f n)
+      pub upto-faulty : (f : RowFault) → Adds s a (Err f) → answer_told (Err f) ≡ text_unity text
+      upto-faulty f d =
+          let g : running (map weights_in u.done ++ (weights_in line ∷ [])) ≡ fault_of f = summed-to (Err f) d in
+          let n = number-positive f.refusal in
+          let t : deciding_fault weights_line_fault [] (lines text) ≡ fault_of f =
+          ap (deciding_fault weights_line_fault []) next-lines
+          ∙ stops-faulty u.done line (lines (drop end text)) u.formed u.after.none says.formed (λ z. n (sym (ap (λ (k : Fault). k.number) g) ∙ z))
+          ∙ g in
+          sym (unity-text-refused text (fault_of f) t n)
 
-        pub summed-next : after.number ≡ 0 → SummedUpto text after end
-        unfolding all
-        summed-next z = record {
-          inside = next.inside;
-          done = u.done ++ (line ∷ []);
-          lines_are = next-lines ∙ sym (append_assoc u.done (line ∷ []) (lines (drop end text)));
-          formed = rw (all_append in_form u.done (line ∷ []), u.formed, line-formed, y);
-          is = after_is ∙ sym (ap summed_of (map-append weights_in u.done (line ∷ [])));
-          none = z;
-        }
+      pub summed-next : (later : Summed) → Adds s a (Ok later) → SummedUpto text later end
+      unfolding all
+      summed-next later d = record {
+        inside = next.inside;
+        done = u.done ++ (line ∷ []);
+        lines_are = next-lines ∙ sym (append_assoc u.done (line ∷ []) (lines (drop end text)));
+        formed = rw (all_append in_form u.done (line ∷ []), u.formed, says.formed);
+        after = rw (map-append weights_in u.done (line ∷ [])) (summed-to (Ok later) d);
+      }

@@ -1,49 +1,69 @@
 -- What the code reads of a line, and that numbers cut off at 2^32 change nothing. Assumes nothing.
-use mathlib.Core.Path.{◌≡◌, ap, sym, ◌∙◌}
+use mathlib.Core.Path.{◌≡◌, refl, ap, sym, subst, ◌∙◌}
 use mathlib.Core.Bool.{true, false}
 use mathlib.Core.List.{List, [], ◌∷◌, ◌++◌, map}
-use mathlib.Core.Option.{none}
+use mathlib.Core.Option.{Option, none, some}
 use Prim.Native.Nat.{ℕ, ◌+◌, ◌≤◌, ◌<◌}
 use native.Mathlib.Omega.{arith}
 use borrow.Author.Tests.{lt-ltb, le-ltb}
 use lib.ListN.{length, get_or, take, replicate}
+use Rattle.std.specs.Prelude.{Some, None, Result, Ok, Err}
 use Rattle.text_lines.specs.Line.{line_limit}
 use Rattle.lists.proofs.Lists.{by}
 use Rattle.text_forms.specs.decimal.Decimal.{saturated}
-use Rattle.text_forms.specs.declared.Filled.{Filled}
 use Rattle.text_forms.specs.Form.{taken, filled_of}
-use Rattle.text_lines.proofs.Says.{kept-first, kept_second, kept-third, no-fit, fit}
+use Rattle.text_lines.proofs.Says.{kept-first, kept_second, kept-third}
 use Rattle.unity_table.specs.declared.Weights.{Weights}
 use Rattle.unity_table.specs.declared.Summed.{Summed}
-use Rattle.unity_table.specs.Unity.{weights_of, out_of_range}
-use Rattle.unity_table.specs.Summed.{summed_of}
+use Rattle.unity_table.specs.declared.RowFault.{RowFault}
+use Rattle.unity_table.specs.Unity.{weights_of, out_of_range, Fault}
+use Rattle.unity_table.specs.Summed.{running, Open, SummedTo}
 use Rattle.unity_table.proofs.Sums.{in-range, answer-range}
-use Rattle.unity_text.specs.declared.Said.{Said}
-use Rattle.unity_text.specs.Text.{weights_form, numbers_in}
+use Rattle.unity_text.specs.Text.{weights_form, numbers_in, is_some, weights_by}
 use Rattle.unity_text.specs.Said.{cut, said_of}
 
-module _ (line : List ℕ) where
-  pub said-long : line_limit < length line → {r : Said} → r ≡ said_of none → r ≡ said_of (numbers_in line)
-  unfolding numbers_in
-  said-long h q = rw (lt-ltb line_limit (length line) h) q
+-- what is kept of the numbers of a form
+said-kept : (o : Option (List ℕ)) {numbers : List ℕ} → Some numbers ≡ filled_of o → Some (weights_of numbers) ≡ said_of o
+said-kept none e = cc
+said-kept (some ns) {numbers = numbers} e =
+    let r : numbers ≡ take 8 (map saturated ns ++ replicate 8 0) = cc in
+    let g : get_or numbers 0 0 ≡ saturated (get_or ns 0 0) = rw r (kept-first ns) in
+    let s : get_or numbers 1 0 ≡ saturated (get_or ns 1 0) = rw r (kept_second ns) in
+    let w : get_or numbers 2 0 ≡ saturated (get_or ns 2 0) = rw r (kept-third ns) in
+    λ i. Some (record { greatest = g i; silent = s i; total = w i })
 
-  module _ (few : length line ≤ line_limit) {t : Filled} (e : t ≡ filled_of (taken weights_form line)) where
-    numbers-are : numbers_in line ≡ taken weights_form line
+said-other : (o : Option (List ℕ)) → None ≡ filled_of o → None ≡ said_of o
+said-other none e = refl
+said-other (some ns) e = cc
+
+module _ (line : List ℕ) where
+  pub said-long : line_limit < length line → None ≡ said_of (numbers_in line)
+  unfolding numbers_in
+  said-long h = rw (lt-ltb line_limit (length line) h)
+
+  module _ (few : length line ≤ line_limit) where
+    numbers-are : taken weights_form line ≡ numbers_in line
     unfolding numbers_in
     numbers-are = rw (le-ltb line_limit (length line) few)
 
-    pub said-other : t.fits ≡ false → {r : Said} → r ≡ said_of none → r ≡ said_of (numbers_in line)
-    said-other h q = rw (numbers-are, no-fit (taken weights_form line) (sym (ap (λ (x : Filled). x.fits) e) ∙ h)) q
+    pub said-unformed : None ≡ filled_of (taken weights_form line) → None ≡ said_of (numbers_in line)
+    said-unformed e = said-other (taken weights_form line) e ∙ ap said_of numbers-are
 
-    pub said-answer : t.fits ≡ true → record { fits = true; answer = weights_of t.numbers } ≡ said_of (numbers_in line)
-    said-answer h =
-        fit (taken weights_form line) (sym (ap (λ (x : Filled). x.fits) e) ∙ h)
-        (λ ns q.
-        let r : t.numbers ≡ take 8 (map saturated ns ++ replicate 8 0) = ap (λ (x : Filled). x.numbers) (e ∙ ap filled_of q) in
-        let g : get_or t.numbers 0 0 ≡ saturated (get_or ns 0 0) = rw r (kept-first ns) in
-        let s : get_or t.numbers 1 0 ≡ saturated (get_or ns 1 0) = rw r (kept_second ns) in
-        let w : get_or t.numbers 2 0 ≡ saturated (get_or ns 2 0) = rw r (kept-third ns) in
-        rw (numbers-are, q) (λ i. record { fits = true; answer = record { greatest = g i; silent = s i; total = w i } }))
+    pub said-answer : {numbers : List ℕ} → Some numbers ≡ filled_of (taken weights_form line) → Some (weights_of numbers) ≡ said_of (numbers_in line)
+    said-answer e = said-kept (taken weights_form line) e ∙ ap said_of numbers-are
+
+-- what that says of the line
+pub record SaysAnswer (o : Option (List ℕ)) (a : Weights) : Type 0 where
+  pub formed : is_some o ≡ true
+  pub is : a ≡ cut (weights_by o)
+
+pub said-some : (o : Option (List ℕ)) {a : Weights} → Some a ≡ said_of o → SaysAnswer o a
+said-some none e = cc
+said-some (some ns) e = record { formed = refl; is = cc }
+
+pub said-none : (o : Option (List ℕ)) → None ≡ said_of o → is_some o ≡ false
+said-none none e = refl
+said-none (some ns) e = cc
 
 -- in range nothing is cut off
 cut-none : (a : Weights) → a.greatest < 4294967296 → a.silent < 4294967296 → a.total < 4294967296 → cut a ≡ a
@@ -67,12 +87,16 @@ cut-back a h =
     let m : saturated a.total ≤ 524280 = k.limited in
     cut-none a (omega arith) (omega arith) (omega arith)
 
+both-faulty : (l m : List Weights) (row : ℕ) (r : Result Summed RowFault) → running l ≡ record { number = 2; row = row } → running m ≡ record { number = 2; row = row } → SummedTo l r → SummedTo m r
+both-faulty l m row (Ok s) e f h = absurd (let n = h.none in let z : ◌≡◌ {A = ℕ} 2 0 = sym (ap (λ (x : Fault). x.number) e) ∙ n in omega arith)
+both-faulty l m row (Err x) e f h = f ∙ sym e ∙ h
+
 -- The numbers cut off, an answer leaves what it leaves with its own.
-pub cut-same : (s : Summed) (l : List Weights) (a : Weights) → s ≡ summed_of l → s.number ≡ 0 → summed_of (l ++ (cut a ∷ [])) ≡ summed_of (l ++ (a ∷ []))
-cut-same s l a e z =
+pub cut-same : (s : Summed) (l : List Weights) (a : Weights) → Open s l → (r : Result Summed RowFault) → SummedTo (l ++ (cut a ∷ [])) r → SummedTo (l ++ (a ∷ [])) r
+cut-same s l a o r h =
     by (out_of_range a)
-    (λ (h : out_of_range a ≡ true).
+    (λ (e : out_of_range a ≡ true).
     by (out_of_range (cut a))
-    (λ (k : out_of_range (cut a) ≡ true). sym (answer-range s l (cut a) e z k) ∙ answer-range s l a e z h)
-    (λ (k : out_of_range (cut a) ≡ false). ap (λ (x : Weights). summed_of (l ++ (x ∷ []))) (cut-back a k)))
-    (λ (h : out_of_range a ≡ false). ap (λ (x : Weights). summed_of (l ++ (x ∷ []))) (cut-in-range a h))
+    (λ (k : out_of_range (cut a) ≡ true). both-faulty (l ++ (cut a ∷ [])) (l ++ (a ∷ [])) (s.rows + 1) r (answer-range s l (cut a) o k) (answer-range s l a o e) h)
+    (λ (k : out_of_range (cut a) ≡ false). subst (λ (x : Weights). SummedTo (l ++ (x ∷ [])) r) (cut-back a k) h))
+    (λ (e : out_of_range a ≡ false). subst (λ (x : Weights). SummedTo (l ++ (x ∷ [])) r) (cut-in-range a e) h)

@@ -2,19 +2,17 @@
 use mathlib.Core.Path.{◌≡◌, refl, ap, sym, ◌∙◌}
 use mathlib.Core.Bool.{Bool, true, false, not}
 use mathlib.Core.List.{List, [], ◌∷◌, ◌++◌, map}
-use Prim.Native.Nat.{ℕ, zero, suc, ◌*◌, ◌≤◌, ◌<◌, ◌^◌}
+use Prim.Native.Nat.{ℕ, zero, suc, ◌≤◌, ◌<◌, ◌^◌}
 use native.Mathlib.Omega.{arith}
-use native.Mathlib.Nat.{div-le_self}
 use borrow.Author.Tests.{eqb-true, eqb-false, ltb-true, not-false}
 use lib.Dec.{eqb, leb}
 use lib.ListN.{length, get_or, length-append}
+use Rattle.std.specs.Prelude.{Ok}
 use Rattle.lists.specs.Lists.{all}
 use Rattle.lists.proofs.Lists.{by}
 use Rattle.lists.proofs.Front.{filter-length}
 use Rattle.record_rows.proofs.grounds.Small.{given-small, first_small}
-use Rattle.fraction.specs.declared.Fraction.{Fraction}
-use Rattle.fraction.specs.Divisor.{gcd}
-use Rattle.fraction.specs.Fraction.{lowest_terms, sum_of, mean}
+use Rattle.fraction.specs.Fraction.{sum_of, mean}
 use Rattle.fraction.specs.Bounded.{limit64, fits64}
 use Rattle.text_forms.specs.Spelling.{bytes}
 use Rattle.text_forms.proofs.Forms.{fill-wide}
@@ -27,7 +25,7 @@ use Rattle.unity_table.specs.Unity.{election_limit, is_empty, is_won, shares, ou
 use Rattle.unity_table.specs.Summed.{running}
 use Rattle.unity_table.proofs.Faults.{stays}
 use Rattle.unity_table.proofs.Sums.{passed}
-use Rattle.unity_table.proofs.Ends.{late-row, fault-stays, last-decides}
+use Rattle.unity_table.proofs.Ends.{late-row, fault-stays, last-decides, mean-small}
 use Rattle.unity_text.specs.Text.{unity_form, in_form, weights_in, weights_line_fault, text_unity, unity_numbers, printed_unity}
 use Rattle.unity_text.proofs.Faults.{line_stays, line-good, formed-faults}
 
@@ -42,11 +40,6 @@ fit_at (n ∷ ns) h zero = h.0
 fit_at (n ∷ ns) h (suc k) = fit_at ns h.1 k
 
 -- The numbers of a table without fault.
-mean-small : (l : List Fraction) → (mean l).numerator ≤ (sum_of l).numerator
-unfolding mean lowest_terms
-mean-small [] = omega arith
-mean-small (f ∷ l) = div-le_self (sum_of (f ∷ l)).numerator (gcd (sum_of (f ∷ l)).numerator ((sum_of (f ∷ l)).denominator * length (f ∷ l)))
-
 module _ (l : List Weights) (z : (deciding_fault weights_fault [] l).number ≡ 0) where
   rows_run : (running l).number ≡ 0
   rows_run =
@@ -144,5 +137,5 @@ unity-printed-size text =
     rw (e, e) (omega (arith, a, refusal-size)))
 
 -- An output of 1,024 bytes takes what is printed of any text.
-pub unity-printed-fits : (text out : List ℕ) → 1024 ≤ length out → (placing (printed_unity (text_unity text)) 0 out).number ≡ 0
+pub unity-printed-fits : (text out : List ℕ) → 1024 ≤ length out → placing (printed_unity (text_unity text)) 0 out ≡ Ok (length (printed_unity (text_unity text)))
 unity-printed-fits text out h = start-enough (printed_unity (text_unity text)) out 1024 (unity-printed-size text) h

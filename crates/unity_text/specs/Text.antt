@@ -9,8 +9,7 @@ use Rattle.text.specs.Text.{joined_lines}
 use Rattle.text_report.specs.Report.{refusal_line}
 use Rattle.text_lines.specs.Line.{line_limit}
 use Rattle.unity_table.specs.declared.Weights.{Weights}
-use Rattle.unity_table.specs.declared.Unity.{Unity}
-use Rattle.unity_table.specs.Unity.{weights_of, weights_fault, deciding_fault, unity_by}
+use Rattle.unity_table.specs.Unity.{weights_of, weights_fault, deciding_fault, UnityAnswer, unity_by}
 
 unfoldable pub weights_form : List ℕ
 weights_form = bytes "greatest=# silent=# total=#\n"
@@ -42,15 +41,15 @@ unfoldable pub weights_line_fault : List (List ℕ) → List ℕ → Bool → �
 weights_line_fault above line last = 1 given not (in_form line) orelse weights_fault (map weights_in above) (weights_in line) last
 
 -- what the answers of a text come to; a refusal's row is its line
-unfoldable pub text_unity : List ℕ → Unity
+unfoldable pub text_unity : List ℕ → UnityAnswer
 text_unity text = unity_by (deciding_fault weights_line_fault [] (lines text)) (map weights_in (lines text))
 
 -- what is printed
-abbrev pub unity_numbers : Unity → List ℕ
+abbrev pub unity_numbers : UnityAnswer → List ℕ
 unity_numbers u =
     u.mean.numerator ∷ u.mean.denominator ∷ u.least.numerator ∷ u.least.denominator ∷ u.greatest.numerator ∷ u.greatest.denominator ∷ u.won ∷ u.empty ∷ []
 
-unfoldable pub printed_unity : Unity → List ℕ
+unfoldable pub printed_unity : UnityAnswer → List ℕ
 printed_unity u = cond (eqb u.number 0) (fill unity_form (unity_numbers u)) (refusal_line u.number u.row)
 
 -- the lines of answers, as whoever feeds them writes them

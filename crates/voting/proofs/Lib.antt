@@ -3,3 +3,5 @@ pub mod Finished
 pub mod Proposed
 pub mod Bundles
 pub mod Elections
+pub mod Derived
+pub mod Selecting

@@ -1,6 +1,9 @@
 // Bundles, votes and elections (document 01, "Proposals and votes"): the types and, in its specs, the theory. Crates above it have the code.
 #![tactic(auto)]
 
+ghost use Rattle.std.specs.Prelude.{◌≡◌, Bool, ◌++◌, ◌≤◌, length, drop};
+ghost use Rattle.lists.specs.Lists.{Has, filter};
+
 // One row of the roll.
 #[derive(Clone, Copy)]
 pub struct RollRow {
@@ -16,4 +19,21 @@ pub struct Election {
     pub greatest: u32,
     pub silent: u32,
     pub total: u32,
+}
+
+// Writes the elements that pass a test over the first of a table, in their order, and gives their number. What stands after them stays.
+pub fn select<T: Copy, F: Fn(T) -> bool>(from: &[T], test: F, into: &mut [T]) -> usize
+    requires callable { F.IsAlwaysCallable test }
+    requires places { length from.now ≤ length into.old }
+    ensures { (p : T → Bool) → ((x : T) (b : Bool) → Has x from.now → F.post test x b → b ≡ p x)
+        → (result ≡ length (filter p from.now)) × (into.new ≡ filter p from.now ++ drop (length (filter p from.now)) into.old) }
+{
+    let mut count = 0;
+    for x in from {
+        if test(*x) {
+            into[count] = *x;
+            count += 1;
+        }
+    }
+    count
 }

@@ -1,33 +1,31 @@
 -- A bundle is fit to be judged; eligible by the marks of what is settled; the answer about a lent record. Assumes nothing.
-use mathlib.Core.Path.{◌≡◌, refl, sym, ap, ◌∙◌}
-use mathlib.Core.Bool.{Bool, true, false}
+use mathlib.Core.Path.{◌≡◌, refl, sym, ◌∙◌}
+use mathlib.Core.Bool.{Bool, true, false, cond}
 use mathlib.Core.List.{List, [], ◌∷◌, map}
-use Prim.Native.Nat.{ℕ, ◌+◌, ◌≤◌, ◌<◌}
+use Prim.Native.Nat.{ℕ, ◌+◌, ◌<◌}
 use native.Mathlib.Omega.{arith}
-use native.Mathlib.Numerals.{add-one}
 use lib.Dec.{eqb}
-use lib.ListN.{length, take, get_or}
-use lib.Seq.{take_all, take-length}
+use lib.ListN.{length, take, drop, length-map}
+use lib.Seq.{take_all, take-append-le}
+use Rattle.std.specs.List.{list_all}
 use borrow.Author.Tests.{ne_eqb, lt-ltb}
 use Rattle.record.specs.declared.Record as declared
 use Rattle.lists.specs.Lists.{all, filter, mem, ◌among◌, ascending}
 use Rattle.record.specs.Record.{Record, name_of, names, written}
-use Rattle.record.specs.Stored.{stored}
+use Rattle.record.specs.Stored.{padded, stored, empty_record}
 use Rattle.record.specs.Judgement.{sound, settled}
 use Rattle.lists.proofs.Lists.{by, cons-by, ascending-tail, ascending-head, mem-head, mem-tail}
 use Rattle.record.proofs.Records.{written-names}
 use Rattle.record_rows.specs.row.Row.{is_name}
 use Rattle.record_rows.specs.grounds.Ground.{Rows}
 use Rattle.record_tables.specs.Table.{empty_tables, decoded, lent_fault}
-use Rattle.graph.specs.links.Marks.{name_at, marks_of}
-use Rattle.graph.proofs.links.Marks.{marks-on, on-marks}
+use Rattle.graph.specs.links.Marks.{marks_of, values_of}
 use Rattle.voting.specs.Bundle.{members, between, bundle, eligible}
 use Rattle.voting.proofs.Bundles.{bundle-extended, bundle-well-formed, filter-names}
-use Rattle.lists.proofs.Front.{all_more, all-broken, filter-length}
-use Rattle.voting_bundles.specs.Bundles.{lent_bundle_fault, refused_bundle, bundle_answer}
+use Rattle.lists.proofs.Front.{filter-length}
+use Rattle.voting_bundles.specs.Bundles.{lent_bundle_fault, bundle_answer}
+use Rattle.record_rows.proofs.grounds.Grounds.{orelse-none}
 use Rattle.graph.specs.indexes.Fit.{Fit}
-use Rattle.record_joining.specs.declared.Joined.{Joined}
-use Rattle.record_joining.specs.Join.{joined_of}
 
 -- what is filtered out of ascending names ascends
 above : (x : ℕ) (l : List ℕ) → ((y : ℕ) → y among l → x < y) → ascending l ≡ true → ascending (x ∷ l) ≡ true
@@ -60,63 +58,66 @@ bundle-fit R f e =
       paired = λ a b h. f.paired a b (x.constraints a 2 b h);
     }
 
--- the edits one by one
-module _ (R : Record) (test : ℕ → Bool) (marks : List ℕ) (e : marks ≡ marks_of R test) (i : ℕ) (h : i + 1 < length (names R)) where
-  named : name_at R (i + 1) ≡ get_or (written R) i 0
-  unfolding names
-  named = rw (add-one i)
+-- the edits one by one: their marks stand after INIT's
+bit_is : (b : Bool) → eqb (cond b 1 0) 1 ≡ b
+bit_is true = refl
+bit_is false = refl
 
-  inside : i < length (written R)
-  unfolding names
-  inside = omega arith
+each-marked : (test : ℕ → Bool) (l : List ℕ) → list_all (λ mark. eqb mark 1) (map (λ x. cond (test x) 1 0) l) ≡ all test l
+unfolding all
+each-marked test [] = refl
+each-marked test (x ∷ l) = rw (bit_is (test x), each-marked test l)
 
-  pub marked_more : get_or marks (i + 1) 0 ≡ 1 → all test (take i (written R)) ≡ true → all test (take (i + 1) (written R)) ≡ true
-  marked_more m a = all_more test (written R) i 0 inside a (rw (← named) (marks-on R test (i + 1) (rw (← e) m)).1)
-
-  pub bundle-unmarked : (get_or marks (i + 1) 0 ≡ 1 → ⊥) → false ≡ all test (written R)
-  bundle-unmarked m =
-      let n : test (get_or (written R) i 0) ≡ false = by (test (get_or (written R) i 0)) (λ k. absurd (m (rw e (on-marks R test (i + 1) h (rw named k))))) (λ k. k) in
-      rw take-length at (sym (all-broken test (written R) (length (written R)) i 0 inside (omega arith) n))
-
-pub all-marked : (R : Record) (test : ℕ → Bool) (i : ℕ) → length (names R) ≤ i + 1 → all test (take i (written R)) ≡ true → true ≡ all test (written R)
-unfolding names
-all-marked R test i h a = sym (rw (take_all i (written R) (omega arith)) at a)
+pub all-marked : (R : Record) (test : ℕ → Bool) (marks : List ℕ) (n : ℕ) → n + 1 ≡ length (names R) → marks ≡ marks_of R test
+    → list_all (λ mark. eqb mark 1) (take n (drop 1 marks)) ≡ all test (written R)
+unfolding marks_of values_of padded names
+all-marked R test marks n h e =
+    let bits : List ℕ = map (λ x. cond (test x) 1 0) (written R) in
+    let k : length bits ≡ n = omega (arith, length-map {B = ℕ} (written R) (λ x. cond (test x) 1 0)) in
+    let t : take n (drop 1 (marks_of R test)) ≡ bits = take-append-le n bits _ (omega arith) ∙ take_all n bits (omega arith) in
+    rw (e, t) (each-marked test (written R))
 
 pub eligible-all : (R : Record) (e : ℕ) → all (settled (bundle R e)) (written (bundle R e)) ≡ eligible R e
 unfolding eligible
 eligible-all R e = refl
 
--- a lent record without fault
-pub lent-stored : (j : Joined) (n : ℕ) (R : Record) → j ≡ joined_of n empty_tables R → j.number ≡ 0 → (n ≡ 0) × (j.after ≡ stored R)
-lent-stored j n R e z =
-    let q : n ≡ 0 = sym (ap (λ x. x.number) e) ∙ z in
-    (q, ap (λ x. x.after) e ∙ rw q)
-
 -- the grounds one by one
 module _ (es cs : Rows) (e : ℕ) where
-  pub bundle-rows-refused : (j : Joined) → j ≡ joined_of (lent_fault empty_tables es cs) empty_tables (decoded es cs) → (j.number ≡ 0 → ⊥) → refused_bundle j.number ≡ bundle_answer es cs e
-  unfolding bundle_answer lent_bundle_fault
-  bundle-rows-refused j q h =
-      let n : j.number ≡ lent_fault empty_tables es cs = ap (λ x. x.number) q in
-      let z : eqb (lent_fault empty_tables es cs) 0 ≡ false = ne_eqb (lent_fault empty_tables es cs) 0 (λ y. h (n ∙ y)) in
-      rw (z, z, n)
+  pub bundle-rows-refused : (n : ℕ) → n ≡ lent_fault empty_tables es cs → (n ≡ 0 → ⊥) → n ≡ lent_bundle_fault es cs e
+  unfolding lent_bundle_fault
+  bundle-rows-refused n q h = let z : eqb (lent_fault empty_tables es cs) 0 ≡ false = ne_eqb (lent_fault empty_tables es cs) 0 (λ y. h (q ∙ y)) in rw z q
 
-  module _ (z : lent_fault empty_tables es cs ≡ 0) where
-    pub bundle-name-refused : is_name e ≡ false → refused_bundle 2 ≡ bundle_answer es cs e
-    unfolding bundle_answer lent_bundle_fault
-    bundle-name-refused h = rw (z, h)
+  module _ (z : 0 ≡ lent_fault empty_tables es cs) where
+    pub bundle-name-refused : is_name e ≡ false → 2 ≡ lent_bundle_fault es cs e
+    unfolding lent_bundle_fault
+    bundle-name-refused h = rw (sym z, h)
 
     module _ (n : is_name e ≡ true) where
-      pub bundle-unknown-refused : mem e (written (decoded es cs)) ≡ false → refused_bundle 5 ≡ bundle_answer es cs e
-      unfolding bundle_answer lent_bundle_fault
-      bundle-unknown-refused h = rw (z, n, h)
+      pub bundle-unknown-refused : mem e (written (decoded es cs)) ≡ false → 5 ≡ lent_bundle_fault es cs e
+      unfolding lent_bundle_fault
+      bundle-unknown-refused h = rw (sym z, n, h)
 
       module _ (k : mem e (written (decoded es cs)) ≡ true) where
-        pub bundle-unsound-refused : sound (decoded es cs) ≡ false → refused_bundle 8 ≡ bundle_answer es cs e
-        unfolding bundle_answer lent_bundle_fault
-        bundle-unsound-refused h = rw (z, n, k, h)
+        pub bundle-unsound-refused : sound (decoded es cs) ≡ false → 8 ≡ lent_bundle_fault es cs e
+        unfolding lent_bundle_fault
+        bundle-unsound-refused h = rw (sym z, n, k, h)
 
-        pub bundle-answered : sound (decoded es cs) ≡ true → (x : Bool) (b : declared.Record) → x ≡ eligible (decoded es cs) e → b ≡ stored (bundle (decoded es cs) e)
-            → record { number = 0; eligible = x; bundle = b } ≡ bundle_answer es cs e
-        unfolding bundle_answer lent_bundle_fault
-        bundle-answered h x b p q = rw (z, n, k, h) (λ i. record { number = 0; eligible = p i; bundle = q i })
+        pub bundle-accepted : sound (decoded es cs) ≡ true → 0 ≡ lent_bundle_fault es cs e
+        unfolding lent_bundle_fault
+        bundle-accepted h = rw (sym z, n, k, h)
+
+  -- what is not refused has rows without fault
+  pub bundle-checked : 0 ≡ lent_bundle_fault es cs e → 0 ≡ lent_fault empty_tables es cs
+  unfolding lent_bundle_fault
+  bundle-checked h = sym (orelse-none (lent_fault empty_tables es cs) _ (sym h)).0
+
+  pub bundle-answered : 0 ≡ lent_bundle_fault es cs e → (x : Bool) (b : declared.Record) → x ≡ eligible (decoded es cs) e → b ≡ stored (bundle (decoded es cs) e)
+      → record { number = 0; eligible = x; bundle = b } ≡ bundle_answer es cs e
+  unfolding bundle_answer
+  bundle-answered z x b p q = rw (sym z) (λ i. record { number = 0; eligible = p i; bundle = q i })
+
+  pub bundle-refused : (n : ℕ) → n ≡ lent_bundle_fault es cs e → (n ≡ 0 → ⊥) → (b : declared.Record) → b ≡ empty_record → record { number = n; eligible = false; bundle = b } ≡ bundle_answer es cs e
+  unfolding bundle_answer
+  bundle-refused n q h b p =
+      let z : eqb (lent_bundle_fault es cs e) 0 ≡ false = ne_eqb (lent_bundle_fault es cs e) 0 (λ y. h (q ∙ y)) in
+      rw z (λ i. record { number = q i; eligible = false; bundle = p i })

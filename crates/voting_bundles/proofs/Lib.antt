@@ -1,3 +1,1 @@
-pub mod Filtering
-pub mod Bundling
 pub mod Judging

@@ -1,24 +1,14 @@
 -- Document 01, "Proposals and votes" and "What is turned away": how the parts of a bundle are stored, and the answer about an edit's bundle in a lent record. Assumes nothing.
-use Rattle.std.specs.Prelude.{false, not, cond, List, ℕ, eqb, length}
-use Rattle.record.specs.declared.Edit.{Edit}
-use Rattle.record.specs.declared.Constraint.{Constraint}
+use Rattle.std.specs.Prelude.{false, not, cond, ℕ, eqb}
 use Rattle.lists.specs.Lists.{mem}
 use Rattle.record.specs.Record.{written}
-use Rattle.record.specs.Stored.{padded, stored, empty_record, filler_edit, filler_constraint}
+use Rattle.record.specs.Stored.{stored, empty_record}
 use Rattle.record.specs.Judgement.{sound}
 use Rattle.record_rows.specs.row.Row.{is_name}
 use Rattle.record_rows.specs.grounds.Ground.{Rows, ◌given◌, ◌orelse◌}
 use Rattle.record_tables.specs.Table.{empty_tables, decoded, lent_fault}
 use Rattle.voting.specs.Bundle.{bundle, eligible}
-use Rattle.voting_bundles.specs.declared.Edits.{Edits}
-use Rattle.voting_bundles.specs.declared.Constraints.{Constraints}
 use Rattle.voting_bundles.specs.declared.BundleAnswer.{BundleAnswer}
-
-abbrev pub filtered_edits : List Edit → Edits
-filtered_edits l = record { rows = padded 127 filler_edit l; count = length l }
-
-abbrev pub filtered_constraints : List Constraint → Constraints
-filtered_constraints l = record { rows = padded 512 filler_constraint l; count = length l }
 
 -- the number of the refusal: rows, then the faults of the whole call
 unfoldable pub lent_bundle_fault : Rows → Rows → ℕ → ℕ

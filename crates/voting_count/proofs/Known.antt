@@ -1,13 +1,13 @@
 -- A name looked for in lent tables of edits. Assumes nothing.
 use mathlib.Core.Path.{◌≡◌, refl, sym, ap, ◌∙◌}
-use mathlib.Core.Bool.{Bool, true, false, ◌||◌}
+use mathlib.Core.Bool.{Bool, true, false}
 use mathlib.Core.List.{List, [], ◌∷◌, map}
-use Prim.Native.Nat.{ℕ, ◌+◌, ◌-◌, ◌≤◌, ◌<◌}
+use Prim.Native.Nat.{ℕ, suc, ◌+◌, ◌-◌, ◌<◌}
 use native.Mathlib.Omega.{arith}
 use lib.Dec.{eqb}
-use lib.ListN.{length, take, get_or}
-use lib.Seq.{take_all, take-length}
-use borrow.Author.Tests.{eq-eqb, ne_eqb}
+use lib.ListN.{length, get_or}
+use borrow.Author.Tests.{eqb-true, eqb-false, eq-eqb, ne_eqb}
+use Rattle.std.specs.List.{list_any}
 use Rattle.lists.specs.Lists.{any, all, mem}
 use Rattle.record.specs.Record.{written, name_of}
 use Rattle.record.specs.Stored.{filler_edit}
@@ -15,31 +15,23 @@ use Rattle.lists.proofs.Lists.{by, clash, and_l, and_r}
 use Rattle.record_rows.specs.row.Row.{Row, cell, is_name, edit_in_range, edit_of, edit_row}
 use Rattle.record_rows.specs.grounds.Ground.{Rows}
 use Rattle.record_tables.specs.Table.{names_of}
-use Rattle.lists.proofs.Front.{some_more, some-found}
-use Rattle.voting_count.specs.Count.{lent_proposals}
-use Rattle.voting_count.proofs.Benches.{edits-at}
-use Rattle.voting_count.proofs.Proposals.{held-checked}
-use Rattle.voting_roll.specs.Election.{held, proposal_fault}
+use Rattle.voting_count.specs.Count.{lent_proposals, Faultless}
+use Rattle.voting_count.proofs.Benches.{edits-at, bench-at}
+use Rattle.voting_count.proofs.Proposals.{held-checked, bench-faultless}
+use Rattle.voting_roll.specs.Election.{benches, held, proposal_fault}
+
+turned : (a b : ℕ) → eqb a b ≡ eqb b a
+turned a b = by (eqb a b) (λ e. e ∙ sym (eq-eqb b a (sym (eqb-true a b e)))) (λ e. e ∙ sym (ne_eqb b a (λ q. eqb-false a b e (sym q))))
 
 -- a row with this name
 abbrev pub count-named : ℕ → Row → Bool
-count-named x row = eqb x (cell row 0)
+count-named x row = eqb (cell row 0) x
 
 module _ (x : ℕ) where
-  any-named : (t : Rows) → any (count-named x) t ≡ mem x (names_of t)
-  unfolding any mem
+  pub any-named : (t : Rows) → list_any (count-named x) t ≡ mem x (names_of t)
+  unfolding mem
   any-named [] = refl
-  any-named (r ∷ t) = ap (λ (b : Bool). count-named x r || b) (any-named t)
-
-  module _ (t : Rows) (i : ℕ) where
-    pub name-found : i < length t → cell (get_or t i []) 0 ≡ x → true ≡ mem x (names_of t)
-    name-found h e = sym (sym (any-named t) ∙ rw (take-length t) at (some-found (count-named x) t (length t) i [] h (omega arith) (eq-eqb x _ (sym e))))
-
-    pub name-next : i < length t → (cell (get_or t i []) 0 ≡ x → ⊥) → any (count-named x) (take i t) ≡ false → any (count-named x) (take (i + 1) t) ≡ false
-    name-next h m n = some_more (count-named x) t i [] h n (ne_eqb x _ (λ q. m (sym q)))
-
-    pub name-missing : length t ≤ i → any (count-named x) (take i t) ≡ false → false ≡ mem x (names_of t)
-    name-missing h n = sym (sym (any-named t) ∙ rw (take_all i t h) at n)
+  any-named (r ∷ t) = rw (turned (cell r 0) x, any-named t)
 
 -- the names of rows in range are those of their edits; what is not in range is the filler, whose row is not either
 filler-out : edit_in_range (edit_row filler_edit) ≡ false
@@ -66,3 +58,19 @@ held-named rows es cs k a q x h =
     let t = get_or (map rows es) (k + 1 - 1) [] in
     let e : t ≡ rows (get_or es k a) = edits-at rows (λ (r : Rows). r) es [] k a [] q refl in
     ap (mem x) (ap names_of (sym e) ∙ rows_named t (held-checked (lent_proposals (map rows es) cs) (k + 1) h).editrange)
+
+-- a test of the eight lent records, and one of the benches
+any-pointwise : {A : Type 0} (f : A → Bool) (g : ℕ → Bool) (s : List A) (t : List ℕ) (a : A) → length s ≡ length t
+    → ((k : ℕ) → k < length s → f (get_or s k a) ≡ g (get_or t k 0)) → list_any f s ≡ any g t
+unfolding any
+any-pointwise f g [] [] a e h = refl
+any-pointwise f g [] (y ∷ t) a e h = absurd (omega (arith, e))
+any-pointwise f g (x ∷ s) [] a e h = absurd (omega (arith, e))
+any-pointwise f g (x ∷ s) (y ∷ t) a e h = rw (h 0 (omega arith), any-pointwise f g s t a (omega (arith, e)) (λ k l. h (suc k) (omega arith)))
+
+pub known-some : {A : Type 0} (rows : A → Rows) (es : List A) (cs : List Rows) (a : A) → rows a ≡ [] → (x : ℕ) → length es ≡ 8 → Faultless (lent_proposals (map rows es) cs)
+    → list_any (λ r. mem x (names_of (rows r))) es ≡ any (λ k. mem x (written (held (lent_proposals (map rows es) cs) k))) benches
+known-some rows es cs a q x l h =
+    let P = lent_proposals (map rows es) cs in
+    any-pointwise (λ r. mem x (names_of (rows r))) (λ k. mem x (written (held P k))) es benches a l
+    (λ k m. let n : k < 8 = omega arith in rw (bench-at k n) (held-named rows es cs k a q x (bench-faultless P h k n)))

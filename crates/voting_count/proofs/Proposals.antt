@@ -8,7 +8,7 @@ use lib.Dec.{leb}
 use lib.ListN.{length, take, get_or, length-map}
 use borrow.Author.Tests.{leb-true}
 use Rattle.record.specs.declared.Record as declared
-use Rattle.lists.specs.Lists.{any, all}
+use Rattle.lists.specs.Lists.{all}
 use Rattle.record.specs.Stored.{stored}
 use Rattle.lists.proofs.Lists.{and_l, and_r}
 use Rattle.record_rows.specs.row.Row.{edit_of, constraint_of}
@@ -18,7 +18,7 @@ use Rattle.record_tables.specs.Table.{decoded}
 use Rattle.record_tables.specs.Checked.{Checked}
 use Rattle.record_tables.proofs.Records.{lent-checked}
 use Rattle.voting.specs.declared.RollRow.{RollRow}
-use Rattle.lists.proofs.Front.{some_more, some-found, all_more, all-broken}
+use Rattle.lists.proofs.Front.{all_more, all-broken}
 use Rattle.voting_roll.specs.Roll.{is_bench}
 use Rattle.voting_count.specs.Count.{lent_proposals, Faultless}
 use Rattle.voting_count.proofs.Benches.{bench-at, held_at, fault-at}
@@ -51,12 +51,6 @@ proposal-stored rows cells es cs k a b ea eb r f h =
 module _ (p : ℕ → Bool) (k : ℕ) (h : k < 8) (x : Bool) (e : x ≡ p (k + 1)) where
   at-bench : p (get_or benches k 0) ≡ x
   at-bench = ap p (bench-at k h) ∙ sym e
-
-  pub some-bench : x ≡ true → true ≡ any p benches
-  some-bench q = sym (some-found p benches 8 k 0 h (omega arith) (at-bench ∙ q))
-
-  pub no-bench : x ≡ false → any p (take k benches) ≡ false → any p (take (k + 1) benches) ≡ false
-  no-bench q w = some_more p benches k 0 h w (at-bench ∙ q)
 
   pub not-every : x ≡ false → false ≡ all p benches
   not-every q = sym (all-broken p benches 8 k 0 h (omega arith) (at-bench ∙ q))

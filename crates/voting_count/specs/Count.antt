@@ -1,5 +1,5 @@
 -- Document 01, "Proposals and votes": the count of an election, with the won bundle as it is stored. Assumes nothing.
-use Rattle.std.specs.Prelude.{◌≡◌, cond, List, ℕ, eqb}
+use Rattle.std.specs.Prelude.{◌≡◌, cond, List, map, ℕ, eqb}
 use Rattle.record.specs.Stored.{empty_record}
 use Rattle.record_rows.specs.grounds.Ground.{Rows}
 use Rattle.voting.specs.declared.RollRow.{RollRow}
@@ -7,7 +7,12 @@ use Rattle.voting.specs.Bundle.{vote}
 use Rattle.voting.specs.Tally.{Ballot, winner}
 use Rattle.voting_tally.specs.Groups.{winner_stored}
 use Rattle.voting_roll.specs.Election.{Proposals, held, proposal_fault, first_given, benches, election_fault, cast, refused_election, election_of}
+use Rattle.voting_count.specs.declared.LentRecord.{LentRecord}
 use Rattle.voting_count.specs.declared.Counted.{Counted}
+
+-- the proposals as eight records are lent
+abbrev pub lent : List LentRecord → Proposals
+lent l = record { edits = map (λ x. x.edits.now) l; constraints = map (λ x. x.constraints.now) l }
 
 abbrev pub lent_proposals : List Rows → List Rows → Proposals
 lent_proposals edits constraints = record { edits = edits; constraints = constraints }

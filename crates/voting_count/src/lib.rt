@@ -1,34 +1,38 @@
 // Elections over eight lent proposals and a roll (document 01, "Proposals and votes" and "What is turned away").
 #![tactic(auto)]
 
-ghost use Rattle.std.specs.Prelude.{◌≡◌, false, List, map, ◌+◌, ◌<◌, ◌≤◌};
+ghost use Rattle.std.specs.Prelude.{◌≡◌, false, ◌+◌, ◌<◌, ◌≤◌};
 ghost use Rattle.std.proofs.Math.Option.{none};
 ghost use Rattle.record.specs.Record as theory;
 ghost use Rattle.lists.specs.Lists.{any, all, mem};
 ghost use Rattle.record.specs.Stored.{stored};
 ghost use Rattle.record.specs.Judgement.{sound};
-ghost use Rattle.record_rows.specs.grounds.Ground.{Rows};
+ghost use Rattle.refusals.specs.Numbers.{number_of, Gives};
 ghost use Rattle.record_tables.specs.Table.{names_of};
 ghost use Rattle.record_tables.specs.Checked.{Checked};
-ghost use Rattle.voting.specs.declared.RollRow.{RollRow};
 ghost use Rattle.voting.specs.Bundle as vote;
-ghost use Rattle.voting_roll.specs.Roll.{roll_faulty, roll_of};
+ghost use Rattle.voting_roll.specs.Roll.{roll_faulty};
 ghost use Rattle.voting_tally.specs.Groups.{cast_of, tally_of};
-ghost use Rattle.voting_roll.specs.Election.{held, proposal_fault, first_given, benches, cast, election_of};
-ghost use Rattle.voting_count.specs.Count.{lent_proposals, Faultless, refused_count, count_of};
+ghost use Rattle.voting_roll.specs.Election.{held, proposal_fault, first_given, benches, cast, election_fault, election_of};
+ghost use Rattle.voting_count.specs.Count.{lent, Faultless, refused_count, count_of};
 
 use record::Record;
 use record_rows::row;
 use record_rows::row::{ConstraintRow, EditRow};
 use record_tables::lookup;
-use voting::Election;
-use voting_roll::Roll;
+use refusals::Refusal;
+use voting::{Election, RollRow};
 use voting_tally::{Cast, Tally, Vote};
 
-// The tables of the eight benches' proposals, as they are lent.
-pub type LentEdits<'a> = [&'a [EditRow]; 8];
+// The tables of a bench's proposal, as they are lent.
+#[derive(Clone, Copy)]
+pub struct LentRecord<'a> {
+    pub edits: &'a [EditRow],
+    pub constraints: &'a [ConstraintRow],
+}
 
-pub type LentConstraints<'a> = [&'a [ConstraintRow]; 8];
+// The proposals of the eight benches, an empty one for a bench that has none.
+pub type LentProposals<'a> = [LentRecord<'a>; 8];
 
 // The answer of an election and the won bundle, the empty record where there is none.
 #[derive(Clone, Copy)]
@@ -63,119 +67,90 @@ fn vote_of(proposal: Record, name: u16) -> Cast
     }
 }
 
-// The number of the first faulty row of the proposals, by bench.
-fn proposals_fault(edits: LentEdits, constraints: LentConstraints) -> u32
-    ensures { result ≡ first_given (proposal_fault (lent_proposals (map (λ x. x.now) edits.entry) (map (λ x. x.now) constraints.entry))) benches }
+// The fault of the first faulty row of the proposals, by bench.
+fn proposals_fault(proposals: &LentProposals) -> Result<(), Refusal>
+    ensures { number_of result ≡ first_given (proposal_fault (lent proposals.now)) benches }
 {
-    let mut k = 0;
-    while k < 8 {
-        let number = record_refusal::lent_fault(edits[k], constraints[k]);
-        if number != 0 {
-            return number;
-        }
-        k += 1;
+    for proposal in proposals {
+        record_refusal::lent_fault(proposal.edits, proposal.constraints)?;
     }
-    0
+    Ok(())
 }
 
 // The proposal of bench k + 1, where its rows have no fault.
-fn proposal_at(edits: LentEdits, constraints: LentConstraints, k: usize) -> Record
+fn proposal_at(proposals: &LentProposals, k: usize) -> Record
     requires { k < 8 }
-    ensures { proposal_fault (lent_proposals (map (λ x. x.now) edits.entry) (map (λ x. x.now) constraints.entry)) (k + 1) ≡ 0
-        → result ≡ stored (held (lent_proposals (map (λ x. x.now) edits.entry) (map (λ x. x.now) constraints.entry)) (k + 1)) }
+    ensures { proposal_fault (lent proposals.now) (k + 1) ≡ 0 → result ≡ stored (held (lent proposals.now) (k + 1)) }
 {
-    record_union::decode(edits[k], constraints[k])
+    record_union::decode(proposals[k].edits, proposals[k].constraints)
 }
 
 // Whether a row of a lent table has this name.
 fn has_name(edits: &[EditRow], name: u16) -> bool
     ensures { result ≡ mem name (names_of edits.now) }
 {
-    let wanted = name as u32;
-    let mut i = 0;
-    while i < edits.len() {
-        if edits[i][0] == wanted {
-            return true;
-        }
-        i += 1;
-    }
-    false
+    edits.iter().any(|row| row[0] == u32::from(name))
 }
 
 // Whether an edit is known: any of the eight proposals has it. Rows without fault have the names of the proposal that they are.
-fn is_known(edits: LentEdits, name: u16) -> bool
-    ensures { (constraints : List Rows) → Faultless (lent_proposals (map (λ x. x.now) edits.entry) constraints)
-        → result ≡ any (λ k. mem name (theory.written (held (lent_proposals (map (λ x. x.now) edits.entry) constraints) k))) benches }
+fn is_known(proposals: &LentProposals, name: u16) -> bool
+    ensures { Faultless (lent proposals.now) → result ≡ any (λ k. mem name (theory.written (held (lent proposals.now) k))) benches }
 {
-    let mut k = 0;
-    while k < 8 {
-        if has_name(edits[k], name) {
-            return true;
-        }
-        k += 1;
-    }
-    false
+    proposals
+        .iter()
+        .any(|proposal| has_name(proposal.edits, name))
 }
 
 // Whether all eight proposals are sound, those off the roll too.
-fn all_sound(edits: LentEdits, constraints: LentConstraints) -> bool
-    ensures { Faultless (lent_proposals (map (λ x. x.now) edits.entry) (map (λ x. x.now) constraints.entry))
-        → result ≡ all (λ k. sound (held (lent_proposals (map (λ x. x.now) edits.entry) (map (λ x. x.now) constraints.entry)) k)) benches }
+fn all_sound(proposals: &LentProposals) -> bool
+    ensures { Faultless (lent proposals.now) → result ≡ all (λ k. sound (held (lent proposals.now) k)) benches }
 {
-    let mut k = 0;
-    while k < 8 {
-        let proposal = proposal_at(edits, constraints, k);
-        if !judgement::sound(proposal) {
+    for k in 0..8 {
+        if !judgement::sound(proposal_at(proposals, k)) {
             return false;
         }
-        k += 1;
     }
     true
 }
 
-// The place of a bench among the proposals.
-fn place_of(bench: u8) -> usize
-    ensures { (result < 8) × (1 ≤ bench → bench ≤ 8 → bench ≡ result + 1) }
-{
-    if bench < 1 {
-        return 0;
-    }
-    if 8 < bench {
-        return 0;
-    }
-    (bench as usize) - 1
-}
-
 // The vote of a bench: that of its proposal.
-fn vote_in(name: u16, edits: LentEdits, constraints: LentConstraints, bench: u8) -> Cast
-    ensures { Faultless (lent_proposals (map (λ x. x.now) edits.entry) (map (λ x. x.now) constraints.entry)) → 1 ≤ bench → bench ≤ 8
-        → result ≡ cast_of (vote.vote (held (lent_proposals (map (λ x. x.now) edits.entry) (map (λ x. x.now) constraints.entry)) bench) name) }
+fn vote_in(name: u16, proposals: &LentProposals, bench: u8) -> Cast
+    ensures { Faultless (lent proposals.now) → 1 ≤ bench → bench ≤ 8 → result ≡ cast_of (vote.vote (held (lent proposals.now) bench) name) }
 {
-    let k = place_of(bench);
-    let proposal = proposal_at(edits, constraints, k);
-    vote_of(proposal, name)
+    let k = usize::from(bench.clamp(1, 8)) - 1;
+    vote_of(proposal_at(proposals, k), name)
 }
 
 // The tally of the roll's rows, one after the other. Benches off the roll cast no vote.
-fn tally_of(name: u16, edits: LentEdits, constraints: LentConstraints, roll: Roll) -> Tally
-    ensures { (rows : List RollRow) → Faultless (lent_proposals (map (λ x. x.now) edits.entry) (map (λ x. x.now) constraints.entry)) → roll ≡ roll_of rows → roll_faulty rows ≡ false
-        → result ≡ tally_of (cast name (lent_proposals (map (λ x. x.now) edits.entry) (map (λ x. x.now) constraints.entry)) rows) }
+fn tally_of(name: u16, proposals: &LentProposals, roll: &[RollRow]) -> Tally
+    ensures { Faultless (lent proposals.now) → roll_faulty roll.now ≡ false → result ≡ tally_of (cast name (lent proposals.now) roll.now) }
 {
     let mut tally = voting_tally::no_votes();
-    let rows = roll.rows;
-    let n = roll.count;
-    if 8 < n {
-        return tally;
-    }
-    let mut i = 0;
-    while i < n {
-        let row = rows[i];
-        let cast = vote_in(name, edits, constraints, row.bench);
+    for row in roll {
+        let cast = vote_in(name, proposals, row.bench);
         let more = voting_tally::with_vote(tally, row.weight, cast);
         tally = more;
-        i += 1;
     }
     tally
+}
+
+// The tally of an election on an edit. The grounds: rows of the proposals by bench, the roll, then the faults of the whole call.
+fn tally_for(edit: u32, proposals: &LentProposals, roll: &[RollRow]) -> Result<Tally, Refusal>
+    ensures { Gives (election_fault edit (lent proposals.now) roll.now) (tally_of (cast edit (lent proposals.now) roll.now)) result }
+{
+    proposals_fault(proposals)?;
+    voting_roll::fault(roll)?;
+    if !row::is_name(edit) {
+        return Err(Refusal::OutOfRange);
+    }
+    let name = edit as u16;
+    if !is_known(proposals, name) {
+        return Err(Refusal::Unknown);
+    }
+    if !all_sound(proposals) {
+        return Err(Refusal::Unsound);
+    }
+    Ok(tally_of(name, proposals, roll))
 }
 
 fn refused(number: u32) -> Counted
@@ -183,7 +158,7 @@ fn refused(number: u32) -> Counted
 {
     Counted {
         election: Election {
-            number: number,
+            number,
             won: false,
             greatest: 0,
             silent: 0,
@@ -193,41 +168,22 @@ fn refused(number: u32) -> Counted
     }
 }
 
-// THE COUNT of an election on an edit. The grounds: rows of the proposals by bench, the roll, then the faults of the whole call.
-pub fn count(edit: u32, edits: LentEdits, constraints: LentConstraints, roll: Roll) -> Counted
-    ensures { (rows : List RollRow) → roll ≡ roll_of rows → result ≡ count_of edit (lent_proposals (map (λ x. x.now) edits.entry) (map (λ x. x.now) constraints.entry)) rows }
+// THE COUNT of an election on an edit.
+pub fn count(edit: u32, proposals: &LentProposals, roll: &[RollRow]) -> Counted
+    ensures { result ≡ count_of edit (lent proposals.now) roll.now }
 {
-    let number = proposals_fault(edits, constraints);
-    if number != 0 {
-        return refused(number);
-    }
-    if roll.faulty {
-        return refused(14);
-    }
-    if !row::is_name(edit) {
-        return refused(2);
-    }
-    let name = edit as u16;
-    if !is_known(edits, name) {
-        return refused(5);
-    }
-    if !all_sound(edits, constraints) {
-        return refused(8);
-    }
-    let tally = tally_of(name, edits, constraints, roll);
-    let answer = tally.election;
-    Counted {
-        election: answer,
-        bundle: voting_tally::won_bundle(tally),
+    match tally_for(edit, proposals, roll) {
+        Ok(tally) => Counted {
+            election: tally.election,
+            bundle: voting_tally::won_bundle(&tally).unwrap_or(record::empty()),
+        },
+        Err(refusal) => refused(refusal.number()),
     }
 }
 
-// THE ANSWER of an election on an edit. Inner: says nothing of a roll that was not gathered row by row; `bench_elections` has the operations that
-// are lent the rows.
-pub fn election(edit: u32, edits: LentEdits, constraints: LentConstraints, roll: Roll) -> Election
-    ensures { (rows : List RollRow) → roll ≡ roll_of rows → result ≡ election_of edit (lent_proposals (map (λ x. x.now) edits.entry) (map (λ x. x.now) constraints.entry)) rows }
+// THE ANSWER of an election on an edit.
+pub fn election(edit: u32, proposals: &LentProposals, roll: &[RollRow]) -> Election
+    ensures { result ≡ election_of edit (lent proposals.now) roll.now }
 {
-    let counted = count(edit, edits, constraints, roll);
-    let answer = counted.election;
-    answer
+    count(edit, proposals, roll).election
 }

@@ -2,11 +2,11 @@
 use mathlib.Core.Path.{◌≡◌, ap, ◌∙◌}
 use mathlib.Core.Bool.{true}
 use mathlib.Core.List.{List, [], ◌∷◌, map}
+use Rattle.std.specs.Prelude.{Option}
 use Prim.Native.Nat.{ℕ, ◌+◌, ◌≤◌}
 use native.Mathlib.Omega.{arith}
 use lib.Dec.{ltb}
-use lib.ListN.{length, take, length-map}
-use lib.Seq.{length-take-le}
+use lib.ListN.{length, length-map}
 use Rattle.record.specs.declared.Edit.{Edit}
 use Rattle.record.specs.declared.Constraint.{Constraint}
 use Rattle.record.specs.declared.Record as declared
@@ -64,7 +64,7 @@ module _ (row : List ℕ) where
     }
 
     -- the table of the union
-    pub table-united : length R.constraints ≤ 385 → {table : Constraints}
+    pub table-united : length R.constraints ≤ 385 → {table : Option Constraints}
         → (length (unite R (only_constraints (decisions row (written R)))).constraints ≤ 512 → table ≡ held_table (unite R (only_constraints (decisions row (written R)))).constraints)
         → table ≡ held_table (united constraint_key R.constraints (decisions row (written R)))
     unfolding unite
@@ -83,6 +83,6 @@ pub decisions-many : (row : List ℕ) (R : Record) → length (decisions row (wr
 unfolding decisions written
 decisions-many row R = length-map (map name_of R.edits) (decision_on row) ∙ length-map R.edits name_of
 
-pub written-few : (R : Record) (edits : List Edit) (n : ℕ) → n ≤ 127 → n ≤ length edits → take n edits ≡ R.edits → length (written R) ≤ 512
+pub written-few : (R : Record) (edits : List Edit) → edits ≡ R.edits → length edits ≤ 127 → length (written R) ≤ 512
 unfolding written
-written-few R edits n h w q = omega (arith, ap length q, length-take-le n edits w, length-map R.edits name_of)
+written-few R edits q h = let z : length R.edits ≤ 127 = rw q at h in omega (arith, length-map R.edits name_of)

@@ -2,12 +2,12 @@
 use mathlib.Core.Path.{◌≡◌, refl, ap, sym, ◌∙◌}
 use mathlib.Core.Bool.{true, false, cond, ◌&&◌}
 use mathlib.Core.List.{List, [], ◌∷◌, ◌++◌}
+use Rattle.std.specs.Prelude.{Option}
 use Prim.Native.Nat.{ℕ, suc, ◌+◌, ◌≤◌, ◌<◌}
 use native.Mathlib.Numerals.{add-one}
 use native.Mathlib.Omega.{arith}
 use borrow.Author.Tests.{eq-eqb, ne_eqb, eqb-false, lt-ltb, le-ltb}
 use lib.ListN.{length, take, get_or, length-map}
-use lib.Seq.{length-take-le}
 use Rattle.record.specs.declared.Edit.{Edit}
 use Rattle.record.specs.declared.Constraint.{Constraint}
 use Rattle.record.specs.declared.Record as declared
@@ -29,9 +29,8 @@ use Rattle.voting.specs.Proposal.{joined_constraints, before, unordered, decisio
 use Rattle.voting.proofs.Finished.{unordered-from}
 use Rattle.record_joining.specs.declared.insertion.Constraints.{Constraints}
 use Rattle.record_joining.specs.insertion.Insertion.{held_table}
-use Rattle.voting_drafts.proofs.pairs.Filtering.{in_array}
 use Rattle.voting_drafts.proofs.pairs.Unordered.{index-low, index-name}
-use Rattle.voting_drafts.proofs.draft.Places.{place_none, place-some, place-mem}
+use Rattle.voting_drafts.proofs.draft.Places.{place_none, place-there, place-mem}
 use Rattle.voting_drafts.specs.ranking.Ranking.{flat_map, rank_of, rank_order, pair_order}
 use Rattle.voting_drafts.proofs.ranking.Joins.{flat-same, united-append, united-one, joins-next}
 use Rattle.voting_drafts.proofs.ranking.Ordered.{left-unranked, right-unranked, left-lower, right-lower}
@@ -44,7 +43,7 @@ module _ (rest : List ℕ) (x : ℕ) (n : x ≡ 0 → ⊥) {page : ℕ} (e : pag
 
   pub is-in : (page ≡ 0 → ⊥) → (mem x (0 ∷ rest) ≡ true) × (page ≡ index_of x (0 ∷ rest))
   is-in z =
-      let m : mem x (0 ∷ rest) ≡ true = place-mem rest x n ∙ place-some rest x (λ q. z (e ∙ q)) in
+      let m : mem x (0 ∷ rest) ≡ true = place-mem rest x n ∙ place-there rest x (λ q. z (e ∙ q)) in
       (m, e ∙ place-known x (0 ∷ rest) m)
 
   -- the decision on it
@@ -87,13 +86,13 @@ module _ (R : Record) (rest index pages : List ℕ) (g : Paged R rest index page
   page-named x h e = e ∙ page-at (get_or index x 0) (index-low R index g.indexed x h refl) ∙ ap (place_in (0 ∷ rest)) (index-name R index g.indexed x h refl)
 
   -- the i-th edit, its name and its page
-  module _ (edits : List Edit) (n : ℕ) (w : n ≤ length edits) (e : take n edits ≡ R.edits) (i : ℕ) (d : Edit) (h : i < n) where
+  module _ (edits : List Edit) (e : edits ≡ R.edits) (i : ℕ) (d : Edit) (h : i < length edits) where
     pub decisions-named : (i < length (written R)) × ((get_or edits i d).name ≡ get_or (written R) i 0)
     unfolding written
     decisions-named =
-        let q = in_array edits R.edits n i d e h w in
+        let q : i < length R.edits = rw e at h in
         let m = length-map R.edits name_of in
-        (omega (arith, q.0), ap (λ (x : Edit). x.name) q.1 ∙ sym (get_or-mapped name_of R.edits i d 0 q.0))
+        (omega (arith, q), rw e (sym (get_or-mapped name_of R.edits i d 0 q)))
 
     known : get_or (written R) i 0 among written R
     known = get_or-among (written R) i decisions-named.0
@@ -109,7 +108,7 @@ module _ (R : Record) (rest index pages : List ℕ) (g : Paged R rest index page
         let z : x ≡ 0 → ⊥ = λ y. clash (rw y at known) g.formed.unwritten in
         p ∙ ap (λ (y : ℕ). decided y (get_or pages (i + 1) 0)) decisions-named.1 ∙ decision-is rest x z page-here
 
-    pub decisions-next : (t : List Constraint) → {c : Constraint} {table : Constraints} → c ≡ decided (get_or edits i d).name (get_or pages (i + 1) 0)
+    pub decisions-next : (t : List Constraint) → {c : Constraint} {table : Option Constraints} → c ≡ decided (get_or edits i d).name (get_or pages (i + 1) 0)
         → table ≡ held_table (inserted constraint_key c (united constraint_key t (flat_map (decision_row (0 ∷ rest)) (take i (written R)))))
         → table ≡ held_table (united constraint_key t (flat_map (decision_row (0 ∷ rest)) (take (i + 1) (written R))))
     decisions-next t {c} p q =
@@ -151,6 +150,6 @@ aborted-is x page z e = rw (eq-eqb page 0 z) e
 pub required-is : (x page : ℕ) → (page ≡ 0 → ⊥) → record { left = x; rule = 1; right = 0 } ≡ decided x page
 required-is x page z = rw (ne_eqb page 0 z)
 
-pub decisions-end : (R : Record) (edits : List Edit) (n i : ℕ) → take n edits ≡ R.edits → n ≤ length edits → n ≤ i → length (written R) ≤ i
+pub decisions-end : (R : Record) (edits : List Edit) (i : ℕ) → edits ≡ R.edits → length edits ≤ i → length (written R) ≤ i
 unfolding written
-decisions-end R edits n i q w h = let z = ap length (sym q) ∙ length-take-le n edits w in let m = length-map R.edits name_of in omega arith
+decisions-end R edits i q h = let m = length-map R.edits name_of in let z : length R.edits ≤ i = rw q at h in omega arith

@@ -1,2 +1,1 @@
-pub mod Filtering
 pub mod Unordered

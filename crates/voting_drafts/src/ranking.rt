@@ -1,22 +1,21 @@
-// A table joined by the orders of pairs, each by the ranks of its two edits. Functions are pub for `draft`, which ranks what was settled first, and
-// `decisions`, which ranks by the pages of a schedule.
-ghost use Rattle.std.specs.Prelude.{◌≡◌, List, ℕ, ◌≤◌, ◌<◌, length, get_or, take};
+// A table joined by the orders of a record's pairs, each by the ranks of its two edits. Functions are pub for `draft`, which ranks what was settled
+// first, and `voting_decisions`, which ranks by the pages of a schedule.
+ghost use Rattle.std.specs.Prelude.{◌≡◌, List, ℕ};
+ghost use Rattle.record.specs.Record as theory;
 ghost use Rattle.record.specs.declared.Constraint.{Constraint};
-ghost use Rattle.record.specs.Stored.{constraint_limit};
-ghost use Rattle.record_rows.specs.row.Row.{name_limit};
+ghost use Rattle.record.specs.Stored.{stored};
 ghost use Rattle.lists.specs.Keyed.{Ascending, united};
 ghost use Rattle.record_tables.specs.Table.{constraint_key};
-ghost use Rattle.voting.specs.Proposal.{before};
+ghost use Rattle.graph.specs.indexes.Fit.{Fit};
+ghost use Rattle.voting.specs.Proposal.{before, unordered};
 ghost use Rattle.record_joining.specs.insertion.Insertion.{held_table};
-ghost use Rattle.voting_drafts.specs.ranking.Ranking.{flat_map, rank_of, rank_order, pair_order};
+ghost use Rattle.voting_drafts.specs.ranking.Ranking.{flat_map, rank_order, pair_order};
 
-use crate::pairs::Pairs;
+use crate::pairs;
 use graph::indexes;
-use graph::links::MARKS;
-use record::Constraint;
+use record::{Constraint, Record};
 use record_joining::insertion;
 use record_joining::insertion::Constraints;
-use record_rows::row::NAMES;
 
 // The constraint "a notafter b".
 pub fn notafter(a: u16, b: u16) -> Constraint
@@ -29,17 +28,8 @@ pub fn notafter(a: u16, b: u16) -> Constraint
     }
 }
 
-// The rank of a name.
-fn rank_of(index: &[u8; NAMES], ranks: &[u8; MARKS], name: u16) -> u8
-    requires { (length index.now ≡ name_limit) × ((x : ℕ) → get_or index.now x 0 < 128) }
-    ensures { result ≡ rank_of index.now ranks.now name }
-{
-    let i = indexes::index_of(index, numbers::index16(name));
-    ranks[i]
-}
-
 // The table joined by the order of a pair by its ranks.
-fn order_row(table: Constraints, c: Constraint, a: u8, b: u8) -> Constraints
+fn order_row(table: Option<Constraints>, c: Constraint, a: u8, b: u8) -> Option<Constraints>
     ensures { (t : List Constraint) → table ≡ held_table t → Ascending constraint_key t → result ≡ held_table (united constraint_key t (rank_order a b c.left c.right)) }
 {
     if a == 0 {
@@ -57,28 +47,24 @@ fn order_row(table: Constraints, c: Constraint, a: u8, b: u8) -> Constraints
     table
 }
 
-// The table joined by the orders of all pairs.
-pub fn with_orders(
-    table: Constraints,
-    pairs: Pairs,
-    index: &[u8; NAMES],
-    ranks: &[u8; MARKS],
-) -> Constraints
-    requires { (length index.now ≡ name_limit) × ((x : ℕ) → get_or index.now x 0 < 128) × (pairs.count ≤ constraint_limit) }
-    ensures { (t : List Constraint) → table ≡ held_table t → Ascending constraint_key t
-        → result ≡ held_table (united constraint_key t (flat_map (pair_order (rank_of index.now ranks.now)) (take pairs.count pairs.rows))) }
+// The table joined by the orders of all pairs of a record that have none.
+pub fn with_orders<F: Fn(u16) -> u8>(
+    table: Option<Constraints>,
+    multilog: Record,
+    rank: F,
+) -> Option<Constraints>
+    requires { F.IsAlwaysCallable rank }
+    ensures { (R : theory.Record) (t : List Constraint) (ranks : ℕ → ℕ) → multilog ≡ stored R → Fit R → ((x r : ℕ) → F.post rank x r → r ≡ ranks x)
+        → table ≡ held_table t → Ascending constraint_key t → result ≡ held_table (united constraint_key t (flat_map (pair_order ranks) (unordered R))) }
 {
-    let rows = pairs.rows;
-    let n = pairs.count;
+    let index = indexes::index_table(multilog);
+    let graph = indexes::resolved(multilog);
     let mut out = table;
-    let mut i: usize = 0;
-    while i < n {
-        let c = rows[i];
-        let a = rank_of(index, ranks, c.left);
-        let b = rank_of(index, ranks, c.right);
-        let more = order_row(out, c, a, b);
-        out = more;
-        i += 1;
+    for c in multilog.constraint_slice() {
+        if pairs::is_unordered(*c, &index, &graph.rows) {
+            let more = order_row(out, *c, rank(c.left), rank(c.right));
+            out = more;
+        }
     }
     out
 }

@@ -10,8 +10,7 @@ use borrow.Author.Tests.{eqb-true, eqb-false, eq-eqb, not-true}
 use Rattle.record.specs.declared.Constraint.{Constraint}
 use Rattle.lists.specs.Lists.{mem, index_of, ◌among◌, closure}
 use Rattle.record.specs.Record.{Record, names, written, has, notafter, noncommuting, WellFormed}
-use Rattle.record.specs.declared.Record as declared
-use Rattle.record.specs.Stored.{stored, filler_constraint}
+use Rattle.record.specs.Stored.{filler_constraint}
 use Rattle.lists.proofs.Lists.{by, clash, and_l, and_r, mem_index, cons-by, nil-no, closure-holds, closure-least, closure-closed, closure-unique}
 use Rattle.lists.proofs.Arrays.{get_or-any}
 use Rattle.record.proofs.Records.{written-names, not-init, right-written, pair-by}
@@ -19,12 +18,12 @@ use Rattle.graph.specs.links.Marks.{name_at, place_in, marks_of}
 use Rattle.graph.specs.links.Links.{left_at, with_row, Leads, RowOf}
 use Rattle.graph.proofs.links.Marks.{marks-same}
 use Rattle.graph.proofs.links.Names.{get_or-place, ascending-distinct, place-known}
-use Rattle.graph.proofs.links.Links.{with-row-size, Linking, linking-step, linking-end, Growing, growing-step}
+use Rattle.graph.proofs.links.Links.{with-row-size, Linking, linking-step, linking-end}
 use Rattle.voting.specs.Bundle.{leads, members}
 use Rattle.voting.proofs.Bundles.{leads-notafter, leads-enables, leads-rival, leads-by, leads-known}
 use Rattle.voting_members.specs.Rows.{rival_key, enabled_key, forward_key, backward_key, leads_in}
 use Rattle.graph.specs.indexes.Fit.{Fit}
-use Rattle.graph.proofs.indexes.Tables.{names-few, constraint-at}
+use Rattle.graph.proofs.indexes.Tables.{names-few}
 use Rattle.graph.proofs.indexes.Resolving.{has-at, at_has, left-known, right-known}
 
 abbrev pub index_in : Record → ℕ → ℕ
@@ -78,13 +77,6 @@ Rowing R rows j = Linking (member_keys_of R) (member_lefts_of R) rows (2 * j)
 -- the rows of one constraint more
 abbrev pub with_both : List ℕ → ℕ → ℕ → ℕ → ℕ → ℕ → List ℕ
 with_both rows j a b f g = with_row (with_row rows (2 * j) f a) (2 * j + 1) g b
-
-pub growing-both : (rows : List ℕ) (j a b f g : ℕ) → j < 512 → a < 128 → b < 128 → f ≤ 128 → g ≤ 128 → Growing rows (2 * j) → Growing (with_both rows j a b f g) (2 * (j + 1))
-growing-both rows j a b f g h ka kb kf kg w =
-    let one = growing-step rows (2 * j) f a (omega arith) (omega arith) ka w in
-    let two = growing-step (with_row rows (2 * j) f a) (2 * j + 1) g b (omega arith) (omega arith) kb one in
-    let e : 2 * (j + 1) ≡ 2 * j + 1 + 1 = omega arith in
-    rw e two
 
 module _ (R : Record) (rows : List ℕ) (j a b f g : ℕ) (size : length rows ≡ 2432) (h : j < 512) (u : j < length R.constraints)
     (ea : a ≡ index_in R (get_or R.constraints j filler_constraint).left) (eb : b ≡ index_in R (get_or R.constraints j filler_constraint).right)
@@ -293,24 +285,27 @@ module _ (R : Record) (w : WellFormed R) (e : ℕ) (i : e among written R) where
       (closure-holds (leads R) (written R) (e ∷ [])))
 
 -- one turn of the loop that links the rows: the indexes and keys as the code finds them
-module _ (r : declared.Record) (table rows : List ℕ) (j : ℕ) (d : Constraint) (a b f g : ℕ) (R : Record) (q : r ≡ stored R) (fit : Fit R)
-    (t : (x : ℕ) → get_or table x 0 ≡ index_in R x) (h : j < 512) (u : j < length R.constraints)
-    (ea : a ≡ get_or table (get_or r.constraints j d).left 0) (eb : b ≡ get_or table (get_or r.constraints j d).right 0)
-    (ef : a < length (names R) → b < length (names R) → f ≡ forward_key R a (get_or r.constraints j d).rule b)
-    (eg : a < length (names R) → b < length (names R) → g ≡ backward_key R a (get_or r.constraints j d).rule b) (kf : f ≤ 128) (kg : g ≤ 128) where
-  same : get_or r.constraints j d ≡ get_or R.constraints j filler_constraint
-  same = constraint-at r R q j d u ∙ get_or-any R.constraints j d filler_constraint u
+module _ (table rows : List ℕ) (l : List Constraint) (j : ℕ) (d : Constraint) (a b f g : ℕ) (R : Record) (q : l ≡ R.constraints) (fit : Fit R)
+    (t : (x : ℕ) → get_or table x 0 ≡ index_in R x) (h : j < 512) (u : j < length l)
+    (ea : a ≡ get_or table (get_or l j d).left 0) (eb : b ≡ get_or table (get_or l j d).right 0)
+    (ef : a < length (names R) → b < length (names R) → f ≡ forward_key R a (get_or l j d).rule b)
+    (eg : a < length (names R) → b < length (names R) → g ≡ backward_key R a (get_or l j d).rule b) (kf : f ≤ 128) (kg : g ≤ 128) where
+  within : j < length R.constraints
+  within = omega (arith, ap length q)
+
+  same : get_or l j d ≡ get_or R.constraints j filler_constraint
+  same = ap (λ z. get_or z j d) q ∙ get_or-any R.constraints j d filler_constraint within
 
   pub rowing-turn : length rows ≡ 2432 → Rowing R rows j → Rowing R (with_both rows j a b f g) (j + 1)
   rowing-turn size =
-      let s = has-at R.constraints j filler_constraint u in
+      let s = has-at R.constraints j filler_constraint within in
       let pa : a ≡ index_in R (get_or R.constraints j filler_constraint).left = ea ∙ (t _ ∙ ap (λ c. index_in R c.left) same) in
       let pb : b ≡ index_in R (get_or R.constraints j filler_constraint).right = eb ∙ (t _ ∙ ap (λ c. index_in R c.right) same) in
       let la : a < length (names R) = rw pa (index-low R _ (left-known fit.formed _ _ _ s)) in
       let lb : b < length (names R) = rw pb (index-low R _ (right-known fit.formed _ _ _ s)) in
       let pf : f ≡ forward_key_of R (get_or R.constraints j filler_constraint) = ef la lb ∙ (λ i. forward_key R (pa i) (same i).rule (pb i)) in
       let pg : g ≡ backward_of R (get_or R.constraints j filler_constraint) = eg la lb ∙ (λ i. backward_key R (pa i) (same i).rule (pb i)) in
-      rowing-step R rows j a b f g size h u pa pb pf pg kf kg
+      rowing-step R rows j a b f g size h within pa pb pf pg kf kg
 
 -- the marks of the closure from an edit's index are those of the members
 module _ (R : Record) (f : Fit R) (e : ℕ) (i : e among written R) (x : ℕ) (q : x ≡ index_in R e) where

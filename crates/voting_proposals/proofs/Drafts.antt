@@ -3,7 +3,7 @@ use mathlib.Core.Path.{◌≡◌, refl, ap, sym, ◌∙◌}
 use mathlib.Core.Bool.{Bool, true, false, not}
 use mathlib.Core.List.{List}
 use Prim.Native.Nat.{ℕ, ◌≤◌}
-use borrow.Author.Tests.{not-false, ltb-false, ne_eqb}
+use borrow.Author.Tests.{not-false, ltb-false}
 use lib.Dec.{ltb}
 use lib.ListN.{length}
 use Rattle.record.specs.declared.Constraint.{Constraint}
@@ -14,27 +14,24 @@ use Rattle.record.specs.Judgement.{sound}
 use Rattle.lists.specs.Keyed.{united}
 use Rattle.record_rows.specs.grounds.Ground.{◌given◌, ◌orelse◌}
 use Rattle.record_rows.proofs.grounds.Grounds.{orelse-none, given-none}
-use Rattle.record_tables.specs.Table.{empty_tables, constraint_key, unite}
+use Rattle.record_tables.specs.Table.{constraint_key, unite}
 use Rattle.record_tables.specs.Checked.{Checked}
-use Rattle.record_joining.specs.declared.Joined.{Joined}
-use Rattle.record_joining.specs.Join.{joined_of}
 use Rattle.record_joining.specs.declared.insertion.Constraints.{Constraints}
 use Rattle.record_joining.specs.insertion.Insertion.{held_table}
-use Rattle.record_joining.proofs.insertion.Tables.{full_is}
+use Rattle.std.specs.Prelude.{Some, None, is_some}
+use Rattle.lists.proofs.Lists.{by, clash}
 use Rattle.voting.specs.Proposal.{joined_constraints, unordered, firsts, started, finished, proposed}
 use Rattle.voting_proposals.specs.Propose.{overfull, draft_fault}
 use Rattle.voting_proposals.proofs.Added.{started-checked, finished-checked}
 
--- a refusal with a number that is given
-pub stopped-is : (n m : ℕ) (P : Record) → m ≡ n → (n ≡ 0 → ⊥) → {r : Joined} → r ≡ record { number = n; after = stored empty_tables } → r ≡ joined_of m empty_tables P
-stopped-is n m P e z f = f ∙ sym (rw (e, ne_eqb n 0 z))
+-- whether a table is held tells whether the rows have places
+none-tells : (l : List Constraint) → None ≡ held_table l → ltb 512 (length l) ≡ true
+unfolding held_table
+none-tells l e = by (ltb 512 (length l)) (λ q. q) (λ q. clash (ap is_some (rw q at e)) refl)
 
-pub made-is : (m : ℕ) (P : Record) → m ≡ 0 → {r : declared.Record} → r ≡ stored P → record { number = 0; after = r } ≡ joined_of m empty_tables P
-made-is m P e f = rw (e, f)
-
--- whether a table is full tells whether the rows have places
-full-tells : (table : Constraints) (l : List Constraint) → table ≡ held_table l → table.full ≡ ltb 512 (length l)
-full-tells table l e = ap (λ (t : Constraints). t.full) e ∙ full_is l
+some-tells : (table : Constraints) (l : List Constraint) → Some table ≡ held_table l → ltb 512 (length l) ≡ false
+unfolding held_table
+some-tells table l e = by (ltb 512 (length l)) (λ q. clash (sym (ap is_some (rw q at e))) refl) (λ q. q)
 
 module _ (M Q : Record) where
   -- the number by the outcomes of its tests
@@ -45,20 +42,18 @@ module _ (M Q : Record) where
   unfolding draft_fault
   tested = refl
 
-  pub unsound-old : sound Q ≡ false → draft_fault M Q ≡ 8
-  unsound-old e = tested ∙ rw e
+  pub unsound-old : sound Q ≡ false → 8 ≡ draft_fault M Q
+  unsound-old e = sym (tested ∙ rw e)
 
-  module _ (p : sound Q ≡ true) (first : Constraints) (t : first ≡ held_table (united constraint_key (unite M Q).constraints (firsts Q (unordered (unite M Q))))) where
-    first-tells : first.full ≡ overfull (started M Q)
+  module _ (p : sound Q ≡ true) where
+    pub no-place-before : None ≡ held_table (united constraint_key (unite M Q).constraints (firsts Q (unordered (unite M Q)))) → 3 ≡ draft_fault M Q
     unfolding overfull started joined_constraints
-    first-tells = full-tells first _ t
+    no-place-before e = let q : overfull (started M Q) ≡ true = none-tells _ e in sym (tested ∙ rw (p, q))
 
-    pub no-place-before : first.full ≡ true → draft_fault M Q ≡ 3
-    no-place-before e = let q : overfull (started M Q) ≡ true = sym first-tells ∙ e in tested ∙ rw (p, q)
-
-    module _ (q : first.full ≡ false) where
+    module _ (first : Constraints) (t : Some first ≡ held_table (united constraint_key (unite M Q).constraints (firsts Q (unordered (unite M Q))))) where
       placed : overfull (started M Q) ≡ false
-      placed = sym first-tells ∙ q
+      unfolding overfull started joined_constraints
+      placed = some-tells first _ t
 
       pub start-checked : Checked (unite M Q) → Checked (started M Q)
       unfolding overfull
@@ -66,31 +61,32 @@ module _ (M Q : Record) where
 
       -- the start as it is stored
       pub start_is : (both start : declared.Record)
-          → ((R : Record) (l : List Constraint) → both ≡ stored R → first ≡ held_table l → first.full ≡ false → start ≡ stored (record { edits = R.edits; constraints = l }))
+          → ((R : Record) (l : List Constraint) → both ≡ stored R → Some first ≡ held_table l → start ≡ stored (record { edits = R.edits; constraints = l }))
           → both ≡ stored (unite M Q) → start ≡ stored (started M Q)
       unfolding started joined_constraints
-      start_is both start f e = f (unite M Q) _ e t q
+      start_is both start f e = f (unite M Q) _ e t
 
-      pub unsound-start : sound (started M Q) ≡ false → draft_fault M Q ≡ 8
-      unsound-start e = tested ∙ rw (p, placed, e)
+      pub unsound-start : sound (started M Q) ≡ false → 8 ≡ draft_fault M Q
+      unsound-start e = sym (tested ∙ rw (p, placed, e))
 
-      module _ (s : sound (started M Q) ≡ true) (last : Constraints) (u : last ≡ held_table (finished (started M Q)).constraints) where
-        last-tells : last.full ≡ overfull (proposed M Q)
+      module _ (s : sound (started M Q) ≡ true) where
+        pub no-place-after : None ≡ held_table (finished (started M Q)).constraints → 3 ≡ draft_fault M Q
         unfolding overfull proposed
-        last-tells = full-tells last _ u
+        no-place-after e = let z : overfull (proposed M Q) ≡ true = none-tells _ e in sym (tested ∙ rw (p, placed, s, z))
 
-        pub no-place-after : last.full ≡ true → draft_fault M Q ≡ 3
-        no-place-after e = let z : overfull (proposed M Q) ≡ true = sym last-tells ∙ e in tested ∙ rw (p, placed, s, z)
+        module _ (last : Constraints) (u : Some last ≡ held_table (finished (started M Q)).constraints) where
+          last-placed : overfull (proposed M Q) ≡ false
+          unfolding overfull proposed
+          last-placed = some-tells last _ u
 
-        module _ (v : last.full ≡ false) where
-          pub propose-no-fault : draft_fault M Q ≡ 0
-          propose-no-fault = let z : overfull (proposed M Q) ≡ false = sym last-tells ∙ v in tested ∙ rw (p, placed, s, z)
+          pub propose-no-fault : 0 ≡ draft_fault M Q
+          propose-no-fault = sym (tested ∙ rw (p, placed, s, last-placed))
 
           pub last-is : (start new : declared.Record)
-              → ((R : Record) (l : List Constraint) → start ≡ stored R → last ≡ held_table l → last.full ≡ false → new ≡ stored (record { edits = R.edits; constraints = l }))
+              → ((R : Record) (l : List Constraint) → start ≡ stored R → Some last ≡ held_table l → new ≡ stored (record { edits = R.edits; constraints = l }))
               → start ≡ stored (started M Q) → new ≡ stored (proposed M Q)
           unfolding proposed finished joined_constraints
-          last-is start new f e = f (started M Q) _ e u v
+          last-is start new f e = f (started M Q) _ e u
 
 -- of a draft without fault the start is checked and sound, and the rows have places
 pub start-faultless : (M Q : Record) → Checked (unite M Q) → draft_fault M Q ≡ 0

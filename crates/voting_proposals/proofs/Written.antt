@@ -5,7 +5,7 @@ use Prim.Native.Nat.{ℕ, suc, ◌+◌, ◌≤◌, ◌<◌}
 use native.Mathlib.Numerals.{add-one}
 use native.Mathlib.Omega.{arith}
 use lib.ListN.{length, take, drop, get_or, set, length-map}
-use lib.Seq.{take-suc, drop-cons, set_at, length-take-le}
+use lib.Seq.{take-suc, take_all, drop-cons, set_at, length-take-le}
 use Rattle.record_rows.specs.grounds.Ground.{Rows}
 use Rattle.voting_proposals.specs.Propose.{over}
 
@@ -20,8 +20,5 @@ module _ {A : Type 0} (f : A → List ℕ) (a : List A) (table : Rows) where
       rw (e, g, add-one i, take-suc a i d h, map-append, append_assoc, drop-cons table i [] l)
       (set_at (map f (take i a)) (get_or table i []) (drop (suc i) table) (f (get_or a i d)) i n)
 
-  pub written-end : (i n : ℕ) {out : Rows} → i ≤ n → n ≤ i → n ≤ length a → out ≡ written i → out ≡ over (map f (take n a)) table
-  written-end i n h l w e =
-      let q : i ≡ n = omega arith in
-      let m : length (map f (take n a)) ≡ n = length-map (take n a) f ∙ length-take-le n a w in
-      e ∙ rw (q, m)
+  pub written-end : (i : ℕ) {out : Rows} → i ≤ length a → length a ≤ i → out ≡ written i → out ≡ over (map f a) table
+  written-end i h l e = let m : length (map f a) ≡ i = omega (arith, length-map a f) in e ∙ rw (take_all i a l, m)

@@ -5,8 +5,6 @@ use Rattle.record.specs.Record.{Record}
 use Rattle.record.specs.Judgement.{sound}
 use Rattle.record_rows.specs.grounds.Ground.{Rows, ◌given◌, ◌orelse◌}
 use Rattle.record_tables.specs.Table.{edit_rows, constraint_rows, decoded, empty_tables, lent_fault}
-use Rattle.record_joining.specs.declared.Joined.{Joined}
-use Rattle.record_joining.specs.Join.{joined_of}
 use Rattle.voting.specs.Proposal.{started, proposed, keeps}
 use Rattle.voting_proposals.specs.declared.Proposed.{Proposed}
 
@@ -85,7 +83,3 @@ new_fault edits constraints oldedits oldconstraints =
     let M = decoded edits constraints in
     let Q = decoded oldedits oldconstraints in
     lent_fault empty_tables edits constraints orelse lent_fault M oldedits oldconstraints orelse draft_fault M Q orelse 11 given unkept M Q
-
-abbrev pub new_outcome : Rows → Rows → Rows → Rows → Joined
-new_outcome edits constraints oldedits oldconstraints =
-    joined_of (new_fault edits constraints oldedits oldconstraints) empty_tables (proposed (decoded edits constraints) (decoded oldedits oldconstraints))

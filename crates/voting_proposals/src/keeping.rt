@@ -9,8 +9,8 @@ ghost use Rattle.voting.specs.Bundle as vote;
 ghost use Rattle.voting.specs.Tally.{same_bundle};
 ghost use Rattle.voting.specs.Proposal as proposal;
 
-use graph::indexes;
-use record::{EDITS, Record};
+use record::Record;
+use voting_bundles::bundling::Bundling;
 use voting_bundles::equality;
 
 // Whether an old bundle is kept by the new one of the same edit. Whether it is eligible is asked of the old one only, and only where they differ:
@@ -19,7 +19,7 @@ fn is_kept(before: Record, after: Record) -> bool
     ensures { (Q P : theory.Record) (e : ℕ) → Fit Q → before ≡ stored (vote.bundle Q e) → after ≡ stored (vote.bundle P e)
         → result ≡ (not (vote.eligible Q e) || same_bundle (vote.bundle P e) (vote.bundle Q e) && vote.eligible P e) }
 {
-    if equality::same_bundle(after, before) {
+    if equality::same_bundle(&after, &before) {
         return true;
     }
     !voting_bundles::all_settled(before)
@@ -29,24 +29,14 @@ fn is_kept(before: Record, after: Record) -> bool
 pub fn keeps(old: Record, new: Record) -> bool
     ensures { (Q P : theory.Record) → old ≡ stored Q → Fit Q → new ≡ stored P → Fit P → theory.written Q within theory.written P → result ≡ proposal.keeps Q P }
 {
-    let n = old.editcount;
-    if EDITS < n {
-        return false;
-    }
-    let oldtable = indexes::index_table(old);
-    let oldrows = voting_members::member_rows(old, &oldtable);
-    let newtable = indexes::index_table(new);
-    let newrows = voting_members::member_rows(new, &newtable);
-    let edits = old.edits;
-    let mut i: usize = 0;
-    while i < n {
-        let e = edits[i];
-        let before = voting_bundles::bundle_by(old, &oldtable, &oldrows, e.name);
-        let after = voting_bundles::bundle_by(new, &newtable, &newrows, e.name);
+    let oldbundles = Bundling::new(old);
+    let newbundles = Bundling::new(new);
+    for edit in old.edit_slice() {
+        let before = oldbundles.bundle(edit.name);
+        let after = newbundles.bundle(edit.name);
         if !is_kept(before, after) {
             return false;
         }
-        i += 1;
     }
     true
 }

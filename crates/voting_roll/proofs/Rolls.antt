@@ -1,28 +1,26 @@
 -- One row more of a roll: its fault, and how it is stored. Assumes nothing.
-use mathlib.Core.Path.{◌≡◌, refl, sym, ap, ◌∙◌}
+use mathlib.Core.Path.{◌≡◌, refl, sym, ◌∙◌}
 use mathlib.Core.Bool.{Bool, true, false, not, ◌&&◌, ◌||◌, and-false, and-true, or-true, or-false}
-use mathlib.Core.List.{List, [], ◌∷◌, ◌++◌, map}
-use Prim.Native.Nat.{ℕ, ◌+◌, ◌≤◌, ◌<◌}
+use mathlib.Core.List.{List, [], ◌∷◌, ◌++◌, map, append-nil, append_assoc}
+use Prim.Native.Nat.{ℕ, ◌+◌, ◌<◌}
 use native.Mathlib.Omega.{arith}
 use lib.Dec.{eqb, leb, ltb}
-use lib.ListN.{length, take, set, length-append}
-use lib.Seq.{take-length}
-use borrow.Author.Tests.{eqb-true, eqb-false, eq-eqb, ne_eqb, ltb-true, leb-true, leb-false, le-leb, lt-leb, lt-ltb, le-ltb}
-use Rattle.lists.specs.Lists.{any, all, mem, distinct}
-use Rattle.record.specs.Stored.{padded}
-use Rattle.lists.proofs.Lists.{by, clash, or-no-r}
-use Rattle.record.proofs.Padded.{take-padded, padded-more}
+use lib.ListN.{length, take, drop, get_or, length-append, take-append-drop}
+use borrow.Author.Tests.{eqb-true, eqb-false, eq-eqb, ne_eqb, ltb-true, leb-true, leb-false, le-leb, lt-ltb, le-ltb}
+use Rattle.std.specs.List.{list_any}
+use Rattle.lists.specs.Lists.{all, mem, distinct}
+use Rattle.lists.proofs.Lists.{by, clash}
 use Rattle.voting.specs.declared.RollRow.{RollRow}
-use Rattle.lists.proofs.Front.{all_append}
-use Rattle.voting_roll.specs.declared.Roll.{Roll}
-use Rattle.voting_roll.specs.Roll.{roll_bench, is_bench, roll_faulty, row_faulty, filler_row, faulty_roll, roll_of}
+use Rattle.lists.proofs.Front.{all_append, take_more}
+use Rattle.record_rows.specs.grounds.Ground.{◌given◌}
+use Rattle.voting_roll.specs.Roll.{roll_bench, is_bench, roll_faulty, row_faulty}
 
 turned : (a b : ℕ) → eqb a b ≡ eqb b a
 turned a b = by (eqb a b) (λ e. e ∙ sym (eq-eqb b a (sym (eqb-true a b e)))) (λ e. e ∙ sym (ne_eqb b a (λ q. eqb-false a b e (sym q))))
 
 -- a bench among the rows
-pub bench-some : (bench : ℕ) (rows : List RollRow) → any (λ row. eqb row.bench bench) rows ≡ mem bench (map roll_bench rows)
-unfolding any mem
+pub bench-some : (bench : ℕ) (rows : List RollRow) → list_any (λ row. eqb row.bench bench) rows ≡ mem bench (map roll_bench rows)
+unfolding mem
 bench-some bench [] = refl
 bench-some bench (x ∷ rows) = rw (turned x.bench bench, bench-some bench rows)
 
@@ -73,61 +71,20 @@ roll-fault-stays rows row h =
     (faults-stay (all is_bench rows) (distinct (map roll_bench rows)) (ltb 8 (length rows)) (is_bench row) (mem row.bench (map roll_bench rows)) (leb 8 (length rows))
     (λ e. le-leb 8 (length rows) (omega (arith, ltb-true 8 (length rows) e))) h)
 
--- THE ROLL with one row more
-module _ (roll : Roll) (rows : List RollRow) (row : RollRow) (e : roll ≡ roll_of rows) where
-  faulty-is : roll.faulty ≡ roll_faulty rows
-  unfolding roll_of
-  faulty-is = by (roll_faulty rows) (λ f. ap (λ r. r.faulty) e ∙ rw f) (λ f. ap (λ r. r.faulty) e ∙ rw f)
+fault-stays-over : (rows more : List RollRow) → roll_faulty rows ≡ true → roll_faulty (rows ++ more) ≡ true
+fault-stays-over rows [] h = rw (append-nil rows) h
+fault-stays-over rows (row ∷ more) h = rw (append_assoc rows (row ∷ []) more) at (fault-stays-over (rows ++ (row ∷ [])) more (roll-fault-stays rows row h))
 
-  pub stays-faulty : roll.faulty ≡ true → roll ≡ roll_of (rows ++ (row ∷ []))
-  unfolding roll_of
-  stays-faulty h = let f : roll_faulty rows ≡ true = sym faulty-is ∙ h in rw (roll-fault-stays rows row f) (rw f at e)
+fault-stays : (rows : List RollRow) (n : ℕ) → roll_faulty (take n rows) ≡ true → roll_faulty rows ≡ true
+fault-stays rows n h = rw (take-append-drop n rows) at (fault-stays-over (take n rows) (drop n rows) h)
 
-  module _ (h : roll.faulty ≡ false) where
-    faultless : roll_faulty rows ≡ false
-    faultless = sym faulty-is ∙ h
+-- THE FAULT of a roll, read row by row: the rows before place i have none
+module _ (rows : List RollRow) (i : ℕ) (h : i < length rows) (w : roll_faulty (take i rows) ≡ false) (d : RollRow) (f : Bool) (q : f ≡ row_faulty (take i rows) (get_or rows i d) (length (take i rows))) where
+  fault-next : roll_faulty (take (i + 1) rows) ≡ f
+  fault-next = rw (take_more rows i d h) (fault-more (take i rows) (get_or rows i d) w ∙ sym q)
 
-    sound-roll : roll ≡ record { rows = padded 8 filler_row rows; count = length rows; faulty = false }
-    unfolding roll_of
-    sound-roll = rw faultless at e
+  pub rows-faultless : f ≡ false → roll_faulty (take (i + 1) rows) ≡ false
+  rows-faultless e = fault-next ∙ e
 
-    row-fault : row_faulty (take roll.count roll.rows) row roll.count ≡ roll_faulty (rows ++ (row ∷ []))
-    row-fault =
-        rw (fault-more rows row faultless, sound-roll, take-padded 8 filler_row (length rows) rows (omega arith), take-length)
-
-    pub becomes-faulty : (f : Bool) → f ≡ row_faulty (take roll.count roll.rows) row roll.count → f ≡ true → faulty_roll ≡ roll_of (rows ++ (row ∷ []))
-    unfolding roll_of
-    becomes-faulty f q t = let g : roll_faulty (rows ++ (row ∷ [])) ≡ true = sym row-fault ∙ (sym q ∙ t) in rw g
-
-    pub grows : (f : Bool) → f ≡ row_faulty (take roll.count roll.rows) row roll.count → f ≡ false → roll.count < 8
-        → record { rows = set roll.rows roll.count row; count = roll.count + 1; faulty = roll.faulty } ≡ roll_of (rows ++ (row ∷ []))
-    unfolding roll_of
-    grows f q t l =
-        let g : roll_faulty (rows ++ (row ∷ [])) ≡ false = sym row-fault ∙ (sym q ∙ t) in
-        let c : roll.count ≡ length rows = ap (λ r. r.count) sound-roll in
-        let n : roll.count + 1 ≡ length (rows ++ (row ∷ [])) = omega (arith, length-append rows (row ∷ [])) in
-        let s : set roll.rows roll.count row ≡ padded 8 filler_row (rows ++ (row ∷ [])) =
-        (λ i. set (sound-roll i).rows (sound-roll i).count row) ∙ padded-more 8 filler_row rows row (omega arith) in
-        rw g (λ i. record { rows = s i; count = n i; faulty = h i })
-
--- a row's faults one by one
-module _ (rows : List RollRow) (row : RollRow) (n : ℕ) where
-  pub bench-low : row.bench < 1 → true ≡ row_faulty rows row n
-  unfolding row_faulty
-  bench-low h = rw (lt-leb 1 row.bench h)
-
-  pub bench-high : 8 < row.bench → true ≡ row_faulty rows row n
-  unfolding row_faulty
-  bench-high h = rw (lt-leb row.bench 8 h, and-false (leb 1 row.bench))
-
-  pub no-roll-place : 8 ≤ n → true ≡ row_faulty rows row n
-  unfolding row_faulty
-  no-roll-place h = rw (le-leb 8 n h, or-true (mem row.bench (map roll_bench rows)), or-true (not (is_bench row)))
-
-  pub bench-twice : 1 ≤ row.bench → row.bench ≤ 8 → n < 8 → mem row.bench (map roll_bench rows) ≡ row_faulty rows row n
-  unfolding row_faulty
-  bench-twice a b h = rw (le-leb 1 row.bench a, le-leb row.bench 8 b, lt-leb 8 n h) (sym (or-false (mem row.bench (map roll_bench rows))))
-
-  pub place-left : row_faulty rows row n ≡ false → n < 8
-  unfolding row_faulty
-  place-left h = leb-false 8 n (or-no-r (mem row.bench (map roll_bench rows)) (leb 8 n) (or-no-r (not (is_bench row)) (mem row.bench (map roll_bench rows) || leb 8 n) h))
+  pub rows-fault : f ≡ true → 14 ≡ 14 given roll_faulty rows
+  rows-fault e = rw (fault-stays rows (i + 1) (fault-next ∙ e))

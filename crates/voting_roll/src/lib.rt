@@ -1,87 +1,41 @@
-// The roll of an election (document 01, "Proposals and votes"), gathered by value: its rows are handed in one by one.
+// The roll of an election (document 01, "Proposals and votes"): its rows are lent.
 #![tactic(auto)]
 
-ghost use Rattle.std.specs.Prelude.{◌≡◌, List, [], ◌∷◌, ◌++◌, map, ◌≤◌, take};
-ghost use Rattle.voting.specs.declared.RollRow.{RollRow};
+ghost use Rattle.std.specs.Prelude.{◌≡◌, map, length};
 ghost use Rattle.lists.specs.Lists.{mem};
-ghost use Rattle.voting_roll.specs.Roll.{roll_bench, faulty_roll, roll_of, row_faulty};
+ghost use Rattle.refusals.specs.Numbers.{number_of};
+ghost use Rattle.record_rows.specs.grounds.Ground.{◌given◌};
+ghost use Rattle.voting_roll.specs.Roll.{roll_bench, roll_faulty, row_faulty};
 
+use refusals::Refusal;
 use voting::RollRow;
 
-// At most 8 rows; rows past the count hold a filler, so that equal rolls are equal values. Every fault of a roll is 14.
-#[derive(Clone, Copy)]
-pub struct Roll {
-    pub rows: [RollRow; 8],
-    pub count: usize,
-    pub faulty: bool,
+// The most rows of a roll, one for each bench.
+const SEATS: usize = 8;
+
+// Whether a bench has one of the rows.
+fn has_bench(rows: &[RollRow], bench: u8) -> bool
+    ensures { result ≡ mem bench (map roll_bench rows.now) }
+{
+    rows.iter().any(|row| row.bench == bench)
 }
 
-fn no_rows(faulty: bool) -> Roll
-    ensures { result ≡ record { rows = faulty_roll.rows; count = 0; faulty = faulty } }
+// Whether a row makes a roll faulty that had no fault so far.
+#[tactic(auto, unfolding(crate::specs::Roll::row_faulty))]
+fn is_faulty(rows: &[RollRow], row: RollRow) -> bool
+    ensures { result ≡ row_faulty rows.now row (length rows.now) }
 {
-    let filler = RollRow {
-        bench: 0,
-        weight: 0,
-    };
-    let rows = [filler; 8];
-    Roll {
-        rows: rows,
-        count: 0,
-        faulty: faulty,
-    }
+    row.bench < 1 || 8 < row.bench || SEATS <= rows.len() || has_bench(rows, row.bench)
 }
 
-pub fn empty_roll() -> Roll
-    ensures { result ≡ roll_of [] }
+// THE FAULT of a roll: a bench that is not 1 to 8 or that stands twice, or a ninth row. Every fault is 14.
+pub fn fault(rows: &[RollRow]) -> Result<(), Refusal>
+    ensures { number_of result ≡ 14 given roll_faulty rows.now }
 {
-    no_rows(false)
-}
-
-// Whether a bench has one of the first n rows.
-fn has_bench(rows: [RollRow; 8], n: usize, bench: u8) -> bool
-    requires { n ≤ 8 }
-    ensures { result ≡ mem bench (map roll_bench (take n rows)) }
-{
-    let mut i = 0;
-    while i < n {
-        let row = rows[i];
-        if row.bench == bench {
-            return true;
+    for (i, row) in rows.iter().enumerate() {
+        if is_faulty(&rows[..i], *row) {
+            return Err(Refusal::FaultyRoll);
         }
-        i += 1;
     }
-    false
-}
-
-// Whether a row makes a roll of n rows faulty.
-fn is_faulty(rows: [RollRow; 8], n: usize, row: RollRow) -> bool
-    ensures { result ≡ row_faulty (take n rows) row n }
-{
-    if row.bench < 1 {
-        return true;
-    }
-    if 8 < row.bench {
-        return true;
-    }
-    if 8 <= n {
-        return true;
-    }
-    has_bench(rows, n, row.bench)
-}
-
-pub fn with_row(roll: Roll, row: RollRow) -> Roll
-    ensures { (rows : List RollRow) → roll ≡ roll_of rows → result ≡ roll_of (rows ++ (row ∷ [])) }
-{
-    if roll.faulty {
-        return roll;
-    }
-    let rows = roll.rows;
-    let n = roll.count;
-    if is_faulty(rows, n, row) {
-        return no_rows(true);
-    }
-    let mut r = roll;
-    r.rows[n] = row;
-    r.count = n + 1;
-    r
+    Ok(())
 }

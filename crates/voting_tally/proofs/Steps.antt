@@ -1,15 +1,16 @@
 -- What one vote makes of a stored tally. Assumes nothing.
 use mathlib.Core.Path.{◌≡◌, refl, sym, ap, ◌∙◌}
-use mathlib.Core.Bool.{Bool, true, false, not, cond}
+use mathlib.Core.Bool.{Bool, true, false, not}
 use mathlib.Core.List.{List, [], ◌∷◌, ◌++◌, map, map-append}
 use mathlib.Core.Option.{Option, none, some}
-use Prim.Native.Nat.{ℕ, ◌+◌, ◌-◌, ◌≤◌, ◌<◌, max}
+use Prim.Native.Nat.{ℕ, ◌+◌, ◌-◌, ◌≤◌, ◌<◌, max, min}
 use native.Mathlib.Omega.{arith}
-use native.Mathlib.Numerals.{add-one}
-use lib.Dec.{ltb}
-use lib.ListN.{length, take, drop, get_or, set, replicate, length-append, length-map, drop_of_length-le}
-use lib.Seq.{set-append_left, take-length, length-take-le, get_or-take, drop-cons}
-use borrow.Author.Tests.{not-true, lt-ltb, le-ltb}
+use lib.ListN.{length, take, get_or, set, replicate, length-append, length-map, get_or-map}
+use lib.Seq.{set-append_left, take-length}
+use Rattle.std.specs.Prelude.{Option as Found, Some, None, MatchOption, unwrap_or}
+use Rattle.std.specs.List.{AllWithin, HoldsAt}
+use Rattle.std.proofs.lemmas.Iterator.{index_from_first}
+use borrow.Author.Tests.{not-true}
 use Rattle.record.specs.declared.Record as declared
 use Rattle.lists.specs.Lists.{any}
 use Rattle.record.specs.Record.{Record}
@@ -91,41 +92,41 @@ module _ (l : List Ballot) (w : ℕ) (C : Record) where
       rw (b, p, map-append (group_in (more_ballots l w (some C))) s (C ∷ []), groups-kept s e)
       (padded-more 8 filler_group (map (group_in l) s) (group_in (more_ballots l w (some C)) C) k))
 
-  count-more : cond (ltb (place C (bundles l)) (length (bundles l))) (length (bundles l)) (length (bundles l) + 1) ≡ length (bundles (more_ballots l w (some C)))
+  count-more : max (length (bundles l)) (place C (bundles l) + 1) ≡ length (bundles (more_ballots l w (some C)))
   count-more =
       let s = bundles l in
       by (any (same_bundle C) s)
       (λ e. let b : bundles (more_ballots l w (some C)) ≡ s = bundles-more l w (some C) ∙ rw e in
-      rw (b, lt-ltb (place C s) (length s) (place_found C s e)))
+      rw b (omega (arith, place_found C s e)))
       (λ e. let b : bundles (more_ballots l w (some C)) ≡ s ++ (C ∷ []) = bundles-more l w (some C) ∙ rw e in
-      rw (b, le-ltb (place C s) (length s) (omega (arith, place-unknown C s e)), length-append s (C ∷ [])))
+      rw b (omega (arith, place-unknown C s e, length-append s (C ∷ []))))
 
 abbrev pub none_yet : Record
 none_yet = record { edits = []; constraints = [] }
 
-module _ (groups : List Group) (n : ℕ) (w : n ≤ length groups) (l : List Ballot) (s : List Record) (C : Record) (g : take n groups ≡ map (group_in l) s) where
-  groups-length : length s ≡ n
-  groups-length = sym (length-map s (group_in l)) ∙ (ap length (sym g) ∙ length-take-le n groups w)
+-- what `same_bundle` says of a group
+abbrev pub Same : Bool → declared.Record → Group → Type 0
+Same b bundle group = (P Q : Record) → bundle ≡ stored P → group.bundle ≡ stored Q → b ≡ same_bundle P Q
 
-  pub bundle-at : (i : ℕ) (d : Group) → i < n → (get_or groups i d).bundle ≡ stored (get_or s i none_yet)
-  bundle-at i d h =
-      ap (λ x. x.bundle) (sym (get_or-take n groups i d h) ∙ (ap (λ t. get_or t i d) g ∙ get_or-mapped (group_in l) s i none_yet d (omega (arith, groups-length))))
+first-mapped : {A B : Type 0} (f : A → B) (Yes No : B → Type 0) (s : List A) (r : Found ℕ)
+    → MatchOption r (AllWithin No (map f s) 0 (length (map f s))) (λ i. (i < length (map f s)) × HoldsAt Yes (map f s) i × AllWithin No (map f s) 0 i)
+    → MatchOption r (AllWithin (λ x. No (f x)) s 0 (length s)) (λ i. (i < length s) × HoldsAt (λ x. Yes (f x)) s i × AllWithin (λ x. No (f x)) s 0 i)
+first-mapped f Yes No s None h = λ k d a b. rw (get_or-map f s k d) at (h k (f d) a (omega (arith, length-map s f)))
+first-mapped f Yes No s (Some i) h = (
+  omega (arith, h.0, length-map s f),
+  λ d. rw (get_or-map f s i d) at (h.1 (f d)),
+  λ k d a b. rw (get_or-map f s k d) at (h.2 k (f d) a b),
+)
 
-  here : (i : ℕ) → i < n → drop i s ≡ get_or s i none_yet ∷ drop (i + 1) s
-  here i h = rw (add-one i) (drop-cons s i none_yet (omega (arith, groups-length)))
-
-  module _ (i : ℕ) (h : i < n) (k : place C s ≡ i + place C (drop i s)) (x : Bool) (ex : x ≡ same_bundle C (get_or s i none_yet)) where
-    pub place-hit : x ≡ true → i ≡ place C s
-    unfolding place
-    place-hit e = let q : same_bundle C (get_or s i none_yet) ≡ true = sym ex ∙ e in sym (k ∙ rw (here i h, q) (omega arith))
-
-    pub place-miss : x ≡ false → place C s ≡ (i + 1) + place C (drop (i + 1) s)
-    unfolding place
-    place-miss e = let q : same_bundle C (get_or s i none_yet) ≡ false = sym ex ∙ e in k ∙ rw (here i h, q) (omega arith)
-
-  pub group-place-end : (i : ℕ) → n ≤ i → place C s ≡ i + place C (drop i s) → i ≡ place C s
-  unfolding place
-  group-place-end i h k = sym (k ∙ rw (drop_of_length-le s {i = i} (omega (arith, groups-length))) (omega arith))
+-- the first group that is the same stands at the bundle's place
+pub bundle-place : (bundle : declared.Record) (groups : List Group) (r : Found ℕ) (l : List Ballot) (s : List Record) (C : Record) → groups ≡ map (group_in l) s → bundle ≡ stored C
+    → MatchOption r (AllWithin (Same false bundle) groups 0 (length groups)) (λ i. (i < length groups) × HoldsAt (Same true bundle) groups i × AllWithin (Same false bundle) groups 0 i)
+    → unwrap_or r (length s) ≡ place C s
+unfolding place
+bundle-place bundle groups r l s C g p h =
+    sym (index_from_first (place C) (λ B. Same true bundle (group_in l B)) (λ B. Same false bundle (group_in l B)) refl
+    (λ B t y. let e = y C B p refl in rw (sym e)) (λ B t n. let e = n C B p refl in rw (sym e) (omega arith)) s r
+    (first-mapped (group_in l) (Same true bundle) (Same false bundle) s r (rw g at h)))
 
 -- THE TALLY with one vote more
 module _ (tally : Tally) (l : List Ballot) (w : ℕ) (e : tally ≡ tally_of l) where
@@ -170,8 +171,9 @@ module _ (tally : Tally) (l : List Ballot) (w : ℕ) (e : tally ≡ tally_of l) 
     pub tally-room : tally.count < 8
     tally-room = rw tally-count-is (omega (arith, bundles-length l))
 
-    pub placed : (r : ℕ) → ((k : List Ballot) (s : List Record) (D : Record) → take tally.count tally.groups ≡ map (group_in k) s → stored C ≡ stored D → r ≡ place D s) → r ≡ place C (bundles l)
-    placed r f = f l (bundles l) C groups-taken refl
+    pub vote-placed : (r : Found ℕ) (i : ℕ) → ((k : List Ballot) (s : List Record) (D : Record) → take tally.count tally.groups ≡ map (group_in k) s → stored C ≡ stored D → unwrap_or r (length s) ≡ place D s)
+        → i ≡ unwrap_or r tally.count → i ≡ place C (bundles l)
+    vote-placed r i f e = rw tally-count-is at e ∙ f l (bundles l) C groups-taken refl
 
     weight-at : (d : Group) → (get_or tally.groups (place C (bundles l)) d).weight ≡ weigh (votes_for C) l
     weight-at d =
@@ -190,7 +192,11 @@ module _ (tally : Tally) (l : List Ballot) (w : ℕ) (e : tally ≡ tally_of l) 
     pub weight-within : (d : Group) (i m : ℕ) → i ≡ place C (bundles l) → total l ≤ m → (get_or tally.groups i d).weight ≤ m
     weight-within d i m p k = rw (p, weight-at d) (omega (arith, weigh-le (votes_for C) l))
 
-    pub bundle-step : (d : Group) (x : declared.Record) (i m c g t : ℕ) → x ≡ stored C → i ≡ place C (bundles l) → m ≡ (get_or tally.groups i d).weight + w → c ≡ cond (ltb i tally.count) tally.count (tally.count + 1)
+    pub weight-raised : (d : Group) (i m v : ℕ) → i ≡ place C (bundles l) → total l ≤ 524280 → w < 65536 → v ≡ w → m ≡ min ((get_or tally.groups i d).weight + v) 4294967295
+        → m ≡ (get_or tally.groups i d).weight + w
+    weight-raised d i m v p k f e q = omega (arith, weight-within d i 524280 p k)
+
+    pub bundle-step : (d : Group) (x : declared.Record) (i m c g t : ℕ) → x ≡ stored C → i ≡ place C (bundles l) → m ≡ (get_or tally.groups i d).weight + w → c ≡ max tally.count (i + 1)
         → g ≡ max tally.election.greatest m → t ≡ tally.election.total + w
         → record { groups = set tally.groups i (record { bundle = x; weight = m }); count = c; election = election_by g tally.election.silent t } ≡ tally_of (more_ballots l w (some C))
     unfolding tally_of silent won

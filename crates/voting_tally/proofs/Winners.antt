@@ -1,26 +1,26 @@
 -- The winner of an election is the bundle of the group that wins. Assumes nothing.
-use mathlib.Core.Path.{◌≡◌, refl, sym, ap, ◌∙◌}
+use mathlib.Core.Path.{◌≡◌, refl, sym, ap, subst}
 use mathlib.Core.Bool.{Bool, true, false}
-use mathlib.Core.List.{List, [], ◌∷◌}
+use mathlib.Core.List.{List, [], ◌∷◌, map}
 use mathlib.Core.Option.{Option, none, some}
-use Prim.Native.Nat.{ℕ, ◌+◌, ◌*◌, ◌≤◌, ◌<◌}
+use Prim.Native.Nat.{ℕ, ◌*◌, ◌≤◌, ◌<◌}
 use native.Mathlib.Omega.{arith}
 use lib.Dec.{ltb}
-use lib.ListN.{length, take, get_or, length-map}
-use lib.Seq.{length-take-le, get_or-take}
+use lib.ListN.{length, take, get_or, length-map, get_or-map}
+use Rattle.std.specs.Prelude.{Option as Found, Some, None, MatchOption, option_map}
+use denote.Ref.{Bor}
+use Rattle.std.specs.List.{AllWithin, HoldsAt}
 use borrow.Author.Tests.{ltb-true, lt-ltb}
 use Rattle.lists.specs.Lists.{any}
 use Rattle.record.specs.Record.{Record}
-use Rattle.record.specs.Stored.{stored, empty_record}
-use Rattle.lists.proofs.Lists.{by, clash, le-by, get_or-mapped}
-use Rattle.lists.proofs.Arrays.{get_or-any}
+use Rattle.lists.proofs.Lists.{by, clash}
 use Rattle.voting.specs.Tally.{Ballot, same_bundle, total, weigh, votes_for, group, greatest_of, greatest, wins, won, winner}
 use Rattle.voting.proofs.Elections.{same-is, one-winner, winner-wins, open_is}
 use Rattle.voting_tally.specs.declared.Group.{Group}
 use Rattle.voting_tally.specs.declared.Tally.{Tally}
-use Rattle.voting_tally.specs.Groups.{bundles, group_in, filler_group, tally_of, place, WinningPlace, winner_stored}
+use Rattle.voting_tally.specs.Groups.{bundles, group_in, tally_of, place, held_bundle}
 use Rattle.voting_tally.proofs.Counts.{unknown-weightless}
-use Rattle.voting_tally.proofs.Steps.{none_yet, place_found, place-stands, total-is, tally-count-is, groups-taken}
+use Rattle.voting_tally.proofs.Steps.{none_yet, place_found, place-stands, total-is, groups-taken}
 
 -- a group with weight is no heavier than the greatest
 under-greatest {ℓ} : {P : Type ℓ} (B : Record) (k m : List Ballot) → (weigh (votes_for B) m ≡ 0 → P) → (weigh (votes_for B) k ≤ greatest_of k m → P) → P
@@ -55,57 +55,48 @@ winner-known l B h =
     by (any (same_bundle B) (bundles l)) (λ e. e)
     (λ e. absurd (omega (arith, unknown-weightless l B e, ltb-true (total l) (2 * weigh (votes_for B) l) h)))
 
-module _ (tally : Tally) (l : List Ballot) (e : tally ≡ tally_of l) (i : ℕ) (w : WinningPlace (take tally.count tally.groups) tally.election.total i) where
-  weight-of : (j : ℕ) → j < length (bundles l) → (get_or (take tally.count tally.groups) j filler_group).weight ≡ weigh (votes_for (get_or (bundles l) j none_yet)) l
-  weight-of j h = rw (groups-taken tally l 0 e, get_or-mapped (group_in l) (bundles l) j none_yet filler_group h)
+-- what `is_won` says of a group
+abbrev pub Won : ℕ → Bool → Group → Type 0
+Won whole b group = b ≡ ltb whole (2 * group.weight)
 
-  number : length (take tally.count tally.groups) ≡ length (bundles l)
-  number = rw (groups-taken tally l 0 e) (length-map (bundles l) (group_in l))
+module _ (tally : Tally) (l : List Ballot) (e : tally ≡ tally_of l) where
+  groups-of : take tally.count tally.groups ≡ map (group_in l) (bundles l)
+  groups-of = groups-taken tally l 0 e
 
-  wins-at : (j : ℕ) → j < length (bundles l) → ltb tally.election.total (2 * (get_or (take tally.count tally.groups) j filler_group).weight) ≡ wins l (get_or (bundles l) j none_yet)
+  wins-is : (B : Record) (b : Bool) → Won tally.election.total b (group_in l B) → b ≡ wins l B
   unfolding wins
-  wins-at j h = rw (weight-of j h, total-is tally l 0 e)
+  wins-is B b h = rw (total-is tally l 0 e) at h
 
-  pub no-winner : tally.count ≤ i → empty_record ≡ winner_stored (winner l)
-  no-winner h = go (winner l) refl
+  -- none of the groups has won
+  no-winner : (groups : List Group) → groups ≡ take tally.count tally.groups → AllWithin (Won tally.election.total false) groups 0 (length groups) → None ≡ held_bundle (winner l)
+  no-winner groups g h = go (winner l) refl
     where
-      go : (v : Option Record) → winner l ≡ v → empty_record ≡ winner_stored v
+      go : (v : Option Record) → winner l ≡ v → None ≡ held_bundle v
       go none p = refl
       go (some B) p =
+          let s = bundles l in
           let a = (winner-wins l B p).0 in
           let k = winner-known l B a in
-          let q = place_found B (bundles l) k in
-          let n = w.none (omega (arith, number, tally-count-is tally l 0 e)) (place B (bundles l)) (omega (arith, number)) in
-          clash a (rw (place-stands B (bundles l) k) at (sym (wins-at (place B (bundles l)) q) ∙ n))
+          let j = place B s in
+          let q : j < length s = place_found B s k in
+          let m = rw (g, groups-of) at h in
+          let n : Won tally.election.total false (group_in l (get_or s j none_yet)) = rw (get_or-map (group_in l) s j none_yet) at (m j (group_in l none_yet) (omega arith) (omega (arith, length-map s (group_in l)))) in
+          clash a (sym (wins-is B false (rw (place-stands B s k) at n)))
 
-  pub the-winner : (d : Group) → i < tally.count → (get_or tally.groups i d).bundle ≡ winner_stored (winner l)
-  the-winner d h =
-      let n : i < length (bundles l) = omega (arith, tally-count-is tally l 0 e) in
-      let a : wins l (get_or (bundles l) i none_yet) ≡ true = sym (wins-at i n) ∙ w.wins (omega (arith, number)) in
-      let b : (get_or tally.groups i d).bundle ≡ stored (get_or (bundles l) i none_yet) =
-      ap (λ x. x.bundle) (sym (get_or-take tally.count tally.groups i d h) ∙ (ap (λ t. get_or t i d) (groups-taken tally l 0 e) ∙ get_or-mapped (group_in l) (bundles l) i none_yet d n)) in
-      b ∙ rw (winner-is l (get_or (bundles l) i none_yet) a)
+  -- a group that has won holds the winner
+  the-winner : (groups : List Group) (x : Group) → groups ≡ take tally.count tally.groups → Won tally.election.total true x → (i : ℕ) → i < length groups → HoldsAt (λ y. y ≡ x) groups i
+      → Some x.bundle ≡ held_bundle (winner l)
+  the-winner groups x g w i h q =
+      let s = bundles l in
+      let B = get_or s i none_yet in
+      let r : group_in l B ≡ x = rw (g, groups-of, get_or-map (group_in l) s i none_yet) at (q (group_in l none_yet)) in
+      let a : wins l B ≡ true = sym (wins-is B true (subst (λ y. Won tally.election.total true y) (sym r) w)) in
+      rw (winner-is l B a) (ap (λ y. Some y.bundle) (sym r))
 
--- the search for it
-module _ (groups : List Group) (n : ℕ) (whole : ℕ) (h : n ≤ length groups) where
-  size : length (take n groups) ≡ n
-  size = length-take-le n groups h
-
-  pub winning-hit : (d : Group) (i : ℕ) (x : Bool) → i < n → x ≡ ltb whole (2 * (get_or groups i d).weight) → x ≡ true → WinningPlace (take n groups) whole i
-  winning-hit d i x k q e = record {
-    wins = λ z. rw (get_or-take n groups i filler_group k, get_or-any groups i filler_group d (omega arith)) (sym q ∙ e);
-    none = λ z. absurd (omega (arith, size));
-  }
-
-  pub winning-miss : (d : Group) (i : ℕ) (x : Bool) → i < n → ((j : ℕ) → j < i → ltb whole (2 * (get_or groups j filler_group).weight) ≡ false)
-      → x ≡ ltb whole (2 * (get_or groups i d).weight) → x ≡ false → (j : ℕ) → j < i + 1 → ltb whole (2 * (get_or groups j filler_group).weight) ≡ false
-  winning-miss d i x k f q e j l =
-      le-by i j
-      (λ z. let r : j ≡ i = omega arith in rw (r, get_or-any groups i filler_group d (omega arith)) (sym q ∙ e))
-      (λ z. f j z)
-
-  pub winning-end : (i : ℕ) → n ≤ i → ((j : ℕ) → j < i → ltb whole (2 * (get_or groups j filler_group).weight) ≡ false) → WinningPlace (take n groups) whole i
-  winning-end i k f = record {
-    wins = λ z. absurd (omega (arith, size));
-    none = λ z j l. let l' : j < n = omega (arith, size) in rw (get_or-take n groups j filler_group l') (f j (omega arith));
-  }
+  -- what `find` finds
+  pub winner-found : (groups : List Group) (r : Found (Bor Group)) → groups ≡ take tally.count tally.groups
+      → MatchOption r (AllWithin (Won tally.election.total false) groups 0 (length groups))
+      (λ x. Won tally.election.total true x.now × (i : ℕ) × (i < length groups) × HoldsAt (λ y. y ≡ x.now) groups i × AllWithin (Won tally.election.total false) groups 0 i)
+      → option_map (λ x. x.now.bundle) r ≡ held_bundle (winner l)
+  winner-found groups None g h = no-winner groups g h
+  winner-found groups (Some x) g h = the-winner groups x.now g h.0 h.1 h.2 h.3

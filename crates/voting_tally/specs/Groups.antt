@@ -1,5 +1,5 @@
 -- Document 01, "Proposals and votes": what a tally holds after each vote, the election's answer and the groups of equal bundles so far. Assumes nothing.
-use Rattle.std.specs.Prelude.{◌≡◌, true, false, cond, List, [], ◌∷◌, ◌++◌, map, ℕ, suc, ◌*◌, ◌≤◌, ◌<◌, ltb, length, get_or}
+use Rattle.std.specs.Prelude.{cond, List, [], ◌∷◌, ◌++◌, map, ℕ, suc, ◌*◌, ltb, length, Option as Given, Some, None}
 use Rattle.std.proofs.Math.Option.{Option, none, some}
 use Rattle.record.specs.declared.Record as declared
 use Rattle.lists.specs.Lists.{any}
@@ -51,10 +51,10 @@ abbrev pub winner_stored : Option Record → declared.Record
 winner_stored none = empty_record
 winner_stored (some B) = stored B
 
--- a place below the groups' number is that of a winning group, and else none wins
-pub record WinningPlace (groups : List Group) (whole i : ℕ) : Type 0 where
-  pub wins : i < length groups → ltb whole (2 * (get_or groups i filler_group).weight) ≡ true
-  pub none : length groups ≤ i → (j : ℕ) → j < length groups → ltb whole (2 * (get_or groups j filler_group).weight) ≡ false
+-- the won bundle as it is given, none of an open election
+abbrev pub held_bundle : Option Record → Given declared.Record
+held_bundle none = None
+held_bundle (some B) = Some (stored B)
 
 -- the answer from its three weights
 abbrev pub election_by : ℕ → ℕ → ℕ → Election

@@ -2,18 +2,18 @@
 // the election's answer on the votes so far. Functions are pub for the crates of this workspace that count elections.
 #![tactic(auto)]
 
-ghost use Rattle.std.specs.Prelude.{◌≡◌, cond, List, [], ◌∷◌, ◌++◌, map, ◌+◌, ◌*◌, ◌≤◌, ◌<◌, max, ltb, length, take};
+ghost use Rattle.std.specs.Prelude.{◌≡◌, List, [], ◌∷◌, ◌++◌, map, ◌*◌, ◌≤◌, ◌<◌, ltb, length, take, unwrap_or, IfSome};
 ghost use Rattle.std.proofs.Math.Option.{Option, none, some};
 ghost use Rattle.record.specs.Record as theory;
 ghost use Rattle.record.specs.Stored.{stored};
 ghost use Rattle.voting.specs.Tally.{Ballot, total, winner};
-ghost use Rattle.voting_tally.specs.Groups.{place, group_in, cast_of, tally_of, election_by, WinningPlace, winner_stored};
+ghost use Rattle.voting_tally.specs.Groups.{place, group_in, cast_of, tally_of, election_by, held_bundle};
 
 use record::Record;
 use voting::Election;
 use voting_bundles::equality;
 
-// A vote is silent or a bundle. A bundle's record stands beside it, in Cast.
+// Kept: the specification's form of a vote, silent or a bundle, with the bundle's record beside it, in Cast.
 #[derive(Clone, Copy)]
 pub enum Vote {
     Silent,
@@ -41,32 +41,20 @@ pub struct Tally {
     pub election: Election,
 }
 
-// The sum of a weight so far and one more. Of a roll of 8 rows it is never more than the limit.
-fn plus(a: u32, weight: u16) -> u32
-    ensures { (weight ≤ 65535) × (a ≤ 524280 → result ≡ a + weight) }
-{
-    if 524280 < a {
-        return a;
+impl Tally {
+    // Its groups, without the filler.
+    pub fn group_slice(&self) -> &[Group]
+        ensures { result.now ≡ take self.now.count self.now.groups }
+    {
+        &self.groups[..self.count.min(8)]
     }
-    a + (weight as u32)
-}
-
-fn higher(a: u32, b: u32) -> u32
-    ensures { result ≡ max a b }
-{
-    if a < b {
-        return b;
-    }
-    a
 }
 
 // Won when 2 × the group's weight > the whole roll's weight.
 fn is_won(weight: u32, whole: u32) -> bool
     ensures { result ≡ ltb whole (2 * weight) }
 {
-    let double = 2 * (weight as u64);
-    let total = whole as u64;
-    total < double
+    u64::from(whole) < 2 * u64::from(weight)
 }
 
 fn answer(greatest: u32, silent: u32, total: u32) -> Election
@@ -75,9 +63,9 @@ fn answer(greatest: u32, silent: u32, total: u32) -> Election
     Election {
         number: 0,
         won: is_won(greatest, total),
-        greatest: greatest,
-        silent: silent,
-        total: total,
+        greatest,
+        silent,
+        total,
     }
 }
 
@@ -89,73 +77,63 @@ pub fn no_votes() -> Tally
         bundle: record::empty(),
         weight: 0,
     };
-    let groups = [filler; 8];
     Tally {
-        groups: groups,
+        groups: [filler; 8],
         count: 0,
         election: answer(0, 0, 0),
     }
 }
 
-// The place of a bundle's group; n where it has none.
-fn place_of(groups: [Group; 8], n: usize, bundle: Record) -> usize
-    requires { n ≤ 8 }
-    ensures { (result ≤ n) × ((l : List Ballot) (bundles : List theory.Record) (C : theory.Record) → take n groups ≡ map (group_in l) bundles → bundle ≡ stored C → result ≡ place C bundles) }
+// The place of a bundle's group.
+fn place_of(groups: &[Group], bundle: &Record) -> Option<usize>
+    ensures low { IfSome result (λ i. i < length groups.now) }
+    ensures is { (l : List Ballot) (bundles : List theory.Record) (C : theory.Record) → groups.now ≡ map (group_in l) bundles → bundle.now ≡ stored C
+        → unwrap_or result (length bundles) ≡ place C bundles }
 {
-    let mut i = 0;
-    while i < n {
-        let group = groups[i];
-        let other = group.bundle;
-        if equality::same_bundle(bundle, other) {
-            return i;
-        }
-        i += 1;
-    }
-    i
+    groups
+        .iter()
+        .position(|group| equality::same_bundle(bundle, &group.bundle))
 }
 
 fn with_silent(tally: Tally, weight: u16) -> Tally
-    ensures { (weight ≤ 65535) × ((l : List Ballot) → tally ≡ tally_of l → total l ≤ 524280 → result ≡ tally_of (l ++ (record { weight = weight; vote = none } ∷ []))) }
+    ensures { (l : List Ballot) → tally ≡ tally_of l → total l ≤ 524280 → result ≡ tally_of (l ++ (record { weight = weight; vote = none } ∷ [])) }
 {
     let e = tally.election;
-    let silent = plus(e.silent, weight);
-    let whole = plus(e.total, weight);
-    let mut r = tally;
-    r.election = answer(e.greatest, silent, whole);
-    r
-}
-
-fn count_with(i: usize, n: usize) -> usize
-    requires { n ≤ 8 }
-    ensures { result ≡ cond (ltb i n) n (n + 1) }
-{
-    if i < n {
-        return n;
+    let weight = u32::from(weight);
+    Tally {
+        election: answer(
+            e.greatest,
+            e.silent.saturating_add(weight),
+            e.total.saturating_add(weight),
+        ),
+        ..tally
     }
-    n + 1
 }
 
 fn with_bundle(tally: Tally, weight: u16, bundle: Record) -> Tally
-    ensures { (weight ≤ 65535) × ((l : List Ballot) (C : theory.Record) → tally ≡ tally_of l → length l < 8 → total l ≤ 524280 → bundle ≡ stored C
-        → result ≡ tally_of (l ++ (record { weight = weight; vote = some C } ∷ []))) }
+    ensures { (l : List Ballot) (C : theory.Record) → tally ≡ tally_of l → length l < 8 → total l ≤ 524280 → bundle ≡ stored C
+        → result ≡ tally_of (l ++ (record { weight = weight; vote = some C } ∷ [])) }
 {
     let n = tally.count;
-    let e = tally.election;
-    let whole = plus(e.total, weight);
     if 8 <= n {
         return tally;
     }
-    let groups = tally.groups;
-    let i = place_of(groups, n, bundle);
-    let group = groups[i];
-    let more = plus(group.weight, weight);
+    let e = tally.election;
+    let weight = u32::from(weight);
+    let i = place_of(tally.group_slice(), &bundle).unwrap_or(n);
+    let weight_so_far = tally.groups[i].weight;
+    let more = weight_so_far.saturating_add(weight);
     let mut r = tally;
     r.groups[i] = Group {
-        bundle: bundle,
+        bundle,
         weight: more,
     };
-    r.count = count_with(i, n);
-    r.election = answer(higher(e.greatest, more), e.silent, whole);
+    r.count = n.max(i + 1);
+    r.election = answer(
+        e.greatest.max(more),
+        e.silent,
+        e.total.saturating_add(weight),
+    );
     r
 }
 
@@ -168,41 +146,17 @@ pub fn with_vote(tally: Tally, weight: u16, cast: Cast) -> Tally
     let Vote::Bundle = vote else {
         return with_silent(tally, weight);
     };
-    let bundle = cast.bundle;
-    with_bundle(tally, weight, bundle)
+    with_bundle(tally, weight, cast.bundle)
 }
 
-// The place of a group that wins; n where none does.
-fn winning_place(groups: [Group; 8], n: usize, whole: u32) -> usize
-    requires { n ≤ 8 }
-    ensures { (result ≤ n) × WinningPlace (take n groups) whole result }
+// The won bundle; none while the election is open.
+pub fn won_bundle(tally: &Tally) -> Option<Record>
+    ensures { (l : List Ballot) → tally.now ≡ tally_of l → result ≡ held_bundle (winner l) }
 {
-    let mut i = 0;
-    while i < n {
-        let group = groups[i];
-        if is_won(group.weight, whole) {
-            return i;
-        }
-        i += 1;
-    }
-    i
-}
-
-// The won bundle; the empty record while the election is open.
-pub fn won_bundle(tally: Tally) -> Record
-    ensures { (l : List Ballot) → tally ≡ tally_of l → length l ≤ 8 → result ≡ winner_stored (winner l) }
-{
-    let n = tally.count;
-    if 8 < n {
-        return record::empty();
-    }
-    let e = tally.election;
-    let groups = tally.groups;
-    let i = winning_place(groups, n, e.total);
-    if n <= i {
-        return record::empty();
-    }
-    let group = groups[i];
-    let bundle = group.bundle;
-    bundle
+    let whole = tally.election.total;
+    let winner = tally
+        .group_slice()
+        .iter()
+        .find(|group| is_won(group.weight, whole));
+    winner.map(|group| group.bundle)
 }

@@ -37,7 +37,7 @@ pub fn faults(sources: &[Source], edits: &[Edit], spans: &[Span]) -> Vec<Fault> 
 /// Whether something has to use it. C, the system or the kit may: the kit takes the public names of a function's proof.
 fn may_die(source: &Source, declared: &Declaration) -> bool {
     let taken = declared.entry || declared.public && source.proves_function;
-    !taken && declared.kind != Kind::Part
+    !taken && !declared.is_inner()
 }
 
 /// Whether a must-fail edit of the crate names it.
@@ -77,14 +77,15 @@ fn here(source: &Source, declared: &Declaration, name: &str) -> bool {
     outside.any(|word| named(word.text) && !fixity(word.start))
 }
 
-/// Code is named in a document with its crate; a type also without.
+/// Code is named in a document with its crate; a type or a trait also without.
 fn code_told(source: &Source, declared: &Declaration, spans: &[Span]) -> bool {
     let named = |text: &str| {
         let end = text.find(|c: char| !c.is_ascii_alphanumeric() && c != '_' && c != ':');
         let mut path = text[..end.unwrap_or(text.len())].split("::");
         path.next() == Some(source.crate_name) && path.last() == Some(declared.name)
     };
-    let bare = |text: &str| declared.kind == Kind::Type && text == declared.name;
+    let typed = matches!(declared.kind, Kind::Type | Kind::Trait);
+    let bare = |text: &str| typed && text == declared.name;
     spans.iter().any(|span| named(span.text) || bare(span.text))
 }
 
@@ -224,6 +225,41 @@ mod tests {
             "#[unsafe(no_mangle)]\npub extern \"C\" fn f() {\n}\n"
         )])
         .is_empty());
+    }
+
+    #[test]
+    fn a_function_is_used_with_its_types() {
+        let function = ("crates/a/src/part.rt", "pub fn f<const N: usize>() {\n}\n");
+        let call = |text| ("crates/b/src/lib.rt", text);
+        assert!(whats(&[function, call("fn main() {\n    a::part::f::<N, T>()\n}\n")]).is_empty());
+        let imported = call("use a::part;\nfn main() {\n    g(part::f::<5>)\n}\n");
+        assert!(whats(&[function, imported]).is_empty());
+    }
+
+    #[test]
+    fn members_are_left_alone() {
+        let text = "impl S {\n    pub fn f() {\n    }\n}\npub trait T {\n    fn g();\n}\n";
+        assert_eq!(
+            whats(&[("crates/a/src/lib.rt", text)]),
+            ["crates/a/src/lib.rt:5: T is used nowhere, and no document names it"]
+        );
+    }
+
+    #[test]
+    fn a_constant_is_used_below_it() {
+        let text = "const C: &[u8] =\n    b\"x; {\";\n\nfn main() {\n    f(C)\n}\n";
+        assert!(whats(&[("crates/a/src/main.rt", text)]).is_empty());
+        let unused = text.replace("f(C)", "f()");
+        assert_eq!(whats(&[("crates/a/src/main.rt", &unused)]).len(), 1);
+    }
+
+    #[test]
+    fn a_law_is_used_by_a_ghost_member() {
+        let law = ("crates/a/specs/A.antt", "pub f-is : A\nf-is = f-is\n");
+        let text = "impl T for S {\n    ghost use Rattle.a.specs.A.{f-is};\n\n    ghost m = { f-is };\n}\n";
+        assert!(whats(&[law, ("crates/b/src/lib.rt", text)]).is_empty());
+        let path = "impl T for S {\n    ghost use Rattle.a.specs.A as a;\n\n    ghost m = { a.f-is };\n}\n";
+        assert!(whats(&[law, ("crates/b/src/lib.rt", path)]).is_empty());
     }
 
     #[test]

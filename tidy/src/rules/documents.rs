@@ -68,7 +68,7 @@ fn leads(tree: &Tree, home: &str, path: &str) -> bool {
 
 struct Declared<'a> {
     crates: BTreeSet<&'a str>,
-    /// `CRATE::NAME` of the code, a module or what one declares.
+    /// `CRATE::NAME` of the code, a module or what one declares, and `CRATE::TYPE::NAME` of a member.
     code: HashSet<String>,
     /// All names of code and antt, of crates and of must-fail edits.
     names: HashSet<&'a str>,
@@ -89,6 +89,8 @@ impl<'a> Declared<'a> {
                 declared.names.insert(found.name);
                 if source.language == Language::Rattle {
                     declared.code.insert(format!("{}::{}", source.crate_name, found.name));
+                    let member = |owner| format!("{}::{owner}::{}", source.crate_name, found.name);
+                    declared.code.extend(found.owner.map(member));
                 }
             }
         }
@@ -99,14 +101,15 @@ impl<'a> Declared<'a> {
         declared
     }
 
-    /// `CRATE::FUNCTION` or `CRATE::MODULE::FUNCTION`, with its parameters or without, where the crate has no such function or module.
+    /// `CRATE::FUNCTION`, `CRATE::MODULE::FUNCTION` or `CRATE::MODULE::TYPE::FUNCTION`, with its parameters or without, where the crate has no such
+    /// function or module.
     fn function(&self, span: &Span) -> Option<Fault> {
         let end = span
             .text
             .find(|c: char| !c.is_ascii_alphanumeric() && c != '_' && c != ':')
             .unwrap_or(span.text.len());
         let (crate_name, rest) = span.text[..end].split_once("::")?;
-        let name = rest.rsplit("::").next()?;
+        let name = behind_modules(rest);
         let known = self.code.contains(&format!("{crate_name}::{name}"));
         (self.crates.contains(crate_name) && !known)
             .then(|| fault(span, format!("{crate_name} has no {name}")))
@@ -117,6 +120,14 @@ impl<'a> Declared<'a> {
         (is_name(span.text) && !self.names.contains(span.text))
             .then(|| fault(span, format!("{} is declared nowhere", span.text)))
     }
+}
+
+/// The last name of a path, with the type before it.
+fn behind_modules(path: &str) -> &str {
+    let Some((head, name)) = path.rsplit_once("::") else { return path };
+    let owner = head.rsplit("::").next().unwrap_or(head);
+    let length = if owner.starts_with(char::is_uppercase) { owner.len() + 2 } else { 0 };
+    &path[path.len() - name.len() - length..]
 }
 
 fn fault(span: &Span, what: String) -> Fault {
@@ -140,7 +151,10 @@ mod tests {
     fn whats(path: &str, text: &str) -> Vec<String> {
         let tree = Tree::of(&[
             (path, text),
-            ("crates/a/src/lib.rt", "pub fn f() {\n}\n"),
+            (
+                "crates/a/src/lib.rt",
+                "pub fn f() {\n}\n\nimpl S {\n    fn has_m(&self) {\n    }\n}\n\npub trait T {\n    fn of_t();\n}\n",
+            ),
             ("crates/a/proofs/A.antt", "pub f-is : A\n"),
             ("crates/a/must-fail/off_by_one.edit", ""),
             ("check/src/main.rs", ""),
@@ -171,6 +185,18 @@ mod tests {
     fn functions_are_there() {
         assert!(whats("docs/A.md", "`a::f` `a::part::f(x: u8)` `std::g`").is_empty());
         assert_eq!(whats("docs/A.md", "`a::g(x)`"), ["docs/A.md:1: a has no g"]);
+    }
+
+    #[test]
+    fn members_are_there() {
+        let there = "`a::has_m` `a::S::has_m` `a::part::S::has_m(x)` `a::T` `a::part::T::of_t`";
+        assert!(whats("docs/A.md", there).is_empty());
+        assert_eq!(whats("docs/A.md", "`a::T::has_m`"), ["docs/A.md:1: a has no T::has_m"]);
+        assert!(whats("docs/OPERATIONS.md", "`has_m` `of_t`").is_empty());
+        assert_eq!(
+            whats("docs/OPERATIONS.md", "`has_n`"),
+            ["docs/OPERATIONS.md:1: has_n is declared nowhere"]
+        );
     }
 
     #[test]

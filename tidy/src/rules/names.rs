@@ -1,6 +1,5 @@
 //! A name that crates declare for others means one thing: no two crates declare it.
 
-use crate::declared::Kind;
 use crate::fault::Fault;
 use crate::source::Source;
 use std::collections::{BTreeMap, BTreeSet};
@@ -26,10 +25,8 @@ struct Place<'a> {
 fn shared<'a>(sources: &'a [Source]) -> BTreeMap<(Sort, &'a str), Vec<Place<'a>>> {
     let mut places: BTreeMap<(Sort, &str), Vec<Place>> = BTreeMap::new();
     for source in sources.iter().filter(|source| !source.proves_function) {
-        for declared in source
-            .declarations
-            .iter()
-            .filter(|declared| declared.public && declared.kind != Kind::Part)
+        for declared in
+            source.declarations.iter().filter(|declared| declared.public && !declared.is_inner())
         {
             let place = Place {
                 crate_name: source.crate_name,

@@ -11,7 +11,6 @@ use lib.Seq.{get_or-set_same, get_or-set_other}
 use Rattle.record.specs.declared.Edit.{Edit}
 use Rattle.lists.specs.Lists.{mem, index_of, ◌among◌, ◌within◌}
 use Rattle.record.specs.Record.{Record, name_of, names, written}
-use Rattle.record.specs.Stored.{filler_edit}
 use Rattle.lists.proofs.Lists.{by, clash, is-by, mem_index}
 use Rattle.lists.proofs.Arrays.{get_or-zeros}
 use Rattle.record.proofs.Records.{written-names}
@@ -21,13 +20,9 @@ use Rattle.graph.proofs.links.Marks.{values-are, marks-size, marks-at, marks-pas
 use Rattle.record_tables.specs.Checked.{Checked}
 use Rattle.record_tables.proofs.Records.{checked-unwritten, checked-ascending}
 use Rattle.bench.specs.hidden.Marks.{mark_named}
-use Rattle.bench.proofs.hidden.Index.{StoredRows, count_room, length-written, name-is}
+use Rattle.bench.proofs.hidden.Index.{length-written, held-few, name-is}
 
-module _ (R : Record) (edits : List Edit) (count : ℕ) (test : ℕ → Bool) (h : StoredRows R edits count) where
-  few : length (names R) ≤ 128
-  unfolding names
-  few = omega (arith, length-written R edits count h, count_room R edits count h)
-
+module _ (R : Record) (test : ℕ → Bool) where
   -- the marks of the first i edits, by index
   pub record Indexed (marks : List ℕ) (i : ℕ) : Type 0 where
     pub passed : (y : ℕ) → y ≤ i → get_or marks y 0 ≡ cond (test (name_at R y)) 1 0
@@ -40,25 +35,27 @@ module _ (R : Record) (edits : List Edit) (count : ℕ) (test : ℕ → Bool) (h
     left = λ y l. get_or-zeros 128 y;
   }
 
-  pub indexed-next : (mark : ℕ → ℕ) (marks : List ℕ) (i v : ℕ) → i < count → length marks ≡ 128 → v ≡ mark (get_or edits i filler_edit).name
-      → ((x : ℕ) → x among written R → mark x ≡ cond (test x) 1 0) → Indexed marks i → Indexed (set marks (i + 1) v) (i + 1)
-  unfolding names
-  indexed-next mark marks i v l size p f k =
-      let w : i < length (written R) = omega (arith, length-written R edits count h) in
-      let room : i + 1 < length marks = omega (arith, count_room R edits count h) in
-      let q : v ≡ cond (test (get_or (written R) i 0)) 1 0 = p ∙ ap mark (name-is R edits count h i l) ∙ f (get_or (written R) i 0) (get_or-among (written R) i w) in
-      record {
-        passed = λ y m. is-by y (i + 1)
-            (λ e. rw (e, get_or-set_same marks (i + 1) v 0 room, add-one i) q)
-            (λ (e : y ≢ i + 1). rw (get_or-set_other marks (i + 1) y v 0 e) (k.passed y (omega arith)));
-        left = λ y m. let e : y ≢ i + 1 = λ z. omega arith in rw (get_or-set_other marks (i + 1) y v 0 e) (k.left y (omega arith));
-      }
+  module _ (h : Checked R) where
+    pub indexed-next : (mark : ℕ → ℕ) (marks : List ℕ) (i v : ℕ) (d : Edit) → i < length R.edits → length marks ≡ 128 → v ≡ mark (get_or R.edits i d).name
+        → ((x : ℕ) → x among written R → mark x ≡ cond (test x) 1 0) → Indexed marks i → Indexed (set marks (i + 1) v) (i + 1)
+    unfolding names
+    indexed-next mark marks i v d l size p f k =
+        let w : i < length (written R) = omega (arith, length-written R h) in
+        let room : i + 1 < length marks = omega (arith, held-few R h) in
+        let q : v ≡ cond (test (get_or (written R) i 0)) 1 0 = p ∙ ap mark (name-is R h i d l) ∙ f (get_or (written R) i 0) (get_or-among (written R) i w) in
+        record {
+          passed = λ y m. is-by y (i + 1)
+              (λ e. rw (e, get_or-set_same marks (i + 1) v 0 room, add-one i) q)
+              (λ (e : y ≢ i + 1). rw (get_or-set_other marks (i + 1) y v 0 e) (k.passed y (omega arith)));
+          left = λ y m. let e : y ≢ i + 1 = λ z. omega arith in rw (get_or-set_other marks (i + 1) y v 0 e) (k.left y (omega arith));
+        }
 
-  pub indexed-end : (marks : List ℕ) (i : ℕ) → i ≤ count → count ≤ i → length marks ≡ 128 → Indexed marks i → marks ≡ marks_of R test
-  unfolding marks_of names
-  indexed-end marks i l m size k =
-      let n = length-written R edits count h in
-      values-are R (λ x. cond (test x) 1 0) marks few size (λ y w. k.passed y (omega arith)) (λ y w. k.left y (omega arith))
+    pub indexed-end : (marks : List ℕ) (i : ℕ) → i ≡ length R.edits → length marks ≡ 128 → Indexed marks i → marks ≡ marks_of R test
+    unfolding marks_of names
+    indexed-end marks i e size k =
+        let n = length-written R h in
+        let few : suc (length (written R)) ≤ 128 = omega (arith, held-few R h) in
+        values-are R (λ x. cond (test x) 1 0) marks few size (λ y w. k.passed y (omega arith)) (λ y w. k.left y (omega arith))
 
 -- the hidden edits of a record, each by its name
 module _ (R : Record) (h : List ℕ) (k : Checked R) (w : h within written R) where

@@ -13,8 +13,11 @@ use Rattle.lists.proofs.Lists.{by, clash}
 use Rattle.record_tables.specs.Table.{record_join_fault, unite}
 use Rattle.record_tables.specs.Checked.{Checked}
 use Rattle.record_tables.proofs.Records.{record-checked}
-use Rattle.record_joining.specs.declared.Joined.{Joined}
-use Rattle.record_joining.specs.Join as join
+use Rattle.std.specs.Prelude.{Result, not}
+use Rattle.refusals.specs.declared.Refusal.{Refusal}
+use Rattle.refusals.specs.Numbers.{Gives}
+use Rattle.record.specs.Judgement.{sound}
+use Rattle.record_rows.specs.grounds.Ground.{◌given◌, ◌orelse◌}
 use Rattle.voting.specs.declared.RollRow.{RollRow}
 use Rattle.voting.specs.declared.Election.{Election}
 use Rattle.voting.specs.Tally.{winner}
@@ -22,14 +25,13 @@ use Rattle.voting.proofs.Elections.{winner-wins, open_is}
 use Rattle.voting_roll.specs.Election.{Proposals, election_fault, cast, counted, election_of}
 use Rattle.ledger.specs.declared.Bench.{Bench}
 use Rattle.ledger.specs.declared.Outcome.{Outcome}
-use Rattle.ledger.specs.Ledger.{Call, adopt, start, judge, answered, adopted, act, step, fed}
+use Rattle.ledger.specs.Ledger.{Call, adopt, start, judge, answered, adopted, act, change, step, fed}
 use Rattle.ledger.specs.Bench.{bench_of, outcome}
 use Rattle.ledger.proofs.Valid.{start-valid, fed-valid}
-use Rattle.bench.specs.Changes.{refused_with}
+use Rattle.bench.specs.Changes.{refused_with, Tries}
 use Rattle.bench.proofs.Moves.{refused-is, accepted-is, bench-record}
 use Rattle.bench_edits.specs.Joins.{Joins}
 use Rattle.bench_edits.proofs.United.{union-keeps}
-use Rattle.bench_edits.proofs.Rows.{step-joined}
 
 -- the won bundle, or none
 winner-by {ℓ} : {T : Type ℓ} (o : Option Record) → (o ≡ none → T) → ((B : Record) → o ≡ some B → T) → T
@@ -70,19 +72,22 @@ module _ (e : ℕ) (P : Proposals) (roll : List RollRow) (E : Election) (h : E �
         accepted-is (fed start calls) (adopt e P roll) _ (rw (k.0, o))
         ((λ i. record { answer = answered 0 0 (k.1 i); bench = b i }) ∙ ap (λ (x : Option Record). outcome (adopted (fed start calls) (counted (cast e P roll)) x)) (sym o))
 
-    pub adopt-won : (bundle : declared.Record) (joined : Joined) (r : Outcome) → E.number ≡ 0 → E.won ≡ true
-        → (election_fault e P roll ≡ 0 → (B : Record) → winner (cast e P roll) ≡ some B → bundle ≡ stored B)
-        → ((R S : Record) → bench.multilog ≡ stored R → Checked R → bundle ≡ stored S → joined ≡ join.joined_of (record_join_fault R S) R (unite R S))
-        → Joins bench joined E r → r ≡ outcome (step (fed start calls) (adopt e P roll))
-    unfolding judge act Joins
-    adopt-won bundle joined r z w s g f =
-        let L = fed start calls in
-        let R = L.multilog in
-        let v = fed-valid start calls start-valid in
-        let k = accepted-count z in
-        winner-by (winner (cast e P roll))
-        (λ q. clash (sym (ap (λ (x : Election). x.won) k.1) ∙ w) (open_is (cast e P roll) q))
-        (λ B q.
-        let c : record_join_fault R B ≡ 0 → Checked (unite R B) = record-checked R B v.checked in
-        f calls (record_join_fault R B) (unite R B) b (g R B (bench-record L bench b) v.checked (s k.0 B q)) c (λ x. union-keeps R B v.checked (c x))
-        ∙ ap outcome (sym (step-joined L (adopt e P roll) (record_join_fault R B) (unite R B) E (rw (k.0, q)) (rw (q, ← k.1)))))
+  -- a won bundle that joins
+  pub adopt-won : (bench : Bench) (bundle : declared.Record) (joined : Result declared.Record Refusal) (tried : Result Outcome Refusal) → E.number ≡ 0 → E.won ≡ true
+      → (election_fault e P roll ≡ 0 → (B : Record) → winner (cast e P roll) ≡ some B → bundle ≡ stored B)
+      → ((R S : Record) → bench.multilog ≡ stored R → Checked R → bundle ≡ stored S → Gives (record_join_fault R S) (stored (unite R S)) joined)
+      → Joins bench joined E tried → Tries bench (adopt e P roll) tried
+  unfolding judge act Joins Tries
+  adopt-won bench bundle joined tried z w s g f = λ calls b.
+      let L = fed start calls in
+      let R = L.multilog in
+      let v = fed-valid start calls start-valid in
+      let k = accepted-count z in
+      winner-by (winner (cast e P roll))
+      (λ q. clash (sym (ap (λ (x : Election). x.won) k.1) ∙ w) (open_is (cast e P roll) q))
+      (λ B q.
+      let c : record_join_fault R B ≡ 0 → Checked (unite R B) = record-checked R B v.checked in
+      let t = f calls (record_join_fault R B) (unite R B) b (g R B (bench-record L bench b) v.checked (s k.0 B q)) c (λ x. union-keeps R B v.checked (c x)) in
+      let j : judge L (adopt e P roll) ≡ (record_join_fault R B orelse 8 given not (sound (unite R B))) = rw (k.0, q) in
+      let a : act L (adopt e P roll) ≡ change L (unite R B) L.hidden E = rw (q, ← k.1) in
+      rw (j, a) t)

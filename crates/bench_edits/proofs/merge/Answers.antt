@@ -3,4 +3,4 @@ use Rattle.bench_edits.proofs.merge.Goals as goal
 
 pub returns : goal.returns
 returns c =
-    merged c.args.bench c.merge-joined.result c.no_election.result c.no_election.ensures _ c.joined_bench.ensures _ _ c.merge-joined.ensures
+    c.settled.ensures.answers _ (merged c.args.bench c.merge-joined.result c.no_election.result c.no_election.ensures _ c.joined_bench.ensures _ _ c.merge-joined.ensures)

@@ -6,27 +6,33 @@ use Prim.Native.Nat.{ℕ, suc, ◌<◌}
 use native.Mathlib.Omega.{arith}
 use lib.Dec.{eqb}
 use lib.ListN.{length, get_or, set}
-use borrow.Author.Tests.{eq-eqb, ne_eqb, not-true, not-false}
-use Rattle.lists.specs.Lists.{filter, mem, index_of, position_of, ◌among◌, ◌within◌}
+use borrow.Author.Tests.{eq-eqb, ne_eqb, not-true}
+use Rattle.lists.specs.Lists.{filter, mem, index_of, ◌among◌, ◌within◌}
 use Rattle.record.specs.Record.{names, written}
 use Rattle.record.specs.Judgement.{must}
-use Rattle.lists.proofs.Lists.{by, is-by, clash, or_l, or_r, same_by, mem_index, mem-head, cons-within, filter-mem, mem-filter, position-none, position_some}
+use Rattle.lists.proofs.Lists.{by, clash, or_r, same_by, mem_index, mem-head, cons-within, filter-mem, mem-filter}
 use Rattle.record_rows.specs.row.Row.{is_name}
 use Rattle.record_rows.specs.grounds.Ground.{◌given◌, ◌orelse◌}
-use Rattle.record_rows.proofs.grounds.Grounds.{orelse-none, orelse-first, orelse-second, orelse-assoc, given-none}
+use Rattle.record_rows.proofs.grounds.Grounds.{orelse-first, orelse-second, orelse-assoc}
 use Rattle.graph.specs.links.Marks.{marks_of}
 use Rattle.graph.proofs.links.Names.{get_or-place}
 use Rattle.graph.proofs.links.Marks.{marks-at}
 use Rattle.voting.specs.declared.Election.{Election}
+use Rattle.std.specs.Prelude.{Option, Some, None, Result, Err}
+use Rattle.std.specs.Option.{ok_or}
+use Rattle.refusals.specs.declared.Refusal.{Refusal}
+use Rattle.refusals.specs.declared.Refusal.TheVariants.{Unknown}
+use Rattle.refusals.specs.Numbers.{number}
+use Rattle.bench.specs.hidden.Marks.{index_in}
 use Rattle.bench.proofs.hidden.Named.{mark_set}
 use Rattle.ledger.specs.declared.Bench.{Bench}
 use Rattle.ledger.specs.declared.Outcome.{Outcome}
-use Rattle.ledger.specs.Ledger.{Ledger, Call, start, judge, no_election, change, shown, act, step, fed}
+use Rattle.ledger.specs.Ledger.{Ledger, Call, start, judge, no_election, change, shown, act, fed}
 use Rattle.ledger.specs.Bench.{bench_of, outcome}
-use Rattle.ledger.proofs.Valid.{Valid, start-valid, fed-valid, shown-within}
-use Rattle.bench.specs.Changes.{refused_with, Changes}
-use Rattle.bench.proofs.Moves.{refused-is, accepted-is, bench-record, bench-hidden}
-use Rattle.bench_edits.specs.visibility.Named.{name_fault, mark_fault, mark_call}
+use Rattle.ledger.proofs.Valid.{Valid, shown-within}
+use Rattle.bench.specs.Changes.{Changes}
+use Rattle.bench.proofs.Moves.{bench-record, bench-hidden}
+use Rattle.bench_edits.specs.visibility.Named.{name_fault, mark_call}
 
 -- the mark of an edit against the mark that a call gives it
 same-mark : (hides b : Bool) → eqb (cond b 1 0) (cond hides 1 0) ≡ cond hides b (not b)
@@ -56,10 +62,6 @@ barred hides must hidden = cond hides (must || hidden) (not hidden)
 bars-marked : (hides m h : Bool) → cond hides h (not h) ≡ true → barred hides m h ≡ true
 bars-marked true m h e = or_r m h e
 bars-marked false m h e = e
-
-bars-must : (hides m h : Bool) → (eqb (cond hides 1 0) 1 && m) ≡ true → barred hides m h ≡ true
-bars-must true m h e = or_l m h e
-bars-must false m h e = clash e refl
 
 not-barred : (hides m h : Bool) → cond hides h (not h) ≡ false → (eqb (cond hides 1 0) 1 && m) ≡ false → barred hides m h ≡ false
 not-barred true m h e q = rw (e, q)
@@ -94,104 +96,94 @@ unfolding judge
 mark-judge L x true = orelse-assoc (2 given not (is_name x)) (5 given not (mem x (written L.multilog))) (9 given (must L.multilog x || mem x L.hidden))
 mark-judge L x false = orelse-assoc (2 given not (is_name x)) (5 given not (mem x (written L.multilog))) (9 given not (mem x L.hidden))
 
--- the number by grounds, each by its test
-module _ (marks : List ℕ) (x i m : ℕ) {b : Bool} (f : b ≡ is_name x) where
-  pub unnamed : b ≡ false → 2 ≡ mark_fault marks x i m
-  unnamed e = let n : is_name x ≡ false = sym f ∙ e in rw n
+-- what the look-up found
+pub found : (o : Option ℕ) (x i : ℕ) (l : List ℕ) → o ≡ index_in x l → o ≡ Some i → (mem x l ≡ true) × (i ≡ suc (index_of x l))
+found o x i l f e =
+    by (mem x l)
+    (λ (m : mem x l ≡ true). let z : Some i ≡ Some (suc (index_of x l)) = sym e ∙ f ∙ rw m in (m, cc))
+    (λ (m : mem x l ≡ false). let z : Some i ≡ None = sym e ∙ f ∙ rw m in cc)
 
-  module _ (e : b ≡ true) where
-    named : is_name x ≡ true
-    named = sym f ∙ e
+pub unfound : (o : Option ℕ) (x : ℕ) (l : List ℕ) → o ≡ index_in x l → o ≡ None → mem x l ≡ false
+unfound o x l f e =
+    by (mem x l) (λ (m : mem x l ≡ true). let z : None ≡ Some (suc (index_of x l)) = sym e ∙ f ∙ rw m in cc) (λ (m : mem x l ≡ false). m)
 
-    pub unknown : i ≡ 0 → 5 ≡ mark_fault marks x i m
-    unknown z = rw (named, eq-eqb i 0 z)
+pub which : (o : Option ℕ) (refusal : Refusal) → ◌≡◌ {A = Result ℕ Refusal} (Err refusal) (ok_or o Unknown) → o ≡ None → number refusal ≡ 5
+which None refusal w z = let q : refusal ≡ Unknown = cc in ap number q
+which (Some i) refusal w z = cc
 
-    pub marked-already : (i ≡ 0 → ⊥) → get_or marks i 0 ≡ m → 9 ≡ mark_fault marks x i m
-    marked-already z q = rw (named, ne_eqb i 0 z, eq-eqb (get_or marks i 0) m q)
+-- by the edit's name alone
+module _ (L : Ledger) (x : ℕ) (hides : Bool) where
+  pub unnamed : is_name x ≡ false → 2 ≡ judge L (mark_call hides x)
+  unnamed n = let f : 2 ≡ name_fault L.multilog x = rw n in by-name f (λ z. omega arith)
+    where
+      by-name : {k : ℕ} → k ≡ name_fault L.multilog x → (k ≡ 0 → ⊥) → k ≡ judge L (mark_call hides x)
+      by-name f z = f ∙ sym (mark-judge L x hides ∙ orelse-first (name_fault L.multilog x) _ (λ q. z (f ∙ q)))
 
-    pub mark-changes : (i ≡ 0 → ⊥) → (get_or marks i 0 ≡ m → ⊥) → 0 ≡ mark_fault marks x i m
-    mark-changes z q = rw (named, ne_eqb i 0 z, ne_eqb (get_or marks i 0) m q)
+  pub unknown : is_name x ≡ true → mem x (written L.multilog) ≡ false → 5 ≡ judge L (mark_call hides x)
+  unknown n m = let f : 5 ≡ name_fault L.multilog x = rw (n, m) in by-name f (λ z. omega arith)
+    where
+      by-name : {k : ℕ} → k ≡ name_fault L.multilog x → (k ≡ 0 → ⊥) → k ≡ judge L (mark_call hides x)
+      by-name f z = f ∙ sym (mark-judge L x hides ∙ orelse-first (name_fault L.multilog x) _ (λ q. z (f ∙ q)))
 
-not_known : (x i : ℕ) (l : List ℕ) → i ≡ position_of x l → eqb i 0 ≡ not (mem x l)
-not_known x i l f =
-    is-by i 0
-    (λ z. eq-eqb i 0 z ∙ sym (ap not (position-none x l (sym f ∙ z))))
-    (λ z. ne_eqb i 0 z ∙ sym (ap not (position_some x l (λ w. z (f ∙ w)))))
-
-module _ (L : Ledger) (v : Valid L) (bench : Bench) (e : bench ≡ bench_of L) (x i : ℕ) (f : i ≡ position_of x (written L.multilog))
-    (hides : Bool) (m n : ℕ) (c : m ≡ cond hides 1 0) (q : n ≡ mark_fault bench.hidden x i m) where
+-- a known edit, with the index that the code found
+module _ (L : Ledger) (v : Valid L) (bench : Bench) (e : bench ≡ bench_of L) (x i : ℕ) (hides : Bool) (m : ℕ) (c : m ≡ cond hides 1 0)
+    (n : is_name x ≡ true) (known : x among written L.multilog) (place : i ≡ suc (index_of x (written L.multilog))) where
   abbrev Bars : Bool
   Bars = barred hides (must L.multilog x) (mem x L.hidden)
 
-  fault-is : n ≡ (name_fault L.multilog x orelse 9 given eqb (get_or bench.hidden i 0) m)
-  fault-is =
-      q ∙ ap (λ (b : Bool). 2 given not (is_name x) orelse 5 given b orelse 9 given eqb (get_or bench.hidden i 0) m) (not_known x i (written L.multilog) f)
-      ∙ orelse-assoc (2 given not (is_name x)) (5 given not (mem x (written L.multilog))) (9 given eqb (get_or bench.hidden i 0) m)
+  judged : judge L (mark_call hides x) ≡ 9 given Bars
+  judged = let f : name_fault L.multilog x ≡ 0 = rw (n, known) in mark-judge L x hides ∙ orelse-second (name_fault L.multilog x) (9 given Bars) f
 
-  module _ (g : name_fault L.multilog x ≡ 0) where
-    judged : judge L (mark_call hides x) ≡ 9 given Bars
-    judged = mark-judge L x hides ∙ orelse-second (name_fault L.multilog x) (9 given Bars) g
+  -- the mark at the index
+  mark-is : (marks : List ℕ) (test : ℕ → Bool) → marks ≡ marks_of L.multilog test → get_or marks i 0 ≡ cond (test x) 1 0
+  unfolding names
+  mark-is marks test h =
+      let w : suc (index_of x (written L.multilog)) < length (names L.multilog) = omega (arith, mem_index x (written L.multilog) known) in
+      rw (h, place) (marks-at L.multilog test (suc (index_of x (written L.multilog))) w ∙ ap (λ (y : ℕ). cond (test y) 1 0) (get_or-place x (written L.multilog) known))
 
-    known : x among written L.multilog
-    known = not-false _ (given-none 4 _ (orelse-none (2 given not (is_name x)) _ g).1)
+  marked : eqb (get_or bench.hidden i 0) m ≡ cond hides (mem x L.hidden) (not (mem x L.hidden))
+  marked = rw (mark-is bench.hidden (λ y. mem y L.hidden) (bench-hidden L bench e), c) (same-mark hides (mem x L.hidden))
 
-    place : i ≡ suc (index_of x (written L.multilog))
-    unfolding position_of
-    place = f ∙ rw known
+  pub marked-already : get_or bench.hidden i 0 ≡ m → 9 ≡ judge L (mark_call hides x)
+  marked-already q =
+      let b : Bars ≡ true = bars-marked hides (must L.multilog x) (mem x L.hidden) (sym marked ∙ eq-eqb _ _ q) in
+      sym (judged ∙ rw b)
 
-    -- the mark at the index
-    mark-is : (marks : List ℕ) (test : ℕ → Bool) → marks ≡ marks_of L.multilog test → get_or marks i 0 ≡ cond (test x) 1 0
-    unfolding names
-    mark-is marks test h =
-        let w : suc (index_of x (written L.multilog)) < length (names L.multilog) = omega (arith, mem_index x (written L.multilog) known) in
-        rw (h, place) (marks-at L.multilog test (suc (index_of x (written L.multilog))) w ∙ ap (λ (y : ℕ). cond (test y) 1 0) (get_or-place x (written L.multilog) known))
+  module _ (musts : List ℕ) (h : musts ≡ marks_of L.multilog (must L.multilog)) where
+    one : (b : Bool) → ◌≡◌ {A = ℕ} (cond b 1 0) 1 → b ≡ true
+    one true z = refl
+    one false z = absurd (omega arith)
 
-    marked : eqb (get_or bench.hidden i 0) m ≡ cond hides (mem x L.hidden) (not (mem x L.hidden))
-    marked = rw (mark-is bench.hidden (λ y. mem y L.hidden) (bench-hidden L bench e), c) (same-mark hides (mem x L.hidden))
+    must-is : get_or musts i 0 ≡ cond (must L.multilog x) 1 0
+    must-is = mark-is musts (must L.multilog) h
 
-    refused-nine : Bars ≡ true → refused_with bench 9 ≡ outcome (step L (mark_call hides x))
-    refused-nine t = refused-is L bench (mark_call hides x) 9 e (judged ∙ rw t) (λ z. omega arith)
+    pub must-stands : hides ≡ true → get_or musts i 0 ≡ 1 → 9 ≡ judge L (mark_call hides x)
+    must-stands t q =
+        let s : must L.multilog x ≡ true = one (must L.multilog x) (sym must-is ∙ q) in
+        let b : Bars ≡ true = rw (t, s) in
+        sym (judged ∙ rw b)
 
-  pub mark-refused : (n ≡ 0 → ⊥) → refused_with bench n ≡ outcome (step L (mark_call hides x))
-  mark-refused z =
-      is-by (name_fault L.multilog x) 0
-      (λ g.
-      let s : n ≡ 9 given eqb (get_or bench.hidden i 0) m = fault-is ∙ orelse-second (name_fault L.multilog x) (9 given eqb (get_or bench.hidden i 0) m) g in
-      by (eqb (get_or bench.hidden i 0) m)
-      (λ d. let k : n ≡ 9 = s ∙ rw d in ap (refused_with bench) k ∙ refused-nine g (bars-marked hides (must L.multilog x) (mem x L.hidden) (sym (marked g) ∙ d)))
-      (λ d. absurd (z (s ∙ rw d))))
-      (λ g. refused-is L bench (mark_call hides x) n e (mark-judge L x hides ∙ orelse-first (name_fault L.multilog x) (9 given Bars) g ∙ sym (fault-is ∙ orelse-first (name_fault L.multilog x) (9 given eqb (get_or bench.hidden i 0) m) g)) z)
+    free : (get_or bench.hidden i 0 ≡ m → ⊥) → (hides ≡ true → get_or musts i 0 ≡ 1 → ⊥) → Bars ≡ false
+    free q r = not-barred hides (must L.multilog x) (mem x L.hidden) (sym marked ∙ ne_eqb _ _ q) (off hides (must L.multilog x) r must-is)
+      where
+        off : (b w : Bool) → (b ≡ true → get_or musts i 0 ≡ 1 → ⊥) → get_or musts i 0 ≡ cond w 1 0 → (eqb (cond b 1 0) 1 && w) ≡ false
+        off false w r z = refl
+        off true true r z = absurd (r refl z)
+        off true false r z = refl
 
-  module _ (z : n ≡ 0) where
-    faultless : (name_fault L.multilog x ≡ 0) × (9 given eqb (get_or bench.hidden i 0) m ≡ 0)
-    faultless = orelse-none (name_fault L.multilog x) (9 given eqb (get_or bench.hidden i 0) m) (sym fault-is ∙ z)
-
-    module _ (musts : List ℕ) (h : musts ≡ marks_of L.multilog (must L.multilog)) where
-      must-tested : (eqb m 1 && eqb (get_or musts i 0) 1) ≡ (eqb (cond hides 1 0) 1 && must L.multilog x)
-      must-tested = rw (mark-is faultless.0 musts (must L.multilog) h, c) (ap (λ (b : Bool). eqb (cond hides 1 0) 1 && b) (same-mark true (must L.multilog x)))
-
-      pub mark-must : (eqb m 1 && eqb (get_or musts i 0) 1) ≡ true → refused_with bench 9 ≡ outcome (step L (mark_call hides x))
-      mark-must t = refused-nine faultless.0 (bars-must hides (must L.multilog x) (mem x L.hidden) (sym must-tested ∙ t))
-
-      mark-free : (eqb m 1 && eqb (get_or musts i 0) 1) ≡ false → Bars ≡ false
-      mark-free t = not-barred hides (must L.multilog x) (mem x L.hidden) (sym (marked faultless.0) ∙ given-none 8 _ faultless.1) (sym must-tested ∙ t)
-
--- the change of a bench that the calls left
-module _ (calls : List Call) (bench : Bench) (e : bench ≡ bench_of (fed start calls)) (x i : ℕ) (f : i ≡ position_of x (written (fed start calls).multilog))
-    (hides : Bool) (m n : ℕ) (c : m ≡ cond hides 1 0) (q : n ≡ mark_fault bench.hidden x i m) (z : n ≡ 0) where
-  pub mark_made : (musts : List ℕ) → musts ≡ marks_of (fed start calls).multilog (must (fed start calls).multilog) → (eqb m 1 && eqb (get_or musts i 0) 1) ≡ false
-      → (E : Election) → E ≡ no_election → (r : Outcome) → Changes bench bench.multilog (set bench.hidden i m) E r → r ≡ outcome (step (fed start calls) (mark_call hides x))
-  unfolding Changes
-  mark_made musts h t E o r k =
-      let L = fed start calls in
-      let v = fed-valid start calls start-valid in
-      let g = (faultless L v bench e x i f hides m n c q z).0 in
-      let after = hidden_after hides x L.hidden in
-      let i-known = known L v bench e x i f hides m n c q g in
-      let w = after-within hides x L.hidden (written L.multilog) i-known v.hidden-written in
-      let s : set bench.hidden i m ≡ marks_of L.multilog (λ y. mem y after) =
-      (λ j. set (bench-hidden L bench e j) (place L v bench e x i f hides m n c q g j) m)
-      ∙ mark_set L.multilog (λ y. mem y L.hidden) (λ y. mem y after) x m v.checked i-known (λ y. after-other hides x y L.hidden) (c ∙ ap (λ (b : Bool). cond b 1 0) (sym (after_same hides x L.hidden))) in
-      accepted-is L (mark_call hides x) r (judged L v bench e x i f hides m n c q g ∙ rw (mark-free L v bench e x i f hides m n c q z musts h t))
-      (k calls L.multilog after e (bench-record L bench e) w s v.checked v.sound-now (λ y j. refl)
-      ∙ (ap (λ (E : Election). outcome (change L L.multilog after E)) o ∙ ap outcome (sym (mark-act L x hides))))
+    -- the change
+    pub mark_made : (get_or bench.hidden i 0 ≡ m → ⊥) → (hides ≡ true → get_or musts i 0 ≡ 1 → ⊥)
+        → (0 ≡ judge L (mark_call hides x)) × ((calls : List Call) → L ≡ fed start calls → (E : Election) → E ≡ no_election → (r : Outcome)
+        → Changes bench bench.multilog (set bench.hidden i m) E r → r ≡ outcome (act L (mark_call hides x)))
+    unfolding Changes
+    mark_made q r = (
+      sym (judged ∙ rw (free q r)),
+      λ calls l E o r k.
+          let after = hidden_after hides x L.hidden in
+          let w = after-within hides x L.hidden (written L.multilog) known v.hidden-written in
+          let s : set bench.hidden i m ≡ marks_of L.multilog (λ y. mem y after) =
+          (λ j. set (bench-hidden L bench e j) (place j) m)
+          ∙ mark_set L.multilog (λ y. mem y L.hidden) (λ y. mem y after) x m v.checked known (λ y. after-other hides x y L.hidden) (c ∙ ap (λ (b : Bool). cond b 1 0) (sym (after_same hides x L.hidden))) in
+          rw (← l) at (k calls L.multilog after (e ∙ ap bench_of l) (bench-record L bench e) w s v.checked v.sound-now (rw (← l) (λ y j. refl)))
+          ∙ (ap (λ (E : Election). outcome (change L L.multilog after E)) o ∙ ap outcome (sym (mark-act L x hides))),
+    )

@@ -1,5 +1,5 @@
 -- Inner: hide and show as one change of a mark; what is turned away says the crate ledger. Assumes nothing.
-use Rattle.std.specs.Prelude.{Bool, true, false, not, List, ℕ, eqb, get_or}
+use Rattle.std.specs.Prelude.{Bool, true, false, not, ℕ}
 use Rattle.lists.specs.Lists.{mem}
 use Rattle.record.specs.Record.{Record, written}
 use Rattle.record_rows.specs.row.Row.{is_name}
@@ -9,10 +9,6 @@ use Rattle.ledger.specs.Ledger.{Call, hide, show}
 -- the number of the ground on which an edit of this name is turned away, 0 for none
 abbrev pub name_fault : Record → ℕ → ℕ
 name_fault R x = 2 given not (is_name x) orelse 5 given not (mem x (written R))
-
--- the same by the index of the edit, 0 where it is not known; then 9 where it has the mark already
-abbrev pub mark_fault : List ℕ → ℕ → ℕ → ℕ → ℕ
-mark_fault marks x index mark = 2 given not (is_name x) orelse 5 given eqb index 0 orelse 9 given eqb (get_or marks index 0) mark
 
 -- the call that gives an edit the mark 1, or 0
 abbrev pub mark_call : Bool → ℕ → Call

@@ -1,7 +1,9 @@
--- `measure_judgement` meets its contract. Assumes nothing.
-use mathlib.Core.Path.{ap}
-use Rattle.benchmark_entry.specs.Measured.{judgement_numbers}
+use Rattle.std.proofs.Common.{◌∙◌}
+use Rattle.benchmark_entry.proofs.Answers.{judged-ok, judged-refused}
 use Rattle.benchmark_entry.proofs.measure_judgement.Goals as goal
 
-pub returns : goal.returns
-returns c = ap judgement_numbers c.judge_lent-judgement.ensures
+pub returns-in-Ok : goal.returns-in-Ok
+returns-in-Ok c = c.judgement_numbers.ensures ∙ judged-ok c.args.edits.now c.args.constraints.now c.in-Ok.judgement c.in-Ok.ensures.0 c.in-Ok.ensures.1
+
+pub returns-in-Err : goal.returns-in-Err
+returns-in-Err c = judged-refused c.args.edits.now c.args.constraints.now c.in-Err.refusal c.number.ensures c.in-Err.ensures.0

@@ -1,7 +1,8 @@
--- `measure_schedule` meets its contract. Assumes nothing.
-use mathlib.Core.Path.{ap}
-use Rattle.benchmark_entry.specs.Measured.{scheduled_of}
+use Rattle.benchmark_entry.proofs.Answers.{scheduled-ok, scheduled-refused}
 use Rattle.benchmark_entry.proofs.measure_schedule.Goals as goal
 
-pub returns : goal.returns
-returns c = ap scheduled_of c.schedule_lent-answer.ensures
+pub returns-in-Ok : goal.returns-in-Ok
+returns-in-Ok c = scheduled-ok c.args.edits.now c.args.constraints.now c.in-Ok.schedule c.in-Ok.ensures.0 c.in-Ok.ensures.1
+
+pub returns-in-Err : goal.returns-in-Err
+returns-in-Err c = scheduled-refused c.args.edits.now c.args.constraints.now c.in-Err.refusal c.number.ensures c.in-Err.ensures.0

@@ -1,9 +1,9 @@
 -- `catalogue_rewrite` meets its contract. Assumes nothing.
-use Rattle.c_library.proofs.Told.{rewrite-refused, rewrite-accepted}
+use mathlib.Core.Path.{◌∙◌}
+use Rattle.c_library.proofs.Reading.{rewrite-accepted}
 use Rattle.c_library.proofs.catalogue_rewrite.Goals as goal
 
-pub returns-then-reading-ne0 : goal.returns-then-reading-ne0
-returns-then-reading-ne0 c = rewrite-refused _ c.read_text-reading.ensures _ c.if-reading-ne0.true c.refused.ensures
-
-pub returns : goal.returns
-returns c = rewrite-accepted _ c.read_text-reading.ensures _ c.if-reading-ne0.false c.write_text-written.ensures
+pub returns-in-Ok : goal.returns-in-Ok
+returns-in-Ok c =
+    let q = rewrite-accepted _ _ _ c.in-Ok.ensures c.write_text.ensures.answer c.write_text.ensures.bytes in
+    (c.from.ensures ∙ q.0, q.1)

@@ -1,31 +1,23 @@
--- `common_beginning` meets its contract. The invariant: the names passed are the same.
-use Prim.Native.Nat.{ℕ, min}
-use mathlib.Core.Path.{◌≡◌, ap, ◌∙◌}
-use lib.ListN.{length}
-use native.Mathlib.Omega.{arith}
-use borrow.Author.Rules.{rules}
-use borrow.Author.Count.{below_none, below_more}
+use Rattle.std.proofs.Common.{rules, tests, ◌≡◌, ap, ◌∙◌, take, length, List}
+use Rattle.std.specs.List.{zip}
+use Rattle.std.proofs.lemmas.Iterator.{YieldsList-from_slice, YieldsList-from_zip}
+use Rattle.std.proofs.lemmas.Iterator.Search.{YieldsList-from_take_while}
+use Rattle.std.proofs.lemmas.Iterator.Consumers.{count_from_yields_List, YieldsList-at}
+use Rattle.std.proofs.lemmas.List.Folds.{length-prefix_len}
 use Rattle.lists.proofs.Lists.{length-mapped}
+use Rattle.lists.proofs.Arrays.{take-least}
+use Rattle.record.specs.declared.Edit.{Edit}
 use Rattle.catalogue.specs.Chips.{rows}
-use Rattle.catalogue.proofs.Moves.{common-stops}
+use Rattle.catalogue.specs.Changes.{common}
+use Rattle.catalogue.proofs.Moves.{same_name, common-counted}
 use Rattle.catalogue.proofs.common_beginning.Goals as goal
-
-pub loop-same-init : goal.loop-same-init
-loop-same-init c = (omega arith, below_none _)
-
-pub returns-then-before-after : goal.returns-then-before-after
-returns-then-before-after c =
-    let g : length c.args.old.edits ≡ rows = search (rules, length-mapped) in
-    let h : length c.args.new.edits ≡ rows = search (rules, length-mapped) in
-    let e = c.lesser-end.ensures ∙ ap (λ (n : ℕ). min n rows) c.lesser.ensures in
-    common-stops c.args.old.edits c.args.new.edits _ _ _ _ g h e c.loop-same.invariant.0 c.loop-same.invariant.1 (λ _. c.if-before-after.true)
-
-pub loop-same-preserved : goal.loop-same-preserved
-loop-same-preserved c = (omega arith, below_more _ _ c.loop-same.invariant.1 c.if-before-after.false)
 
 pub returns : goal.returns
 returns c =
-    let g : length c.args.old.edits ≡ rows = search (rules, length-mapped) in
-    let h : length c.args.new.edits ≡ rows = search (rules, length-mapped) in
-    let e = c.lesser-end.ensures ∙ ap (λ (n : ℕ). min n rows) c.lesser.ensures in
-    common-stops c.args.old.edits c.args.new.edits _ _ _ _ g h e c.loop-same.invariant.0 c.loop-same.invariant.1 (λ k. absurd (omega arith))
+    let s = c.args in
+    let g : length s.old.edits ≡ rows = search (rules, length-mapped) in
+    let a = take c.min.result s.old.edits in
+    let b = take s.new.count s.new.edits in
+    count_from_yields_List c.take_while.result _ c.count.ensures.ran (YieldsList-from_take_while _ same_name (YieldsList-at c.take_while.ensures.source (YieldsList-from_zip (YieldsList-from_slice a cc) (YieldsList-from_slice b cc))) c.take_while.ensures.closure c.take_while.ensures.done (λ x b q k. search (rules, tests)))
+    ∙ length-prefix_len same_name (zip a b) ∙ common-counted a b
+    ∙ ap (λ (l : List Edit). common l b) (rw c.min.ensures (take-least s.opened rows s.old.edits g))

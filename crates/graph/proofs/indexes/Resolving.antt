@@ -7,10 +7,9 @@ use Prim.Native.Nat.{ℕ, zero, suc, ◌+◌, ◌*◌, ◌<◌}
 use native.Mathlib.Omega.{arith}
 use lib.ListN.{length, get_or, length-map}
 use Rattle.record.specs.declared.Constraint.{Constraint}
-use Rattle.record.specs.declared.Record as declared
 use Rattle.lists.specs.Lists.{any, index_of, ◌among◌}
 use Rattle.record.specs.Record.{Record, names, is, has, WellFormed}
-use Rattle.record.specs.Stored.{filler_constraint, stored}
+use Rattle.record.specs.Stored.{filler_constraint}
 use Rattle.lists.proofs.Lists.{clash, or-by, mem_index, get_or-mapped}
 use Rattle.lists.proofs.Arrays.{get_or-any}
 use Rattle.record.proofs.Records as records
@@ -20,7 +19,7 @@ use Rattle.graph.proofs.links.Names.{get_or-place, ascending-distinct, place-kno
 use Rattle.graph.proofs.links.Links.{Linking, linking-step, linking-end}
 use Rattle.graph.specs.links.Resolved.{Resolved}
 use Rattle.graph.specs.indexes.Fit.{Fit}
-use Rattle.graph.proofs.indexes.Tables.{names-few, constraint-at}
+use Rattle.graph.proofs.indexes.Tables.{names-few}
 
 -- the key of a constraint, and of all
 unfoldable pub key_of : Record → Constraint → ℕ
@@ -120,20 +119,23 @@ module _ (R : Record) (f : Fit R) (rows : List ℕ) (j : ℕ) (q : j ≡ length 
   resolving-end = record { formed = f.formed; paired = f.paired; notafters = leads-rule 0; enablers = leads-rule 1; pairs = leads-rule 2 }
 
 -- one turn of the loop that links the constraints: the row's key and its left index as the table gives them
-module _ (r : declared.Record) (table rows : List ℕ) (j : ℕ) (d : Constraint) (key right left : ℕ) (R : Record) (q : r ≡ stored R) (f : Fit R)
-    (t : (x : ℕ) → get_or table x 0 ≡ place_in (names R) x) (h : j < length R.constraints) (u : right ≡ get_or table (get_or r.constraints j d).right 0)
-    (v : left ≡ get_or table (get_or r.constraints j d).left 0) (k : (get_or r.constraints j d).rule < 3 → key ≡ (get_or r.constraints j d).rule * 128 + right) where
-  same : get_or r.constraints j d ≡ get_or R.constraints j filler_constraint
-  same = constraint-at r R q j d h ∙ get_or-any R.constraints j d filler_constraint h
+module _ (R : Record) (f : Fit R) (table rows : List ℕ) (l : List Constraint) (j : ℕ) (d : Constraint) (key right left : ℕ)
+    (t : (x : ℕ) → get_or table x 0 ≡ place_in (names R) x) (e : l ≡ R.constraints) (h : j < length l) (u : right ≡ get_or table (get_or l j d).right 0)
+    (v : left ≡ get_or table (get_or l j d).left 0) (k : (get_or l j d).rule < 3 → key ≡ (get_or l j d).rule * 128 + right) where
+  within : j < length R.constraints
+  within = omega (arith, ap length e)
 
-  key-is : key ≡ key_of R (get_or R.constraints j filler_constraint)
+  alike : get_or l j d ≡ get_or R.constraints j filler_constraint
+  alike = ap (λ z. get_or z j d) e ∙ get_or-any R.constraints j d filler_constraint within
+
+  keyed : key ≡ key_of R (get_or R.constraints j filler_constraint)
   unfolding key_of
-  key-is =
-      let low : (get_or r.constraints j d).rule < 3 = rw same (f.rules _ _ _ (has-at R.constraints j filler_constraint h)) in
-      k low ∙ rw (u, t (get_or r.constraints j d).right, same)
+  keyed =
+      let low : (get_or l j d).rule < 3 = rw alike (f.rules _ _ _ (has-at R.constraints j filler_constraint within)) in
+      k low ∙ rw (u, t (get_or l j d).right, alike)
 
-  pub turn-resolving : length rows ≡ 2432 → j < 1024 → key < 384 → Linking (keys_of R) (lefts_of R) rows j → Linking (keys_of R) (lefts_of R) (with_row rows j key left) (j + 1)
+  pub row-turn : length rows ≡ 2432 → j < 1024 → key < 384 → Linking (keys_of R) (lefts_of R) rows j → Linking (keys_of R) (lefts_of R) (with_row rows j key left) (j + 1)
   unfolding lefts_of
-  turn-resolving a l m =
-      linking-step (keys_of R) (lefts_of R) rows j key left a l m (keys-at R j filler_constraint h ∙ sym key-is)
-      (get_or-mapped (left_of R) R.constraints j filler_constraint 0 h ∙ sym (v ∙ t (get_or r.constraints j d).left ∙ ap (left_of R) same))
+  row-turn a b m =
+      linking-step (keys_of R) (lefts_of R) rows j key left a b m (keys-at R j filler_constraint within ∙ sym keyed)
+      (get_or-mapped (left_of R) R.constraints j filler_constraint 0 within ∙ sym (v ∙ t (get_or l j d).left ∙ ap (left_of R) alike))

@@ -1,11 +1,10 @@
 -- What stands in a stored record, and the index of each name. Assumes nothing.
 use mathlib.Core.Path.{◌≡◌, sym, ap, ◌∙◌}
 use mathlib.Core.List.{List}
-use Prim.Native.Nat.{ℕ, suc, min, ◌+◌, ◌-◌, ◌≤◌, ◌<◌}
+use Prim.Native.Nat.{ℕ, suc, ◌+◌, ◌-◌, ◌≤◌, ◌<◌}
 use native.Mathlib.Omega.{arith}
-use native.Mathlib.Nat.{min-le_right, min-eq_left}
 use native.Mathlib.Numerals.{add-one}
-use lib.ListN.{length, get_or, take, set, replicate, length-set, get_or-append, length-map}
+use lib.ListN.{length, get_or, take, set, replicate, get_or-append, length-map}
 use lib.Seq.{get_or-set_same, get_or-set_other, take-suc, take_all, length-take-le}
 use borrow.Author.Tests.{eq-eqb, ne_eqb}
 use Rattle.record.specs.declared.Edit.{Edit}
@@ -13,7 +12,8 @@ use Rattle.record.specs.declared.Constraint.{Constraint}
 use Rattle.record.specs.declared.Record as declared
 use Rattle.lists.specs.Lists.{mem, index_of}
 use Rattle.record.specs.Record.{Record, name_of, written, names}
-use Rattle.record.specs.Stored.{padded, filler_edit, filler_constraint, stored}
+use Rattle.record.specs.Stored.{padded, filler_edit, stored, record_of}
+use Rattle.record_tables.proofs.Tables.{stored_back}
 use Rattle.lists.proofs.Lists.{is-by, get_or-mapped}
 use Rattle.graph.specs.links.Marks.{name_at, place_in}
 use Rattle.graph.proofs.links.Names.{get_or-among, place-snoc, later-not, ascending-distinct}
@@ -28,9 +28,6 @@ pub names-few : (R : Record) → Fit R → length (names R) ≤ 128
 names-few R f = omega (arith, length-names R, f.edits)
 
 module _ (r : declared.Record) (R : Record) (e : r ≡ stored R) where
-  pub edit-count : r.editcount ≡ length R.edits
-  edit-count = ap (λ q. q.editcount) e
-
   pub constraint-count : r.constraintcount ≡ length R.constraints
   constraint-count = ap (λ q. q.constraintcount) e
 
@@ -38,14 +35,14 @@ module _ (r : declared.Record) (R : Record) (e : r ≡ stored R) where
   unfolding padded
   edit-at i d h = ap (λ q. get_or q.edits i d) e ∙ get_or-append R.edits (replicate (127 - length R.edits) filler_edit) d i h
 
-  pub constraint-at : (j : ℕ) (d : Constraint) → j < length R.constraints → get_or r.constraints j d ≡ get_or R.constraints j d
-  unfolding padded
-  constraint-at j d h = ap (λ q. get_or q.constraints j d) e ∙ get_or-append R.constraints (replicate (512 - length R.constraints) filler_constraint) d j h
-
   -- the i-th edit's name stands at index i + 1
   pub name-at : (i : ℕ) (d : Edit) → i < length R.edits → (get_or r.edits i d).name ≡ name_at R (i + 1)
   unfolding names written
   name-at i d h = ap (λ q. q.name) (edit-at i d h) ∙ sym (rw (add-one i) (get_or-mapped name_of R.edits i d 0 h))
+
+pub name_known : (R : Record) (i : ℕ) (d : Edit) → i < length R.edits → (get_or R.edits i d).name ≡ name_at R (i + 1)
+unfolding names written
+name_known R i d h = sym (rw (add-one i) (get_or-mapped name_of R.edits i d 0 h))
 
 -- the names below index k have their index
 abbrev pub Indexing : Record → List ℕ → ℕ → Type 0
@@ -68,27 +65,15 @@ indexing-step R f table k name size h e g x =
 pub indexing-end : (R : Record) (table : List ℕ) (k : ℕ) → length (names R) ≤ k → Indexing R table k → (x : ℕ) → get_or table x 0 ≡ place_in (names R) x
 indexing-end R table k h g x = g x ∙ ap (λ l. place_in l x) (take_all k (names R) h)
 
-pub few-left : (r : declared.Record) (R : Record) → r ≡ stored R → Fit R → r.editcount ≤ 127
-few-left r R e f = omega (arith, edit-count r R e, f.edits)
+pub stored-edits : (r : declared.Record) (R : Record) (l : List Edit) → r ≡ stored R → l ≡ take r.editcount r.edits → l ≡ R.edits
+stored-edits r R l e q = q ∙ ap (λ z. z.edits) (ap record_of e ∙ stored_back R)
 
-pub past-length : (l : List ℕ) (i n : ℕ) → length l ≡ n → n ≤ i → length l ≤ i
-past-length l i n e h = omega arith
+pub stored-constraints : (r : declared.Record) (R : Record) (l : List Constraint) → r ≡ stored R → l ≡ take r.constraintcount r.constraints → l ≡ R.constraints
+stored-constraints r R l e q = q ∙ ap (λ z. z.constraints) (ap record_of e ∙ stored_back R)
 
 -- one turn of the loop that fills the table
-module _ (r : declared.Record) (table : List ℕ) (i : ℕ) (d : Edit) where
-  pub table-size : length table ≡ 2304 → length (set table (get_or r.edits i d).name (i + 1)) ≡ 2304
-  table-size e = length-set table (get_or r.edits i d).name (i + 1) ∙ e
-
-  pub table_step : length table ≡ 2304 → (R : Record) → r ≡ stored R → Fit R → i < length R.edits → Indexing R table (i + 1)
-      → Indexing R (set table (get_or r.edits i d).name (i + 1)) (i + 1 + 1)
-  table_step e R q f h g = indexing-step R f table (i + 1) (get_or r.edits i d).name e (omega (arith, length-names R)) (name-at r R q i d h) g
-
-pub count-within : (r : declared.Record) (R : Record) (c : ℕ) → r ≡ stored R → Fit R → c ≡ min r.editcount 127 → c ≡ length R.edits
-count-within r R c q f e = e ∙ min-eq_left (few-left r R q f) ∙ edit-count r R q
-
-pub constraint-within : (r : declared.Record) (R : Record) (c : ℕ) → r ≡ stored R → Fit R → c ≡ min r.constraintcount 512 → c ≡ length R.constraints
-constraint-within r R c q f e =
-    let h : r.constraintcount ≤ 512 = omega (arith, constraint-count r R q, f.constraints) in e ∙ min-eq_left h ∙ constraint-count r R q
-
-pub within_low : (c a b : ℕ) → c ≡ min a b → c ≤ b
-within_low c a b e = omega (arith, min-le_right a b)
+pub table-turn : (R : Record) → Fit R → (table : List ℕ) (l : List Edit) (i : ℕ) (d : Edit) → length table ≡ 2304 → l ≡ R.edits → i < length l → Indexing R table (i + 1)
+    → Indexing R (set table (get_or l i d).name (i + 1)) (i + 1 + 1)
+table-turn R f table l i d size q h g =
+    let u : i < length R.edits = omega (arith, ap length q) in
+    indexing-step R f table (i + 1) _ size (omega (arith, length-names R)) (ap (λ z. (get_or z i d).name) q ∙ name_known R i d u) g

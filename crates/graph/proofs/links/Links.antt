@@ -12,7 +12,7 @@ use borrow.Author.Tests.{eqb-true, eqb-false, eq-eqb, ne_eqb}
 use Rattle.lists.proofs.Lists.{by, is-by, le-by}
 use Rattle.record.specs.Record.{Record, names}
 use Rattle.graph.specs.links.Marks.{name_at}
-use Rattle.graph.specs.links.Links.{last_row, head_at, link_at, left_at, with_row, Safe, FirstRow, NextRow, LinkedByKey, NoRow, SomeRow, Leads}
+use Rattle.graph.specs.links.Links.{last_row, head_at, link_at, left_at, with_row, Safe, Growing, FirstRow, NextRow, LinkedByKey, NoRow, SomeRow, Leads}
 use Rattle.graph.proofs.links.Names.{place-get_or}
 use Rattle.graph.proofs.links.Marks.{zeros-get}
 
@@ -174,13 +174,6 @@ linking-step keys lefts rows j key v size l u e q g = record {
 
 pub linking-end : (keys lefts rows : List ℕ) (j : ℕ) → j ≡ length keys → Linking keys lefts rows j → LinkedByKey keys rows
 linking-end keys lefts rows j e g = record { head = λ k h. g.head k h ∙ ap (last_row keys k) e; link = λ i h. g.link i (omega arith) }
-
--- the array stays safe, whatever is linked
-pub record Growing (rows : List ℕ) (j : ℕ) : Type 0 where
-  pub size : length rows ≡ 2432
-  pub head : (k : ℕ) → k < 384 → head_at rows k ≤ j
-  pub link : (i : ℕ) → i < 1024 → link_at rows i ≤ i
-  pub left : (i : ℕ) → i < 1024 → left_at rows i < 128
 
 pub growing-start : Growing (replicate 2432 0) 0
 unfolding head_at link_at left_at

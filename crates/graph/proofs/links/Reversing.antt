@@ -1,5 +1,5 @@
 -- The reversed graph: what the loops that note its rows keep, and that each row of notafter stands in it. Assumes nothing.
-use mathlib.Core.Path.{◌≡◌, refl, sym, ◌∙◌}
+use mathlib.Core.Path.{◌≡◌, refl, ◌∙◌}
 use mathlib.Core.List.{List}
 use Prim.Native.Nat.{ℕ, zero, suc, max, ◌+◌, ◌-◌, ◌≤◌, ◌<◌}
 use native.Mathlib.Omega.{arith}
@@ -8,9 +8,9 @@ use lib.Seq.{get_or-set_same, get_or-set_other, get_or-take, length-take-le}
 use Rattle.lists.proofs.Lists.{is-by, le-by, mem_index}
 use Rattle.lists.specs.Lists.{index_of}
 use Rattle.record.specs.Record.{Record, names, notafter}
-use Rattle.graph.specs.links.Links.{head_at, left_at, with_row, FirstRow, NextRow, LeftEnd, LinkedByKey, Leads}
+use Rattle.graph.specs.links.Links.{head_at, left_at, FirstRow, NextRow, LeftEnd, LinkedByKey, Leads}
 use Rattle.graph.specs.links.Reversed.{Reversed, Noted, Noting}
-use Rattle.graph.proofs.links.Links.{along-start, Looking, looking-start, looking-step, Linking, linking-step, linking-end}
+use Rattle.graph.proofs.links.Links.{along-start, Looking, looking-start, looking-step}
 use Rattle.graph.proofs.links.Marks.{set_below}
 
 -- the walk along the rows to b stands at row j
@@ -126,12 +126,3 @@ module _ (rows : List ℕ) where
           key = let p : get_or (take count lefts) r.row 0 ≡ index_of a (names R) = get_or-take count lefts r.row 0 v ∙ u.0 ∙ r.left in omega arith;
         };
   }
-
--- the loop that links the first of these rows
-pub linking-more : (count : ℕ) (keys lefts rows : List ℕ) (j : ℕ) → count ≤ 1024 → j < count → get_or keys j 0 < 384 → length rows ≡ 2432
-    → Linking (take count keys) lefts rows j → Linking (take count keys) lefts (with_row rows j (get_or keys j 0) (get_or lefts j 0)) (j + 1)
-linking-more count keys lefts rows j f l u size =
-    linking-step (take count keys) lefts rows j (get_or keys j 0) (get_or lefts j 0) size (omega arith) u (get_or-take count keys j 0 l) refl
-
-pub linking-all : (count : ℕ) (keys lefts rows : List ℕ) (j : ℕ) → count ≤ 1024 → length keys ≡ 1024 → j ≡ count → Linking (take count keys) lefts rows j → LinkedByKey (take count keys) rows
-linking-all count keys lefts rows j f size e = linking-end (take count keys) lefts rows j (e ∙ sym (length-take-le count keys (omega arith)))

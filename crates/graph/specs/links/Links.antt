@@ -1,5 +1,5 @@
 -- Inner: rows linked by their keys: a key's head is its last row, and each row leads to the one before it with the same key. Rows count from 1. Assumes nothing.
-use Rattle.std.specs.Prelude.{◌≡◌, Bool, true, cond, List, ℕ, zero, suc, ◌+◌, ◌-◌, ◌≤◌, ◌<◌, eqb, length, get_or, set}
+use Rattle.std.specs.Prelude.{◌≡◌, Bool, true, cond, List, ℕ, zero, suc, ◌+◌, ◌-◌, ◌≤◌, ◌<◌, eqb, length, get_or, set, Option, MatchOption}
 use Rattle.lists.specs.Lists.{index_of, ◌among◌, distinct}
 use Rattle.record.specs.Record.{Record, names}
 use Rattle.graph.specs.links.Marks.{mark_limit, name_at}
@@ -52,6 +52,13 @@ pub record Safe (rows : List ℕ) : Type 0 where
   pub link : (i : ℕ) → i < row_limit → link_at rows i ≤ i
   pub left : (i : ℕ) → i < row_limit → left_at rows i < mark_limit
 
+-- the rows up to j are linked, whatever they are
+pub record Growing (rows : List ℕ) (j : ℕ) : Type 0 where
+  pub size : length rows ≡ rows_length
+  pub head : (k : ℕ) → k < key_limit → head_at rows k ≤ j
+  pub link : (i : ℕ) → i < row_limit → link_at rows i ≤ i
+  pub left : (i : ℕ) → i < row_limit → left_at rows i < mark_limit
+
 -- what a walk reads: the first row of a key, the one after row j, the left end of row j
 abbrev pub FirstRow : List ℕ → ℕ → ℕ → Type 0
 FirstRow rows key r = (r ≡ head_at rows key) × (r ≤ row_limit)
@@ -61,6 +68,10 @@ NextRow rows j r = (r ≡ link_at rows (j - 1)) × (r < j)
 
 abbrev pub LeftEnd : List ℕ → ℕ → ℕ → Type 0
 LeftEnd rows j r = (r ≡ left_at rows (j - 1)) × (r < mark_limit)
+
+-- a walk at row j gives the left end of that row, and goes on after it; it ends at 0
+abbrev pub Walks : List ℕ → ℕ → Option ℕ → List ℕ → ℕ → Type 0
+Walks rows j r rows' j' = (rows' ≡ rows) × MatchOption r (j ≡ 0) (λ left. (0 < j) × LeftEnd rows j left × NextRow rows j j')
 
 -- the rows of these keys are linked
 pub record LinkedByKey (keys rows : List ℕ) : Type 0 where

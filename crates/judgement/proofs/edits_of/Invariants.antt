@@ -1,7 +1,4 @@
-use Prim.Native.Nat.{ℕ, ◌-◌, ◌≤◌}
-use mathlib.Core.Path.{◌≡◌}
-use mathlib.Core.List.{List}
-use lib.ListN.{length}
+use Rattle.std.proofs.Common.{ℕ, ◌≡◌, ◌-◌, ◌≤◌, List, length}
 use Rattle.judgement.proofs.Listing.{Listing}
 use Rattle.graph.specs.indexes.Fit.{Fit}
 use Rattle.judgement_marks.specs.schedules.Rows.{RowIs}
@@ -12,7 +9,5 @@ use Rattle.judgement.proofs.edits_of.Given as goal
 
 abbrev pub invariant-loop-q : goal.invariant-loop-q
 invariant-loop-q l =
-    (1 ≤ l.q) × (l.q - 1 ≤ l.row.count - 1) × (length l.edits ≡ 127) × ((R : Record) (hidden : List ℕ) → l.multilog ≡ stored R → Fit R → RowIs R l.row (schedule R hidden) → Listing R (schedule R hidden) l.edits l.q)
-
-abbrev pub decreases-loop-q : goal.decreases-loop-q
-decreases-loop-q l = l.row.count - l.q
+    (1 ≤ l.q) × (l.q - 1 ≤ l.row.count - 1) × (length l.edits ≡ 127)
+    × ((R : Record) (hidden : List ℕ) → l.multilog ≡ stored R → Fit R → RowIs R l.row (schedule R hidden) → Listing R (schedule R hidden) l.edits l.q)

@@ -1,17 +1,15 @@
--- `rules` meets its contract. Assumes nothing.
-use native.Mathlib.Omega.{arith}
+-- `needs` meets its contract. Assumes nothing.
+use Rattle.std.proofs.Common.{arith}
 use Rattle.judgement.proofs.Judging.{name-past}
 use Rattle.judgement_marks.proofs.Standing.{names-some}
+use Rattle.judgement.proofs.needs.Goals.{then-index-graph, else-index-graph}
 use Rattle.judgement.proofs.needs.Goals as goal
 
-pub returns-then-index-n : goal.returns-then-index-n
-returns-then-index-n c =
-    λ R e f. let g = c.resolved-rows.ensures.1 R e f in
-    let n = c.name_count-n.ensures.1 R e f in
-    rw (← name-past R c.args.index (omega arith)) (c.needs_marks.ensures.1 R g (names-some R) (c.must_marks-mustmarks.ensures.1 R g))
-
 pub returns : goal.returns
-returns c =
-    λ R e f. let g = c.resolved-rows.ensures.1 R e f in
-    let n = c.name_count-n.ensures.1 R e f in
-    c.needs_marks-2.ensures.1 R g (omega arith) (c.must_marks-mustmarks.ensures.1 R g)
+returns c R e f =
+    let g = c.resolved-graph.ensures R e f in
+    let m = c.must_marks-mustmarks.ensures R g.0 in
+    elim c.if-index-graph.branch [
+      | then-index-graph w ↦ rw w.known-is at (c.needs_marks.ensures R g.0 (rw w.known-is (omega (arith, w.if-index-graph.true, g.1))) m)
+      | else-index-graph w ↦ rw (← name-past R c.args.index (omega (arith, w.if-index-graph.false, g.1))) (rw w.known-is at (c.needs_marks.ensures R g.0 (rw w.known-is (names-some R)) m))
+    ]

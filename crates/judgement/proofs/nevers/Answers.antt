@@ -2,5 +2,4 @@
 use Rattle.judgement.proofs.nevers.Goals as goal
 
 pub returns : goal.returns
-returns c =
-    λ R e f. let g = c.resolved-rows.ensures.1 R e f in c.never_marks.ensures.1 R g (c.name_count-n.ensures.1 R e f) (c.must_marks-mustmarks.ensures.1 R g)
+returns c R e f = let g = c.resolved-graph.ensures R e f in c.never_marks.ensures R g.0 g.1 (c.must_marks-mustmarks.ensures R g.0)

@@ -10,15 +10,12 @@ use lib.ListN.{length, get_or, drop, drop_of_length-le}
 use lib.Seq.{drop-cons}
 use borrow.Author.Tests.{ltb-true, lt-ltb, eq-eqb, ne_eqb}
 use Rattle.record.specs.declared.Constraint.{Constraint}
-use Rattle.record.specs.declared.Record as declared
 use Rattle.lists.specs.Lists.{all, mem, index_of, position_of}
-use Rattle.record.specs.Record.{Record, names}
-use Rattle.record.specs.Stored.{stored}
+use Rattle.record.specs.Record.{Record, names, has}
 use Rattle.record.specs.Judgement.{fits, starts_with_init, sound_row}
 use Rattle.lists.proofs.Lists.{is-by, same_by, position-none, position_some, position_at}
 use Rattle.graph.proofs.links.Names.{place-known}
 use Rattle.graph.specs.indexes.Fit.{Fit}
-use Rattle.graph.proofs.indexes.Tables.{constraint-at}
 use Rattle.graph.proofs.indexes.Resolving.{has-at, left-known, right-known}
 use Rattle.judgement.specs.row_test.Seats.{Indexed, Seated, known_apart}
 
@@ -66,39 +63,40 @@ fits-other row x zero y n m = absurd (n refl)
 fits-other row x (suc zero) y n m = absurd (m refl)
 fits-other row x (suc (suc k)) y n m = refl
 
--- the seats of a constraint's ends
-module _ (r : declared.Record) (R : Record) (e : r ≡ stored R) (f : Fit R) (table : List ℕ) (t : Indexed R table) (row places : List ℕ) (s : Seated R row places)
-    (j : ℕ) (d : Constraint) (h : j < length R.constraints) where
-  pub left-seat : (w i : ℕ) → w ≡ (get_or r.constraints j d).left → i ≡ get_or table w 0 → get_or places i 0 ≡ position_of (get_or R.constraints j d).left row
+-- the seats of a constraint's ends, among those that are the record's
+module _ (R : Record) (f : Fit R) (table : List ℕ) (t : Indexed R table) (row places : List ℕ) (s : Seated R row places)
+    (l : List Constraint) (e : l ≡ R.constraints) (j : ℕ) (d : Constraint) (u : j < length l) where
+  within : j < length R.constraints
+  within = omega (arith, ap length e)
+
+  stands : has (get_or l j d).left (get_or l j d).rule (get_or l j d).right R.constraints ≡ true
+  stands = rw e (has-at R.constraints j d within)
+
+  pub left-seat : (w i : ℕ) → w ≡ (get_or l j d).left → i ≡ get_or table w 0 → get_or places i 0 ≡ position_of (get_or l j d).left row
   left-seat w i p q =
-      let c = get_or R.constraints j d in
-      let k = left-known f.formed _ _ _ (has-at R.constraints j d h) in
-      ap (λ v. get_or places v 0) (q ∙ ap (λ v. get_or table v 0) p ∙ ap (λ v. get_or table v.left 0) (constraint-at r R e j d h) ∙ t c.left ∙ place-known c.left (names R) k) ∙ s c.left k
+      let k = left-known f.formed _ _ _ stands in
+      ap (λ v. get_or places v 0) (q ∙ ap (λ v. get_or table v 0) p ∙ t _ ∙ place-known _ (names R) k) ∙ s _ k
 
-  pub right-seat : (w i : ℕ) → w ≡ (get_or r.constraints j d).right → i ≡ get_or table w 0 → get_or places i 0 ≡ position_of (get_or R.constraints j d).right row
+  pub right-seat : (w i : ℕ) → w ≡ (get_or l j d).right → i ≡ get_or table w 0 → get_or places i 0 ≡ position_of (get_or l j d).right row
   right-seat w i p q =
-      let c = get_or R.constraints j d in
-      let k = right-known f.formed _ _ _ (has-at R.constraints j d h) in
-      ap (λ v. get_or places v 0) (q ∙ ap (λ v. get_or table v 0) p ∙ ap (λ v. get_or table v.right 0) (constraint-at r R e j d h) ∙ t c.right ∙ place-known c.right (names R) k) ∙ s c.right k
-
-  rule-at : (get_or r.constraints j d).rule ≡ (get_or R.constraints j d).rule
-  rule-at = ap (λ v. v.rule) (constraint-at r R e j d h)
+      let k = right-known f.formed _ _ _ stands in
+      ap (λ v. get_or places v 0) (q ∙ ap (λ v. get_or table v 0) p ∙ t _ ∙ place-known _ (names R) k) ∙ s _ k
 
   -- one constraint of the rest
-  pub fitting-step : (b : Bool) → b ≡ fits row (get_or R.constraints j d).left (get_or r.constraints j d).rule (get_or R.constraints j d).right → b ≡ true
-      → all (λ c. fits row c.left c.rule c.right) (drop j R.constraints) ≡ all (λ c. fits row c.left c.rule c.right) (drop (j + 1) R.constraints)
+  pub fitting-step : (b : Bool) → b ≡ fits row (get_or l j d).left (get_or l j d).rule (get_or l j d).right → b ≡ true
+      → all (λ c. fits row c.left c.rule c.right) (drop j l) ≡ all (λ c. fits row c.left c.rule c.right) (drop (j + 1) l)
   unfolding all
-  fitting-step b q y = rw (drop-cons R.constraints j d h, ← rule-at, ← q, y, add-one j)
+  fitting-step b q y = rw (drop-cons l j d u, ← q, y, add-one j)
 
-  pub fitting-stop : (b : Bool) → b ≡ fits row (get_or R.constraints j d).left (get_or r.constraints j d).rule (get_or R.constraints j d).right → b ≡ false
-      → false ≡ all (λ c. fits row c.left c.rule c.right) (drop j R.constraints)
+  pub fitting-stop : (b : Bool) → b ≡ fits row (get_or l j d).left (get_or l j d).rule (get_or l j d).right → b ≡ false
+      → false ≡ all (λ c. fits row c.left c.rule c.right) (drop j l)
   unfolding all
-  fitting-stop b q y = rw (drop-cons R.constraints j d h, ← rule-at, ← q, y)
+  fitting-stop b q y = rw (drop-cons l j d u, ← q, y)
 
-pub row-fitting-end : (R : Record) (row : List ℕ) (j : ℕ) → length R.constraints ≤ j
-    → true ≡ all (λ c. fits row c.left c.rule c.right) (drop j R.constraints)
+pub row-fitting-end : (l : List Constraint) (row : List ℕ) (j : ℕ) → length l ≤ j
+    → true ≡ all (λ c. fits row c.left c.rule c.right) (drop j l)
 unfolding all
-row-fitting-end R row j h = rw (drop_of_length-le R.constraints h)
+row-fitting-end l row j h = rw (drop_of_length-le l h)
 
 -- the whole test
 pub empty-not : (R : Record) (row : List ℕ) → length row ≡ 0 → false ≡ sound_row R row

@@ -9,6 +9,7 @@ use lib.Dec.{eqb}
 use lib.ListN.{length, get_or, take, set, replicate}
 use lib.Seq.{get_or-set_same, get_or-set_other, take-suc, take_all, length-take-le}
 use borrow.Author.Tests.{eq-eqb, ne_eqb}
+use Rattle.std.specs.Prelude.{Some, None}
 use Rattle.lists.specs.Lists.{all, mem, index_of, position_of, distinct, ◌among◌}
 use Rattle.record.specs.Record.{Record, names}
 use Rattle.lists.proofs.Lists.{by, clash, is-by, mem_index, snoc-by, all_in, in_all, distinct_snoc, index-snoc, position-none, position_some}
@@ -30,14 +31,14 @@ name-zero R = refl
 
 -- the index of a known name
 module _ (R : Record) (table : List ℕ) (t : Indexed R table) (name : ℕ) where
-  pub index-some : (get_or table name 0 ≡ 0 → ⊥) → get_or table name 0 ≡ cond (mem name (names R)) (index_of name (names R)) 128
-  index-some n =
-      by (mem name (names R)) (λ i. rw i (t name ∙ place-known name (names R) i)) (λ i. absurd (n (t name ∙ place-unknown name (names R) i)))
+  pub index-some : (index : ℕ) → index ≡ get_or table name 0 → (index ≡ 0 → ⊥) → Some index ≡ cond (mem name (names R)) (Some (index_of name (names R))) None
+  index-some index e n =
+      by (mem name (names R)) (λ i. rw i (ap Some (e ∙ t name ∙ place-known name (names R) i))) (λ i. absurd (n (e ∙ t name ∙ place-unknown name (names R) i)))
 
-  pub index-init : name ≡ 0 → 0 ≡ cond (mem name (names R)) (index_of name (names R)) 128
-  index-init e = rw (e, init-known R) (sym (init-place R))
+  pub index-init : (index : ℕ) → index ≡ 0 → name ≡ 0 → Some index ≡ cond (mem name (names R)) (Some (index_of name (names R))) None
+  index-init index e q = rw (q, init-known R, e) (ap Some (sym (init-place R)))
 
-  pub index-none : get_or table name 0 ≡ 0 → (name ≡ 0 → ⊥) → 128 ≡ cond (mem name (names R)) (index_of name (names R)) 128
+  pub index-none : get_or table name 0 ≡ 0 → (name ≡ 0 → ⊥) → None ≡ cond (mem name (names R)) (Some (index_of name (names R))) None
   index-none e n =
       by (mem name (names R))
       (λ i. absurd (n (sym (get_or-place name (names R) i) ∙ ap (name_at R) (sym (place-known name (names R) i) ∙ sym (t name) ∙ e) ∙ name-zero R)))
@@ -104,12 +105,11 @@ seating-end R row places q h g =
       λ x i. g.seats (index_of x (names R)) (mem_index x (names R) i) ∙ rw (e, get_or-place x (names R) i),
     )
 
--- what the index of a name tells: 128 where it is unknown
-module _ (R : Record) (f : Fit R) (name index : ℕ) (e : index ≡ cond (mem name (names R)) (index_of name (names R)) 128) where
-  pub row-index-unknown : 128 ≤ index → mem name (names R) ≡ false
-  row-index-unknown h =
-      by (mem name (names R)) (λ i. absurd (let z = rw i at e in omega (arith, mem_index name (names R) i, names-few R f))) (λ i. i)
+-- what the index of a name tells
+module _ (R : Record) (name : ℕ) where
+  pub row-index-unknown : None ≡ cond (mem name (names R)) (Some (index_of name (names R))) None → mem name (names R) ≡ false
+  row-index-unknown e = by (mem name (names R)) (λ i. absurd (cc (rw i at e))) (λ i. i)
 
-  pub row-index-known : index < 128 → (name among names R) × (index ≡ index_of name (names R))
-  row-index-known h =
-      by (mem name (names R)) (λ i. (i, rw i at e)) (λ i. absurd (let z = rw i at e in omega arith))
+  pub row-index-known : (index : ℕ) → Some index ≡ cond (mem name (names R)) (Some (index_of name (names R))) None → (name among names R) × (index ≡ index_of name (names R))
+  row-index-known index e =
+      by (mem name (names R)) (λ i. (i, cc (rw i at e))) (λ i. absurd (cc (rw i at e)))

@@ -6,6 +6,6 @@ use Rattle.record.proofs.Scheduled.{musts-known}
 use Rattle.judgement.proofs.sound.Goals as goal
 
 pub returns : goal.returns
-returns c =
-    λ R e f. let g = c.resolved-rows.ensures.1 R e f in
-    sound-ring R _ (c.has_ring.ensures R _ g.notafters (c.name_count-n.ensures.1 R e f) (musts-known R f.formed) (c.must_marks-mustmarks.ensures.1 R g ∙ must-musts R))
+returns c R e f =
+    let g = c.resolved-graph.ensures R e f in
+    sound-ring R _ (c.has_ring.ensures R _ g.0.notafters g.1 (musts-known R f.formed) (c.must_marks-mustmarks.ensures R g.0 ∙ must-musts R))

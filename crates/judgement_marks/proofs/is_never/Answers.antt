@@ -14,9 +14,6 @@ pub returns-then-mustmarks-x-eq1 : goal.returns-then-mustmarks-x-eq1
 returns-then-mustmarks-x-eq1 c =
     λ R g f q l e u v. sym u ∙ never-must g.formed _ (must-on R _ c.args.x e c.if-mustmarks-x-eq1.true)
 
-pub bounds-nevermarks-a : goal.bounds-nevermarks-a
-bounds-nevermarks-a c = omega (arith, c.need_below-a.ensures.1)
-
 pub returns-then-nevermarks-a-eq1 : goal.returns-then-nevermarks-a-eq1
 returns-then-nevermarks-a-eq1 c =
     let a = c.need_below-a in
@@ -24,26 +21,14 @@ returns-then-nevermarks-a-eq1 c =
     sym (never-need g.formed _ _ (get_or-among (names R) a.result k.0) k.1
     (bit-yes _ _ (v a.result (a.ensures.2 (unmarked-above R (must R) _ c.args.x e (must-init R) c.if-mustmarks-x-eq1.false))) c.if-nevermarks-a-eq1.true))
 
-pub needs_marks-old-requires : goal.needs_marks-old-requires
-needs_marks-old-requires c =
-    (c.requires.0, c.need_below-a.ensures.1, c.requires.4)
-
-pub closed-marks-requires : goal.closed-marks-requires
-closed-marks-requires c =
-    (c.requires.0, omega arith, c.requires.3, c.needs_marks-old.ensures.0)
-
-pub closes_ring-requires : goal.closes_ring-requires
-closes_ring-requires c =
-    (c.requires.0, c.requires.1, c.requires.2, c.requires.3, c.closed-marks.ensures.0)
-
 pub returns : goal.returns
 returns c =
     let a = c.need_below-a in
     λ R g f q l e u v. let k = a.ensures.3 R g (omega arith) in
     let i = two-known g.formed _ (get_or-among (names R) a.result k.0) in
-    let o = c.needs_marks-old.ensures.1 R g k.0 e in
+    let o = c.needs_marks-old.ensures R g k.0 e in
     let z = needs-closed R g.formed _ in
     c.closes_ring.ensures R _ g f q l z i o
     (calm-two R _ (bit-no _ _ (v a.result (a.ensures.2 (unmarked-above R (must R) _ c.args.x e (must-init R) c.if-mustmarks-x-eq1.false))) c.if-nevermarks-a-eq1.false))
-    (c.closed-marks.ensures.1 (enables R) R (names R) _ g.enablers (enabler-known g.formed) z (omega arith) i o ∙ needs-names R _ _)
+    (c.closed-marks.ensures (enables R) R (names R) _ g.enablers (enabler-known g.formed) z (omega arith) i o ∙ needs-names R _ _)
     ∙ never-entering g.formed _ _ k.1

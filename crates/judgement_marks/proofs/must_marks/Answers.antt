@@ -9,7 +9,5 @@ use Rattle.record.proofs.Records.{enabler-known}
 use Rattle.judgement_marks.proofs.must_marks.Goals as goal
 
 pub returns : goal.returns
-returns c = (
-  c.closed.ensures.0,
-  λ R g. c.closed.ensures.1 (enables R) R (names R) [] g.enablers (enabler-known g.formed) (none-closed R) (names-some R) (nil-within (names R)) (none-marked R g.enablers.few) ∙ must-closure R,
-)
+returns c R g =
+    c.closed.ensures (enables R) R (names R) [] g.enablers (enabler-known g.formed) (none-closed R) (names-some R) (nil-within (names R)) (none-marked R g.enablers.few) ∙ must-closure R

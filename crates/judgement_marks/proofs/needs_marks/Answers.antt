@@ -8,8 +8,6 @@ use Rattle.record.proofs.Scheduled.{musts-known}
 use Rattle.judgement_marks.proofs.needs_marks.Goals as goal
 
 pub returns : goal.returns
-returns c = (
-  c.closed.ensures.0,
-  λ R g l e. c.closed.ensures.1 (enables R) R (names R) (musts R) g.enablers (enabler-known g.formed) (musts-closed g.formed) l (musts-known R g.formed) (e ∙ must-musts R)
-      ∙ needs-closure g.formed _ g.enablers.few,
-)
+returns c R g l e =
+    c.closed.ensures (enables R) R (names R) (musts R) g.enablers (enabler-known g.formed) (musts-closed g.formed) l (musts-known R g.formed) (e ∙ must-musts R)
+    ∙ needs-closure g.formed _ g.enablers.few

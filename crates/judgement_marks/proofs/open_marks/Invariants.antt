@@ -1,4 +1,3 @@
-use Prim.Native.Nat.{◌-◌, ◌≤◌}
 use mathlib.Core.Path.{◌≡◌}
 use lib.ListN.{length}
 use Rattle.graph.specs.links.Resolved.{Resolved}
@@ -10,7 +9,4 @@ use Rattle.judgement_marks.proofs.open_marks.Given as goal
 
 abbrev pub invariant-loop-b : goal.invariant-loop-b
 invariant-loop-b l =
-    (l.b ≤ l.n) × (length l.openmarks ≡ 128) × ((R : Record) → Resolved R l.rows → l.n ≡ length (names R) → l.nevermarks ≡ marks_of R (never R) → Openings R l.b l.openmarks)
-
-abbrev pub decreases-loop-b : goal.decreases-loop-b
-decreases-loop-b l = l.n - l.b
+    (length l.openmarks ≡ 128) × ((R : Record) → Resolved R l.graph.rows → l.graph.count ≡ length (names R) → l.nevermarks ≡ marks_of R (never R) → Openings R l.b l.openmarks)

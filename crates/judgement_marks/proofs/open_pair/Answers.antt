@@ -1,14 +1,11 @@
 -- `open_pair` meets its contract. Assumes nothing.
 use mathlib.Core.Path.{refl, sym, ◌∙◌}
-use lib.ListN.{length-set}
 use Rattle.judgement_marks.proofs.open_pair.Goals as goal
 
 pub returns-then-has_order : goal.returns-then-has_order
 returns-then-has_order c =
-    (c.requires.3, λ R g la lb e. rw (sym (c.has_order.ensures R g la lb e) ∙ c.if-has_order.true) refl)
+    λ R g la lb e. rw (sym (c.has_order.ensures R g la lb e) ∙ c.if-has_order.true) refl
 
 pub returns : goal.returns
-returns c = (
-  simp length-set c.requires.3,
-  λ R g la lb e. rw (sym (c.has_order.ensures R g la lb e) ∙ c.if-has_order.false) refl,
-)
+returns c =
+    λ R g la lb e. rw (sym (c.has_order.ensures R g la lb e) ∙ c.if-has_order.false) refl

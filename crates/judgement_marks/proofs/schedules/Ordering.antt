@@ -6,10 +6,10 @@ use mathlib.Core.Option.{none, some}
 use Prim.Native.Nat.{ℕ, zero, suc, ◌+◌, ◌-◌, ◌≤◌, ◌<◌}
 use native.Mathlib.Omega.{arith}
 use native.Mathlib.Numerals.{add-one}
-use lib.Dec.{eqb, ltb}
+use lib.Dec.{eqb}
 use lib.ListN.{length, get_or, take, set, replicate, length-set}
 use lib.Seq.{get_or-set_same, get_or-set_other, take-suc-set}
-use borrow.Author.Tests.{eq-eqb, ne_eqb, lt-ltb, le-ltb, not-false}
+use borrow.Author.Tests.{eq-eqb, ne_eqb, not-false}
 use Rattle.lists.specs.Lists.{any, mem, index_of, ◌among◌, ◌within◌, distinct, find, grown}
 use Rattle.record.specs.Record.{Record, names, notafter}
 use Rattle.record.specs.Schedule.{ready, order}
@@ -23,7 +23,8 @@ use Rattle.graph.specs.links.Reversed.{Reversed}
 use Rattle.graph.proofs.links.Links.{Looking, looking-start, looking-step}
 use Rattle.graph.specs.links.Resolved.{Resolved}
 use Rattle.judgement_marks.proofs.Standing.{marked-on, marked-off, marked-is}
-use Rattle.judgement_marks.specs.schedules.Rows.{free, found_at, RowIs}
+use Rattle.judgement_marks.specs.declared.row.Row.{Row}
+use Rattle.judgement_marks.specs.schedules.Rows.{free, RowIs}
 
 -- is an edit free, by the marks of what waits
 module _ (R : Record) (test : ℕ → Bool) (rows waits : List ℕ) (g : Resolved R rows) (x : ℕ) (l : x < length (names R))
@@ -121,11 +122,11 @@ module _ (p : ℕ → Bool) where
 
 module _ (R : Record) (test : ℕ → Bool) (n : ℕ) (q : n ≡ length (names R)) where
   pub lowest-found : (r : ℕ) → r < n → true ≡ free R test (name_at R r) → ((y : ℕ) → y < r → free R test (name_at R y) ≡ false)
-      → find (free R test) (names R) ≡ found_at R (ltb r n) r
-  lowest-found r h e f = rw (lt-ltb r n h) (first-at (free R test) (names R) r (omega arith) (sym e) f)
+      → find (free R test) (names R) ≡ some (name_at R r)
+  lowest-found r h e f = (first-at (free R test) (names R) r (omega arith) (sym e) f)
 
-  pub lowest-free-none : (r : ℕ) → n ≤ r → ((y : ℕ) → y < r → free R test (name_at R y) ≡ false) → find (free R test) (names R) ≡ found_at R (ltb r n) r
-  lowest-free-none r h f = rw (le-ltb r n h) (first-nowhere (free R test) (names R) (λ y k. f y (omega arith)))
+  pub lowest-free-none : (r : ℕ) → n ≤ r → ((y : ℕ) → y < r → free R test (name_at R y) ≡ false) → find (free R test) (names R) ≡ none
+  lowest-free-none r h f = (first-nowhere (free R test) (names R) (λ y k. f y (omega arith)))
 
 -- the test of what still waits of the set t, of which a row is placed
 abbrev pub waiting : List ℕ → List ℕ → ℕ → Bool
@@ -193,33 +194,31 @@ module _ (R : Record) (t : List ℕ) (sub : t within names R) (d : distinct (nam
   }
 
   pub ordering-step : (indexes waits : List ℕ) (k r : ℕ) → k < length indexes → r < n → k < n
-      → find (free R (waiting t (map (name_at R) (take k indexes)))) (names R) ≡ found_at R (ltb r n) r
+      → find (free R (waiting t (map (name_at R) (take k indexes)))) (names R) ≡ some (name_at R r)
       → Ordering R t indexes waits k (n - k) → Ordering R t (set indexes k r) (set waits r 0) (k + 1) (n - (k + 1))
   ordering-step indexes waits k r h l u f g =
       let row = map (name_at R) (take k indexes) in
       let e : map (name_at R) (take (k + 1) (set indexes k r)) ≡ map (name_at R) (take k indexes) ++ (name_at R r ∷ []) =
       ap (map (name_at R)) (take-one indexes k r h) ∙ map-append (name_at R) (take k indexes) (r ∷ []) in
       let z : n - k ≡ suc (n - (k + 1)) = omega arith in
-      let b = lt-ltb r n l in
       record {
         known = λ q w. is-by q k (λ y. rw (y, get_or-set_same indexes k r 0 h) (omega arith)) (λ y. rw (get_or-set_other indexes k q r 0 y) (g.known q (omega (arith, y))));
         marks = rw (e, g.marks) (placed-marks R t row r d few (omega arith));
         rest = rw e (g.rest ∙ ap (λ m. grown (ready R t) (names R) m row) z
-            ∙ grown-some (ready R t) (names R) (n - (k + 1)) row (name_at R r) (sym (first-ready R t row sub) ∙ rw b at f));
+            ∙ grown-some (ready R t) (names R) (n - (k + 1)) row (name_at R r) (sym (first-ready R t row sub) ∙ f));
       }
 
-  pub ordering-stop : (indexes waits : List ℕ) (k r : ℕ) → n ≤ r → find (free R (waiting t (map (name_at R) (take k indexes)))) (names R) ≡ found_at R (ltb r n) r
-      → Ordering R t indexes waits k (n - k) → RowIs R (record { indexes = indexes; count = k }) (order R t)
-  ordering-stop indexes waits k r h f g =
-      let row = map (name_at R) (take k indexes) in
-      let b = le-ltb r n h in
+  pub ordering-stop : (placed : Row) (waits : List ℕ) → find (free R (waiting t (map (name_at R) (take placed.count placed.indexes)))) (names R) ≡ none
+      → Ordering R t placed.indexes waits placed.count (n - placed.count) → RowIs R placed (order R t)
+  ordering-stop placed waits f g =
+      let row = map (name_at R) (take placed.count placed.indexes) in
       record {
-        names-are = sym (g.rest ∙ grown-none (ready R t) (names R) (n - k) row (sym (first-ready R t row sub) ∙ rw b at f));
+        names-are = sym (g.rest ∙ grown-none (ready R t) (names R) (n - placed.count) row (sym (first-ready R t row sub) ∙ f));
         known = g.known;
       }
 
-  pub ordering-end : (indexes waits : List ℕ) (k : ℕ) → n ≤ k → Ordering R t indexes waits k (n - k) → RowIs R (record { indexes = indexes; count = k }) (order R t)
+  pub ordering-end : (placed : Row) (waits : List ℕ) → n ≤ placed.count → Ordering R t placed.indexes waits placed.count (n - placed.count) → RowIs R placed (order R t)
   unfolding grown
-  ordering-end indexes waits k h g =
-      let z : n - k ≡ 0 = omega arith in
-      record { names-are = sym (g.rest ∙ ap (λ m. grown (ready R t) (names R) m (map (name_at R) (take k indexes))) z); known = g.known }
+  ordering-end placed waits h g =
+      let z : n - placed.count ≡ 0 = omega arith in
+      record { names-are = sym (g.rest ∙ ap (λ m. grown (ready R t) (names R) m (map (name_at R) (take placed.count placed.indexes))) z); known = g.known }

@@ -15,7 +15,7 @@ use Rattle.lists.proofs.Lists.{is-by, get_or-mapped}
 use Rattle.graph.specs.links.Marks.{name_at, values_of, place_in}
 use Rattle.graph.proofs.links.Names.{place_same}
 use Rattle.graph.proofs.links.Marks.{zeros-get, values-are}
-use Rattle.judgement_marks.specs.declared.schedules.Row.{Row}
+use Rattle.judgement_marks.specs.declared.row.Row.{Row}
 use Rattle.judgement_marks.specs.schedules.Rows.{RowIs}
 
 -- the page of x among the rows from k on

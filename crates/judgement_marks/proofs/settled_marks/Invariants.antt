@@ -1,4 +1,3 @@
-use Prim.Native.Nat.{◌-◌, ◌≤◌}
 use mathlib.Core.Path.{◌≡◌}
 use mathlib.Core.Bool.{cond}
 use lib.ListN.{length}
@@ -11,7 +10,4 @@ use Rattle.judgement_marks.proofs.settled_marks.Given as goal
 
 abbrev pub invariant-loop-x : goal.invariant-loop-x
 invariant-loop-x l =
-    (l.x ≤ l.n) × (length l.marks ≡ 128) × ((R : Record) → Resolved R l.rows → l.n ≡ length (names R) → l.mustmarks ≡ marks_of R (must R) → l.nevermarks ≡ marks_of R (never R) → Filled R (λ e. cond (settled R e) 1 0) l.x l.marks)
-
-abbrev pub decreases-loop-x : goal.decreases-loop-x
-decreases-loop-x l = l.n - l.x
+    (length l.marks ≡ 128) × ((R : Record) → Resolved R l.graph.rows → l.graph.count ≡ length (names R) → l.mustmarks ≡ marks_of R (must R) → l.nevermarks ≡ marks_of R (never R) → Filled R (λ e. cond (settled R e) 1 0) l.x l.marks)

@@ -1,4 +1,3 @@
-use Prim.Native.Nat.{◌-◌, ◌≤◌}
 use mathlib.Core.Path.{◌≡◌}
 use mathlib.Core.Bool.{false, cond}
 use lib.ListN.{length}
@@ -12,7 +11,4 @@ use Rattle.judgement_marks.proofs.sound_nevers.Given as goal
 
 abbrev pub invariant-loop-x : goal.invariant-loop-x
 invariant-loop-x l =
-    (l.x ≤ l.n) × (length l.marks ≡ 128) × ((R : Record) → Resolved R l.rows → l.n ≡ length (names R) → l.mustmarks ≡ marks_of R (must R) → ring R (musts R) ≡ false → Filled R (λ e. cond (never R e) 1 0) l.x l.marks)
-
-abbrev pub decreases-loop-x : goal.decreases-loop-x
-decreases-loop-x l = l.n - l.x
+    (length l.marks ≡ 128) × ((R : Record) → Resolved R l.graph.rows → l.graph.count ≡ length (names R) → l.mustmarks ≡ marks_of R (must R) → ring R (musts R) ≡ false → Filled R (λ e. cond (never R e) 1 0) l.x l.marks)

@@ -1,12 +1,14 @@
 -- Inner: document 01, "The bench schedule", by index: which edit may come next, which are hidden, and the row that results. Assumes nothing.
 use Rattle.std.specs.Prelude.{◌≡◌, Bool, true, false, not, ◌&&◌, ◌||◌, List, ◌∷◌, map, ℕ, ◌<◌, eqb, length, get_or, take}
+use Rattle.std.specs.Prelude as std
+use Rattle.std.specs.Prelude.{Some, None}
 use Rattle.std.proofs.Math.Option.{Option, none, some}
 use Rattle.lists.specs.Lists.{any, mem, ◌among◌, ◌within◌}
 use Rattle.record.specs.Record.{Record, names, notafter, enables}
 use Rattle.record.specs.Schedule.{needs, ring, bars, barred}
 use Rattle.graph.specs.links.Marks.{name_at, marks_of}
 use Rattle.graph.specs.links.Resolved.{Resolved}
-use Rattle.judgement_marks.specs.declared.schedules.Row.{Row}
+use Rattle.judgement_marks.specs.declared.row.Row.{Row}
 
 -- x waits, and none that waits comes before it
 unfoldable pub free : Record → (ℕ → Bool) → ℕ → Bool
@@ -17,10 +19,10 @@ abbrev pub HeldBack : List ℕ → List ℕ → ℕ → Type 0
 HeldBack rows waits y =
     (R : Record) (test : ℕ → Bool) → Resolved R rows → y < length (names R) → waits ≡ marks_of R test → free R test (name_at R y) ≡ false
 
--- what a search among n indexes found: the name at r, or none where r is n
-abbrev pub found_at : Record → Bool → ℕ → Option ℕ
-found_at R true r = some (name_at R r)
-found_at R false r = none
+-- the name at the index that a search found, if any
+abbrev pub found : Record → std.Option ℕ → Option ℕ
+found R (Some x) = some (name_at R x)
+found R None = none
 
 -- the marks of the hidden edits
 abbrev pub Hides : Record → List ℕ → List ℕ → Type 0

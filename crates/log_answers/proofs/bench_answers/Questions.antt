@@ -1,19 +1,16 @@
 -- What the questions print: a line that a test lets through, and a head with its lines. Assumes nothing.
-use mathlib.Core.Path.{◌≡◌, refl, sym, ◌∙◌}
+use mathlib.Core.Path.{◌≡◌, refl}
 use mathlib.Core.Bool.{Bool, true, false, cond}
 use mathlib.Core.Logic.{◌≢◌}
 use mathlib.Core.List.{List, [], ◌∷◌}
-use Prim.Native.Nat.{ℕ, zero, suc, ◌+◌, ◌-◌, ◌<◌, min}
+use Prim.Native.Nat.{ℕ, zero, suc, ◌+◌, ◌-◌, ◌<◌}
 use native.Mathlib.Omega.{arith}
 use borrow.Author.Tests.{eq-eqb, ne_eqb}
-use lib.ListN.{length, get_or, take, drop, length-take}
-use lib.Seq.{take-length}
+use lib.ListN.{length, get_or, take, drop}
 use Rattle.lists.specs.Lists.{filter}
-use Rattle.lists.proofs.Arrays.{get_or-any, take-least}
+use Rattle.lists.proofs.Arrays.{get_or-any}
 use Rattle.record.specs.declared.Edit.{Edit}
-use Rattle.catalogue.specs.declared.Cell.{Cell}
 use Rattle.catalogue.specs.declared.Entry.{Entry}
-use Rattle.text_forms.specs.Form.{fill}
 use Rattle.catalogue.specs.Entries.{place_of, absent_entry}
 use Rattle.catalogue.specs.Chips as chips
 use Rattle.log_forms.specs.Printed.{Texts, Printed, texts_from}
@@ -21,7 +18,7 @@ use Rattle.log_forms.proofs.Printing.{printed-nothing, printed-both}
 use Rattle.log_answers.specs.Answers.{answer_line}
 use Rattle.log_answers.specs.declared.bench_answers.Owner.{Owner}
 use Rattle.log_answers.specs.declared.bench_answers.Owner.TheVariants.{Chip, Page}
-use Rattle.log_answers.specs.bench_answers.Asks.{hides, hidden_line, hidden_text, page_line, schedule_text, cell_form, cell_line, cells_text, is_present, entry_text, catalogue_text, row_text, row_at, journal_text}
+use Rattle.log_answers.specs.bench_answers.Asks.{hides, hidden_line, hidden_text, page_line, schedule_text, cell_form, cells_text, is_present, entry_text, catalogue_text, row_text, row_at, journal_text}
 
 -- texts that a test lets through
 module _ (test : Bool) (texts : Texts) (before : List ℕ) (at : ℕ) where
@@ -37,50 +34,31 @@ not_hidden mark h = ne_eqb mark 1 h
 pub is_hidden : (mark : ℕ) → mark ≡ 1 → hides mark ≡ true
 is_hidden mark h = eq-eqb mark 1 h
 
--- a count cut at the array's size
-module _ (edits : List Edit) (count : ℕ) {n : ℕ} (s : length edits ≡ 127) (e : n ≡ min count 127) where
-  cut : take n edits ≡ take count edits
-  cut = rw e (take-least count 127 edits s)
+-- a head, and a line for each edit
+module _ (edits : List Edit) (before : List ℕ) (at : ℕ) {middle after : List ℕ} {place end : ℕ} where
+  pub hidden-printed : (marks : List ℕ) {k : ℕ} → k ≡ length (filter hides (take (length edits) (drop 1 marks))) → Printed (answer_line "hidden=#\n" (k ∷ [])) before at middle place
+      → Printed (texts_from (hidden_line marks) 1 edits) middle place after end → Printed (hidden_text edits marks) before at after end
+  unfolding hidden_text
+  hidden-printed marks {k} c p q = rw (← c) (printed-both (answer_line "hidden=#\n" (k ∷ [])) (texts_from (hidden_line marks) 1 edits) before at p q)
 
-  size : n ≡ length (take count edits)
-  size = e ∙ sym (length-take count edits ∙ rw s)
+  pub schedule-printed : Printed (answer_line "last=#\n" (length edits ∷ [])) before at middle place → Printed (texts_from page_line 1 edits) middle place after end
+      → Printed (schedule_text edits) before at after end
+  unfolding schedule_text
+  schedule-printed p q = printed-both (answer_line "last=#\n" (length edits ∷ [])) (texts_from page_line 1 edits) before at p q
 
-  module _ (before : List ℕ) (at : ℕ) {middle after : List ℕ} {place end : ℕ} where
-    pub hidden-printed : (marks : List ℕ) {k : ℕ} → k ≡ length (filter hides (take n (drop 1 marks))) → Printed (answer_line "hidden=#\n" (k ∷ [])) before at middle place
-        → Printed (texts_from (hidden_line marks) 1 (take n edits)) middle place after end → Printed (hidden_text (take count edits) marks) before at after end
-    unfolding hidden_text
-    hidden-printed marks {k} c p q =
-        rw (← size, ← c, ← cut) (printed-both (answer_line "hidden=#\n" (k ∷ [])) (texts_from (hidden_line marks) 1 (take n edits)) before at p q)
-
-    pub schedule-printed : Printed (answer_line "last=#\n" (n ∷ [])) before at middle place → Printed (texts_from page_line 1 (take n edits)) middle place after end
-        → Printed (schedule_text (take count edits)) before at after end
-    unfolding schedule_text
-    schedule-printed p q = rw (← size, ← cut) (printed-both (answer_line "last=#\n" (n ∷ [])) (texts_from page_line 1 (take n edits)) before at p q)
-
-    pub journal-printed : (rows : List Entry) → Printed (answer_line "open=#\n" (n ∷ [])) before at middle place → Printed (texts_from (row_at rows) 1 (take n edits)) middle place after end
-        → Printed (journal_text (take count edits) rows) before at after end
-    unfolding journal_text
-    journal-printed rows p q = rw (← size, ← cut) (printed-both (answer_line "open=#\n" (n ∷ [])) (texts_from (row_at rows) 1 (take n edits)) before at p q)
+  pub journal-printed : (rows : List Entry) → Printed (answer_line "open=#\n" (length edits ∷ [])) before at middle place → Printed (texts_from (row_at rows) 1 edits) middle place after end
+      → Printed (journal_text edits rows) before at after end
+  unfolding journal_text
+  journal-printed rows p q = printed-both (answer_line "open=#\n" (length edits ∷ [])) (texts_from (row_at rows) 1 edits) before at p q
 
 -- the line of a cell, by its field and by whose it is; any field above is the last
-last-form : (owner : Owner) (field : ℕ) → (field ≡ 0 → ⊥) → (field ≡ 1 → ⊥) → (field ≡ 2 → ⊥) → cell_form owner 3 ≡ cell_form owner field
+pub last-form : (owner : Owner) (field : ℕ) → (field ≡ 0 → ⊥) → (field ≡ 1 → ⊥) → (field ≡ 2 → ⊥) → cell_form owner 3 ≡ cell_form owner field
 unfolding cell_form
 last-form owner zero a b c = absurd (a refl)
 last-form owner (suc zero) a b c = absurd (b refl)
 last-form owner (suc (suc zero)) a b c = absurd (c refl)
 last-form Chip (suc (suc (suc n))) a b c = refl
 last-form Page (suc (suc (suc n))) a b c = refl
-
-module _ (owner : Owner) (field : ℕ) (numbers : List ℕ) {before after : List ℕ} {at end : ℕ} where
-  pub field-printed : (n : ℕ) → field ≡ n → Printed (fill (cell_form owner n) numbers ∷ []) before at after end → Printed (fill (cell_form owner field) numbers ∷ []) before at after end
-  field-printed n e p = rw e p
-
-  pub last-field : (field ≡ 0 → ⊥) → (field ≡ 1 → ⊥) → (field ≡ 2 → ⊥) → Printed (fill (cell_form owner 3) numbers ∷ []) before at after end → Printed (fill (cell_form owner field) numbers ∷ []) before at after end
-  last-field a b c p = rw (last-form owner field a b c) at p
-
-pub cell-printed : (owner other : Owner) (label field : ℕ) (cell : Cell) {before after : List ℕ} {at end : ℕ} → owner ≡ other → cell.filled ≡ true
-    → Printed (fill (cell_form other field) (label ∷ cell.value ∷ []) ∷ []) before at after end → Printed (cell_line owner label field cell) before at after end
-cell-printed owner other label field cell e f p = rw (e, f) p
 
 -- an entry, all entries, a row
 module _ (before : List ℕ) (at : ℕ) {middle after : List ℕ} {place end : ℕ} where
@@ -103,10 +81,6 @@ module _ (before : List ℕ) (at : ℕ) {middle after : List ℕ} {place end : �
 pub entry_absent : (before : List ℕ) (at chip : ℕ) (entry : Entry) → entry.present ≡ false → Printed (entry_text chip entry) before at before at
 unfolding entry_text
 entry_absent before at chip entry e = rw e (printed-nothing before at)
-
--- all of a list
-pub all_of : {A : Type 0} (a : List A) (n : ℕ) → length a ≡ n → take n a ≡ a
-all_of a n h = rw (← h) (take-length a)
 
 -- the row of a page
 pub row_before : (rows : List Entry) (i : ℕ) (e : Edit) (d : Entry) → i < length rows → row_text (i + 1) e (get_or rows i d) ≡ row_at rows (i + 1) e

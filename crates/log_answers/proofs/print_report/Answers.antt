@@ -7,11 +7,13 @@ use Rattle.log_answers.proofs.print_report.Goals as goal
 pub returns-then-size-at : goal.returns-then-size-at
 returns-then-size-at c = λ R e k. let s = c.args in printed-past (report_of R) s.out.now s.at c.if-size-at.true
 
-pub returns-then-written-ne0 : goal.returns-then-written-ne0
-returns-then-written-ne0 c = λ R e k. let s = c.args in part-refused (report_of R) s.out.now s.at c.if-size-at.false (c.report_record-written.ensures R e k) c.if-written-ne0.true
+pub returns-in_default : goal.returns-in_default
+returns-in_default c =
+    λ R e k. let s = c.args in let w = c.report_record.ensures R e k in part-refused (report_of R) s.out.now s.at c.if-size-at.false w.0 w.1 c.in_default.is
 
 pub returns-then-size-at-2 : goal.returns-then-size-at-2
-returns-then-size-at-2 c = λ R e k. let s = c.args in part-inside (report_of R) s.out.now s.at c.if-size-at.false (c.report_record-written.ensures R e k) c.if-written-ne0.false c.if-size-at-2.true
+returns-then-size-at-2 c =
+    λ R e k. let s = c.args in let w = c.report_record.ensures R e k in part-inside (report_of R) s.out.now s.at c.if-size-at.false w.0 w.1 c.in-Ok.is c.if-size-at-2.true
 
 pub returns : goal.returns
-returns c = λ R e k. let s = c.args in part-printed (report_of R) s.out.now s.at c.if-size-at.false (c.report_record-written.ensures R e k) c.if-written-ne0.false
+returns c = λ R e k. let s = c.args in let w = c.report_record.ensures R e k in part-printed (report_of R) s.out.now s.at c.if-size-at.false w.0 w.1 c.in-Ok.is

@@ -1,8 +1,7 @@
 -- The call log: what the questions on a bench print: a head, then a line for each of what is asked for. Assumes nothing.
-use Rattle.std.specs.Prelude.{ℕ, zero, suc, ◌-◌, Bool, cond, List, [], ◌∷◌, ◌++◌, eqb, length, get_or, take, drop}
+use Rattle.std.specs.Prelude.{ℕ, zero, suc, ◌-◌, Bool, cond, List, [], ◌∷◌, ◌++◌, eqb, length, get_or, take, drop, Option, Some, None}
 use Rattle.lists.specs.Lists.{filter}
 use Rattle.record.specs.declared.Edit.{Edit}
-use Rattle.catalogue.specs.declared.Cell.{Cell}
 use Rattle.catalogue.specs.declared.Entry.{Entry}
 use Rattle.catalogue.specs.Entries.{place_of, absent_entry}
 use Rattle.catalogue.specs.Chips as chips
@@ -43,10 +42,11 @@ cell_form Page (suc (suc zero)) = bytes "page=# field=erase value=#\n"
 cell_form Page (suc (suc (suc n))) = bytes "page=# field=page value=#\n"
 
 -- the filled cells of an entry; the label is the chip or the page
-abbrev pub cell_line : Owner → ℕ → ℕ → Cell → Texts
-cell_line owner label field c = cond c.filled (fill (cell_form owner field) (label ∷ c.value ∷ []) ∷ []) []
+abbrev pub cell_line : Owner → ℕ → ℕ → Option ℕ → Texts
+cell_line owner label field None = []
+cell_line owner label field (Some value) = fill (cell_form owner field) (label ∷ value ∷ []) ∷ []
 
-abbrev pub cells_text : Owner → ℕ → List Cell → Texts
+abbrev pub cells_text : Owner → ℕ → List (Option ℕ) → Texts
 cells_text owner label cells = texts_from (cell_line owner label) 0 cells
 
 -- The catalogue: the present entries.

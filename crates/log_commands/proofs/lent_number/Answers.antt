@@ -1,16 +1,13 @@
 -- `lent_number` meets its contract. Assumes nothing.
-use borrow.Author.Tests.{not-true, not-false}
+use Rattle.std.proofs.Common.{sym, ◌∙◌}
 use Rattle.text_forms.specs.Spelling.{bytes}
-use Rattle.log_commands.proofs.Exchanged.{lent-short, lent_other, lent-begun}
+use Rattle.log_commands.proofs.Exchanged.{lent_other, lent-begun}
 use Rattle.log_commands.proofs.lent_number.Goals as goal
 
-pub returns-then-bytes-end : goal.returns-then-bytes-end
-returns-then-bytes-end c = lent-short c.args.bytes.now c.if-bytes-end.true
-
-pub returns-then-not-word : goal.returns-then-not-word
+pub returns-then-not-starts_with : goal.returns-then-not-starts_with
 unfolding bytes
-returns-then-not-word c = lent_other c.args.bytes.now c.read_form-word.ensures (not-true _ c.if-not-word.true)
+returns-then-not-starts_with c = lent_other c.args.bytes.now (sym c.starts_with.ensures.value ∙ c.if-not-starts_with.true)
 
 pub returns : goal.returns
 unfolding bytes
-returns c = lent-begun c.args.bytes.now c.read_form-word.ensures (not-false _ c.if-not-word.false) c.read_number.ensures
+returns c = lent-begun c.args.bytes.now (sym c.starts_with.ensures.value ∙ c.if-not-starts_with.false) c.read_number.ensures

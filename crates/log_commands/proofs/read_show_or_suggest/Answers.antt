@@ -1,5 +1,6 @@
 -- `read_show_or_suggest` meets its contract. Assumes nothing.
 use mathlib.Core.Path.{refl}
+use Rattle.std.proofs.lemmas.Result.{err_from_is_err_and}
 use Rattle.lists.specs.Lists.{filter, mem}
 use Rattle.text_forms.specs.Spelling.{bytes, starts_with, number_spelling}
 use Rattle.text_forms.specs.Form.{is_mark, spelling}
@@ -14,13 +15,25 @@ use Rattle.log_commands.specs.Groups.{read_starting}
 use Rattle.log_commands.proofs.Arms.{arm, no-form}
 use Rattle.log_commands.proofs.read_show_or_suggest.Goals as goal
 
-pub returns-in-104 : goal.returns-in-104
+pub returns-in_err-words-in-104 : goal.returns-in_err-words-in-104
 unfolding command_forms grammar shapes set_shapes rule_shapes set_form edit_form rule_form read_starting starting parse filter mem bytes starts_with is_mark spelling number_spelling slots letter_other letter_among ruled_out otherwise line-ends
-returns-in-104 c = arm "do=s" c.args.bytes.now c.byte_at-letter.ensures 104 c.in-104.is refl c.read_words-w.ensures c.unless_refused.ensures
+returns-in_err-words-in-104 c =
+    let p = err_from_is_err_and c.from_residual.result c.from_residual.ensures.1 in
+    rw (p.1, p.2) (arm "do=s" c.args.bytes.now c.byte_at-letter.ensures 104 c.in-104.is refl c.in_err-words-in-104.ensures refl)
 
-pub returns-in-117 : goal.returns-in-117
+pub returns-in_ok-words-in-104 : goal.returns-in_ok-words-in-104
 unfolding command_forms grammar shapes set_shapes rule_shapes set_form edit_form rule_form read_starting starting parse filter mem bytes starts_with is_mark spelling number_spelling slots letter_other letter_among ruled_out otherwise line-ends
-returns-in-117 c = arm "do=s" c.args.bytes.now c.byte_at-letter.ensures 117 c.in-117.is refl c.read_words-w-in-117.ensures c.unless_refused-in-117.ensures
+returns-in_ok-words-in-104 c = arm "do=s" c.args.bytes.now c.byte_at-letter.ensures 104 c.in-104.is refl c.in_ok-words-in-104.ensures refl
+
+pub returns-in_err-words-in-117 : goal.returns-in_err-words-in-117
+unfolding command_forms grammar shapes set_shapes rule_shapes set_form edit_form rule_form read_starting starting parse filter mem bytes starts_with is_mark spelling number_spelling slots letter_other letter_among ruled_out otherwise line-ends
+returns-in_err-words-in-117 c =
+    let p = err_from_is_err_and c.from_residual-in_err-words-in-117.result c.from_residual-in_err-words-in-117.ensures.1 in
+    rw (p.1, p.2) (arm "do=s" c.args.bytes.now c.byte_at-letter.ensures 117 c.in-117.is refl c.in_err-words-in-117.ensures refl)
+
+pub returns-in_ok-words-in-117 : goal.returns-in_ok-words-in-117
+unfolding command_forms grammar shapes set_shapes rule_shapes set_form edit_form rule_form read_starting starting parse filter mem bytes starts_with is_mark spelling number_spelling slots letter_other letter_among ruled_out otherwise line-ends
+returns-in_ok-words-in-117 c = arm "do=s" c.args.bytes.now c.byte_at-letter.ensures 117 c.in-117.is refl c.in_ok-words-in-117.ensures refl
 
 pub returns-in_default : goal.returns-in_default
 unfolding command_forms grammar shapes set_shapes rule_shapes set_form edit_form rule_form read_starting starting parse filter mem bytes starts_with is_mark spelling number_spelling slots letter_other letter_among ruled_out otherwise line-ends

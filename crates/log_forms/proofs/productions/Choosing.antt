@@ -5,19 +5,21 @@ use mathlib.Core.Bool.{Bool, true, false, cond, not, ◌&&◌}
 use mathlib.Core.Logic.{◌≢◌}
 use mathlib.Core.List.{List, [], ◌∷◌, ◌++◌}
 use mathlib.Core.Option.{Option, none, some}
-use Prim.Native.Nat.{ℕ, zero, suc, ◌≤◌, ◌<◌}
+use Prim.Native.Nat.{ℕ, zero, suc, ◌≤◌}
 use native.Mathlib.Omega.{arith}
 use borrow.Author.Tests.{ne_eqb, not-true, leb-true}
 use lib.Dec.{eqb, leb}
-use lib.ListN.{length, get_or, take, drop, replicate, length-append, drop_of_length-le}
-use lib.Seq.{drop-cons, length-take-le}
+use lib.ListN.{length, get_or, take, replicate}
 use Rattle.lists.specs.Lists.{all, mem, filter}
 use Rattle.lists.proofs.Lists.{by, clash, and_l, and_r, and_i, cons-by, nil-no}
 use Rattle.text_forms.specs.Form.{is_mark, taken}
 use Rattle.text_forms.proofs.Forms.{slots, fill-taken}
 use Rattle.text_lines.specs.Line.{fits_word}
 use Rattle.text_lines.proofs.Signs.{line-ends, otherwise, ruled_out, ruled_out_lem}
-use Rattle.log_forms.specs.declared.productions.Words.{Words}
+use Rattle.std.specs.Prelude.{Result, Ok, Err}
+use Rattle.refusals.specs.declared.Refusal.{Refusal}
+use Rattle.refusals.specs.declared.Refusal.TheVariants.{NotInForm, OutOfRange}
+use Rattle.refusals.specs.Numbers.{number}
 use Rattle.log_forms.specs.productions.Productions.{Production, meant, parse}
 use Rattle.log_forms.specs.productions.Words.{word_at, words_kept, eight_of, words_of}
 
@@ -65,23 +67,16 @@ other_none : (beginning form s : List ℕ) (letter : ℕ) → letter_after begin
 unfolding letter_other
 other_none beginning form s letter e h = ruled_out_lem (record { after = beginning; byte = letter } ∷ []) form s (e, tt) h
 
--- eight numbers one by one
-before : (l : List ℕ) (i : ℕ) {rest : List ℕ} → i < length l → drop (suc i) l ≡ rest → drop i l ≡ get_or l i 0 ∷ rest
-before l i h e = drop-cons l i 0 h ∙ ap (λ (r : List ℕ). get_or l i 0 ∷ r) e
-
-eight : (l : List ℕ) → length l ≡ 8 → (get_or l 0 0 ∷ get_or l 1 0 ∷ get_or l 2 0 ∷ get_or l 3 0 ∷ get_or l 4 0 ∷ get_or l 5 0 ∷ get_or l 6 0 ∷ get_or l 7 0 ∷ []) ≡ l
-eight l h = sym (before l 0 (omega arith) (before l 1 (omega arith) (before l 2 (omega arith) (before l 3 (omega arith) (before l 4 (omega arith) (before l 5 (omega arith) (before l 6 (omega arith) (before l 7 (omega arith) (drop_of_length-le l {i = 8} (omega arith))))))))))
-
-eight-size : (ns : List ℕ) → length (eight_of ns) ≡ 8
-eight-size ns = length-take-le 8 (ns ++ replicate 8 0) (omega (arith, length-append ns (replicate 8 0)))
-
 -- words in form are not refused as others
-kept-number : (cells : List ℕ) → (words_kept cells).number ≢ 1
+kept-in-form : (cells : List ℕ) → words_kept cells ≢ Err NotInForm
 unfolding words_kept
-kept-number cells =
+kept-in-form cells =
     by (all fits_word cells)
-    (λ (e : all fits_word cells ≡ true). rw e (λ n. absurd (omega arith)))
-    (λ (e : all fits_word cells ≡ false). rw e (λ n. absurd (omega arith)))
+    (λ (e : all fits_word cells ≡ true). rw e (λ n. let z : ⊥ = cc in z))
+    (λ (e : all fits_word cells ≡ false). rw e (λ n. let q : number OutOfRange ≡ number NotInForm = refused-same n in absurd (omega arith)))
+  where
+    refused-same : {r t : Refusal} → ◌≡◌ {A = Result (List ℕ) Refusal} (Err r) (Err t) → number r ≡ number t
+    refused-same {r} {t} n = let q : r ≡ t = cc in ap number q
 
 -- of at most eight numbers none is lost
 no_number : (n m k : ℕ) → ◌≡◌ {A = ℕ} (get_or (take n (replicate m 0)) k 0) 0
@@ -108,29 +103,30 @@ same-fit n m [] h l = none-large n m
 same-fit zero m (x ∷ ns) h l = absurd (omega arith)
 same-fit (suc n) m (x ∷ ns) h l = ap (λ (b : Bool). fits_word x && b) (same-fit n m ns (omega arith) (omega arith))
 
-module _ {A : Type 0} (refuse : ℕ → A) where
+module _ {A : Type 0} (refuse : Refusal → A) where
   -- what the code makes of the words of a form
-  abbrev pub made : Words → ((ℕ → ℕ) → A) → A
-  made words meaning = cond (eqb words.number 0) (meaning (word_at words)) (refuse words.number)
+  abbrev pub made : Result (List ℕ) Refusal → ((ℕ → ℕ) → A) → A
+  made (Ok words) meaning = meaning (word_at words)
+  made (Err refusal) meaning = refuse refusal
 
-  made_kept : (meaning : (ℕ → ℕ) → A) (cells : List ℕ) → length cells ≡ 8
-      → made (words_kept cells) meaning ≡ cond (all fits_word cells) (meaning (λ k. get_or cells k 0)) (refuse 2)
+  made_kept : (meaning : (ℕ → ℕ) → A) (cells : List ℕ)
+      → made (words_kept cells) meaning ≡ cond (all fits_word cells) (meaning (λ k. get_or cells k 0)) (refuse OutOfRange)
   unfolding words_kept
-  made_kept meaning cells h =
+  made_kept meaning cells =
       by (all fits_word cells)
-      (λ (e : all fits_word cells ≡ true). rw e (ap (λ (l : List ℕ). meaning (λ k. get_or l k 0)) (eight cells h)))
+      (λ (e : all fits_word cells ≡ true). rw e)
       (λ (e : all fits_word cells ≡ false). rw e)
 
-  made-meant : (meaning : (ℕ → ℕ) → A) (form s : List ℕ) → slots form ≤ 8 → made (words_of (taken form s)) meaning ≡ meant refuse meaning (taken form s) (refuse 1)
+  made-meant : (meaning : (ℕ → ℕ) → A) (form s : List ℕ) → slots form ≤ 8 → made (words_of (taken form s)) meaning ≡ meant refuse meaning (taken form s) (refuse NotInForm)
   made-meant meaning form s l = go (taken form s) refl
     where
-      go : (o : Option (List ℕ)) → taken form s ≡ o → made (words_of o) meaning ≡ meant refuse meaning o (refuse 1)
+      go : (o : Option (List ℕ)) → taken form s ≡ o → made (words_of o) meaning ≡ meant refuse meaning o (refuse NotInForm)
       go none e = refl
       go (some ns) e =
           let h : length ns ≤ 8 = omega (arith, (fill-taken form s ns e).0) in
           let n : 8 ≤ 8 = omega arith in
-          made_kept meaning (eight_of ns) (eight-size ns)
-          ∙ rw (same-fit 8 8 ns h n) (ap (λ (f : ℕ → ℕ). cond (all fits_word ns) (meaning f) (refuse 2)) (fun_ext (λ k. same_number 8 8 ns k h n)))
+          made_kept meaning (eight_of ns)
+          ∙ rw (same-fit 8 8 ns h n) (ap (λ (f : ℕ → ℕ). cond (all fits_word ns) (meaning f) (refuse OutOfRange)) (fun_ext (λ k. same_number 8 8 ns k h n)))
 
   -- The law, for any test of forms under which no form takes the text.
   module _ (s : List ℕ) (test : List ℕ → Bool) (k : (form : List ℕ) → test form ≡ true → taken form s ≡ none) where
@@ -159,40 +155,40 @@ abbrev pub first_form : {A : Type 0} → List (Production A) → List ℕ
 first_form [] = []
 first_form (production ∷ rest) = production.form
 
-module _ {A : Type 0} (refuse : ℕ → A) where
+module _ {A : Type 0} (refuse : Refusal → A) where
   abbrev pub first_meaning : List (Production A) → (ℕ → ℕ) → A
-  first_meaning [] n = refuse 1
+  first_meaning [] n = refuse NotInForm
   first_meaning (production ∷ rest) n = production.meaning n
 
   module _ (s : List ℕ) {r : A} where
-    pub one-production : (productions : List (Production A)) → is_one productions ≡ true → {w : Words} → w ≡ words_of (taken (first_form productions) s)
+    pub one-production : (productions : List (Production A)) → is_one productions ≡ true → {w : Result (List ℕ) Refusal} → w ≡ words_of (taken (first_form productions) s)
         → r ≡ made refuse w (first_meaning productions) → r ≡ parse refuse productions s
     unfolding parse
     one-production [] h e q = clash h refl
     one-production (production ∷ []) h e q =
-        q ∙ ap (λ (w : Words). made refuse w production.meaning) e ∙ made-meant refuse production.meaning production.form s (leb-true (slots production.form) 8 h)
+        q ∙ ap (λ (w : Result (List ℕ) Refusal). made refuse w production.meaning) e ∙ made-meant refuse production.meaning production.form s (leb-true (slots production.form) 8 h)
     one-production (production ∷ other ∷ rest) h e q = clash h refl
 
   -- one is tried, and where it is not in form the rest
-  module _ (s : List ℕ) (production : Production A) (rest : List (Production A)) (l : leb (slots production.form) 8 ≡ true) {w : Words}
+  module _ (s : List ℕ) (production : Production A) (rest : List (Production A)) (l : leb (slots production.form) 8 ≡ true) {w : Result (List ℕ) Refusal}
       (e : w ≡ words_of (taken production.form s)) {r : A} where
-    pub first-production : w.number ≢ 1 → r ≡ made refuse w production.meaning → r ≡ parse refuse (production ∷ rest) s
+    pub first-production : w ≢ Err NotInForm → r ≡ made refuse w production.meaning → r ≡ parse refuse (production ∷ rest) s
     unfolding parse
     first-production h q =
-        q ∙ ap (λ (w : Words). made refuse w production.meaning) e ∙ made-meant refuse production.meaning production.form s (leb-true (slots production.form) 8 l)
-        ∙ other-same (taken production.form s) (λ n. h (ap (λ (w : Words). w.number) e ∙ n))
+        q ∙ ap (λ (w : Result (List ℕ) Refusal). made refuse w production.meaning) e ∙ made-meant refuse production.meaning production.form s (leb-true (slots production.form) 8 l)
+        ∙ other-same (taken production.form s) (λ n. h (e ∙ n))
       where
-        other-same : (o : Option (List ℕ)) → (words_of o).number ≢ 1 → meant refuse production.meaning o (refuse 1) ≡ meant refuse production.meaning o (parse refuse rest s)
+        other-same : (o : Option (List ℕ)) → words_of o ≢ Err NotInForm → meant refuse production.meaning o (refuse NotInForm) ≡ meant refuse production.meaning o (parse refuse rest s)
         other-same none n = absurd (n refl)
         other-same (some ns) n = refl
 
-    pub other-production : w.number ≡ 1 → r ≡ parse refuse rest s → r ≡ parse refuse (production ∷ rest) s
+    pub other-production : w ≡ Err NotInForm → r ≡ parse refuse rest s → r ≡ parse refuse (production ∷ rest) s
     unfolding parse
-    other-production h q = q ∙ other-said (taken production.form s) (sym (ap (λ (w : Words). w.number) e) ∙ h)
+    other-production h q = q ∙ other-said (taken production.form s) (sym e ∙ h)
       where
-        other-said : (o : Option (List ℕ)) → (words_of o).number ≡ 1 → parse refuse rest s ≡ meant refuse production.meaning o (parse refuse rest s)
+        other-said : (o : Option (List ℕ)) → words_of o ≡ Err NotInForm → parse refuse rest s ≡ meant refuse production.meaning o (parse refuse rest s)
         other-said none n = refl
-        other-said (some ns) n = absurd (kept-number (eight_of ns) n)
+        other-said (some ns) n = absurd (kept-in-form (eight_of ns) n)
 
   module _ (beginning s : List ℕ) {x : ℕ} (e : x ≡ letter_after beginning s) (productions : List (Production A)) {r : A} where
     pub by-letter : (letter : ℕ) → x ≡ letter → r ≡ parse refuse (letter_leaves beginning letter productions) s → r ≡ parse refuse productions s
@@ -205,10 +201,10 @@ module _ {A : Type 0} (refuse : ℕ → A) where
     by-others keys o q = q ∙ sym (left_out refuse s (λ form. letter_among keys beginning form) (λ form h. among_none keys beginning form s (rw e at o) h) productions)
 
     -- an arm that reads one form
-    pub letter-arm : (letter : ℕ) → x ≡ letter → is_one (letter_leaves beginning letter productions) ≡ true → {w : Words} → w ≡ words_of (taken (first_form (letter_leaves beginning letter productions)) s)
+    pub letter-arm : (letter : ℕ) → x ≡ letter → is_one (letter_leaves beginning letter productions) ≡ true → {w : Result (List ℕ) Refusal} → w ≡ words_of (taken (first_form (letter_leaves beginning letter productions)) s)
         → r ≡ made refuse w (first_meaning (letter_leaves beginning letter productions)) → r ≡ parse refuse productions s
     letter-arm letter l h p q = by-letter letter l (one-production s (letter_leaves beginning letter productions) h p q)
 
-    pub others-arm : (keys : List ℕ) → Others keys x → is_one (others_leave beginning keys productions) ≡ true → {w : Words} → w ≡ words_of (taken (first_form (others_leave beginning keys productions)) s)
+    pub others-arm : (keys : List ℕ) → Others keys x → is_one (others_leave beginning keys productions) ≡ true → {w : Result (List ℕ) Refusal} → w ≡ words_of (taken (first_form (others_leave beginning keys productions)) s)
         → r ≡ made refuse w (first_meaning (others_leave beginning keys productions)) → r ≡ parse refuse productions s
     others-arm keys o h p q = by-others keys o (one-production s (others_leave beginning keys productions) h p q)

@@ -17,6 +17,8 @@ use Rattle.text_forms.specs.Spelling.{name_spelling, number_spelling}
 use Rattle.text_forms.specs.Form.{is_mark, spelling, more, begins_with, taken}
 use Rattle.text_forms.proofs.Lawful.{lawful}
 use Rattle.text_forms.proofs.Forms.{differ, unlike, mark-taken, mark-missing, byte-taken, byte-missing}
+use Rattle.refusals.specs.declared.Refusal.{Refusal}
+use Rattle.refusals.specs.declared.Refusal.TheVariants.{NotInForm}
 use Rattle.log_forms.specs.productions.Productions.{Production, meant, parse, Unambiguous}
 
 -- Names are spelled as numbers are, so a form takes the same texts with # for @.
@@ -145,8 +147,8 @@ apart-unambiguous (production ∷ rest) h (suc i) (suc j) l m s ms ns p q =
     ap suc (apart-unambiguous rest (and_r (all (λ other. tell_apart production.form other.form) rest) (apart rest) h) i j (omega arith) (omega arith) s ms ns p q)
 
 -- whatever comes before it
-pub parse-has : {A : Type 0} (refuse : ℕ → A) (production : Production A) (productions : List (Production A)) (s ns : List ℕ)
-    → apart productions ≡ true → Has production productions → taken production.form s ≡ some ns → parse refuse productions s ≡ meant refuse production.meaning (some ns) (refuse 1)
+pub parse-has : {A : Type 0} (refuse : Refusal → A) (production : Production A) (productions : List (Production A)) (s ns : List ℕ)
+    → apart productions ≡ true → Has production productions → taken production.form s ≡ some ns → parse refuse productions s ≡ meant refuse production.meaning (some ns) (refuse NotInForm)
 unfolding apart parse
 parse-has refuse production [] s ns h m e = absurd m
 parse-has refuse production (other ∷ rest) s ns h (inl q) e = rw (← q, e)
@@ -157,17 +159,17 @@ parse-has refuse production (other ∷ rest) s ns h (inr m) e =
     (parse-has refuse production rest s ns (and_r (all (λ o. tell_apart other.form o.form) rest) (apart rest) h) m e)
 
 -- no production takes a text, or it means what one of them has
-pub parse-by : {A P : Type 0} (refuse : ℕ → A) (productions : List (Production A)) (s : List ℕ) → (parse refuse productions s ≡ refuse 1 → P)
+pub parse-by : {A P : Type 0} (refuse : Refusal → A) (productions : List (Production A)) (s : List ℕ) → (parse refuse productions s ≡ refuse NotInForm → P)
     → ((production : Production A) (ns : List ℕ) → Has production productions → taken production.form s ≡ some ns
-    → parse refuse productions s ≡ meant refuse production.meaning (some ns) (refuse 1) → P)
+    → parse refuse productions s ≡ meant refuse production.meaning (some ns) (refuse NotInForm) → P)
     → P
 unfolding parse
 parse-by refuse [] s f g = f refl
 parse-by {A} {P} refuse (production ∷ rest) s f g = go (taken production.form s) refl (parse-by refuse rest s)
   where
     go : (o : Option (List ℕ)) → taken production.form s ≡ o
-        → ((parse refuse rest s ≡ refuse 1 → P)
-        → ((p : Production A) (ns : List ℕ) → Has p rest → taken p.form s ≡ some ns → parse refuse rest s ≡ meant refuse p.meaning (some ns) (refuse 1) → P)
+        → ((parse refuse rest s ≡ refuse NotInForm → P)
+        → ((p : Production A) (ns : List ℕ) → Has p rest → taken p.form s ≡ some ns → parse refuse rest s ≡ meant refuse p.meaning (some ns) (refuse NotInForm) → P)
         → P)
         → P
     go none e again = again (λ q. f (rw e q)) (λ p ns m t q. g p ns (inr m) t (rw e q))

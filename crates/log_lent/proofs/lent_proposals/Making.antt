@@ -1,89 +1,105 @@
 -- The new proposal from what is lent, return by return. Assumes nothing.
 use mathlib.Core.Path.{◌≡◌, refl, sym, ap, ◌∙◌}
 use mathlib.Core.Bool.{true, false, and-false}
-use mathlib.Core.List.{[]}
+use mathlib.Core.List.{List, []}
 use Prim.Native.Nat.{ℕ, ◌≤◌, ◌<◌}
 use native.Mathlib.Omega.{arith}
 use lib.Dec.{eqb, ltb}
 use lib.ListN.{length, length-replicate}
-use borrow.Author.Tests.{lt-ltb, le-ltb, ne_eqb}
+use borrow.Author.Tests.{lt-ltb, le-ltb, eq-eqb}
+use Rattle.std.specs.Prelude.{Result, Ok, Err}
+use Rattle.refusals.specs.declared.Refusal.{Refusal}
+use Rattle.refusals.specs.Numbers.{number, Gives}
+use Rattle.refusals.proofs.Numbers.{number-positive}
+use Rattle.lists.proofs.Lists.{by}
+use Rattle.record.specs.declared.Record as declared
+use Rattle.record.specs.Record.{Record}
 use Rattle.record.specs.Stored.{stored}
-use Rattle.record_rows.specs.grounds.Ground.{Rows}
+use Rattle.record_rows.specs.grounds.Ground.{Rows, ◌given◌, ◌orelse◌}
 use Rattle.record_rows.proofs.grounds.Grounds.{orelse-first, orelse-second}
-use Rattle.record_tables.specs.Table.{empty_tables}
-use Rattle.record_joining.specs.declared.Joined.{Joined}
-use Rattle.voting_proposals.specs.Propose as proposal
-use Rattle.voting_proposals.specs.Propose.{propose_fault, new_proposal, new_outcome, too_short}
-use Rattle.voting_proposals.proofs.Answers.{fault, new, short, fault-is, number_is, none-new, new-held, editcount-is, constraintcount-is, proposal-accepted, given-new}
+use Rattle.record_tables.specs.Table.{empty_tables, decoded, lent_fault}
+use Rattle.voting.specs.Proposal.{proposed}
+use Rattle.voting_proposals.specs.Propose.{propose_fault, draft_fault, unkept, new_proposal, new_fault, too_short}
 use Rattle.log_lent.specs.Lent.{Lent}
-use Rattle.log_lent.specs.lent_proposals.Made.{tables_with, proposal_of, proposal_in}
+use Rattle.log_lent.specs.lent_proposals.Made.{tables_with, lent_proposal_fault, proposal_made}
 
-module _ (t : proposal.LentToPropose) where
-  stopped-as : (n : ℕ) → propose_fault t ≡ n → (n ≡ 0 → ⊥) → record { number = n; after = stored empty_tables } ≡ proposal_of t
-  unfolding proposal_of new_proposal
-  stopped-as n e z = let b : eqb (propose_fault t) 0 ≡ false = ap (λ (m : ℕ). eqb m 0) e ∙ ne_eqb n 0 z in rw (b, e) refl
+-- the first of a number and two more is the first of both and the last
+orelse-last : (a b c : ℕ) → (a orelse (b orelse c)) ≡ ((a orelse b) orelse c)
+orelse-last a b c = by (eqb a 0) (λ (e : eqb a 0 ≡ true). rw e refl) (λ (e : eqb a 0 ≡ false). rw (e, e) refl)
 
-  module _ (made : Joined) (e : made ≡ new_outcome t.edits t.constraints t.oldedits t.oldconstraints) where
-    tables-stop : (made.number ≡ 0 → ⊥) → made ≡ proposal_of t
-    tables-stop z =
-        let n : made.number ≡ fault t = number_is (fault t) (new t) made e in
-        let f : eqb (fault t) 0 ≡ false = ne_eqb (fault t) 0 (λ q. z (n ∙ q)) in
-        e ∙ rw f (stopped-as (fault t) (fault-is t ∙ orelse-first (fault t) (short t) (λ q. z (n ∙ q))) (λ q. z (n ∙ q)))
+orelse-fifth : (a b c d e : ℕ) → (a orelse (b orelse (c orelse (d orelse e)))) ≡ ((a orelse (b orelse (c orelse d))) orelse e)
+orelse-fifth a b c d e =
+    let x = orelse-last c d e in
+    let y = ap (λ (z : ℕ). b orelse z) x ∙ orelse-last b (c orelse d) e in
+    ap (λ (z : ℕ). a orelse z) y ∙ orelse-last a (b orelse (c orelse d)) e
 
-    module _ (z : made.number ≡ 0) where
-      edits-short : length t.newedits < made.after.editcount → {r : Joined} → r ≡ record { number = 12; after = stored empty_tables } → r ≡ proposal_of t
-      unfolding too_short
-      edits-short h q =
-          let l : ltb (length t.newedits) (length (new t).edits) ≡ true = lt-ltb (length t.newedits) (length (new t).edits) (let p = editcount-is t made e z in omega arith) in
-          q ∙ stopped-as 12 (fault-is t ∙ orelse-second (fault t) (short t) (none-new t made e z) ∙ rw l) (λ p. omega arith)
+-- a new proposal and the places for it
+module _ (P : Record) (n m : ℕ) {new : declared.Record} (q : new ≡ stored P) where
+  edits-are : new.editcount ≡ length P.edits
+  edits-are = ap (λ (x : declared.Record). x.editcount) q
 
-      module _ (h : made.after.editcount ≤ length t.newedits) where
-        constraints-short : length t.newconstraints < made.after.constraintcount → {r : Joined} → r ≡ record { number = 12; after = stored empty_tables } → r ≡ proposal_of t
-        unfolding too_short
-        constraints-short i q =
-            let k : ltb (length t.newedits) (length (new t).edits) ≡ false = le-ltb (length t.newedits) (length (new t).edits) (let p = editcount-is t made e z in omega arith) in
-            let l : ltb (length t.newconstraints) (length (new t).constraints) ≡ true = lt-ltb (length t.newconstraints) (length (new t).constraints) (let p = constraintcount-is t made e z in omega arith) in
-            q ∙ stopped-as 12 (fault-is t ∙ orelse-second (fault t) (short t) (none-new t made e z) ∙ rw (k, l)) (λ p. omega arith)
+  constraints-are : new.constraintcount ≡ length P.constraints
+  constraints-are = ap (λ (x : declared.Record). x.constraintcount) q
 
-        made-whole : made.after.constraintcount ≤ length t.newconstraints → made ≡ proposal_of t
-        unfolding proposal_of
-        made-whole i =
-            let a : made.number ≡ propose_fault t = z ∙ sym (proposal-accepted t made e z h i) in
-            let b : made.after ≡ stored (new_proposal t) = new-held t made e z ∙ ap stored (sym (given-new t made e z h i)) in
-            λ j. record { number = a j; after = b j }
+  pub few-edit-places : n < new.editcount → 12 ≡ (12 given too_short n m P)
+  unfolding too_short
+  few-edit-places h = let e : ltb n (length P.edits) ≡ true = lt-ltb n (length P.edits) (omega (arith, edits-are)) in rw e refl
+
+  module _ (h : new.editcount ≤ n) where
+    enough-edits : ltb n (length P.edits) ≡ false
+    enough-edits = le-ltb n (length P.edits) (omega (arith, edits-are))
+
+    pub few-constraint-places : m < new.constraintcount → 12 ≡ (12 given too_short n m P)
+    unfolding too_short
+    few-constraint-places i = let e : ltb m (length P.constraints) ≡ true = lt-ltb m (length P.constraints) (omega (arith, constraints-are)) in rw (enough-edits, e) refl
+
+    pub places-enough : new.constraintcount ≤ m → 0 ≡ (12 given too_short n m P)
+    unfolding too_short
+    places-enough i = let e : ltb m (length P.constraints) ≡ false = le-ltb m (length P.constraints) (omega (arith, constraints-are)) in rw (enough-edits, e) refl
+
+module _ (E C D F : Rows) (n m : ℕ) where
+  abbrev made : Record
+  made = proposed (decoded E C) (decoded D F)
+
+  fault-parts : propose_fault (tables_with E C D F n m) ≡ (new_fault E C D F orelse (12 given too_short n m made))
+  unfolding propose_fault
+  fault-parts = rw (length-replicate {A = List ℕ} n [], length-replicate {A = List ℕ} m [])
+      (orelse-fifth (lent_fault empty_tables E C) (lent_fault (decoded E C) D F) (draft_fault (decoded E C) (decoded D F)) (11 given unkept (decoded E C) (decoded D F))
+      (12 given too_short n m made))
 
 module _ (L : Lent) (k old n m : ℕ) where
-  pub record-elsewhere : 8 < k → {r : Joined} → r ≡ record { number = 2; after = stored empty_tables } → r ≡ proposal_in L k old n m
-  unfolding proposal_in
-  record-elsewhere h q = let e : ltb k 9 ≡ false = le-ltb k 9 (omega arith) in rw e q
+  pub record-elsewhere : 9 ≤ k → 2 ≡ lent_proposal_fault L k old n m
+  unfolding lent_proposal_fault
+  record-elsewhere h = let e : ltb k 9 ≡ false = le-ltb k 9 h in rw e refl
 
-  pub old-elsewhere : 8 < old → {r : Joined} → r ≡ record { number = 2; after = stored empty_tables } → r ≡ proposal_in L k old n m
-  unfolding proposal_in
-  old-elsewhere h q = let e : ltb old 9 ≡ false = le-ltb old 9 (omega arith) in rw (e, and-false (ltb k 9)) q
+  pub old-elsewhere : 9 ≤ old → 2 ≡ lent_proposal_fault L k old n m
+  unfolding lent_proposal_fault
+  old-elsewhere h = let e : ltb old 9 ≡ false = le-ltb old 9 h in rw (e, and-false (ltb k 9)) refl
 
-  pub proposal-inside : k ≤ 8 → old ≤ 8 → {r : Joined} {E C D F : Rows} → r ≡ proposal_of (tables_with E C D F n m)
-      → E ≡ L.edits k → C ≡ L.constraints k → D ≡ L.edits old → F ≡ L.constraints old → r ≡ proposal_in L k old n m
-  unfolding proposal_in
-  proposal-inside h i q e c d f =
-      let a : ltb k 9 ≡ true = lt-ltb k 9 (omega arith) in let b : ltb old 9 ≡ true = lt-ltb old 9 (omega arith) in rw (a, b) (rw (e, c, d, f) at q)
+  module _ (h : k < 9) (i : old < 9) {E C D F : Rows} (e : E ≡ L.edits k) (c : C ≡ L.constraints k) (d : D ≡ L.edits old) (f : F ≡ L.constraints old) where
+    inside : lent_proposal_fault L k old n m ≡ propose_fault (tables_with E C D F n m)
+    unfolding lent_proposal_fault
+    inside = let a : ltb k 9 ≡ true = lt-ltb k 9 h in let b : ltb old 9 ≡ true = lt-ltb old 9 i in rw (a, b, e, c, d, f) refl
 
-module _ (E C D F : Rows) (n m : ℕ) (made : Joined) (q : made ≡ new_outcome E C D F) where
-  pub rows-stop : (made.number ≡ 0 → ⊥) → made ≡ proposal_of (tables_with E C D F n m)
-  rows-stop z = tables-stop (tables_with E C D F n m) made q z
+    parts : lent_proposal_fault L k old n m ≡ (new_fault E C D F orelse (12 given too_short n m (made E C D F n m)))
+    parts = inside ∙ fault-parts E C D F n m
 
-  edit-room : length (tables_with E C D F n m).newedits ≡ n
-  edit-room = length-replicate n []
+    pub proposal-refused : (r : Refusal) → number r ≡ new_fault E C D F → number r ≡ lent_proposal_fault L k old n m
+    proposal-refused r q = q ∙ sym (parts ∙ orelse-first (new_fault E C D F) (12 given too_short n m (made E C D F n m)) (λ z. number-positive r (q ∙ z)))
 
-  constraint-room : length (tables_with E C D F n m).newconstraints ≡ m
-  constraint-room = length-replicate m []
+    module _ (z : 0 ≡ new_fault E C D F) where
+      last-part : lent_proposal_fault L k old n m ≡ (12 given too_short n m (made E C D F n m))
+      last-part = parts ∙ orelse-second (new_fault E C D F) (12 given too_short n m (made E C D F n m)) (sym z)
 
-  module _ (z : made.number ≡ 0) where
-    pub lent-few-edits : n < made.after.editcount → {r : Joined} → r ≡ record { number = 12; after = stored empty_tables } → r ≡ proposal_of (tables_with E C D F n m)
-    lent-few-edits l p = edits-short (tables_with E C D F n m) made q z (rw edit-room l) p
+      made-is : lent_proposal_fault L k old n m ≡ 0 → proposal_made L k old n m ≡ made E C D F n m
+      unfolding proposal_made new_proposal
+      made-is w =
+          let a : ltb k 9 ≡ true = lt-ltb k 9 h in
+          let b : ltb old 9 ≡ true = lt-ltb old 9 i in
+          let y : eqb (propose_fault (tables_with E C D F n m)) 0 ≡ true = eq-eqb (propose_fault (tables_with E C D F n m)) 0 (sym inside ∙ w) in
+          rw (a, b, ← e, ← c, ← d, ← f, y) refl
 
-    module _ (l : made.after.editcount ≤ n) where
-      pub lent-few-constraints : m < made.after.constraintcount → {r : Joined} → r ≡ record { number = 12; after = stored empty_tables } → r ≡ proposal_of (tables_with E C D F n m)
-      lent-few-constraints g p = constraints-short (tables_with E C D F n m) made q z (rw edit-room l) (rw constraint-room g) p
-
-      pub proposal-whole : made.after.constraintcount ≤ m → made ≡ proposal_of (tables_with E C D F n m)
-      proposal-whole g = made-whole (tables_with E C D F n m) made q z (rw edit-room l) (rw constraint-room g)
+      pub proposal-given : (r : Result declared.Record Refusal) → Gives (12 given too_short n m (made E C D F n m)) (stored (made E C D F n m)) r
+          → Gives (lent_proposal_fault L k old n m) (stored (proposal_made L k old n m)) r
+      proposal-given (Ok y) g = let w = last-part ∙ sym g.0 in (sym w, g.1 ∙ ap stored (sym (made-is w)))
+      proposal-given (Err s) g = (g.0 ∙ sym last-part, tt)

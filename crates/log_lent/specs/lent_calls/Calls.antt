@@ -1,5 +1,5 @@
 -- Calls whose records, roll and row are what the lines of a call log lend. Assumes nothing.
-use Rattle.std.specs.Prelude.{false, not, ◌&&◌, cond, map, ℕ, eqb, ltb}
+use Rattle.std.specs.Prelude.{Bool, not, ◌&&◌, cond, map, ℕ, ltb}
 use Rattle.lists.specs.Lists.{mem}
 use Rattle.record.specs.Record.{Record, written}
 use Rattle.record.specs.Stored.{edit_named}
@@ -9,10 +9,11 @@ use Rattle.voting_roll.specs.Election.{Proposals, benches}
 use Rattle.voting_count.specs.Count.{lent_proposals}
 use Rattle.voting_bundles.specs.declared.BundleAnswer.{BundleAnswer}
 use Rattle.voting_bundles.specs.Bundles.{bundle_answer, refused_bundle}
-use Rattle.judgement.specs.declared.lent_record.RowAnswer.{RowAnswer}
-use Rattle.judgement.specs.lent_record.Lent.{row_answer_of}
+use Rattle.record.specs.Judgement.{sound_row}
+use Rattle.record_tables.specs.Table.{decoded}
+use Rattle.judgement.specs.lent_record.Lent.{record_fault}
 use Rattle.suggestions.specs.declared.Suggested.{Suggested}
-use Rattle.suggestions.specs.Suggest.{suggested, no_row}
+use Rattle.suggestions.specs.Suggest.{pair_fault, suggested}
 use Rattle.log_lent.specs.Lent.{Lent, is_lent}
 
 -- the eight proposals are records 1 to 8
@@ -23,17 +24,21 @@ proposals_of L = lent_proposals (map L.edits benches) (map L.constraints benches
 unfoldable pub bundle_in : Lent → ℕ → ℕ → BundleAnswer
 bundle_in L k e = cond (is_lent k) (bundle_answer (L.edits k) (L.constraints k) e) (refused_bundle 2)
 
--- is the row a sound schedule of record k
-unfoldable pub row_in : Lent → ℕ → RowAnswer
-row_in L k = cond (is_lent k) (row_answer_of (L.edits k) (L.constraints k) L.row) (record { number = 2; sound = false })
+-- is the row a sound schedule of record k: the number of its refusal, and the answer
+unfoldable pub lent_row_fault : Lent → ℕ → ℕ
+lent_row_fault L k = cond (is_lent k) (record_fault (L.edits k) (L.constraints k)) 2
+
+unfoldable pub row_sound : Lent → ℕ → Bool
+row_sound L k = sound_row (decoded (L.edits k) (L.constraints k)) L.row
 
 -- what two edits of a record suggest; case 0: the second after the first by one author, 1: concurrent
 unfoldable pub suggest_fault : Record → ℕ → ℕ → ℕ → ℕ
 suggest_fault R first second kind =
     2 given not (is_name first && (is_name second && ltb kind 2)) orelse 5 given not (mem first (written R) && mem second (written R))
 
+-- the number of the refusal, and what is suggested
+unfoldable pub suggestion_fault : Record → ℕ → ℕ → ℕ → ℕ
+suggestion_fault R first second kind = suggest_fault R first second kind orelse pair_fault (edit_row (edit_named R.edits first)) (edit_row (edit_named R.edits second)) kind
+
 unfoldable pub suggested_in : Record → ℕ → ℕ → ℕ → Suggested
-suggested_in R first second kind =
-    let n = suggest_fault R first second kind in
-    cond (eqb n 0) (suggested (edit_row (edit_named R.edits first)) (edit_row (edit_named R.edits second)) kind)
-    (record { number = n; count = 0; first = no_row; second = no_row })
+suggested_in R first second kind = suggested (edit_row (edit_named R.edits first)) (edit_row (edit_named R.edits second)) kind

@@ -1,10 +1,9 @@
 -- `run_some` meets its contract. Assumes nothing.
-use mathlib.Core.Path.{refl}
+use mathlib.Core.Path.{refl, sym, ◌∙◌}
 use native.Mathlib.Omega.{arith}
 use borrow.Author.Rules.{rules}
 use borrow.Author.Tests.{leb-false}
 use Rattle.text_lines.proofs.Ends.{next-line}
-use Rattle.log_run.proofs.Performed.{refusal-performed, lend-performed, proposal-performed, call-performed, kind-printed, vote-performed, ask-performed}
 use Rattle.log_run.proofs.Running.{running-start, running-few, running-next, stopped-above, stopped-end}
 use Rattle.log_run.proofs.Paging.{first-turn, opened-there}
 use Rattle.log_run.proofs.run_some.Goals as goal
@@ -23,13 +22,13 @@ slice_bounds-read_command-end c = let x = next-line c.args.log.now c.loop-from.f
 
 pub run_turns-turns-requires : goal.run_turns-turns-requires
 run_turns-turns-requires c =
-    (c.loop-from-test.true, search rules, first-turn _ _ c.line_end-end.ensures _ c.read_command-command.ensures c.paging_of.ensures c.is_turn.ensures c.if-is_turn.true)
+    (c.loop-from-test.true, search rules, first-turn _ _ c.line_end-end.ensures c.read_command-read.ensures (sym c.paging_of.ensures ∙ c.in-Some-Turn.is))
 
-pub loop-from-smaller-then-is_turn : goal.loop-from-smaller-then-is_turn
-loop-from-smaller-then-is_turn c = let t = c.run_turns-turns.ensures in omega (arith, t.0, t.1)
+pub loop-from-smaller-in-Turn-1 : goal.loop-from-smaller-in-Turn-1
+loop-from-smaller-in-Turn-1 c = let t = c.run_turns-turns.ensures in omega (arith, t.0, t.1)
 
-pub loop-from-preserved-then-is_turn : goal.loop-from-preserved-then-is_turn
-loop-from-preserved-then-is_turn c =
+pub loop-from-preserved-in-Turn-1 : goal.loop-from-preserved-in-Turn-1
+loop-from-preserved-in-Turn-1 c =
     let t = c.run_turns-turns.ensures in
     let v = c.loop-from.invariant in (
       t.1,
@@ -37,107 +36,7 @@ loop-from-preserved-then-is_turn c =
       search rules,
       search rules,
       λ e. absurd (omega (arith, t.0)),
-      λ D H k. let R = v.5 D H k in opened-there _ D _ _ _ _ R (t.2 D _ _ _ _ _ _ _ R refl k) c.open_at-opened.ensures,
-    )
-
-pub loop-from-smaller-in-Refused : goal.loop-from-smaller-in-Refused
-loop-from-smaller-in-Refused c =
-    let x = next-line c.args.log.now c.loop-from.from c.loop-from-test.true c.line_end-end.ensures in
-    omega (arith, x.forward, x.inside)
-
-pub loop-from-preserved-in-Refused : goal.loop-from-preserved-in-Refused
-loop-from-preserved-in-Refused c =
-    let h = c.loop-from-test.true in
-    let x = next-line c.args.log.now c.loop-from.from h c.line_end-end.ensures in (
-      x.inside,
-      search rules,
-      search rules,
-      search rules,
-      λ e. absurd (omega (arith, x.forward)),
-      λ D H q.
-          let R = c.loop-from.invariant.5 D H q in
-          running-next _ D _ _ _ R h c.if-place-limit.true c.line_end-end.ensures (c.next-n.ensures (running-few _ D _ _ _ R h q)) c.read_command-command.ensures
-          (λ E G. refusal-performed E _ _ c.in-Refused.is G c.print_refused-place.ensures),
-    )
-
-pub loop-from-smaller-in-Lend : goal.loop-from-smaller-in-Lend
-loop-from-smaller-in-Lend c =
-    let x = next-line c.args.log.now c.loop-from.from c.loop-from-test.true c.line_end-end.ensures in
-    omega (arith, x.forward, x.inside)
-
-pub loop-from-preserved-in-Lend : goal.loop-from-preserved-in-Lend
-loop-from-preserved-in-Lend c =
-    let h = c.loop-from-test.true in
-    let x = next-line c.args.log.now c.loop-from.from h c.line_end-end.ensures in (
-      x.inside,
-      search rules,
-      search rules,
-      search rules,
-      λ e. absurd (omega (arith, x.forward)),
-      λ D H q.
-          let R = c.loop-from.invariant.5 D H q in
-          running-next _ D _ _ _ R h c.if-place-limit.true c.line_end-end.ensures (c.next-n.ensures (running-few _ D _ _ _ R h q)) c.read_command-command.ensures
-          (λ E G. lend-performed E _ _ c.in-Lend.is (c.run_lend-told.ensures E G)),
-    )
-
-pub loop-from-smaller-in-Propose : goal.loop-from-smaller-in-Propose
-loop-from-smaller-in-Propose c =
-    let x = next-line c.args.log.now c.loop-from.from c.loop-from-test.true c.line_end-end.ensures in
-    omega (arith, x.forward, x.inside)
-
-pub loop-from-preserved-in-Propose : goal.loop-from-preserved-in-Propose
-loop-from-preserved-in-Propose c =
-    let h = c.loop-from-test.true in
-    let x = next-line c.args.log.now c.loop-from.from h c.line_end-end.ensures in (
-      x.inside,
-      search rules,
-      search rules,
-      search rules,
-      λ e. absurd (omega (arith, x.forward)),
-      λ D H q.
-          let R = c.loop-from.invariant.5 D H q in
-          running-next _ D _ _ _ R h c.if-place-limit.true c.line_end-end.ensures (c.next-n.ensures (running-few _ D _ _ _ R h q)) c.read_command-command.ensures
-          (λ E G. proposal-performed E _ _ c.in-Propose.is G.benched (c.print_proposal-told.ensures E G.kept)),
-    )
-
-pub loop-from-smaller-in-Call : goal.loop-from-smaller-in-Call
-loop-from-smaller-in-Call c =
-    let x = next-line c.args.log.now c.loop-from.from c.loop-from-test.true c.line_end-end.ensures in
-    omega (arith, x.forward, x.inside)
-
-pub loop-from-preserved-in-Call : goal.loop-from-preserved-in-Call
-loop-from-preserved-in-Call c =
-    let h = c.loop-from-test.true in
-    let x = next-line c.args.log.now c.loop-from.from h c.line_end-end.ensures in (
-      x.inside,
-      search rules,
-      search rules,
-      search rules,
-      λ e. absurd (omega (arith, x.forward)),
-      λ D H q.
-          let R = c.loop-from.invariant.5 D H q in
-          running-next _ D _ _ _ R h c.if-place-limit.true c.line_end-end.ensures (c.next-n.ensures (running-few _ D _ _ _ R h q)) c.read_command-command.ensures
-          (λ E G. call-performed E _ _ c.in-Call.is _ (c.make_call-outcome.ensures E G.benched G.kept) (kind-printed _ _ _ c.kind_of-kind.ensures _ c.print_outcome-place.ensures) G),
-    )
-
-pub loop-from-smaller-in-Vote : goal.loop-from-smaller-in-Vote
-loop-from-smaller-in-Vote c =
-    let x = next-line c.args.log.now c.loop-from.from c.loop-from-test.true c.line_end-end.ensures in
-    omega (arith, x.forward, x.inside)
-
-pub loop-from-preserved-in-Vote : goal.loop-from-preserved-in-Vote
-loop-from-preserved-in-Vote c =
-    let h = c.loop-from-test.true in
-    let x = next-line c.args.log.now c.loop-from.from h c.line_end-end.ensures in (
-      x.inside,
-      search rules,
-      search rules,
-      search rules,
-      λ e. absurd (omega (arith, x.forward)),
-      λ D H q.
-          let R = c.loop-from.invariant.5 D H q in
-          running-next _ D _ _ _ R h c.if-place-limit.true c.line_end-end.ensures (c.next-n.ensures (running-few _ D _ _ _ R h q)) c.read_command-command.ensures
-          (λ E G. vote-performed E _ _ c.in-Vote.is G (c.print_vote-place.ensures E G)),
+      λ D H k. let R = v.5 D H k in opened-there _ D _ _ _ _ R (t.2 D _ _ _ _ _ _ _ R refl k) c.open_at-held.ensures,
     )
 
 pub loop-from-smaller : goal.loop-from-smaller
@@ -156,8 +55,8 @@ loop-from-preserved c =
       λ e. absurd (omega (arith, x.forward)),
       λ D H q.
           let R = c.loop-from.invariant.5 D H q in
-          running-next _ D _ _ _ R h c.if-place-limit.true c.line_end-end.ensures (c.next-n.ensures (running-few _ D _ _ _ R h q)) c.read_command-command.ensures
-          (λ E G. ask-performed E _ _ c.in-Ask.is G (c.print_ask-place.ensures E G.benched)),
+          running-next _ D _ _ _ R h c.if-place-limit.true c.line_end-end.ensures (c.next-n.ensures (running-few _ D _ _ _ R h q)) c.read_command-read.ensures
+          c.run_command-place.ensures,
     )
 
 pub returns-else-place-limit : goal.returns-else-place-limit

@@ -31,7 +31,7 @@ loop-from-smaller c =
 
 pub loop-from-preserved : goal.loop-from-preserved
 loop-from-preserved c =
-    let r = c.run_page-paged.ensures in
+    let r = c.run_page-place.ensures in
     let h = c.loop-from-test.true in
     let v = c.loop-from.invariant in
     let x = next-line c.args.log.now c.loop-from.from h c.line_end-end.ensures in (
@@ -43,8 +43,8 @@ loop-from-preserved c =
       λ D first before begin bench lending edits constraints R t k.
           let S = v.5 D first before begin bench lending edits constraints R t k in
           paged-next _ D first before begin bench _ S (ap (λ (u : Turner). u.last) t ∙ sym v.4) h c.if-place-limit.true c.line_end-end.ensures (c.next-n.ensures (running-few _ D first before begin S h k))
-          c.read_command-command.ensures
-          _ (λ E b l e k H q. r.1 E _ b l e k H q (sym c.paging_of-paging.ensures) (sym c.is_other.ensures ∙ c.if-is_other.false)),
+          c.read_command-read.ensures
+          _ (λ E b l e k H q. r.1 E _ b l e k H q (sym c.paging_of.ensures ∙ c.in-Some.is)),
     )
 
 pub returns-else-place-limit : goal.returns-else-place-limit
@@ -59,8 +59,8 @@ returns-after-loop-from c =
     let p = c.requires in
     (omega (arith, c.loop-from-test.false, p.0), v.0, v.5)
 
-pub returns-then-is_other : goal.returns-then-is_other
-returns-then-is_other c =
+pub returns-in_default : goal.returns-in_default
+returns-in_default c =
     let v = c.loop-from.invariant in
     let p = c.requires in
-    (stopped-after _ v.2 p.2 c.line_end-end.ensures _ c.read_command-command.ensures c.paging_of-paging.ensures c.is_other.ensures c.if-is_other.true, v.0, v.5)
+    (stopped-after _ v.2 p.2 c.line_end-end.ensures c.read_command-read.ensures (sym c.paging_of.ensures ∙ c.in_default.is), v.0, v.5)

@@ -31,7 +31,7 @@ returns-in-RollRow c = λ D K m. lent-as D c.in-RollRow.is (c.lend_seat.ensures 
 
 pub returns-in-NoRoll : goal.returns-in-NoRoll
 unfolding lend_effect
-returns-in-NoRoll c = λ D K m. rw c.set.ensures (lent-as D c.in-NoRoll.is (refl, c.lend_no_roll.ensures D.lent _ _ K))
+returns-in-NoRoll c = λ D K m. lent-as D c.in-NoRoll.is (refl, c.lend_no_roll.ensures D.lent _ _ K)
 
 pub returns-in-RowName : goal.returns-in-RowName
 unfolding lend_effect
@@ -39,4 +39,4 @@ returns-in-RowName c = λ D K m. lent-as D c.in-RowName.is (c.lend_name.ensures 
 
 pub returns-in-NoRow : goal.returns-in-NoRow
 unfolding lend_effect
-returns-in-NoRow c = λ D K m. rw c.set-in-NoRow.ensures (lent-as D c.in-NoRow.is (refl, c.lend_no_row.ensures D.lent _ _ K))
+returns-in-NoRow c = λ D K m. lent-as D c.in-NoRow.is (refl, c.lend_no_row.ensures D.lent _ _ K)

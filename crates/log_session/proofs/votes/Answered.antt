@@ -1,23 +1,22 @@
 -- Answers about votes, printed or refused. Assumes nothing.
-use mathlib.Core.Path.{◌≡◌, refl}
+use mathlib.Core.Path.{◌≡◌, refl, sym}
+use Rattle.std.specs.Prelude.{Result, Ok, Err}
+use Rattle.refusals.specs.declared.Refusal.{Refusal}
+use Rattle.refusals.specs.Numbers.{number, Gives}
+use Rattle.refusals.proofs.Numbers.{number-positive}
 use mathlib.Core.Bool.{true, false, cond}
-use mathlib.Core.List.{List, [], ◌∷◌, ◌++◌}
-use Prim.Native.Nat.{ℕ, zero, suc, ◌≤◌, ◌<◌}
-use native.Mathlib.Omega.{arith}
-use lib.Dec.{eqb, leb}
-use borrow.Author.Tests.{eq-eqb, ne_eqb, le-leb, lt-leb}
+use mathlib.Core.List.{List, [], ◌∷◌}
+use Prim.Native.Nat.{ℕ, zero, suc}
+use lib.Dec.{eqb}
+use borrow.Author.Tests.{eq-eqb, ne_eqb}
 use Rattle.voting.specs.declared.Election.{Election}
 use Rattle.voting_bundles.specs.declared.BundleAnswer.{BundleAnswer}
-use Rattle.judgement.specs.declared.lent_record.RowAnswer.{RowAnswer}
-use Rattle.suggestions.specs.declared.Suggested.{Suggested}
-use Rattle.record_rows.specs.row.Row.{Row, cell}
-use Rattle.text_forms.specs.Form.{fill}
-use Rattle.text_lines.specs.Line.{rule_form, constraint_line}
+use Rattle.text_lines.specs.Line.{rule_form}
 use Rattle.text_report.specs.Report.{refusal_line}
 use Rattle.log_answers.specs.Answers.{answer_line, answered_text, stored_text}
 use Rattle.log_forms.specs.Printed.{Texts, Printed}
 use Rattle.log_forms.proofs.Printing.{printed-both}
-use Rattle.log_session.specs.votes.Votes.{election_line, bundle_text, rule_line, suggestion_text, test_line}
+use Rattle.log_session.specs.votes.Votes.{election_line, bundle_text}
 
 module _ (number line : ℕ) (texts : Texts) (before : List ℕ) (at : ℕ) {after : List ℕ} {end : ℕ} where
   pub refused-so : (number ≡ 0 → ⊥) → Printed (refusal_line number line ∷ []) before at after end → Printed (answered_text number texts line) before at after end
@@ -43,51 +42,19 @@ module _ (line : ℕ) (before : List ℕ) (at : ℕ) {after : List ℕ} {end : �
       let h : Printed head before at middle place = rw q at p in
       answered-so b.number line (bundle_text b) before at z (printed-both head (stored_text b.bundle ∷ []) before at h r)
 
-  pub test-answered : (a : RowAnswer) → a.number ≡ 0 → {sound : ℕ} → sound ≡ cond a.sound 1 0
-      → Printed (answer_line "sound=?\n" (sound ∷ [])) before at after end → Printed (answered_text a.number (test_line a) line) before at after end
-  unfolding test_line
-  test-answered a z q p = answered-so a.number line (test_line a) before at z (rw q at p)
-
 -- a suggested constraint, by its rule; any rule above is the last
-last-rule : (rule : ℕ) → (rule ≡ 0 → ⊥) → (rule ≡ 1 → ⊥) → rule_form 2 ≡ rule_form rule
+pub last-rule : (rule : ℕ) → (rule ≡ 0 → ⊥) → (rule ≡ 1 → ⊥) → rule_form 2 ≡ rule_form rule
 unfolding rule_form
 last-rule zero a b = absurd (a refl)
 last-rule (suc zero) a b = absurd (b refl)
 last-rule (suc (suc n)) a b = refl
 
-module _ (row : Row) {before after : List ℕ} {at end : ℕ} where
-  pub rule-printed : (rule : ℕ) → cell row 1 ≡ rule → Printed (fill (rule_form rule) (cell row 0 ∷ cell row 2 ∷ []) ∷ []) before at after end → Printed (rule_line row) before at after end
-  unfolding constraint_line
-  rule-printed rule q p = rw q p
+-- an answer that is given, or refused
+module _ {A : Type 0} (text : A → Texts) (line : ℕ) (before : List ℕ) (at : ℕ) {after : List ℕ} {end : ℕ} (n : ℕ) (x : A) {answer : Result A Refusal} where
+  pub answered-given : {y : A} → answer ≡ Ok y → Gives n x answer → Printed (text y) before at after end → Printed (answered_text n (text x) line) before at after end
+  answered-given {y} e g p = let h : Gives n x (Ok y) = rw e at g in answered-so n line (text x) before at (sym h.0) (rw h.1 at p)
 
-  pub last-rule-printed : (cell row 1 ≡ 0 → ⊥) → (cell row 1 ≡ 1 → ⊥) → Printed (fill (rule_form 2) (cell row 0 ∷ cell row 2 ∷ []) ∷ []) before at after end → Printed (rule_line row) before at after end
-  unfolding constraint_line
-  last-rule-printed a b p = rw (last-rule (cell row 1) a b) at p
-
--- as many lines as there are suggested constraints
-module _ (s : Suggested) (before : List ℕ) (at : ℕ) where
-  abbrev head : Texts
-  head = answer_line "rules=#\n" (s.count ∷ [])
-
-  module _ {middle : List ℕ} {place : ℕ} (p : Printed head before at middle place) where
-    pub no-rule-answer : s.count < 1 → Printed (suggestion_text s) before at middle place
-    unfolding suggestion_text
-    no-rule-answer h =
-        let a : leb 1 s.count ≡ false = lt-leb 1 s.count h in
-        let b : leb 2 s.count ≡ false = lt-leb 2 s.count (omega arith) in
-        rw (a, b) p
-
-    module _ (h : 1 ≤ s.count) {next : List ℕ} {second : ℕ} (q : Printed (rule_line s.first) middle place next second) where
-      pub one-rule : s.count < 2 → Printed (suggestion_text s) before at next second
-      unfolding suggestion_text
-      one-rule i =
-          let a : leb 1 s.count ≡ true = le-leb 1 s.count h in
-          let b : leb 2 s.count ≡ false = lt-leb 2 s.count i in
-          rw (a, b) (printed-both head (rule_line s.first) before at p q)
-
-      pub two-rules : 2 ≤ s.count → {after : List ℕ} {end : ℕ} → Printed (rule_line s.second) next second after end → Printed (suggestion_text s) before at after end
-      unfolding suggestion_text
-      two-rules i r =
-          let a : leb 1 s.count ≡ true = le-leb 1 s.count h in
-          let b : leb 2 s.count ≡ true = le-leb 2 s.count i in
-          rw (a, b) (printed-both head (rule_line s.first ++ rule_line s.second) before at p (printed-both (rule_line s.first) (rule_line s.second) middle place q r))
+  pub refused-given : {r : Refusal} → answer ≡ Err r → Gives n x answer → Printed (refusal_line (number r) line ∷ []) before at after end → Printed (answered_text n (text x) line) before at after end
+  refused-given {r} e g p =
+      let h : Gives n x (Err r) = rw e at g in
+      rw (← h.0) (refused-so (number r) line (text x) before at (number-positive r) p)

@@ -10,8 +10,6 @@ use Rattle.voting_roll.specs.Election.{election_of}
 use Rattle.voting_count.specs.declared.Counted.{Counted}
 use Rattle.voting_count.specs.Count.{count_of}
 use Rattle.voting_bundles.specs.declared.BundleAnswer.{BundleAnswer}
-use Rattle.judgement.specs.declared.lent_record.RowAnswer.{RowAnswer}
-use Rattle.suggestions.specs.declared.Suggested.{Suggested}
 use Rattle.ledger.specs.Ledger.{start}
 use Rattle.ledger.specs.Bench.{bench_of}
 use Rattle.ledger.proofs.Valid.{start-valid, fed-valid}
@@ -19,7 +17,7 @@ use Rattle.log_forms.specs.Printed.{Printed}
 use Rattle.log_commands.specs.declared.Suggesting.{Suggesting}
 use Rattle.log_commands.specs.declared.Vote.{Vote}
 use Rattle.log_commands.specs.declared.Vote.TheVariants.{Elect, Bundle, Suggest, Test, Winner}
-use Rattle.log_lent.specs.lent_calls.Calls.{proposals_of, bundle_in, row_in, suggested_in}
+use Rattle.log_lent.specs.lent_calls.Calls.{proposals_of, bundle_in, lent_row_fault, row_sound, suggestion_fault, suggested_in}
 use Rattle.log_session.specs.Desk.{Desk, ledger_of, bench_in, printed_of}
 use Rattle.log_answers.specs.Answers.{answered_text}
 use Rattle.log_session.specs.votes.Votes.{election_line, bundle_text, suggestion_text, test_line, winner_text, vote_effect}
@@ -45,15 +43,16 @@ module _ (D : Desk) {vote : Vote} (line : ℕ) (before : List ℕ) (at : ℕ) {a
   unfolding vote_effect printed_of
   vote-bundle edit k q b e p = rw q (rw e at p)
 
-  pub vote-suggestion : (asked : Suggesting) → vote ≡ Suggest asked → (s : Suggested) → s ≡ suggested_in (ledger_of D).multilog asked.first asked.second asked.case
-      → Printed (answered_text s.number (suggestion_text s) line) before at after end → Printed (printed_of (vote_effect D vote) line) before at after end
+  pub vote-suggestion : (asked : Suggesting) → vote ≡ Suggest asked
+      → Printed (answered_text (suggestion_fault (ledger_of D).multilog asked.first asked.second asked.case) (suggestion_text (suggested_in (ledger_of D).multilog asked.first asked.second asked.case)) line) before at after end
+      → Printed (printed_of (vote_effect D vote) line) before at after end
   unfolding vote_effect printed_of
-  vote-suggestion asked q s e p = rw q (rw e at p)
+  vote-suggestion asked q p = rw q p
 
-  pub vote-test : (k : ℕ) → vote ≡ Test k → (a : RowAnswer) → a ≡ row_in D.lent k
-      → Printed (answered_text a.number (test_line a) line) before at after end → Printed (printed_of (vote_effect D vote) line) before at after end
+  pub vote-test : (k : ℕ) → vote ≡ Test k → Printed (answered_text (lent_row_fault D.lent k) (test_line (row_sound D.lent k)) line) before at after end
+      → Printed (printed_of (vote_effect D vote) line) before at after end
   unfolding vote_effect printed_of
-  vote-test k q a e p = rw q (rw e at p)
+  vote-test k q p = rw q p
 
   pub vote-winner : (edit : ℕ) → vote ≡ Winner edit → (c : Counted) → c ≡ count_of edit (proposals_of D.lent) D.lent.roll
       → Printed (answered_text c.election.number (winner_text edit c) line) before at after end → Printed (printed_of (vote_effect D vote) line) before at after end

@@ -42,7 +42,7 @@ use Rattle.voting_count.proofs.Benches.{bench-at}
 use Rattle.voting_count.proofs.Proposals.{held-checked, bench-faultless, proposal-bench-low}
 use Rattle.log_forms.specs.Printed.{Texts, Printed}
 use Rattle.log_forms.proofs.Printing.{printed-both}
-use Rattle.log_answers.specs.Answers.{answer_line, answered_text, stored_text}
+use Rattle.log_answers.specs.Answers.{answer_line, answered_text, stored_text, bit}
 use Rattle.log_session.specs.declared.winners.Verdict.{Verdict}
 use Rattle.log_session.specs.votes.Votes.{election_line, won_text, winner_text}
 
@@ -183,11 +183,16 @@ marked-at R test marks e index q p i =
     let n : index ≡ index_of e (names R) = p ∙ place-known e (names R) i in
     rw (q, n) (marks-at R test (index_of e (names R)) (mem_index e (names R) i) ∙ ap (λ (y : ℕ). cond (test y) 1 0) (get_or-place e (names R) i))
 
+-- a mark is 1 where the test holds
+one-where : (b : Bool) → eqb (cond b 1 0) 1 ≡ b
+one-where true = refl
+one-where false = refl
+
 pub verdict-is : (R : Record) (e : ℕ) → e among names R → {index : ℕ} → index ≡ place_in (names R) e → {ms ns : List ℕ} → ms ≡ marks_of R (must R) → ns ≡ marks_of R (never R)
-    → {a b : ℕ} → a ≡ get_or ms index 0 → b ≡ get_or ns index 0 → ◌≡◌ {A = Verdict} (record { must = a; never = b }) (record { must = cond (must R e) 1 0; never = cond (never R e) 1 0 })
-verdict-is R e i {index} p {ms} {ns} q r s u =
-    let x = s ∙ marked-at R (must R) ms e index q p i in
-    let y = u ∙ marked-at R (never R) ns e index r p i in
+    → ◌≡◌ {A = Verdict} (record { must = eqb (get_or ms index 0) 1; never = eqb (get_or ns index 0) 1 }) (record { must = must R e; never = never R e })
+verdict-is R e i {index} p {ms} {ns} q r =
+    let x = ap (λ (n : ℕ). eqb n 1) (marked-at R (must R) ms e index q p i) ∙ one-where (must R e) in
+    let y = ap (λ (n : ℕ). eqb n 1) (marked-at R (never R) ns e index r p i) ∙ one-where (never R e) in
     λ k. record { must = x k; never = y k }
 
 -- what follows the election's answer, where there is anything
@@ -198,8 +203,8 @@ alone : (w : Bool) (head tail : Texts) → w ≡ false → head ++ cond w tail [
 alone w head tail e = rw e (append-nil head)
 
 module _ (edit : ℕ) (before : List ℕ) (at : ℕ) {middle : List ℕ} {place : ℕ} where
-  pub won-printed : (R : Record) (b : declared.Record) → b ≡ stored R → {v : Verdict} → v ≡ record { must = cond (must R edit) 1 0; never = cond (never R edit) 1 0 }
-      → Printed (answer_line "edit=@ must=? never=? edits=# rules=#\n" (edit ∷ v.must ∷ v.never ∷ b.editcount ∷ b.constraintcount ∷ [])) before at middle place
+  pub won-printed : (R : Record) (b : declared.Record) → b ≡ stored R → {v : Verdict} → v ≡ record { must = must R edit; never = never R edit }
+      → Printed (answer_line "edit=@ must=? never=? edits=# rules=#\n" (edit ∷ bit v.must ∷ bit v.never ∷ b.editcount ∷ b.constraintcount ∷ [])) before at middle place
       → {after : List ℕ} {end : ℕ} → Printed (stored_text b ∷ []) middle place after end → Printed (won_text edit b) before at after end
   unfolding won_text
   won-printed R b q {v} s p r =

@@ -13,8 +13,6 @@ use Rattle.log_lent.specs.declared.Lending.{Lending}
 use Rattle.log_lent.specs.Kept.{Kept}
 use Rattle.log_session.specs.Desk.{Desk, Effect, bench_in, requested}
 use Rattle.log_session.specs.Requests.{request_of}
-use Rattle.log_session.specs.declared.calls.Kind.{Kind}
-use Rattle.log_session.specs.declared.calls.Kind.TheVariants.{Change, PageTurn, Adoption}
 
 -- what is in memory for a desk
 pub record Holds (D : Desk) (bench : Bench) (lending : Lending) (edits constraints : Rows) : Type 0 where
@@ -30,25 +28,20 @@ adoption_text a opened last =
     answer_line "won=? greatest=# silent=# total=# undone=# redone=# open=# last=#\n"
     (bit a.won ∷ a.greatest ∷ a.silent ∷ a.total ∷ a.undone ∷ a.redone ∷ opened ∷ last ∷ [])
 
-unfoldable pub call_kind : Call → Kind
-call_kind (AddEdit cells) = Change
-call_kind (AddConstraint cells) = Change
-call_kind (Merge k) = Change
-call_kind (Hide edit) = Change
-call_kind (Show edit) = Change
-call_kind (Turn pages) = PageTurn pages
-call_kind (Adopt edit) = Adoption
-
 -- what an accepted line that makes a call prints: an adoption answers what the election does, too
-unfoldable pub call_text : Kind → Answer → ℕ → ℕ → Texts
-call_text Change = pages_text
-call_text (PageTurn pages) = pages_text
-call_text Adoption = adoption_text
+unfoldable pub call_text : Call → Answer → ℕ → ℕ → Texts
+call_text (AddEdit cells) = pages_text
+call_text (AddConstraint cells) = pages_text
+call_text (Merge k) = pages_text
+call_text (Hide edit) = pages_text
+call_text (Show edit) = pages_text
+call_text (Turn pages) = pages_text
+call_text (Adopt edit) = adoption_text
 
 -- THE EFFECT of a line that makes a call
 unfoldable pub call_effect : Desk → Call → Effect
-call_effect D call = requested D (λ a L. call_text (call_kind call) a L.opened (last L)) (request_of D call)
+call_effect D call = requested D (λ a L. call_text call a L.opened (last L)) (request_of D call)
 
 -- the same from the answer and the open and last page that the code has
-unfoldable pub outcome_text : Kind → Answer → Turner → ℕ → Texts
-outcome_text kind a t line = answered_text a.number (call_text kind a t.opened t.last) line
+unfoldable pub outcome_text : Call → Answer → Turner → ℕ → Texts
+outcome_text call a t line = answered_text a.number (call_text call a t.opened t.last) line

@@ -1,7 +1,7 @@
 -- The lines of a call log about votes, proposals, suggestions and the test of a row, each with its effect. Assumes nothing.
-use Rattle.std.specs.Prelude.{cond, ◌&&◌, [], ◌∷◌, ◌++◌, ℕ, eqb, leb}
+use Rattle.std.specs.Prelude.{Bool, cond, ◌&&◌, [], ◌∷◌, ◌++◌, map, ℕ, eqb, length}
 use Rattle.record.specs.declared.Record as declared
-use Rattle.record.specs.Stored.{record_of}
+use Rattle.record.specs.Stored.{stored, record_of}
 use Rattle.record.specs.Judgement.{must, never}
 use Rattle.record_rows.specs.row.Row.{Row}
 use Rattle.voting.specs.declared.Election.{Election}
@@ -9,8 +9,8 @@ use Rattle.voting_roll.specs.Election.{election_of}
 use Rattle.voting_count.specs.declared.Counted.{Counted}
 use Rattle.voting_count.specs.Count.{count_of}
 use Rattle.voting_bundles.specs.declared.BundleAnswer.{BundleAnswer}
-use Rattle.judgement.specs.declared.lent_record.RowAnswer.{RowAnswer}
 use Rattle.suggestions.specs.declared.Suggested.{Suggested}
+use Rattle.suggestions.specs.Suggest.{rules_of}
 use Rattle.text_lines.specs.Line.{constraint_line}
 use Rattle.log_forms.specs.Printed.{Texts}
 use Rattle.log_answers.specs.Answers.{answer_line, bit, stored_text, record_text}
@@ -18,8 +18,8 @@ use Rattle.log_commands.specs.declared.Proposing.{Proposing}
 use Rattle.log_commands.specs.declared.Vote.{Vote}
 use Rattle.log_commands.specs.declared.Vote.TheVariants.{Elect, Bundle, Suggest, Test, Winner}
 use Rattle.log_lent.specs.Lent.{with_record}
-use Rattle.log_lent.specs.lent_calls.Calls.{proposals_of, bundle_in, row_in, suggested_in}
-use Rattle.log_lent.specs.lent_proposals.Made.{proposal_in}
+use Rattle.log_lent.specs.lent_calls.Calls.{proposals_of, bundle_in, lent_row_fault, row_sound, suggestion_fault, suggested_in}
+use Rattle.log_lent.specs.lent_proposals.Made.{lent_proposal_fault, proposal_made}
 use Rattle.log_session.specs.Desk.{Desk, Effect, ledger_of, tells}
 
 unfoldable pub election_line : Election → Texts
@@ -32,14 +32,12 @@ bundle_text b =
 -- THE EFFECT of a line that makes a proposal: kept, an accepted one takes the place of the old one
 unfoldable pub proposal_effect : Desk → Proposing → Effect
 proposal_effect D w =
-    let p = proposal_in D.lent w.lent w.old w.edits w.rules in
+    let n = lent_proposal_fault D.lent w.lent w.old w.edits w.rules in
+    let P = proposal_made D.lent w.lent w.old w.edits w.rules in
     record {
-      number = p.number;
-      after = record {
-        calls = D.calls;
-        lent = cond (eqb p.number 0 && w.keep) (with_record D.lent w.old (record_of p.after)) D.lent;
-      };
-      text = record_text p.after;
+      number = n;
+      after = record { calls = D.calls; lent = cond (eqb n 0 && w.keep) (with_record D.lent w.old P) D.lent };
+      text = record_text (stored P);
     }
 
 -- a suggested constraint is a line of the exchanged text
@@ -47,11 +45,10 @@ abbrev pub rule_line : Row → Texts
 rule_line row = constraint_line row ∷ []
 
 unfoldable pub suggestion_text : Suggested → Texts
-suggestion_text s =
-    answer_line "rules=#\n" (s.count ∷ []) ++ (cond (leb 1 s.count) (rule_line s.first) [] ++ cond (leb 2 s.count) (rule_line s.second) [])
+suggestion_text s = answer_line "rules=#\n" (length (rules_of s) ∷ []) ++ map constraint_line (rules_of s)
 
-unfoldable pub test_line : RowAnswer → Texts
-test_line a = answer_line "sound=?\n" (bit a.sound ∷ [])
+unfoldable pub test_line : Bool → Texts
+test_line sound = answer_line "sound=?\n" (bit sound ∷ [])
 
 -- whether an edit must stand in a won bundle, read as a record of its own, and whether it can never; the bundle's counts and its text
 unfoldable pub won_text : ℕ → declared.Record → Texts
@@ -68,6 +65,8 @@ winner_text edit c = election_line c.election ++ cond c.election.won (won_text e
 unfoldable pub vote_effect : Desk → Vote → Effect
 vote_effect D (Elect edit) = let E = election_of edit (proposals_of D.lent) D.lent.roll in tells D E.number (election_line E)
 vote_effect D (Bundle edit k) = let b = bundle_in D.lent k edit in tells D b.number (bundle_text b)
-vote_effect D (Suggest w) = let s = suggested_in (ledger_of D).multilog w.first w.second w.case in tells D s.number (suggestion_text s)
-vote_effect D (Test k) = let a = row_in D.lent k in tells D a.number (test_line a)
+vote_effect D (Suggest w) =
+    let R = (ledger_of D).multilog in
+    tells D (suggestion_fault R w.first w.second w.case) (suggestion_text (suggested_in R w.first w.second w.case))
+vote_effect D (Test k) = tells D (lent_row_fault D.lent k) (test_line (row_sound D.lent k))
 vote_effect D (Winner edit) = let c = count_of edit (proposals_of D.lent) D.lent.roll in tells D c.election.number (winner_text edit c)

@@ -1,13 +1,13 @@
 -- `add_constraint` meets its contract. Assumes nothing.
-use mathlib.Core.List.{[], ◌∷◌}
-use Rattle.record_tables.specs.Table.{decoded, add_constraint_fault, unite}
-use Rattle.record_joining.proofs.Answers.{join-refused-is, inserted-is}
+use Rattle.record_joining.proofs.Answers.{inserted-is, inserted-not}
 use Rattle.record_joining.proofs.add_constraint.Goals as goal
 
-pub returns-then-number-ne0 : goal.returns-then-number-ne0
-returns-then-number-ne0 c = λ R e k. let s = c.args in join-refused-is (add_constraint_fault R s.row) R (unite R (decoded [] (s.row ∷ []))) (c.constraint_add_fault-number.ensures R e k) c.if-number-ne0.true e
+pub returns-in_default : goal.returns-in_default
+returns-in_default c = λ R e k.
+    let s = c.args in
+    absurd (inserted-not R s.row k (c.in_ok-constraint_add_fault.ensures R e k) e c.constraint_of.ensures c.table_of-table.ensures c.insert.ensures c.in_default.is)
 
 pub returns : goal.returns
 returns c = λ R e k.
     let s = c.args in
-    inserted-is R s.row k (c.constraint_add_fault-number.ensures R e k) c.if-number-ne0.false e c.constraint_of.ensures c.table_of-table.ensures c.insert-more.ensures c.with_table.ensures
+    inserted-is R s.row k (c.in_ok-constraint_add_fault.ensures R e k) e c.constraint_of.ensures c.table_of-table.ensures c.insert.ensures c.in-Some.is c.with_table.ensures

@@ -1,17 +1,18 @@
 -- The place of an element in an ascending table, looked for by halving, and what its insertion there gives. Assumes nothing.
-use mathlib.Core.Path.{◌≡◌, refl, ap, sym, ◌∙◌}
-use mathlib.Core.Bool.{Bool, true, false}
+use mathlib.Core.Path.{◌≡◌, refl, ap}
+use mathlib.Core.Bool.{true, false}
 use mathlib.Core.Logic.{inl, inr, ⊎_elim}
 use mathlib.Core.List.{List, [], ◌∷◌, ◌++◌}
-use Prim.Native.Nat.{ℕ, zero, suc, ◌+◌, ◌≤◌, ◌<◌}
-use native.Mathlib.Numerals.{add-one}
+use Prim.Native.Nat.{ℕ, zero, suc, ◌≤◌, ◌<◌}
 use native.Mathlib.Omega.{arith}
-use lib.ListN.{length, take, drop, get_or, drop_of_length-le}
-use lib.Seq.{take-suc, drop-cons, length-take-le, get_or-take}
+use lib.Dec.{ltb}
+use lib.ListN.{length, take, drop, get_or}
+use borrow.Author.Tests.{ltb-true, ltb-false}
+use Rattle.std.specs.List.Sorted.{IsPartitionedBy, IsPartitionPoint}
 use Rattle.lists.proofs.Lists.{by, clash}
 use Rattle.lists.specs.Keyed.{precedes, Ascending, inserted}
 use Rattle.lists.specs.Lists.{Has}
-use Rattle.lists.proofs.Logic.{has-get_or, has-append-by}
+use Rattle.lists.proofs.Logic.{has-get_or}
 use Rattle.lists.proofs.Order.{less-irrefl, less-trans}
 use Rattle.lists.proofs.Union.{below-has}
 use Rattle.record_joining.specs.insertion.Insertion.{Place}
@@ -20,71 +21,34 @@ less-asym : (a b : List ℕ) → precedes a b ≡ true → precedes b a ≡ fals
 less-asym a b e = by (precedes b a) (λ f. clash (less-trans a b a e f) (less-irrefl a)) (λ f. f)
 
 module _ {A : Type 0} (key : A → List ℕ) where
-  -- the elements before and after one of an ascending table
-  before-it : (l : List A) (m : ℕ) (d : A) → Ascending key l → m < length l → (r : A) → Has r (take m l) → precedes (key r) (key (get_or l m d)) ≡ true
-  before-it [] m d a h r i = absurd (omega arith)
-  before-it (y ∷ l) zero d a h r i = absurd i
-  before-it (y ∷ l) (suc m) d a h r (inl e) = rw e (below-has key y (get_or l m d) l a.0 (has-get_or l m d (omega arith)))
-  before-it (y ∷ l) (suc m) d a h r (inr i) = before-it l m d a.1 (omega arith) r i
+  -- of an ascending table, what comes first precedes
+  ascends-at : (l : List A) (i j : ℕ) (d : A) → Ascending key l → i < j → j < length l → precedes (key (get_or l i d)) (key (get_or l j d)) ≡ true
+  ascends-at [] i j d a h w = absurd (omega (arith, w))
+  ascends-at (y ∷ l) i zero d a h w = absurd (omega (arith, h))
+  ascends-at (y ∷ l) zero (suc j) d a h w = below-has key y (get_or l j d) l a.0 (has-get_or l j d (omega arith))
+  ascends-at (y ∷ l) (suc i) (suc j) d a h w = ascends-at l i j d a.1 (omega arith) (omega arith)
 
-  after-it : (l : List A) (m : ℕ) (d : A) → Ascending key l → m < length l → (r : A) → Has r (drop (suc m) l) → precedes (key (get_or l m d)) (key r) ≡ true
-  after-it [] m d a h r i = absurd (omega arith)
-  after-it (y ∷ l) zero d a h r i = below-has key y r l a.0 i
-  after-it (y ∷ l) (suc m) d a h r i = after-it l m d a.1 (omega arith) r i
+  -- so those that precede x come before those that do not
+  pub ordered-parts : (x : A) (l : List A) → Ascending key l → IsPartitionedBy (λ y. precedes (key y) (key x)) l
+  ordered-parts x l a i j d h w e =
+      by (ltb i j)
+      (λ f. less-trans (key (get_or l i d)) (key (get_or l j d)) (key x) (ascends-at l i j d a (ltb-true i j f) w) e)
+      (λ f. let z : i ≡ j = omega (arith, ltb-false i j f) in rw z e)
 
-  -- the elements before low precede x, those from high on do not
-  pub record InsertionBetween (x : A) (l : List A) (low high : ℕ) : Type 0 where
-    pub below : (r : A) → Has r (take low l) → precedes (key r) (key x) ≡ true
-    pub above : (r : A) → Has r (drop high l) → precedes (key r) (key x) ≡ false
+  within-front : (P : A → Type 0) (l : List A) (p : ℕ) → ((k : ℕ) (d : A) → 0 ≤ k → k < p → P (get_or l k d)) → (r : A) → Has r (take p l) → P r
+  within-front P l zero f r i = absurd i
+  within-front P [] (suc p) f r i = absurd i
+  within-front P (y ∷ l) (suc p) f r i = ⊎_elim (λ (e : r ≡ y). rw e (f 0 y (omega arith) (omega arith))) (λ (j : Has r (take p l)). within-front P l p (λ k d g h. f (suc k) d (omega arith) (omega arith)) r j) i
 
-  between_start : (x : A) (l : List A) (n : ℕ) → length l ≤ n → InsertionBetween x l 0 n
-  between_start x l n h = record { below = λ r i. absurd i; above = λ r i. absurd (subst-drop r i) }
-    where
-      subst-drop : (r : A) → Has r (drop n l) → ⊥
-      subst-drop r i = rw (drop_of_length-le l {i = n} h) at i
+  within-rest : (P : A → Type 0) (l : List A) (p : ℕ) → ((k : ℕ) (d : A) → p ≤ k → k < length l → P (get_or l k d)) → (r : A) → Has r (drop p l) → P r
+  within-rest P [] zero f r i = absurd i
+  within-rest P (y ∷ l) zero f r i = ⊎_elim (λ (e : r ≡ y). rw e (f 0 y (omega arith) (omega arith))) (λ (j : Has r l). within-rest P l zero (λ k d g h. f (suc k) d (omega arith) (omega arith)) r j) i
+  within-rest P [] (suc p) f r i = absurd i
+  within-rest P (y ∷ l) (suc p) f r i = within-rest P l p (λ k d g h. f (suc k) d (omega arith) (omega arith)) r i
 
-  module _ (x : A) (l : List A) (a : Ascending key l) (low high middle : ℕ) (d : A) (b : InsertionBetween x l low high) (near : middle < length l) where
-    between-low : precedes (key (get_or l middle d)) (key x) ≡ true → InsertionBetween x l (middle + 1) high
-    between-low h =
-        let f : (r : A) → Has r (take (suc middle) l) → precedes (key r) (key x) ≡ true =
-        λ r i. has-append-by r (take middle l) (get_or l middle d ∷ []) (rw (take-suc l middle d near) at i)
-        (λ j. less-trans (key r) (key (get_or l middle d)) (key x) (before-it l middle d a near r j) h)
-        (λ j. ⊎_elim (λ (e : r ≡ get_or l middle d). rw e h) (λ (z : ⊥). absurd z) j) in
-        record { below = rw (add-one middle) f; above = b.above }
-
-    between-high : precedes (key (get_or l middle d)) (key x) ≡ false → InsertionBetween x l low middle
-    between-high h =
-        record {
-          below = b.below;
-          above = λ r i. ⊎_elim (λ (e : r ≡ get_or l middle d). rw e h)
-              (λ (j : Has r (drop (suc middle) l)). by (precedes (key r) (key x))
-              (λ e. clash (less-trans (key (get_or l middle d)) (key r) (key x) (after-it l middle d a near r j) e) h) (λ e. e))
-              (rw (drop-cons l middle d near) at i);
-        }
-
-  between-place : (x : A) (l : List A) (low high : ℕ) → low ≤ length l → high ≤ low → low ≤ high → InsertionBetween x l low high → Place key x l low
-  between-place x l low high n p q b = let e : high ≡ low = omega arith in record { near = n; below = b.below; above = rw e at b.above }
-
-  -- the same of the first n elements of an array
-  module _ (x : A) (rows : List A) (n : ℕ) (w : n ≤ length rows) where
-    pub array-start : InsertionBetween x (take n rows) 0 n
-    array-start = between_start x (take n rows) n (let h = length-take-le n rows w in omega arith)
-
-    module _ (a : Ascending key (take n rows)) (low high middle : ℕ) (d : A) (b : InsertionBetween x (take n rows) low high) (near : middle < n) {below : Bool} (e : below ≡ precedes (key (get_or rows middle d)) (key x)) where
-      there : middle < length (take n rows)
-      there = let h = length-take-le n rows w in omega arith
-
-      same : precedes (key (get_or (take n rows) middle d)) (key x) ≡ below
-      same = ap (λ (y : A). precedes (key y) (key x)) (get_or-take n rows middle d near) ∙ sym e
-
-      pub array-low : below ≡ true → InsertionBetween x (take n rows) (middle + 1) high
-      array-low t = between-low x (take n rows) a low high middle d b there (same ∙ t)
-
-      pub array-high : below ≡ false → InsertionBetween x (take n rows) low middle
-      array-high t = between-high x (take n rows) a low high middle d b there (same ∙ t)
-
-    pub array-place : (low high : ℕ) → low ≤ high → high ≤ n → high ≤ low → InsertionBetween x (take n rows) low high → Place key x (take n rows) low
-    array-place low high p q r b = between-place x (take n rows) low high (let h = length-take-le n rows w in omega arith) r p b
+  pub point-place : (x : A) (l : List A) (p : ℕ) → p ≤ length l → IsPartitionPoint (λ y. precedes (key y) (key x) ≡ true) (λ y. precedes (key y) (key x) ≡ false) l p → Place key x l p
+  point-place x l p h q =
+      record { near = h; below = within-front (λ y. precedes (key y) (key x) ≡ true) l p q.0; above = within-rest (λ y. precedes (key y) (key x) ≡ false) l p q.1 }
 
   -- insertion goes behind what precedes
   pub inserted-behind : (x : A) (l : List A) (p : ℕ) → ((r : A) → Has r (take p l) → precedes (key r) (key x) ≡ true) → inserted key x l ≡ take p l ++ inserted key x (drop p l)

@@ -1,17 +1,14 @@
 -- Inner: document 01, "What is turned away", number 3: a record's table of constraints that rows join one by one, until one has no place left. Assumes nothing.
-use Rattle.std.specs.Prelude.{true, false, cond, List, ◌∷◌, ◌++◌, ◌≡◌, ℕ, ◌+◌, ◌-◌, ◌≤◌, ltb, length, take, drop, replicate}
+use Rattle.std.specs.Prelude.{true, false, cond, List, ◌∷◌, ◌++◌, ◌≡◌, Option, Some, None, ℕ, ◌+◌, ◌-◌, ◌≤◌, ltb, length, take, drop}
 use Rattle.record.specs.declared.Constraint.{Constraint}
 use Rattle.record.specs.Stored.{padded, filler_constraint, constraint_limit}
 use Rattle.lists.specs.Keyed.{precedes}
 use Rattle.lists.specs.Lists.{Has}
 use Rattle.record_joining.specs.declared.insertion.Constraints.{Constraints}
 
-abbrev pub full_table : Constraints
-full_table = record { rows = replicate constraint_limit filler_constraint; count = 0; full = true }
-
--- how a table is held; once it would have more than 512 rows, only that
-unfoldable pub held_table : List Constraint → Constraints
-held_table l = cond (ltb constraint_limit (length l)) full_table (record { rows = padded constraint_limit filler_constraint l; count = length l; full = false })
+-- how a table is held; once it would have more than 512 rows, it is not
+unfoldable pub held_table : List Constraint → Option Constraints
+held_table l = cond (ltb constraint_limit (length l)) None (Some (record { rows = padded constraint_limit filler_constraint l; count = length l }))
 
 -- p elements of the table, and no more, precede x
 pub record Place {A : Type 0} (key : A → List ℕ) (x : A) (l : List A) (p : ℕ) : Type 0 where

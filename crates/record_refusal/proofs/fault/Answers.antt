@@ -1,12 +1,18 @@
--- `refusal::fault` meets its contract. Assumes nothing.
+-- `fault` meets its contract. Assumes nothing.
+use mathlib.Core.Path.{◌≡◌, refl, ◌∙◌}
+use borrow.Author.Rules.{rules}
+use Rattle.refusals.specs.Numbers.{number, number_of}
+use Rattle.refusals.proofs.Numbers.{number-positive}
 use Rattle.record_tables.proofs.Tables.{lent-first, lent-second}
 use Rattle.record_refusal.proofs.fault.Goals as goal
 
-pub returns-then-number-ne0 : goal.returns-then-number-ne0
-returns-then-number-ne0 c = λ R e k. let s = c.args in lent-first s.joined R e k s.edits.now c.edit_fault-number.ensures s.constraints.now c.if-number-ne0.true
+pub returns-in_err-edit_fault : goal.returns-in_err-edit_fault
+returns-in_err-edit_fault c = λ R e k.
+    let s = c.args in
+    let f : number_of c.from_residual.result ≡ number c.in_err-edit_fault.field-0.0 = search rules in
+    f ∙ lent-first s.joined R e k s.edits.now c.in_err-edit_fault.ensures s.constraints.now (number-positive _)
 
 pub returns : goal.returns
 returns c = λ R e k.
     let s = c.args in
-    let m = c.mark_rows-marks in
-    lent-second s.joined R e k s.edits.now c.edit_fault-number.ensures s.constraints.now c.if-number-ne0.false m.result m.ensures c.constraint_fault.ensures
+    lent-second s.joined R e k s.edits.now c.in_ok-edit_fault.ensures s.constraints.now refl c.mark_rows-marks.result c.mark_rows-marks.ensures c.constraint_fault.ensures

@@ -1,6 +1,6 @@
 -- The first faulty row, looked for row by row, and the grounds 3, 4 and 13 of a row by its place in an ascending table. Assumes nothing.
 use mathlib.Core.Path.{◌≡◌, refl, ap, ◌∙◌, sym}
-use mathlib.Core.Bool.{Bool, true, false, cond, not, ◌&&◌, ◌||◌}
+use mathlib.Core.Bool.{Bool, true, false, not, ◌&&◌, ◌||◌}
 use mathlib.Core.Logic.{⊎_elim}
 use mathlib.Core.List.{List, [], ◌∷◌, ◌++◌}
 use Prim.Native.Nat.{ℕ, zero, suc, ◌+◌, ◌≤◌, ◌<◌}
@@ -19,11 +19,6 @@ use Rattle.lists.proofs.Union.{late, late-has, below-has}
 use Rattle.record_rows.specs.row.Row.{Row, same}
 use Rattle.record_rows.proofs.row.Compared.{same-eq, less_other, more-other}
 use Rattle.record_rows.specs.grounds.Ground.{Rows, alike, known, first_fault, ◌given◌, ◌orelse◌}
-
--- a number other than 0, given or not, ahead of another
-pub given-orelse : (n : ℕ) (b : Bool) (m : ℕ) → suc n given b orelse m ≡ cond b (suc n) m
-given-orelse n true m = let q : suc n ≡ 0 → ⊥ = λ z. omega arith in rw (ne_eqb (suc n) 0 q)
-given-orelse n false m = refl
 
 pub orelse-none : (a b : ℕ) → a orelse b ≡ 0 → (a ≡ 0) × (b ≡ 0)
 orelse-none a b h =

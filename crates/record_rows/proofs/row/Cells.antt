@@ -5,7 +5,7 @@ use mathlib.Core.List.{[], ◌∷◌}
 use Prim.Native.Nat.{ℕ, zero, suc, ◌+◌, ◌≤◌, ◌<◌, ◌/◌, ◌%◌}
 use native.Mathlib.Omega.{arith}
 use native.Mathlib.Nat.{div-lt_iff_lt-mul}
-use borrow.Author.Tests.{eqb-true, eq-eqb, ne_eqb, lt-ltb, le-ltb, le-leb, lt-leb, leb-true, ltb-true}
+use borrow.Author.Tests.{eqb-true, eq-eqb, leb-true, ltb-true}
 use lib.Dec.{leb, ltb, eqb}
 use lib.ListN.{length, drop, drop_of_length-le}
 use lib.Seq.{drop-cons}
@@ -17,6 +17,7 @@ use Rattle.record.specs.declared.Body.TheVariants.{Insert, Set, Remove}
 use Rattle.record.specs.declared.Edit.{Edit}
 use Rattle.record.specs.declared.Constraint.{Constraint}
 use Rattle.record.specs.Stored.{filler_edit, filler_constraint}
+pub use Rattle.record_rows.specs.element.Laws.{edit-wide, constraint-wide}
 use Rattle.record_rows.specs.row.Row.{Row, cell, is_name, body_in_range, edit_in_range, is_side, constraint_in_range, field_of, body_of, edit_of, constraint_of, field_number, body_cells, edit_row, constraint_row}
 
 -- what holds of every number from n on holds of a number that is none below: the last arm of a match
@@ -32,18 +33,6 @@ past3 P f (suc (suc zero)) a b c = absurd (c refl)
 past3 P f (suc (suc (suc m))) a b c = f m
 
 -- a name
-pub name-low : (n : ℕ) → n / 256 < 1 → false ≡ is_name n
-unfolding is_name
-name-low n h = rw (lt-leb 1 (n / 256) h)
-
-pub name-high : (n : ℕ) → 1 ≤ n / 256 → 8 < n / 256 → false ≡ is_name n
-unfolding is_name
-name-high n l h = rw (le-leb 1 (n / 256) l, lt-leb (n / 256) 8 h)
-
-pub name-bench : (n : ℕ) → 1 ≤ n / 256 → n / 256 ≤ 8 → leb 1 (n % 256) ≡ is_name n
-unfolding is_name
-name-bench n l h = rw (le-leb 1 (n / 256) l, le-leb (n / 256) 8 h)
-
 pub name-small : (n : ℕ) → is_name n ≡ true → n < 2304
 unfolding is_name
 name-small n e =
@@ -55,14 +44,6 @@ unfolding is_name
 name-not-zero n h e = clash (rw e at h) refl
 
 -- the body of a row
-pub unused-field : (field value : ℕ) → (field ≡ 0 → ⊥) → false ≡ body_in_range 0 field value
-unfolding body_in_range
-unused-field field value h = rw (ne_eqb field 0 h)
-
-pub unused-value : (field value : ℕ) → field ≡ 0 → eqb value 0 ≡ body_in_range 0 field value
-unfolding body_in_range
-unused-value field value h = rw (eq-eqb field 0 h)
-
 module _ (kind field value : ℕ) where
   pub body-insert : kind ≡ 0 → {b : Bool} → b ≡ body_in_range 0 field value → b ≡ body_in_range kind field value
   body-insert e h = rw e h
@@ -79,21 +60,13 @@ module _ (kind field value : ℕ) where
   unfolding body_in_range
   body-other a b c = past3 (λ n. false ≡ body_in_range n field value) (λ m. refl) kind a b c
 
--- the tests of a row, one after the other
-module _ (first rest : Bool) (n bound : ℕ) where
-  pub first-fails : first ≡ false → false ≡ (first && (ltb n bound && rest))
-  first-fails e = rw e
-
-  pub bound-fails : first ≡ true → bound ≤ n → false ≡ (first && (ltb n bound && rest))
-  bound-fails e h = rw (e, le-ltb n bound h)
-
-  pub rest-decides : first ≡ true → n < bound → rest ≡ (first && (ltb n bound && rest))
-  rest-decides e h = rw (e, lt-ltb n bound h)
+pub and-three : (a b c : Bool) → ((a && b) && c) ≡ (a && (b && c))
+and-three true b c = refl
+and-three false b c = refl
 
 -- a row of its width, from the tests that the code makes
-pub row-in-range : (row : Row) (width n bound : ℕ) {first rest f g r : Bool} → length row ≡ width → r ≡ (f && (ltb n bound && g)) → f ≡ first → g ≡ rest
-    → r ≡ (eqb (length row) width && (first && (ltb n bound && rest)))
-row-in-range row width n bound w e p q = rw (eq-eqb (length row) width w, ← p, ← q) e
+pub row-in-range : (row : Row) (width : ℕ) (second : Bool) {first rest f g : Bool} → length row ≡ width → f ≡ first → g ≡ rest → ((f && second) && g) ≡ (eqb (length row) width && (first && (second && rest)))
+row-in-range row width second {f = f} {g = g} w e p = rw (eq-eqb (length row) width w, ← e, ← p) (and-three f second g)
 
 tests-pass : (a b c d : Bool) → (a && (b && (c && d))) ≡ true → (a ≡ true) × (b ≡ true) × (c ≡ true) × (d ≡ true)
 tests-pass a b c d h =
@@ -130,33 +103,7 @@ body_kept kind place field value a b = past2 (λ n. Remove place ≡ body_of n p
 pub body-set-is : (kind place field value : ℕ) {f : Field} → kind ≡ 1 → f ≡ field_of field → Set place f value ≡ body_of kind place field value
 body-set-is kind place field value e g = rw (e, g)
 
--- the row of an edit
-pub edit-row-is : (e : Edit) {b : Body} → e.body ≡ b → e.name ∷ body_cells b ≡ edit_row e
-unfolding edit_row
-edit-row-is e p = rw p
-
-pub row-set-is : (e : Edit) {p v : ℕ} {f : Field} {n : ℕ} → e.body ≡ Set p f v → n ≡ field_number f → e.name ∷ 1 ∷ p ∷ n ∷ v ∷ [] ≡ edit_row e
-unfolding edit_row
-row-set-is e q h = rw (q, h)
-
-pub edit-wide : (e : Edit) → length (edit_row e) ≡ 5
-unfolding edit_row
-edit-wide e = five e.body
-  where
-    five : (b : Body) → length (e.name ∷ body_cells b) ≡ 5
-    five (Insert p) = refl
-    five (Set p f v) = refl
-    five (Remove p) = refl
-
 -- a side, and a constraint in range
-pub side-zero : (n : ℕ) → n ≡ 0 → true ≡ is_side n
-unfolding is_side
-side-zero n e = rw (eq-eqb n 0 e)
-
-pub side-name : (n : ℕ) → (n ≡ 0 → ⊥) → {b : Bool} → b ≡ is_name n → b ≡ is_side n
-unfolding is_side
-side-name n e h = rw (ne_eqb n 0 e) h
-
 side-small : (n : ℕ) → is_side n ≡ true → n < 2304
 unfolding is_side
 side-small n h =
@@ -186,14 +133,6 @@ constraint-filler row p q = let e : constraint_in_range row ≡ false = sym p �
 pub constraint-decoded : (row : Row) {b : Bool} → b ≡ constraint_in_range row → b ≡ true → record { left = cell row 0; rule = cell row 1; right = cell row 2 } ≡ constraint_of row
 unfolding constraint_of
 constraint-decoded row p q = let e : constraint_in_range row ≡ true = sym p ∙ q in rw e
-
-pub constraint-row-is : (c : Constraint) → c.left ∷ c.rule ∷ c.right ∷ [] ≡ constraint_row c
-unfolding constraint_row
-constraint-row-is c = refl
-
-pub constraint-wide : (c : Constraint) → length (constraint_row c) ≡ 3
-unfolding constraint_row
-constraint-wide c = refl
 
 -- a row by its cells
 unfoldable cells_from : Row → ℕ → ℕ → Row

@@ -1,14 +1,18 @@
 -- Two rows, or the first cells of two rows, compared cell by cell. Assumes nothing.
-use mathlib.Core.Path.{◌≡◌, refl}
-use mathlib.Core.Bool.{true, false}
+use mathlib.Core.Path.{◌≡◌, refl, ap, sym, ◌∙◌}
+use mathlib.Core.Bool.{Bool, true, false, ◌&&◌}
 use mathlib.Core.List.{List, [], ◌∷◌}
-use Prim.Native.Nat.{ℕ, ◌+◌, ◌≤◌, ◌<◌}
-use native.Mathlib.Numerals.{add-one}
+use Prim.Native.Nat.{ℕ, ◌≤◌}
 use native.Mathlib.Omega.{arith}
-use borrow.Author.Tests.{eqb-true, eq-eqb, ne_eqb, lt-ltb, le-ltb}
+use borrow.Author.Tests.{eqb-true, eq-eqb}
 use lib.Dec.{eqb}
-use lib.ListN.{length, get_or, take, drop, drop_of_length-le}
-use lib.Seq.{drop-cons, get_or-take, length-take-le}
+use lib.ListN.{length, take}
+use lib.Seq.{length-take-le}
+use lib.Pointwise.{pointwise}
+use Rattle.std.specs.Prelude.{Some}
+use Rattle.std.specs.Ordering.{nat_cmp, is_lt, is_some_and}
+use Rattle.std.specs.Cmp.Lexicographic.{slice_partial_cmp}
+use Rattle.std.proofs.lemmas.Bool.Decides.{nat_tests}
 use Rattle.lists.proofs.Lists.{by, clash, and_l, and_r}
 use Rattle.lists.specs.Keyed.{precedes}
 use Rattle.lists.proofs.Order.{less-irrefl, less-total}
@@ -40,44 +44,26 @@ more-other a b h = by (same a b) (λ e. let p : a ≡ b = same-eq a b e in clash
 pub neither-same : (a b : List ℕ) → length a ≡ length b → precedes a b ≡ false → precedes b a ≡ false → same a b ≡ true
 neither-same a b l p q = let e : a ≡ b = less-total a b l p q in rw e (same_refl b)
 
--- cell j of the first k
-take_more : (k j : ℕ) (a : List ℕ) → j < k → k ≤ length a → drop j (take k a) ≡ get_or a j 0 ∷ drop (j + 1) (take k a)
-take_more k j a h l =
-    let m : j < length (take k a) = omega (arith, length-take-le k a l) in
-    rw (drop-cons (take k a) j 0 m, get_or-take k a j 0 h, add-one)
+-- what `==` says of two slices of numbers, and `<`
+pub slice-same : (a b : List ℕ) → pointwise eqb a b ≡ same a b
+unfolding same
+slice-same [] [] = refl
+slice-same [] (y ∷ b) = refl
+slice-same (x ∷ a) [] = refl
+slice-same (x ∷ a) (y ∷ b) = ap (λ (t : Bool). eqb x y && t) (slice-same a b)
 
-module _ (k j : ℕ) (a b : List ℕ) (h : j < k) (l : k ≤ length a) (m : k ≤ length b) where
-  pub same_more : get_or a j 0 ≡ get_or b j 0 → same (drop j (take k a)) (drop j (take k b)) ≡ same (drop (j + 1) (take k a)) (drop (j + 1) (take k b))
-  unfolding same
-  same_more e = rw (take_more k j a h l, take_more k j b h m, eq-eqb (get_or a j 0) (get_or b j 0) e)
+pub slice-less : (a b : List ℕ) → length a ≡ length b → is_some_and is_lt (slice_partial_cmp (λ x y. Some (nat_cmp x y)) a b) ≡ precedes a b
+unfolding precedes
+slice-less [] [] h = refl
+slice-less [] (y ∷ b) h = absurd (omega (arith, h))
+slice-less (x ∷ a) [] h = absurd (omega (arith, h))
+slice-less (x ∷ a) (y ∷ b) h = let more = slice-less a b (omega (arith, h)) in grind (arith, nat_tests)
 
-  pub same_not : (get_or a j 0 ≡ get_or b j 0 → ⊥) → same (drop j (take k a)) (drop j (take k b)) ≡ false
-  unfolding same
-  same_not e = rw (take_more k j a h l, take_more k j b h m, ne_eqb (get_or a j 0) (get_or b j 0) e)
+-- the first k cells of two rows, compared by a count that is k
+pub cells-less : (a b : List ℕ) {m n k w : ℕ} {r : Bool} → m ≡ k → n ≡ k → length a ≡ w → length b ≡ w → k ≤ w
+    → r ≡ is_some_and is_lt (slice_partial_cmp (λ x y. Some (nat_cmp x y)) (take m a) (take n b)) → r ≡ precedes (take k a) (take k b)
+cells-less a b {m} {n} {k} {w} e f p q h s =
+    rw (e, f) at s ∙ slice-less (take k a) (take k b) (length-take-le k a (omega arith) ∙ sym (length-take-le k b (omega arith)))
 
-  pub less-here : get_or a j 0 < get_or b j 0 → precedes (drop j (take k a)) (drop j (take k b)) ≡ true
-  unfolding precedes
-  less-here e = rw (take_more k j a h l, take_more k j b h m, lt-ltb (get_or a j 0) (get_or b j 0) e)
-
-  pub less-not : get_or b j 0 < get_or a j 0 → precedes (drop j (take k a)) (drop j (take k b)) ≡ false
-  unfolding precedes
-  less-not e =
-      let n : get_or b j 0 ≤ get_or a j 0 = omega arith in
-      rw (take_more k j a h l, take_more k j b h m, le-ltb (get_or a j 0) (get_or b j 0) n, lt-ltb (get_or b j 0) (get_or a j 0) e)
-
-  pub less-more : get_or b j 0 ≤ get_or a j 0 → get_or a j 0 ≤ get_or b j 0 → precedes (drop j (take k a)) (drop j (take k b)) ≡ precedes (drop (j + 1) (take k a)) (drop (j + 1) (take k b))
-  unfolding precedes
-  less-more p q =
-      rw (take_more k j a h l, take_more k j b h m, le-ltb (get_or a j 0) (get_or b j 0) p, le-ltb (get_or b j 0) (get_or a j 0) q)
-
-module _ (k j : ℕ) (a b : List ℕ) (h : k ≤ j) (l : k ≤ length a) (m : k ≤ length b) where
-  none_left : (a : List ℕ) → k ≤ length a → drop j (take k a) ≡ []
-  none_left a l = let p : length (take k a) ≤ j = omega (arith, length-take-le k a l) in drop_of_length-le (take k a) {i = j} p
-
-  pub same_end : same (drop j (take k a)) (drop j (take k b)) ≡ true
-  unfolding same
-  same_end = rw (none_left a l, none_left b m)
-
-  pub less-end : precedes (drop j (take k a)) (drop j (take k b)) ≡ false
-  unfolding precedes
-  less-end = rw (none_left a l)
+pub cells-same : (a b : List ℕ) {m n k : ℕ} {r : Bool} → m ≡ k → n ≡ k → r ≡ pointwise eqb (take m a) (take n b) → r ≡ same (take k a) (take k b)
+cells-same a b {k = k} e f s = rw (e, f) at s ∙ slice-same (take k a) (take k b)

@@ -1,25 +1,27 @@
--- The place of a number in an ascending list, looked for by halving. Assumes nothing.
+-- The place of a name in an ascending list, looked for by halving. Assumes nothing.
 use mathlib.Core.Path.{◌≡◌, refl, ap, sym, ◌∙◌}
-use mathlib.Core.Bool.{true}
-use mathlib.Core.List.{List, [], ◌∷◌, map, map-append}
-use Prim.Native.Nat.{ℕ, zero, suc, ◌+◌, ◌-◌, ◌≤◌, ◌<◌, ◌/◌}
-use native.Mathlib.Nat.{sub-zero, div-lt_iff_lt-mul}
-use native.Mathlib.Numerals.{add-one}
+use mathlib.Core.Bool.{true, false}
+use mathlib.Core.List.{List, [], ◌∷◌, map}
+use Prim.Native.Nat.{ℕ, zero, suc, ◌≤◌, ◌<◌}
 use native.Mathlib.Omega.{arith}
 use borrow.Author.Tests.{eq-eqb, ne_eqb, ltb-true, ltb-false, lt-ltb, le-ltb}
 use lib.Dec.{eqb, ltb}
-use lib.ListN.{length, take, get_or, set, length-map}
-use lib.Seq.{take-suc, take-suc-set}
-use Rattle.lists.proofs.Lists.{by, ascending-head, ascending-tail, has-among}
+use lib.ListN.{length, get_or, length-map}
+use Rattle.std.specs.Prelude.{Result, Ok, Err, Some, None}
+use Rattle.std.specs.Result.{result_ok}
+use Rattle.std.specs.Ordering.{nat_cmp, ordering_index}
+use Rattle.std.proofs.Common.{Less, Equal, Greater}
+use Rattle.std.specs.List.Sorted.{IsBinarySearchResult, IsSearchInRange}
+use Rattle.std.proofs.lemmas.Cmp.{ranked}
+use Rattle.std.proofs.lemmas.Bool.Decides.{nat_tests}
+use Rattle.lists.proofs.Lists.{by, ascending-head, ascending-tail, has-among, get_or-mapped}
 use Rattle.record.specs.declared.Edit.{Edit}
-use Rattle.record.specs.declared.Record as declared
 use Rattle.lists.specs.Lists.{index_of, mem, ascending}
 use Rattle.lists.proofs.Logic.{has-get_or}
 use Rattle.record.specs.Record.{Record, name_of, written, names}
-use Rattle.record.specs.Stored.{record_of, stored}
-use Rattle.record_tables.specs.Checked.{Checked}
+use Rattle.record.specs.Stored.{filler_edit}
+use Rattle.record_tables.specs.Checked.{Checked, known_place}
 use Rattle.record_tables.proofs.Records.{checked-ascending}
-use Rattle.record_tables.proofs.Tables.{held}
 
 pub ascends : (l : List ℕ) (j k : ℕ) → ascending l ≡ true → j < k → k < length l → get_or l j 0 < get_or l k 0
 ascends [] j k h p q = absurd (omega arith)
@@ -43,51 +45,6 @@ at_none x (y ∷ l) f =
     let n : x ≡ y → ⊥ = λ q. f 0 (omega arith) (sym q) in
     rw (ne_eqb x y n) (ap suc (at_none x l (λ k p. f (suc k) (omega arith))))
 
-pub middle-below : (low high : ℕ) → low < high → low + (high - low) / 2 < high
-middle-below low high h =
-    let d : (high - low) / 2 < high - low = (div-lt_iff_lt-mul {k = 2} {x = high - low} {y = high - low} (omega arith)).1 (omega arith) in
-    omega arith
-
--- the numbers before low are below x, those from high on are not
-pub record Between (x : ℕ) (l : List ℕ) (low high : ℕ) : Type 0 where
-  pub below : (k : ℕ) → k < low → get_or l k 0 < x
-  pub above : (k : ℕ) → high ≤ k → k < length l → x ≤ get_or l k 0
-
-pub between_start : (x : ℕ) (l : List ℕ) → Between x l 0 (length l)
-between_start x l = record { below = λ k h. absurd (omega arith); above = λ k h p. absurd (omega arith) }
-
-module _ (x : ℕ) (l : List ℕ) (a : ascending l ≡ true) (low high middle : ℕ) (b : Between x l low high) (near : middle < length l) where
-  pub between-low : get_or l middle 0 < x → Between x l (middle + 1) high
-  between-low h =
-      record {
-        below = λ k p. by (ltb k middle) (λ e. omega (arith, ascends l k middle a (ltb-true k middle e) near)) (λ e. let q : k ≡ middle = omega (arith, ltb-false k middle e) in rw q h);
-        above = b.above;
-      }
-
-  pub between-high : x ≤ get_or l middle 0 → Between x l low middle
-  between-high h =
-      record {
-        below = b.below;
-        above = λ k p q. by (ltb middle k) (λ e. omega (arith, ascends l middle k a (ltb-true middle k e) q)) (λ e. let r : k ≡ middle = omega (arith, ltb-false middle k e) in rw r h);
-      }
-
--- where low and high meet
-module _ (x : ℕ) (l : List ℕ) (a : ascending l ≡ true) (low : ℕ) (b : Between x l low low) where
-  pub found_none : length l ≤ low → length l ≡ index_of x l
-  found_none h = at_none x l (λ k p e. let q : get_or l k 0 < x = b.below k (omega arith) in omega arith)
-
-  pub found-other : low < length l → (get_or l low 0 ≡ x → ⊥) → length l ≡ index_of x l
-  found-other h n =
-      at_none x l
-      (λ k p e. by (ltb k low)
-      (λ q. let r : get_or l k 0 < x = b.below k (ltb-true k low q) in omega arith)
-      (λ q. by (ltb low k)
-      (λ r. let s : x ≤ get_or l low 0 = b.above low (omega arith) h in omega (arith, ascends l low k a (ltb-true low k r) p))
-      (λ r. let s : low ≡ k = omega (arith, ltb-false k low q, ltb-false low k r) in n (rw s e))))
-
-  pub found_here : low < length l → get_or l low 0 ≡ x → low ≡ index_of x l
-  found_here h e = at_here x l low h e b.below
-
 -- a name that is there has a place below the length
 mem_index : (x : ℕ) (l : List ℕ) → ltb (index_of x l) (length l) ≡ mem x l
 unfolding index_of mem
@@ -97,31 +54,47 @@ mem_index x (y ∷ l) = by (eqb x y) (λ e. rw (e, lt-ltb 0 (suc (length l)) (om
     shift : (m n : ℕ) → ltb (suc m) (suc n) ≡ ltb m n
     shift m n = by (ltb m n) (λ e. rw (e, lt-ltb (suc m) (suc n) (let h : m < n = ltb-true m n e in omega arith))) (λ e. rw (e, le-ltb (suc m) (suc n) (let h : n ≤ m = ltb-false m n e in omega arith)))
 
--- the names of the first edits of an array
-pub names-next : (a : List Edit) (out : List ℕ) (i : ℕ) (d : Edit) → i < length a → i < length out → take i out ≡ map name_of (take i a) → take (i + 1) (set out i (name_of (get_or a i d))) ≡ map name_of (take (i + 1) a)
-names-next a out i d h l e =
-    rw (add-one i) (take-suc-set out i (name_of (get_or a i d)) l ∙ rw e (sym (rw (take-suc a i d h, map-append))))
+pub place-some : (x : ℕ) (l : List ℕ) (i : ℕ) → i ≡ index_of x l → i < length l → Some i ≡ known_place x l
+place-some x l i e h = let m : mem x l ≡ true = sym (mem_index x l) ∙ rw (← e) (lt-ltb i (length l) h) in rw (m, e)
 
-pub names-end : (a : List Edit) (out : List ℕ) (i n : ℕ) → i ≤ n → n ≤ i → take i out ≡ map name_of (take i a) → take n out ≡ map name_of (take n a)
-names-end a out i n h l e = let q : i ≡ n = omega arith in rw q at e
+pub place-none : (x : ℕ) (l : List ℕ) → length l ≡ index_of x l → None ≡ known_place x l
+place-none x l e = let m : mem x l ≡ false = sym (mem_index x l) ∙ rw (← e) (le-ltb (length l) (length l) (omega arith)) in rw m
 
--- of a stored record
-module _ (r : declared.Record) (R : Record) (e : r ≡ stored R) (k : Checked R) where
-  held-names : map name_of (record_of r).edits ≡ written R
-  unfolding written
-  held-names = ap (λ (x : Record). map name_of x.edits) (held r R e)
+-- later names answer no less
+rises : (a b x : ℕ) → a ≤ b → ordering_index (nat_cmp a x) ≤ ordering_index (nat_cmp b x)
+rises a b x h = grind (arith, nat_tests)
 
-  written-ascends : ascending (written R) ≡ true
-  unfolding names
-  written-ascends = ascending-tail 0 (written R) (checked-ascending R k)
+-- what a search by halving finds
+module _ (l : List Edit) (x : ℕ) (a : ascending (map name_of l) ≡ true) where
+  name_at : (k : ℕ) → k < length l → get_or (map name_of l) k 0 ≡ name_of (get_or l k filler_edit)
+  name_at k h = get_or-mapped name_of l k filler_edit 0 h
 
-  pub place_is : (x : ℕ) (l : List ℕ) → take r.editcount l ≡ map name_of (record_of r).edits → {p : ℕ} → (ascending (take (r.editcount - 0) l) ≡ true → p ≡ index_of x (take (r.editcount - 0) l)) → p ≡ index_of x (written R)
-  place_is x l h f =
-      let t : take (r.editcount - 0) l ≡ written R = rw sub-zero (h ∙ held-names) in
-      (rw t at f) written-ascends
+  apart : (k : ℕ) (d : Edit) → k < length l → name_of (get_or l k d) ≡ name_of (get_or l k filler_edit)
+  apart k d h = sym (get_or-mapped name_of l k d 0 h) ∙ name_at k h
 
-  pub knows-is : (x : ℕ) {p : ℕ} → p ≡ index_of x (written R) → ltb p r.editcount ≡ mem x (written R)
-  unfolding written
-  knows-is x h =
-      let n : r.editcount ≡ length (written R) = ap (λ (y : declared.Record). y.editcount) e ∙ sym (length-map R.edits name_of) in
-      rw (h, n) (mem_index x (written R))
+  rising : (i j : ℕ) → i ≤ j → j < length l → get_or (map name_of l) i 0 ≤ get_or (map name_of l) j 0
+  rising i j p q =
+      by (ltb i j)
+      (λ e. omega (arith, ascends (map name_of l) i j a (ltb-true i j e) (omega (arith, length-map l name_of))))
+      (λ e. let z : i ≡ j = omega (arith, ltb-false i j e) in rw z (omega arith))
+
+  pub searched : (r : Result ℕ ℕ) → IsSearchInRange r (length l) → IsBinarySearchResult (λ e. nat_cmp (name_of e) x) l r → result_ok r ≡ known_place x (map name_of l)
+  searched (Ok i) h p =
+      let e : get_or (map name_of l) i 0 ≡ x = name_at i h ∙ ranked (name_of (get_or l i filler_edit)) x Equal (sym (p filler_edit)) in
+      let long : i < length (map name_of l) = omega (arith, length-map l name_of) in
+      place-some x (map name_of l) i (at_here x (map name_of l) i long e (λ k q. rw (← e) (ascends (map name_of l) k i a q long))) long
+  searched (Err i) h p =
+      let q = p (λ m n d u v. rises (name_of (get_or l m d)) (name_of (get_or l n d)) x (omega (arith, rising m n u v, apart m d (omega arith), apart n d v, name_at m (omega arith), name_at n v))) in
+      place-none x (map name_of l)
+      (at_none x (map name_of l)
+      (λ k w e.
+      let s : k < length l = omega (arith, length-map l name_of) in
+      let y : name_of (get_or l k filler_edit) ≡ x = sym (name_at k s) ∙ e in
+      by (ltb k i)
+      (λ z. let less : name_of (get_or l k filler_edit) < x = ranked (name_of (get_or l k filler_edit)) x Less (sym (q.0 k filler_edit (omega arith) (ltb-true k i z))) in omega (arith, less, y))
+      (λ z. let more : x < name_of (get_or l k filler_edit) = ranked (name_of (get_or l k filler_edit)) x Greater (sym (q.1 k filler_edit (ltb-false k i z) s)) in omega (arith, more, y))))
+
+-- the names of a record ascend
+pub written-ascends : (R : Record) → Checked R → ascending (written R) ≡ true
+unfolding names
+written-ascends R k = ascending-tail 0 (written R) (checked-ascending R k)

@@ -1,28 +1,21 @@
 -- `mark_edits` meets its contract. Assumes nothing.
-use mathlib.Core.Path.{◌≡◌}
-use lib.ListN.{length, take}
 use native.Mathlib.Omega.{arith}
-use lib.Seq.{length-take-le}
-use Rattle.record.specs.Record.{name_of}
-use Rattle.record_rows.specs.row.Row.{edit_in_range, edit_row}
-use Rattle.record_tables.proofs.Marks.{marks-start, marks-front, marks-end, edit-small}
 use borrow.Author.Rules.{rules}
+use Rattle.record.specs.Record.{name_of}
+use Rattle.record.specs.Stored.{filler_edit}
+use Rattle.record_rows.specs.row.Row.{edit_row, edit_in_range}
+use Rattle.record_tables.proofs.Marks.{marks-start, marks-next, marks-end, edit-small}
 use Rattle.record_tables.proofs.mark_edits.Goals as goal
 
-pub loop-i-init : goal.loop-i-init
-loop-i-init c = (search rules, search rules, search rules, λ f. marks-start 2304 (omega arith))
+pub loop-edit-init : goal.loop-edit-init
+loop-edit-init c = (search rules, λ f. rw c.mark.ensures.1 (marks-start 2304 (omega arith)))
 
-pub loop-i-preserved : goal.loop-i-preserved
-loop-i-preserved c =
-    let z : length c.args.a ≡ 127 = search rules in (
-      search rules,
-      search rules,
-      search rules,
-      marks-front name_of (λ e. edit_in_range (edit_row e)) 2304 edit-small c.args.a c.args.n (omega arith) c.loop-i.marks c.loop-i.i c.slot-k.result _ c.loop-i-test.true c.loop-i.invariant.2
-          c.slot-k.ensures.1 c.loop-i.invariant.3,
-    )
+pub loop-edit-preserved : goal.loop-edit-preserved
+loop-edit-preserved c = (
+  search rules,
+  λ f. rw c.mark-in-loop-edit.ensures.1
+      (marks-next name_of (λ e. edit_in_range (edit_row e)) 2304 edit-small c.args.edits.now c.loop-edit.marks c.loop-edit.edit-index _ filler_edit c.loop-edit-test.true c.loop-edit.invariant.0 (λ h. c.from.ensures) c.loop-edit.invariant.1 f),
+)
 
 pub returns : goal.returns
-returns c = λ f.
-    let z : length c.args.a ≡ 127 = search rules in
-    marks-end name_of (λ e. edit_in_range (edit_row e)) 2304 edit-small (take c.args.n c.args.a) c.loop-i.marks c.loop-i.i (omega (arith, length-take-le c.args.n c.args.a (omega arith))) (c.loop-i.invariant.3 f)
+returns c = λ f. marks-end name_of (λ e. edit_in_range (edit_row e)) 2304 edit-small c.args.edits.now c.loop-edit.marks c.loop-edit.edit-index c.loop-edit-test.false (c.loop-edit.invariant.1 f)

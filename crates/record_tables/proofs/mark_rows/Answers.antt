@@ -1,22 +1,21 @@
 -- `mark_rows` meets its contract. Assumes nothing.
-use mathlib.Core.Path.{◌∙◌}
+use mathlib.Core.Path.{refl}
 use mathlib.Core.List.{[]}
 use native.Mathlib.Omega.{arith}
+use borrow.Author.Rules.{rules}
 use Rattle.record_rows.specs.row.Row.{cell, edit_in_range}
 use Rattle.record_tables.proofs.Marks.{marks-start, marks-next, marks-end, row_small}
-use borrow.Author.Rules.{rules}
 use Rattle.record_tables.proofs.mark_rows.Goals as goal
 
-pub loop-i-init : goal.loop-i-init
-loop-i-init c = (search rules, search rules, λ f. marks-start 2304 (omega arith))
+pub loop-row-init : goal.loop-row-init
+loop-row-init c = (search rules, λ f. rw c.mark.ensures.1 (marks-start 2304 (omega arith)))
 
-pub loop-i-preserved : goal.loop-i-preserved
-loop-i-preserved c = (
+pub loop-row-preserved : goal.loop-row-preserved
+loop-row-preserved c = (
   search rules,
-  search rules,
-  marks-next (λ row. cell row 0) edit_in_range 2304 row_small c.args.t.now c.loop-i.marks c.loop-i.i c.slot-k.result [] c.loop-i-test.true c.loop-i.invariant.1
-      (λ h. c.slot-k.ensures.1 (search rules) ∙ c.index32-n.ensures) c.loop-i.invariant.2,
+  λ f. rw c.mark-in-loop-row.ensures.1
+      (marks-next (λ row. cell row 0) edit_in_range 2304 row_small c.args.t.now c.loop-row.marks c.loop-row.row-index _ [] c.loop-row-test.true c.loop-row.invariant.0 (λ h. refl) c.loop-row.invariant.1 f),
 )
 
 pub returns : goal.returns
-returns c = λ f. marks-end (λ row. cell row 0) edit_in_range 2304 row_small c.args.t.now c.loop-i.marks c.loop-i.i c.loop-i-test.false (c.loop-i.invariant.2 f)
+returns c = λ f. marks-end (λ row. cell row 0) edit_in_range 2304 row_small c.args.t.now c.loop-row.marks c.loop-row.row-index c.loop-row-test.false (c.loop-row.invariant.1 f)

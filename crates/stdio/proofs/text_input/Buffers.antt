@@ -7,25 +7,22 @@ use native.Mathlib.Omega.{arith}
 use lib.Dec.{leb}
 use lib.ListN.{length, take, drop}
 use lib.Seq.{take_at, length-take-le}
+use Rattle.std.specs.Prelude.{Ok}
 use Rattle.lists.proofs.Lists.{by, le-by}
 use Rattle.text.specs.Text.{read_text}
 use Rattle.text.proofs.Limit.{first-bytes-decide}
-use Rattle.text_writer.specs.declared.Written.{Written}
 use Rattle.text_writer.specs.Placed.{placed, placing}
-use Rattle.text_report.specs.Report.{printed}
-use Rattle.text_report.proofs.Size.{printed-fits}
 
 -- a text that was placed at the start
-placed-there : (text out : List ℕ) → (placing text 0 out).number ≡ 0 → take (placing text 0 out).end (placed text 0 out) ≡ text
+pub placed-there : (text out : List ℕ) (end : ℕ) {after : List ℕ} → Ok end ≡ placing text 0 out → after ≡ placed text 0 out → take end after ≡ text
 unfolding placing placed
-placed-there text out =
+placed-there text out end {after} p q =
     by (leb (0 + length text) (length out))
-    (λ (e : leb (0 + length text) (length out) ≡ true). rw e (λ z. take_at text (drop (0 + length text) out) (0 + length text) (omega arith)))
-    (λ (e : leb (0 + length text) (length out) ≡ false). rw e (λ z. let q : ◌≡◌ {A = ℕ} 12 0 = z in absurd (omega arith)))
-
-pub text-shown : (text out : List ℕ) → 16384 ≤ length out → {w : Written} {after : List ℕ}
-    → (w ≡ placing (printed (read_text text)) 0 out) × (after ≡ placed (printed (read_text text)) 0 out) → take w.end after ≡ printed (read_text text)
-text-shown text out h p = rw (p.0, p.1) (placed-there (printed (read_text text)) out (printed-fits text out h))
+    (λ (e : leb (0 + length text) (length out) ≡ true).
+    let n : end ≡ 0 + length text = (let r = rw e at p in (cc)) in
+    let r = rw e at q in
+    rw (n, r) (take_at text (drop (0 + length text) out) (0 + length text) (omega arith)))
+    (λ (e : leb (0 + length text) (length out) ≡ false). let r = rw e at p in let z : ⊥ = cc in absurd z)
 
 -- a part that is read: the buffer is full, and its bytes decide, or nothing follows
 pub first-decide : (buffer : List ℕ) (size : ℕ) → 64641 ≤ length buffer → size ≤ length buffer

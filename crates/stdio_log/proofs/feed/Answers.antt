@@ -1,19 +1,23 @@
 -- `feed` meets its contract. Assumes nothing.
+use mathlib.Core.Path.{sym}
 use native.Mathlib.Omega.{arith}
-use lib.ListN.{take}
-use borrow.Author.Rules.{rules}
-use Rattle.stdio_log.proofs.Streams.{whole-filled, whole-few, fed-waits, fed-ran}
+use lib.Seq.{length-take-le}
+use Rattle.stdio_log.proofs.Streams.{whole-filled, whole-few, feeds}
 use Rattle.stdio_log.proofs.feed.Goals as goal
 
 pub slice_bounds-run_lines-end : goal.slice_bounds-run_lines-end
-slice_bounds-run_lines-end g c = omega (arith, whole-filled c.args.chunk.now c.args.filled c.requires.0 c.last_end-whole.ensures)
+slice_bounds-run_lines-end g c = omega (arith, whole-filled c.args.chunk.now c.args.filled c.requires.inside c.last_end-whole.ensures, c.requires.inside)
 
-pub run_lines-ran-requires : goal.run_lines-ran-requires
-run_lines-ran-requires g c =
-    (c.requires.1, whole-few c.args.chunk.now c.args.filled c.requires.0 c.last_end-whole.ensures _ _ c.requires.2, search (rules, c.requires.3))
+pub slice_bounds-run_lines-end-2 : goal.slice_bounds-run_lines-end-2
+slice_bounds-run_lines-end-2 g c = sym (length-take-le c.last_end-whole.result c.args.chunk.now (omega (arith, whole-filled c.args.chunk.now c.args.filled c.requires.inside c.last_end-whole.ensures, c.requires.inside)))
+
+pub run_lines-requires-clause-held : goal.run_lines-requires-clause-held
+run_lines-requires-clause-held g c = c.requires.held
+
+pub run_lines-requires-clause-few : goal.run_lines-requires-clause-few
+run_lines-requires-clause-few g c = whole-few c.args.chunk.now c.args.filled c.requires.inside c.last_end-whole.ensures _ _ c.requires.few
 
 pub returns : goal.returns
 returns g c =
-    let u = c.keep_waiting-rest.ensures in
-    let w = fed-waits (take c.args.filled c.args.chunk.now) _ u in
-    (w.0, w.1, fed-ran c.args.chunk.now c.args.filled c.requires.0 c.last_end-whole.ensures c.args.fed c.run_lines-ran.result u.0 c.run_lines-ran.ensures)
+    let w = feeds c.args.chunk.now c.args.filled c.requires.inside c.last_end-whole.ensures c.args.memory.now c.run_lines.new.memory c.keep_waiting.result c.keep_waiting.new.bytes _ c.keep_waiting.ensures c.in_ok-run_lines.ensures in
+    (w.few, w.waits, w.runs)

@@ -1,13 +1,12 @@
-use Rattle.std.proofs.Common.{◌+◌, ◌≤◌}
+use Rattle.std.proofs.Common.{◌+◌, ◌≤◌, take}
 use Rattle.log_run.specs.Log.{Run}
 use Rattle.stdio_log.specs.Streaming.{most_lines, Ran, Streaming}
 use Rattle.stdio_log.proofs.read_all.Given as goal
 
 abbrev pub invariant-loop-chunk : goal.invariant-loop-chunk
 invariant-loop-chunk g l =
-    (l.held.rest ≤ 102) × (l.left ≤ most_lines)
-    × ((R : Run) → Ran R l.initial.held l.initial.edits l.initial.constraints
-    → Streaming R l.held l.edits l.constraints l.chunk × (l.held.count + l.held.rest + l.left ≤ most_lines))
+    (l.rest ≤ 102) × (l.left ≤ most_lines)
+    × ((R : Run) → Ran R l.initial.memory → Streaming R l.memory (take l.rest l.chunk) × (l.memory.count + l.rest + l.left ≤ most_lines))
 
 abbrev pub decreases-loop-chunk : goal.decreases-loop-chunk
 decreases-loop-chunk g l = l.left

@@ -3,11 +3,10 @@ use Rattle.stream.proofs.Front.{whole-inside, rest-inside, waits_front}
 use Rattle.stream.proofs.keep_waiting.Goals as goal
 
 pub overflow_sub-size : goal.overflow_sub-size
-overflow_sub-size c = whole-inside c.args.bytes.now c.args.filled c.lesser-size.ensures c.last_end-whole.ensures
+overflow_sub-size c = whole-inside c.args.bytes.now c.args.filled c.min-size.ensures c.last_end-whole.ensures
 
-pub move_front-requires : goal.move_front-requires
-move_front-requires c = rest-inside c.args.bytes.now c.args.filled c.lesser-size.ensures c.last_end-whole.ensures c.lesser-rest.ensures
+pub copy_within-requires-clause-in_bounds : goal.copy_within-requires-clause-in_bounds
+copy_within-requires-clause-in_bounds c = rest-inside c.args.bytes.now c.args.filled c.min-size.ensures c.last_end-whole.ensures c.min-rest.ensures
 
 pub returns : goal.returns
-returns c =
-    waits_front c.args.bytes.now c.args.filled c.lesser-size.ensures c.last_end-whole.ensures c.lesser-rest.ensures c.move_front.ensures
+returns c = waits_front c.args.bytes.now c.args.filled c.min-size.ensures c.last_end-whole.ensures c.min-rest.ensures c.copy_within.ensures.after

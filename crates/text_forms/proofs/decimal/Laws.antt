@@ -4,16 +4,16 @@ use mathlib.Core.Path.{◌≡◌, refl, ap, sym, ◌∙◌}
 use mathlib.Core.Bool.{Bool, true, false, cond}
 use mathlib.Core.Logic.{◌⊎◌, inl, inr, ⊎_elim}
 use mathlib.Core.List.{List, [], ◌∷◌, ◌++◌}
+use Rattle.std.specs.Prelude.{Some, None}
 use native.Mathlib.Nat.{pow-suc, not-suc-le-zero, le_of_suc-le-suc, add-suc, suc-add, add-zero}
 use native.Mathlib.Numerals.{add-one}
 use native.Mathlib.Omega.{arith}
 use borrow.Author.Tests.{lt-ltb, le-ltb, eq-eqb, ne_eqb}
 use lib.ListN.{length, get_or, take, drop, set, length-append, length-take, length-set, drop_of_length-le}
-use lib.Seq.{drop-cons, drop-length, drop-set-lt, get_or_at, get_or-set_same, get_or-take, length-take-le, lt-length-set, take_at, take-length, take-suc, take-take}
+use lib.Seq.{drop-cons, drop-set-lt, get_or_at, get_or-set_same, get_or-take, length-take-le, lt-length-set, take_at, take-suc, take-take}
 use Rattle.lists.proofs.Lists.{le-by}
 use Rattle.text_forms.specs.decimal.Decimal.{digits_in, decimal, digit_run, value_from, is_numeral, numeral_size, numeral_value, saturated, numeral_read}
 use Rattle.text_forms.specs.decimal.Written.{Written}
-use Rattle.text_forms.specs.declared.decimal.Numeral.{Numeral}
 
 pub lt-or-le : (a b : ℕ) → (a < b) ⊎ (b ≤ a)
 lt-or-le a b = le-by b a inr inl
@@ -44,9 +44,6 @@ pub record Writing (n : ℕ) (before : List ℕ) (i rest : ℕ) (out : List ℕ)
   pub near : i ≤ length (decimal n)
   pub left : (i ≡ 0) ⊎ (decimal rest ≡ take i (decimal n))
   pub written : drop i out ≡ drop i (decimal n) ++ drop (length (decimal n)) before
-
-pub writing_start : (n : ℕ) (before : List ℕ) {i : ℕ} → length (decimal n) ≤ length before → i ≡ length (decimal n) → Writing n before i n before
-writing_start n before h e = rw e (record { room = h; same = refl; near = omega arith; left = inr (sym (take-length (decimal n))); written = rw (drop-length (decimal n)) })
 
 -- the last of some digits, and what those before it spell
 last-digit : (digits : List ℕ) (j rest : ℕ) → j < length digits → decimal rest ≡ take (suc j) digits → (get_or digits j 0 ≡ 48 + rest % 10) × ((j ≡ 0) ⊎ (decimal (rest / 10) ≡ take j digits))
@@ -82,9 +79,6 @@ module _ (n : ℕ) (before : List ℕ) {rest : ℕ} {out : List ℕ} where
             left = d.1;
             written = rw (drop-cons (set out j (48 + rest % 10)) j 0 (lt-length-set out j (48 + rest % 10) o), get_or-set_same out j (48 + rest % 10) 0 o, drop-set-lt (suc j) out j (48 + rest % 10) (omega arith), w.written, drop-cons (decimal n) j 0 l, d.0);
           }
-
-  pub writing-end : {i : ℕ} → Writing n before i rest out → i ≤ 0 → {size : ℕ} → size ≡ length (decimal n) → Written (decimal n) before size out
-  writing-end {i} w h e = let z : i ≡ 0 = omega arith in (e, rw z at w.written)
 
 -- bytes written one by one, from a place on
 abbrev pub puts : ℕ → List ℕ → List ℕ → List ℕ
@@ -145,6 +139,19 @@ run-digits (c ∷ cs) (suc i) h =
     (λ n. absurd (not-suc-le-zero (rw (run-off c cs n) at h)))
     (digit-or-not c)
 
+-- digits alone
+pub run-again : (s : List ℕ) → digit_run (digit_run s) ≡ digit_run s
+unfolding digit_run
+run-again [] = refl
+run-again (c ∷ cs) =
+    ⊎_elim
+    (λ d. rw (le-ltb c 48 d.0, lt-ltb c 58 d.1) (rw (le-ltb c 48 d.0, lt-ltb c 58 d.1) (ap (λ (l : List ℕ). c ∷ l) (run-again cs))))
+    (λ n. rw (run-off c cs n))
+    (digit-or-not c)
+
+pub all-digits : (s : List ℕ) → digit_run s ≡ s → (i : ℕ) → i < length s → (48 ≤ get_or s i 0) × (get_or s i 0 < 58)
+all-digits s e i h = rw e at (run-digits s i (rw (ap length e) h))
+
 pub run-prefix : (s : List ℕ) → take (length (digit_run s)) s ≡ digit_run s
 unfolding digit_run
 run-prefix [] = refl
@@ -170,11 +177,8 @@ module _ (m : ℕ) (ds : List ℕ) (i v : ℕ) (h : i < length ds) (e : v ≡ mi
   next : value_from 0 (take (i + 1) ds) ≡ value_from 0 (take i ds) * 10 + (get_or ds i 0 - 48)
   next = rw (add-one, take-suc ds i 0 h, value-snoc)
 
-  pub capped-over : m < v * 10 + (get_or ds i 0 - 48) → m ≡ min (value_from 0 (take (i + 1) ds)) m
-  capped-over o = omega (arith, next)
-
-  pub capped-under : v * 10 + (get_or ds i 0 - 48) ≤ m → v * 10 + (get_or ds i 0 - 48) ≡ min (value_from 0 (take (i + 1) ds)) m
-  capped-under o = omega (arith, next)
+  pub capped : min (v * 10 + (get_or ds i 0 - 48)) m ≡ min (value_from 0 (take (i + 1) ds)) m
+  capped = omega (arith, next)
 
 pub value_none : (ds : List ℕ) (m : ℕ) → 0 ≡ min (value_from 0 (take 0 ds)) m
 unfolding value_from
@@ -190,7 +194,7 @@ numeral-none : (ds : List ℕ) → length ds ≡ 0 → is_numeral ds ≡ false
 numeral-none [] h = refl
 numeral-none (c ∷ ds) h = absurd (not-suc-le-zero {n = length ds} (omega arith))
 
-pub numeral-one : (ds : List ℕ) → (length ds ≡ 0 → ⊥) → length ds ≤ 1 → is_numeral ds ≡ true
+numeral-one : (ds : List ℕ) → (length ds ≡ 0 → ⊥) → length ds ≤ 1 → is_numeral ds ≡ true
 numeral-one [] h l = absurd (h refl)
 numeral-one (c ∷ []) h l = refl
 numeral-one (c ∷ d ∷ ds) h l = absurd (not-suc-le-zero (le_of_suc-le-suc l))
@@ -200,24 +204,33 @@ numeral-more [] h e = absurd (not-suc-le-zero h)
 numeral-more (c ∷ []) h e = refl
 numeral-more (c ∷ d ∷ ds) h e = rw (ne_eqb c 48 e)
 
-module _ (s : List ℕ) where
-  pub length-few : length (digit_run s) < 2 → length (digit_run s) ≡ numeral_size s
-  unfolding numeral_size
-  length-few h =
-      ⊎_elim
-      (λ z. let e : length (digit_run s) ≡ 0 = omega arith in rw (numeral-none (digit_run s) e) e)
-      (λ p. rw (numeral-one (digit_run s) (λ e. omega arith) (omega arith)))
-      (lt-or-le (length (digit_run s)) 1)
+-- the numeral that a text starts with, from the digits that it starts with
+module _ (s : List ℕ) {size : ℕ} (e : size ≡ length (digit_run s)) where
+  no_numeral : numeral_size s ≡ 0 → None ≡ numeral_read s
+  no_numeral z = rw (eq-eqb (numeral_size s) 0 z)
 
-  pub length-zero : 2 ≤ length (digit_run s) → get_or s 0 0 ≡ 48 → 0 ≡ numeral_size s
+  pub read-nothing : size ≡ 0 → None ≡ numeral_read s
   unfolding numeral_size
-  length-zero h e = let z : 0 < length (digit_run s) = omega arith in rw (numeral-zero (digit_run s) h (sym (run-get_or s 0 z) ∙ e))
+  read-nothing z = no_numeral (rw (numeral-none (digit_run s) (sym e ∙ z)))
 
-  pub length_more : 2 ≤ length (digit_run s) → (get_or s 0 0 ≡ 48 → ⊥) → length (digit_run s) ≡ numeral_size s
+  pub read-zero-first : 1 < size → get_or s 0 0 ≡ 48 → None ≡ numeral_read s
   unfolding numeral_size
-  length_more h n =
-      let z : 0 < length (digit_run s) = omega arith in
-      rw (numeral-more (digit_run s) h (λ e. n (run-get_or s 0 z ∙ e)))
+  read-zero-first h z =
+      let l : 1 < length (digit_run s) = omega arith in
+      let m : 0 < length (digit_run s) = omega arith in
+      no_numeral (rw (numeral-zero (digit_run s) l (sym (run-get_or s 0 m) ∙ z)))
+
+  some_numeral : is_numeral (digit_run s) ≡ true → (size ≡ 0 → ⊥) → {v : ℕ} → v ≡ saturated (value_from 0 (digit_run s)) → Some (record { size = size; value = v }) ≡ numeral_read s
+  unfolding numeral_size numeral_value
+  some_numeral n z q = rw (n, ne_eqb (length (digit_run s)) 0 (λ y. z (e ∙ y))) (λ i. Some (record { size = e i; value = q i }))
+
+  pub read-digit : (size ≡ 0 → ⊥) → size ≤ 1 → {v : ℕ} → v ≡ saturated (value_from 0 (digit_run s)) → Some (record { size = size; value = v }) ≡ numeral_read s
+  read-digit z h q = some_numeral (numeral-one (digit_run s) (λ y. z (e ∙ y)) (omega arith)) z q
+
+  pub read-digits : (get_or s 0 0 ≡ 48 → ⊥) → 1 < size → {v : ℕ} → v ≡ saturated (value_from 0 (digit_run s)) → Some (record { size = size; value = v }) ≡ numeral_read s
+  read-digits n h q =
+      let m : 0 < length (digit_run s) = omega arith in
+      some_numeral (numeral-more (digit_run s) (omega arith) (λ y. n (run-get_or s 0 m ∙ y))) (λ y. omega arith) q
 
 -- how many digits a number has
 pub decimal-digits : (k n : ℕ) → n < 10 ^ suc k → length (decimal n) ≤ suc k
@@ -246,7 +259,3 @@ number_short s = by-case (is_numeral (digit_run s))
     by-case : (b : Bool) → cond b (length (digit_run s)) 0 ≤ length s
     by-case true = run_short s
     by-case false = omega arith
-
-pub numeral-is : (s : List ℕ) (n : Numeral) → n.size ≡ numeral_size s → n.value ≡ saturated (value_from 0 (digit_run s)) → n ≡ numeral_read s
-unfolding numeral_value
-numeral-is s n p q = λ i. record { size = p i; value = q i }

@@ -1,27 +1,29 @@
 -- `form_fit` meets its contract. Assumes nothing.
-use mathlib.Core.Path.{sym, ◌∙◌}
-use native.Mathlib.Omega.{arith}
-use Rattle.text_forms.proofs.Filling.{fitting-start, fitting-mark, fitting-byte, fitting-end}
+use Rattle.std.proofs.Common.{sym, ◌∙◌, arith}
+use Rattle.text_forms.proofs.Filling.{fitting-mark, fitting-no-mark, fitting-byte, fitting-no-byte, fitting-end}
 use Rattle.text_forms.proofs.form_fit.Goals as goal
+use Rattle.text_forms.proofs.form_fit.Goals.{then-is_mark+in_ok-left, else-is_mark+in_ok-left-2}
 
-pub loop-i-init : goal.loop-i-init
-loop-i-init c = let s = c.args in fitting-start s.form.now s.numbers.now s.fit
-
-pub overflow_add-k : goal.overflow_add-k
-overflow_add-k c = omega (arith, c.loop-i.invariant.used, c.loop-i-test.true)
-
-pub loop-i-smaller-then-is_mark : goal.loop-i-smaller-then-is_mark
-loop-i-smaller-then-is_mark c = omega (arith, c.loop-i-test.true)
-
-pub loop-i-preserved-then-is_mark : goal.loop-i-preserved-then-is_mark
-loop-i-preserved-then-is_mark c =
+pub returns-in_err-left : goal.returns-in_err-left
+returns-in_err-left c =
     let s = c.args in
-    fitting-mark s.form.now s.numbers.now s.fit c.loop-i.invariant c.loop-i-test.true (sym c.is_mark.ensures ∙ c.if-is_mark.true) c.number_at-n.ensures c.mark_length.ensures.0 c.fit_more-rest.ensures
+    let l = c.loop-c in
+    rw c.from_residual.ensures (fitting-no-mark s.form.now s.numbers.now s.room l.left l.c-index l.k l.invariant c.loop-c-test.true (sym c.is_mark.ensures ∙ c.if-is_mark.true) c.number_at-n.ensures c.mark_length.ensures.0 (omega (arith, c.in_err-left.ensures)))
 
-pub loop-i-preserved : goal.loop-i-preserved
-loop-i-preserved c =
+pub returns-in_err-left-2 : goal.returns-in_err-left-2
+returns-in_err-left-2 c =
     let s = c.args in
-    fitting-byte s.form.now s.numbers.now s.fit c.loop-i.invariant c.loop-i-test.true (sym c.is_mark.ensures ∙ c.if-is_mark.false) c.fit_more-rest-else-is_mark.ensures
+    let l = c.loop-c in
+    rw c.from_residual-in_err-left-2.ensures (fitting-no-byte s.form.now s.numbers.now s.room l.left l.c-index l.k l.invariant c.loop-c-test.true (sym c.is_mark.ensures ∙ c.if-is_mark.false) (omega (arith, c.in_err-left-2.ensures)))
+
+pub loop-c-preserved : goal.loop-c-preserved
+loop-c-preserved c =
+    let s = c.args in
+    let l = c.loop-c in
+    elim c.if-is_mark.branch [
+      | then-is_mark+in_ok-left w ↦ fitting-mark s.form.now s.numbers.now s.room l.left l.c-index l.k l.invariant c.loop-c-test.true (sym c.is_mark.ensures ∙ w.if-is_mark.true) w.number_at-n.ensures w.mark_length.ensures.0 (omega (arith, w.in_ok-left.ensures)) (w.left-is ∙ w.in_ok-left.ensures.1) w.k-is
+      | else-is_mark+in_ok-left-2 w ↦ fitting-byte s.form.now s.numbers.now s.room l.left l.c-index l.k l.invariant c.loop-c-test.true (sym c.is_mark.ensures ∙ w.if-is_mark.false) (omega (arith, w.in_ok-left-2.ensures)) (w.left-is ∙ w.in_ok-left-2.ensures.1) w.k-is
+    ]
 
 pub returns : goal.returns
-returns c = let s = c.args in fitting-end s.form.now s.numbers.now s.fit c.loop-i.invariant c.loop-i-test.false
+returns c = let s = c.args in let l = c.loop-c in fitting-end s.form.now s.numbers.now s.room l.left l.c-index l.k l.invariant c.loop-c-test.false

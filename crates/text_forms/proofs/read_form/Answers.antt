@@ -1,38 +1,50 @@
 -- `read_form` meets its contract. Assumes nothing.
-use mathlib.Core.Path.{sym, ◌∙◌}
-use native.Mathlib.Omega.{arith}
+use Rattle.std.proofs.Common.{sym, ◌∙◌, arith}
+use Rattle.text_forms.proofs.decimal.Parts.{part_to_end}
+use borrow.Author.Tests.{eqb-true, eqb-false}
 use Rattle.text_forms.proofs.Reading.{reading-start, reading-no-mark, mark-inside, reading-mark, reading-no-byte, reading-other-byte, reading-byte, reading-long, reading-end}
 use Rattle.text_forms.proofs.read_form.Goals as goal
+use Rattle.text_forms.proofs.read_form.Goals.{then-is_mark+in_ok-numeral, else-is_mark+in_ok-first+else-first-c}
 
-pub loop-i-init : goal.loop-i-init
-loop-i-init c = reading-start c.args.form.now c.args.bytes.now
+pub loop-c-init : goal.loop-c-init
+loop-c-init c = reading-start c.args.form.now c.args.bytes.now
 
-pub returns-then-size-eq0 : goal.returns-then-size-eq0
-returns-then-size-eq0 c = reading-no-mark c.args.form.now c.args.bytes.now c.loop-i.numbers c.loop-i.at c.loop-i.i c.loop-i.k c.loop-i.invariant c.loop-i-test.true (sym c.is_mark.ensures ∙ c.if-is_mark.true) c.read_mark-numeral.ensures c.if-size-eq0.true c.no_fit.ensures
+pub returns-in_err-numeral : goal.returns-in_err-numeral
+returns-in_err-numeral c =
+    let l = c.loop-c in
+    rw c.from_residual.ensures (reading-no-mark c.args.form.now c.args.bytes.now l.numbers l.rest.now l.c-index l.k l.invariant c.loop-c-test.true (sym c.is_mark.ensures ∙ c.if-is_mark.true) c.in_err-numeral.ensures)
 
-pub store-requires : goal.store-requires
-store-requires c = c.loop-i.invariant.eight
+pub slice_bounds-rest-count : goal.slice_bounds-rest-count
+slice_bounds-rest-count c =
+    let l = c.loop-c in
+    mark-inside c.args.form.now c.args.bytes.now l.numbers l.rest.now l.c-index l.k l.invariant c.loop-c-test.true (sym c.is_mark.ensures ∙ c.if-is_mark.true) c.in_ok-numeral.ensures
 
-pub overflow_add-at : goal.overflow_add-at
-overflow_add-at c = omega (arith, mark-inside c.args.form.now c.args.bytes.now c.loop-i.numbers c.loop-i.at c.loop-i.i c.loop-i.k c.loop-i.invariant c.loop-i-test.true (sym c.is_mark.ensures ∙ c.if-is_mark.true) c.read_mark-numeral.ensures, c.type_inv.bytes)
+pub slice_bounds-rest-start : goal.slice_bounds-rest-start
+slice_bounds-rest-start c =
+    let l = c.loop-c in
+    let h = mark-inside c.args.form.now c.args.bytes.now l.numbers l.rest.now l.c-index l.k l.invariant c.loop-c-test.true (sym c.is_mark.ensures ∙ c.if-is_mark.true) c.in_ok-numeral.ensures in omega arith
 
-pub overflow_add-k : goal.overflow_add-k
-overflow_add-k c = omega (arith, c.loop-i.invariant.within, c.loop-i.invariant.used, c.loop-i-test.true)
+pub returns-in_err-first : goal.returns-in_err-first
+returns-in_err-first c =
+    let l = c.loop-c in
+    rw c.from_residual-in_err-first.ensures (reading-no-byte c.args.form.now c.args.bytes.now l.numbers l.rest.now l.c-index l.k l.invariant c.loop-c-test.true (sym c.is_mark.ensures ∙ c.if-is_mark.false) c.in_err-first.ensures.cases)
 
-pub loop-i-preserved-then-is_mark : goal.loop-i-preserved-then-is_mark
-loop-i-preserved-then-is_mark c = reading-mark c.args.form.now c.args.bytes.now c.loop-i.numbers c.loop-i.at c.loop-i.i c.loop-i.k c.loop-i.invariant c.loop-i-test.true (sym c.is_mark.ensures ∙ c.if-is_mark.true) c.read_mark-numeral.ensures c.if-size-eq0.false c.store.ensures
+pub returns-then-first-c : goal.returns-then-first-c
+returns-then-first-c c =
+    let l = c.loop-c in
+    let q = c.in_ok-first in
+    reading-other-byte c.args.form.now c.args.bytes.now l.numbers l.rest.now l.c-index l.k l.invariant c.loop-c-test.true (sym c.is_mark.ensures ∙ c.if-is_mark.false) q.first.now q.others.now q.ensures.cases.0 c.if-first-c.true
 
-pub returns-then-bytes-at : goal.returns-then-bytes-at
-returns-then-bytes-at c = reading-no-byte c.args.form.now c.args.bytes.now c.loop-i.numbers c.loop-i.at c.loop-i.i c.loop-i.k c.loop-i.invariant c.loop-i-test.true (sym c.is_mark.ensures ∙ c.if-is_mark.false) c.if-bytes-at.true c.no_fit-then-bytes-at.ensures
+pub loop-c-preserved : goal.loop-c-preserved
+loop-c-preserved c =
+    let l = c.loop-c in
+    elim c.if-is_mark.branch [
+      | then-is_mark+in_ok-numeral w ↦ rw (w.rest-is, w.k-is, part_to_end w.in_ok-numeral.numeral.size l.rest.now) (reading-mark c.args.form.now c.args.bytes.now l.numbers l.rest.now l.c-index l.k l.invariant c.loop-c-test.true (sym c.is_mark.ensures ∙ w.if-is_mark.true) w.in_ok-numeral.ensures (w.numbers-is ∙ w.store.ensures))
+      | else-is_mark+in_ok-first+else-first-c w ↦ rw (w.numbers-is, w.rest-is, w.k-is) (reading-byte c.args.form.now c.args.bytes.now l.numbers l.rest.now l.c-index l.k l.invariant c.loop-c-test.true (sym c.is_mark.ensures ∙ w.if-is_mark.false) w.in_ok-first.first.now w.in_ok-first.others.now w.in_ok-first.ensures.cases.0 w.if-first-c.false)
+    ]
 
-pub returns-then-bytes-at-2 : goal.returns-then-bytes-at-2
-returns-then-bytes-at-2 c = reading-other-byte c.args.form.now c.args.bytes.now c.loop-i.numbers c.loop-i.at c.loop-i.i c.loop-i.k c.loop-i.invariant c.loop-i-test.true (sym c.is_mark.ensures ∙ c.if-is_mark.false) c.if-bytes-at.false c.if-bytes-at-2.true c.no_fit-then-bytes-at-2.ensures
+pub returns-then-is_empty : goal.returns-then-is_empty
+returns-then-is_empty c = let l = c.loop-c in reading-end c.args.form.now c.args.bytes.now l.numbers l.rest.now l.c-index l.k l.invariant c.loop-c-test.false (eqb-true _ 0 (sym c.if-is_empty.ensures))
 
-pub loop-i-preserved : goal.loop-i-preserved
-loop-i-preserved c = reading-byte c.args.form.now c.args.bytes.now c.loop-i.numbers c.loop-i.at c.loop-i.i c.loop-i.k c.loop-i.invariant c.loop-i-test.true (sym c.is_mark.ensures ∙ c.if-is_mark.false) c.if-bytes-at.false c.if-bytes-at-2.false
-
-pub returns-then-at-bytes : goal.returns-then-at-bytes
-returns-then-at-bytes c = reading-long c.args.form.now c.args.bytes.now c.loop-i.numbers c.loop-i.at c.loop-i.i c.loop-i.k c.loop-i.invariant c.loop-i-test.false c.if-at-bytes.true c.no_fit-then-at-bytes.ensures
-
-pub returns : goal.returns
-returns c = reading-end c.args.form.now c.args.bytes.now c.loop-i.numbers c.loop-i.at c.loop-i.i c.loop-i.k c.loop-i.invariant c.loop-i-test.false c.if-at-bytes.false
+pub returns-else-is_empty : goal.returns-else-is_empty
+returns-else-is_empty c = let l = c.loop-c in reading-long c.args.form.now c.args.bytes.now l.numbers l.rest.now l.c-index l.k l.invariant c.loop-c-test.false (eqb-false _ 0 (sym c.if-is_empty.ensures))

@@ -1,5 +1,5 @@
 -- Document 01, "Text": numbers in decimal without leading zeros, as bytes. Assumes nothing.
-use Rattle.std.specs.Prelude.{ℕ, zero, suc, ◌+◌, ◌*◌, ◌-◌, ◌/◌, ◌%◌, min, Bool, true, false, cond, not, List, [], ◌∷◌, ◌++◌, ltb, eqb, length}
+use Rattle.std.specs.Prelude.{ℕ, zero, suc, ◌+◌, ◌*◌, ◌-◌, ◌/◌, ◌%◌, min, Bool, true, false, cond, not, List, [], ◌∷◌, ◌++◌, ltb, eqb, length, Option, Some, None}
 use Rattle.text_forms.specs.declared.decimal.Numeral.{Numeral}
 
 -- the decimal digits of n, the most significant first; the first argument bounds how many there are
@@ -41,5 +41,5 @@ numeral_value s = value_from 0 (digit_run s)
 abbrev pub saturated : ℕ → ℕ
 saturated n = min n 4294967296
 
-abbrev pub numeral_read : List ℕ → Numeral
-numeral_read s = record { size = numeral_size s; value = saturated (numeral_value s) }
+abbrev pub numeral_read : List ℕ → Option Numeral
+numeral_read s = cond (eqb (numeral_size s) 0) None (Some (record { size = numeral_size s; value = saturated (numeral_value s) }))

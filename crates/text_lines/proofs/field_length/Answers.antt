@@ -1,25 +1,17 @@
 -- `field_length` meets its contract. Assumes nothing.
-use Prim.Native.Nat.{ℕ}
-use mathlib.Core.Path.{refl, ap, ◌∙◌}
-use lib.ListN.{drop}
+use Rattle.std.proofs.Common.{ap, length, arith}
 use Rattle.text_forms.specs.Spelling.{bytes}
-use Rattle.text_lines.specs.Line.{set_form}
-use Rattle.text_lines.proofs.Says.{set_rest}
-use Rattle.text_lines.proofs.Puts.{fill-as, words-length, field-words}
+use Rattle.text_lines.specs.Line.{field_word}
+use Rattle.text_lines.proofs.Puts.{words-length, field-words, field-word-short}
 use Rattle.text_lines.proofs.field_length.Goals as goal
 
-pub returns-in-0 : goal.returns-in-0
-unfolding bytes
-returns-in-0 c = let a = c.args in (words-length (bytes " do=set chip=") (bytes " field=id value=") a.place a.value (fill-as _ _ _ (ap (λ (field : ℕ). drop 6 (set_form field)) c.in-0.is) ∙ field-words _ _ 0) refl c.pair_length.ensures.0, c.pair_length.ensures.1)
+pub pair_length-requires : goal.pair_length-requires
+pair_length-requires c = omega (arith, ap length c.field_word.ensures, field-word-short c.args.field)
 
-pub returns-in-1 : goal.returns-in-1
+pub returns : goal.returns
 unfolding bytes
-returns-in-1 c = let a = c.args in (words-length (bytes " do=set chip=") (bytes " field=size value=") a.place a.value (fill-as _ _ _ (ap (λ (field : ℕ). drop 6 (set_form field)) c.in-1.is) ∙ field-words _ _ 1) refl c.pair_length-in-1.ensures.0, c.pair_length-in-1.ensures.1)
-
-pub returns-in-2 : goal.returns-in-2
-unfolding bytes
-returns-in-2 c = let a = c.args in (words-length (bytes " do=set chip=") (bytes " field=erase value=") a.place a.value (fill-as _ _ _ (ap (λ (field : ℕ). drop 6 (set_form field)) c.in-2.is) ∙ field-words _ _ 2) refl c.pair_length-in-2.ensures.0, c.pair_length-in-2.ensures.1)
-
-pub returns-in_default : goal.returns-in_default
-unfolding bytes
-returns-in_default c = let a = c.args in (words-length (bytes " do=set chip=") (bytes " field=page value=") a.place a.value (fill-as _ _ _ (ap (drop 6) (set_rest a.field c.in_default.in_default-own.rest.0.0.1 c.in_default.in_default-own.rest.0.1 c.in_default.in_default-own.rest.1)) ∙ field-words _ _ 3) refl c.pair_length-in_default.ensures.0, c.pair_length-in_default.ensures.1)
+returns c =
+    let a = c.args in (
+      words-length (bytes " do=set chip=") (field_word a.field) a.place a.value (field-words a.place a.value a.field) (omega (arith, ap length c.field_word.ensures)) c.pair_length.ensures.0,
+      c.pair_length.ensures.1,
+    )

@@ -1,16 +1,12 @@
 -- `line_end` meets its contract. Assumes nothing.
-use mathlib.Core.Path.{refl, sym, ◌∙◌}
-use Rattle.text_lines.proofs.Ends.{end-here, end_later, end-past}
+use Rattle.text_lines.proofs.Ends.{end-past, end-found, end-missing}
 use Rattle.text_lines.proofs.line_end.Goals as goal
 
-pub loop-i-init : goal.loop-i-init
-loop-i-init c = refl
+pub returns-then-bytes-from : goal.returns-then-bytes-from
+returns-then-bytes-from c = end-past c.args.bytes.now c.args.from c.if-bytes-from.true
 
-pub returns-then-bytes-i-eq10 : goal.returns-then-bytes-i-eq10
-returns-then-bytes-i-eq10 c = sym (c.loop-i.invariant ∙ end-here c.args.bytes.now c.loop-i.i c.loop-i-test.true c.if-bytes-i-eq10.true)
+pub returns-in-Some : goal.returns-in-Some
+returns-in-Some c = (end-found c.args.bytes.now c.args.from c.if-bytes-from.false c.in-Some.ensures).0
 
-pub loop-i-preserved : goal.loop-i-preserved
-loop-i-preserved c = c.loop-i.invariant ∙ end_later c.args.bytes.now c.loop-i.i c.loop-i-test.true c.if-bytes-i-eq10.false
-
-pub returns : goal.returns
-returns c = sym (c.loop-i.invariant ∙ end-past c.args.bytes.now c.loop-i.i c.loop-i-test.false)
+pub returns-in-None : goal.returns-in-None
+returns-in-None c = end-missing c.args.bytes.now c.args.from c.if-bytes-from.false c.in-None.ensures

@@ -1,5 +1,5 @@
 -- `read_edit` meets its contract. Assumes nothing.
-use mathlib.Core.Path.{sym, ◌∙◌}
+use mathlib.Core.Path.{refl, sym, ◌∙◌}
 use native.Mathlib.Omega.{arith}
 use Rattle.text_lines.proofs.Says.{is-insert, is-remove, no_kind}
 use Rattle.text_lines.proofs.read_edit.Goals as goal
@@ -20,4 +20,4 @@ pub returns-in-115 : goal.returns-in-115
 returns-in-115 c = c.read_set.ensures
 
 pub returns-in_default : goal.returns-in_default
-returns-in_default c = no_kind c.args.bytes.now c.number_end-name.result c.requires.1 c.number_end-name.ensures.0 c.byte_at-letter.ensures c.in_default.in_default-own.rest.0.0.1 c.in_default.in_default-own.rest.0.1 c.in_default.in_default-own.rest.1 c.fault.ensures
+returns-in_default c = no_kind c.args.bytes.now c.number_end-name.result c.requires.1 c.number_end-name.ensures.0 c.byte_at-letter.ensures (λ e. absurd (omega arith)) (λ e. absurd (omega arith)) (λ e. absurd (omega arith)) refl

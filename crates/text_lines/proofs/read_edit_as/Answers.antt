@@ -1,21 +1,30 @@
 -- `read_edit_as` meets its contract. Assumes nothing.
-use mathlib.Core.Path.{◌∙◌}
-use Rattle.text_lines.proofs.Says.{not-said, edit-slots, first-large, second-large, third-large, edit-said}
+use Rattle.std.proofs.Common.{ap, ◌∙◌, Err}
+use Rattle.std.proofs.lemmas.Result.{err_from_is_err_and}
+use Rattle.text_lines.proofs.Says.{edit-slots, not-said, word-large, word-refused, first-large, second-large, third-large, edit-said}
 use Rattle.text_lines.specs.Line.{edit_shape}
-use borrow.Author.Tests.{not-true, not-false}
 use Rattle.text_lines.proofs.read_edit_as.Goals as goal
 
-pub returns-then-not-filled : goal.returns-then-not-filled
-returns-then-not-filled c = c.fault.ensures ∙ not-said (edit_shape c.args.kind c.args.field) c.args.bytes.now c.fill_edit-filled.ensures (not-true _ c.if-not-filled.true)
+pub returns-in_default : goal.returns-in_default
+returns-in_default c = not-said (edit_shape c.args.kind c.args.field) c.args.bytes.now (rw c.edit_form.ensures at c.in_default.ensures)
 
-pub returns-then-name-gt4294967295 : goal.returns-then-name-gt4294967295
-returns-then-name-gt4294967295 c = c.fault-then-name-gt4294967295.ensures ∙ first-large (edit_shape c.args.kind c.args.field) c.args.bytes.now c.fill_edit-filled.ensures (edit-slots c.args.kind c.args.field) (not-false _ c.if-not-filled.false) c.if-name-gt4294967295.true
+pub returns-in_err-name : goal.returns-in_err-name
+returns-in_err-name c =
+    let e = rw c.edit_form.ensures at c.in-Some.ensures in
+    let p = err_from_is_err_and c.from_residual.result c.from_residual.ensures.1 in
+    rw (p.1, p.2) (ap Err (word-refused _ c.in_err-name.ensures) ∙ first-large (edit_shape c.args.kind c.args.field) c.args.bytes.now e (edit-slots c.args.kind c.args.field) (word-large _ c.in_err-name.ensures))
 
-pub returns-then-place-gt4294967295 : goal.returns-then-place-gt4294967295
-returns-then-place-gt4294967295 c = c.fault-then-place-gt4294967295.ensures ∙ second-large (edit_shape c.args.kind c.args.field) c.args.bytes.now c.fill_edit-filled.ensures (edit-slots c.args.kind c.args.field) (not-false _ c.if-not-filled.false) c.if-place-gt4294967295.true
+pub returns-in_err-place : goal.returns-in_err-place
+returns-in_err-place c =
+    let e = rw c.edit_form.ensures at c.in-Some.ensures in
+    let p = err_from_is_err_and c.from_residual-in_err-place.result c.from_residual-in_err-place.ensures.1 in
+    rw (p.1, p.2) (ap Err (word-refused _ c.in_err-place.ensures) ∙ second-large (edit_shape c.args.kind c.args.field) c.args.bytes.now e (edit-slots c.args.kind c.args.field) (word-large _ c.in_err-place.ensures))
 
-pub returns-then-value-gt4294967295 : goal.returns-then-value-gt4294967295
-returns-then-value-gt4294967295 c = c.fault-then-value-gt4294967295.ensures ∙ third-large (edit_shape c.args.kind c.args.field) c.args.bytes.now c.fill_edit-filled.ensures (edit-slots c.args.kind c.args.field) (not-false _ c.if-not-filled.false) c.if-value-gt4294967295.true
+pub returns-in_err-value : goal.returns-in_err-value
+returns-in_err-value c =
+    let e = rw c.edit_form.ensures at c.in-Some.ensures in
+    let p = err_from_is_err_and c.from_residual-in_err-value.result c.from_residual-in_err-value.ensures.1 in
+    rw (p.1, p.2) (ap Err (word-refused _ c.in_err-value.ensures) ∙ third-large (edit_shape c.args.kind c.args.field) c.args.bytes.now e (edit-slots c.args.kind c.args.field) (word-large _ c.in_err-value.ensures))
 
 pub returns : goal.returns
-returns c = edit-said c.args.kind c.args.field c.args.bytes.now c.fill_edit-filled.ensures (not-false _ c.if-not-filled.false) c.if-name-gt4294967295.false c.if-place-gt4294967295.false c.if-value-gt4294967295.false
+returns c = edit-said c.args.kind c.args.field c.args.bytes.now (rw c.edit_form.ensures at c.in-Some.ensures) c.in_ok-name.ensures c.in_ok-place.ensures c.in_ok-value.ensures

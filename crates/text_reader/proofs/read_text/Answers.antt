@@ -1,12 +1,18 @@
 -- `read_text` meets its contract. Assumes nothing.
-use Rattle.text_reader.proofs.Lines.{text-refused, text-sound, text-unsound}
+use Rattle.std.proofs.Common.{refl, arith}
+use Rattle.std.proofs.lemmas.Result.{err_from_is_err_and}
+use Rattle.text_reader.proofs.Lines.{text-refused, counts-small, text-sound, text-unsound}
 use Rattle.text_reader.proofs.read_text.Goals as goal
 
-pub returns-then-reading-ne0 : goal.returns-then-reading-ne0
-returns-then-reading-ne0 c = text-refused c.args.text.now c.read_rows-reading.ensures c.if-reading-ne0.true
+pub returns-in_err-content : goal.returns-in_err-content
+returns-in_err-content c =
+    let p = err_from_is_err_and c.from_residual.result c.from_residual.ensures.1 in rw (p.1, p.2) (text-refused c.args.text.now _ c.in_err-content.ensures)
 
 pub returns-then-sound : goal.returns-then-sound
-returns-then-sound c = text-sound c.args.text.now c.read_rows-reading.ensures c.if-reading-ne0.false c.sound.ensures c.if-sound.true
+returns-then-sound c = text-sound c.args.text.now c.in_ok-content.content c.in_ok-content.ensures c.sound.ensures c.if-sound.true
+
+pub overflow_add-result : goal.overflow_add-result
+overflow_add-result c = omega (arith, counts-small c.args.text.now c.in_ok-content.content c.in_ok-content.ensures)
 
 pub returns : goal.returns
-returns c = text-unsound c.args.text.now c.read_rows-reading.ensures c.if-reading-ne0.false c.sound.ensures c.if-sound.false c.refusal.ensures
+returns c = text-unsound c.args.text.now c.in_ok-content.content c.in_ok-content.ensures c.sound.ensures c.if-sound.false refl

@@ -2,8 +2,10 @@
 use Rattle.text_report.proofs.Reports.{printed-refused, printed-accepted}
 use Rattle.text_report.proofs.print_text.Goals as goal
 
-pub returns-then-reading-ne0 : goal.returns-then-reading-ne0
-returns-then-reading-ne0 c = printed-refused c.args.text.now c.read_text-reading.ensures c.args.out.now c.if-reading-ne0.true c.refusal_line.ensures
+pub returns-in-Ok : goal.returns-in-Ok
+returns-in-Ok c = let q = printed-accepted c.args.text.now c.args.out.now c.in-Ok.content c.in-Ok.ensures c.report_record.ensures in record { answer = q.0; bytes = q.1 }
 
-pub returns : goal.returns
-returns c = printed-accepted c.args.text.now c.read_text-reading.ensures c.args.out.now c.if-reading-ne0.false c.report_record.ensures
+pub returns-in-Err : goal.returns-in-Err
+returns-in-Err c =
+    let q = printed-refused c.args.text.now c.args.out.now c.in-Err.fault c.in-Err.ensures (rw c.number.ensures at c.refusal_line.ensures.answer) (rw c.number.ensures at c.refusal_line.ensures.bytes) in
+    record { answer = q.0; bytes = q.1 }

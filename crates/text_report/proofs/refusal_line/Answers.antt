@@ -4,5 +4,5 @@ use Rattle.text_report.specs.Report.{refusal_form, refusal_line}
 use Rattle.text_report.proofs.refusal_line.Goals as goal
 
 pub returns : goal.returns
-unfolding refusal_form refusal_line bytes
-returns c = c.place_form.ensures
+unfolding refusal_line refusal_form bytes
+returns c = record { answer = rw c.from.ensures at c.place_form.ensures.answer; bytes = rw c.from.ensures at c.place_form.ensures.bytes }

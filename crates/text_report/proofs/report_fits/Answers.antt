@@ -1,14 +1,20 @@
 -- `report_fits` meets its contract. Assumes nothing.
-use mathlib.Core.List.{map}
+use Rattle.std.proofs.Common.{◌∙◌, map, length, length-append}
 use Rattle.text_forms.specs.Spelling.{bytes}
 use Rattle.text_forms.specs.Form.{fill}
 use Rattle.text.specs.Text.{joined_lines}
-use Rattle.text_writer.proofs.Writing.{fits_both}
+use Rattle.text_writer.proofs.Texts.{both-short, both-fit}
 use Rattle.text_report.specs.Report.{counts_form, report_form}
 use Rattle.text_report.proofs.report_fits.Goals as goal
 
-pub returns : goal.returns
+pub returns-in-None : goal.returns-in-None
 unfolding counts_form bytes
-returns c =
+returns-in-None c =
     let s = c.args in
-    fits_both (fill counts_form s.counts.now) (joined_lines (map (fill report_form) s.rows.now)) s.room c.form_fit-first.ensures c.lines_fit-all.ensures
+    rw length-append (both-short s.room (length (fill counts_form s.counts.now)) (length (joined_lines (map (fill report_form) s.rows.now))) c.in-None.ensures)
+
+pub returns-in-Some : goal.returns-in-Some
+unfolding counts_form bytes
+returns-in-Some c =
+    let s = c.args in
+    rw length-append (c.is_some.ensures ∙ rw c.lines_fit.ensures (both-fit s.room (length (fill counts_form s.counts.now)) (length (joined_lines (map (fill report_form) s.rows.now))) c.in-Some.ensures))

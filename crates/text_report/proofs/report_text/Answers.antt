@@ -1,9 +1,16 @@
 -- `report_text` meets its contract. Assumes nothing.
+use Rattle.std.proofs.lemmas.Result.{err_from_is_err_and}
 use Rattle.text_report.proofs.Reports.{reported-refused, reported-accepted}
 use Rattle.text_report.proofs.report_text.Goals as goal
 
-pub returns-then-reading-ne0 : goal.returns-then-reading-ne0
-returns-then-reading-ne0 c = reported-refused c.args.text.now c.read_text-reading.ensures c.args.out.now c.if-reading-ne0.true
+pub returns-in_err-content : goal.returns-in_err-content
+returns-in_err-content c =
+    let p = err_from_is_err_and c.from_residual.result c.from_residual.ensures.1 in
+    let q = reported-refused c.args.text.now c.args.out.now _ c.in_err-content.ensures in
+    record { answer = rw (p.1, p.2) q.0; bytes = q.1 }
 
-pub returns : goal.returns
-returns c = reported-accepted c.args.text.now c.read_text-reading.ensures c.args.out.now c.if-reading-ne0.false c.report_record-written.ensures
+pub returns-in-Ok : goal.returns-in-Ok
+returns-in-Ok c = let q = reported-accepted c.args.text.now c.args.out.now c.in_ok-content.content c.in_ok-content.ensures c.in-Ok.ensures in record { answer = q.0; bytes = q.1 }
+
+pub returns-in-Err : goal.returns-in-Err
+returns-in-Err c = let q = reported-accepted c.args.text.now c.args.out.now c.in_ok-content.content c.in_ok-content.ensures c.in-Err.ensures in record { answer = q.0; bytes = q.1 }

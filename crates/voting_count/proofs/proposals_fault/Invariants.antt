@@ -1,9 +1,5 @@
-use Prim.Native.Nat.{◌-◌, ◌≤◌}
 use Rattle.voting_count.proofs.Benches.{Faultless}
 use Rattle.voting_count.proofs.proposals_fault.Given as goal
 
-abbrev pub invariant-loop-k : goal.invariant-loop-k
-invariant-loop-k l = (l.k ≤ 8) × Faultless (λ x. x.now) (λ x. x.now) l.edits l.constraints l.k
-
-abbrev pub decreases-loop-k : goal.decreases-loop-k
-decreases-loop-k l = 8 - l.k
+abbrev pub invariant-loop-proposal : goal.invariant-loop-proposal
+invariant-loop-proposal l = Faultless (λ x. x.edits.now) (λ x. x.constraints.now) l.proposals l.proposals l.proposal-index

@@ -1,19 +1,18 @@
 -- `vote_in` meets its contract. Assumes nothing.
 use mathlib.Core.Path.{◌≡◌, ap, sym, ◌∙◌}
-use mathlib.Core.List.{map}
-use Prim.Native.Nat.{◌+◌}
+use Prim.Native.Nat.{◌+◌, ◌-◌}
+use native.Mathlib.Omega.{arith}
 use Rattle.voting.specs.Bundle.{vote}
 use Rattle.voting_tally.specs.Groups.{cast_of}
-use Rattle.voting_count.specs.Count.{lent_proposals}
+use Rattle.voting_count.specs.Count.{lent}
 use Rattle.voting_count.proofs.Proposals.{held-checked, bench-faultless}
 use Rattle.voting_roll.specs.Election.{held}
 use Rattle.voting_count.proofs.vote_in.Goals as goal
 
 pub returns : goal.returns
-returns c = let P = (lent_proposals (map (λ x. x.now) c.args.edits) (map (λ x. x.now) c.args.constraints)) in
-    let place = c.place_of-k in
-    let k = place.result in
-    λ h low high.
-    let q : c.args.bench ≡ k + 1 = place.ensures.1 low high in
-    let g = bench-faultless P h k place.ensures.0 in
-    c.vote_of.ensures (held P (k + 1)) (c.proposal_at-proposal.ensures g) (held-checked P (k + 1) g) ∙ ap (λ j. cast_of (vote (held P j) c.args.name)) (sym q)
+returns c = λ h low high.
+    let P = lent c.args.proposals.now in
+    let x = c.from-k.result in
+    let q : c.args.bench ≡ (x - 1) + 1 = omega (arith, c.from-k.ensures, c.clamp.ensures) in
+    let g = bench-faultless P h (x - 1) (omega (arith, q)) in
+    c.vote_of.ensures (held P ((x - 1) + 1)) (c.proposal_at.ensures g) (held-checked P ((x - 1) + 1) g) ∙ ap (λ j. cast_of (vote (held P j) c.args.name)) (sym q)

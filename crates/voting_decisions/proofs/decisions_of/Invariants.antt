@@ -1,16 +1,13 @@
-use Prim.Native.Nat.{ℕ, ◌-◌, ◌≤◌}
+use Prim.Native.Nat.{ℕ}
 use mathlib.Core.Path.{◌≡◌}
 use mathlib.Core.List.{List, ◌∷◌, map}
 use lib.ListN.{length, take}
 use Rattle.record.specs.Record.{Record, written}
-use Rattle.record.specs.Stored.{padded, filler_constraint}
+use Rattle.record.specs.Stored.{padded, stored, filler_constraint}
 use Rattle.voting.specs.Proposal.{decision_on}
 use Rattle.voting_decisions.specs.Decisions.{Paged}
 use Rattle.voting_decisions.proofs.decisions_of.Given as goal
 
 abbrev pub invariant-loop-i : goal.invariant-loop-i
-invariant-loop-i l = (l.i ≤ l.n) × (l.n ≤ 127) × (length l.edits ≡ 127) × (length l.rows ≡ 512)
-    × ((R : Record) (rest index : List ℕ) → take l.n l.edits ≡ R.edits → Paged R rest index l.pages → l.rows ≡ padded 512 filler_constraint (map (decision_on (0 ∷ rest)) (take l.i (written R))))
-
-abbrev pub decreases-loop-i : goal.decreases-loop-i
-decreases-loop-i l = l.n - l.i
+invariant-loop-i l = (length l.rows ≡ 512)
+    × ((R : Record) (rest index : List ℕ) → l.fn.multilog ≡ stored R → Paged R rest index l.pages → l.rows ≡ padded 512 filler_constraint (map (decision_on (0 ∷ rest)) (take l.i (written R))))

@@ -12,8 +12,10 @@ use Rattle.graph.specs.links.Marks.{values_of, place_in}
 use Rattle.record_joining.specs.insertion.Insertion.{held_table}
 use Rattle.graph.proofs.indexes.Fit.{checked-fit}
 use Rattle.voting_decisions.specs.Decisions.{Paged}
-use Rattle.voting_drafts.specs.ranking.Ranking.{flat_map, rank_of, pair_order}
+use Rattle.voting_drafts.specs.ranking.Ranking.{rank_of}
 use Rattle.voting_decisions.proofs.Paging.{orders-by-page, scheduled-rest, finished-is}
+use borrow.Author.Rules.{rules}
+use borrow.Author.Tests.{tests}
 use Rattle.voting_decisions.proofs.finished.Goals as goal
 
 pub returns : goal.returns
@@ -21,8 +23,10 @@ returns c =
     λ R e k h.
     let i = checked-fit R k in
     let w = scheduled-rest R i.formed h in
-    let g : Paged R w.0 c.index_table-index.result c.pages-paged.result = record { formed = i.formed; indexed = c.index_table-index.ensures.2 R e i; paged = c.pages-paged.ensures.1 R e i ∙ ap (λ (row : List ℕ). values_of R (place_in row)) w.1 } in
+    let index = c.index_table-index.result in
+    let paged = c.pages-paged.result in
+    let g : Paged R w.0 index paged = record { formed = i.formed; indexed = c.index_table-index.ensures R e i; paged = c.pages-paged.ensures R e i ∙ ap (λ (row : List ℕ). values_of R (place_in row)) w.1 } in
     let d = united constraint_key R.constraints (decisions (0 ∷ w.0) (written R)) in
-    let q = ap (flat_map (pair_order (rank_of c.index_table-index.result c.pages-paged.result))) (c.unordered_pairs-pairs.ensures.2 R e i) ∙ orders-by-page R w.0 _ _ g i.paired in
-    c.with_orders.ensures d (c.decided_table-table.ensures R w.0 _ e k g) (ascending-united constraint_key R.constraints (decisions (0 ∷ w.0) (written R)) k.constraintorder)
-    ∙ ap (λ (l : List Constraint). held_table (united constraint_key d l)) q ∙ ap held_table (finished-is R w.0 w.1)
+    c.with_orders.ensures R d (rank_of index paged) e i (λ x r p. search (rules, tests)) (c.decided_table-table.ensures R w.0 _ e k g)
+    (ascending-united constraint_key R.constraints (decisions (0 ∷ w.0) (written R)) k.constraintorder)
+    ∙ ap (λ (l : List Constraint). held_table (united constraint_key d l)) (orders-by-page R w.0 _ _ g i.paired) ∙ ap held_table (finished-is R w.0 w.1)

@@ -16,9 +16,9 @@ module _ (l : List ℕ) (x : ℕ) where
       is-by x 0 n
       (λ e. by (mem x l) (λ m. absurd (let z = rw (ne_eqb x 0 e, m) at h in omega arith)) (λ m. m))
 
-  pub place-some : (place_in (0 ∷ l) x ≡ 0 → ⊥) → mem x l ≡ true
+  pub place-there : (place_in (0 ∷ l) x ≡ 0 → ⊥) → mem x l ≡ true
   unfolding place_in mem index_of
-  place-some h =
+  place-there h =
       is-by x 0 (λ e. absurd (h (rw e)))
       (λ e. by (mem x l) (λ m. m) (λ m. absurd (h (rw (ne_eqb x 0 e, m)))))
 

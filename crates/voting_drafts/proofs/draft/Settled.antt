@@ -2,12 +2,11 @@
 use mathlib.Core.Path.{◌≡◌, refl, ap, sym, ◌∙◌}
 use mathlib.Core.Bool.{Bool, true, false, cond}
 use mathlib.Core.List.{List, [], ◌∷◌}
-use Prim.Native.Nat.{ℕ, ◌+◌, ◌<◌}
+use Prim.Native.Nat.{ℕ, ◌<◌}
 use native.Mathlib.Omega.{arith}
 use borrow.Author.Tests.{lt-ltb}
 use lib.Dec.{eqb}
-use lib.ListN.{length, get_or, set, replicate}
-use lib.Seq.{get_or-set_same, get_or-set_other}
+use lib.ListN.{length, get_or}
 use Rattle.record.specs.declared.Constraint.{Constraint}
 use Rattle.lists.specs.Lists.{index_of, ◌among◌}
 use Rattle.record.specs.Record.{Record, names, written}
@@ -19,19 +18,8 @@ use Rattle.graph.proofs.links.Marks.{marks-at}
 use Rattle.graph.proofs.links.Names.{get_or-place, place-known}
 use Rattle.voting.specs.Proposal.{settled_in, settled_first, firsts}
 use Rattle.voting_drafts.specs.draft.Draft.{Settles, settled_rank}
-use Rattle.voting_drafts.specs.ranking.Ranking.{flat_map, rank_of, rank_order, pair_order}
-use Rattle.voting_drafts.proofs.draft.Places.{place_none, place-some}
-
--- the ranks below i are in their places
-pub ranks-start : (marks : List ℕ) (y : ℕ) → y < 1 → get_or (replicate 128 2) y 0 ≡ settled_rank marks y
-ranks-start marks y h = let z : y ≡ 0 = omega arith in rw z
-
-pub ranks-next : (marks ranks : List ℕ) (i v : ℕ) → 0 < i → i < length ranks → v ≡ cond (eqb (get_or marks i 0) 1) 1 2
-    → ((y : ℕ) → y < i → get_or ranks y 0 ≡ settled_rank marks y) → (y : ℕ) → y < i + 1 → get_or (set ranks i v) y 0 ≡ settled_rank marks y
-ranks-next marks ranks i v p h e f y l =
-    is-by y i
-    (λ q. rw (q, get_or-set_same ranks i v 0 h, lt-ltb 0 i p) e)
-    (λ q. rw (get_or-set_other ranks i y v 0 q) (f y (omega (arith, q))))
+use Rattle.voting_drafts.specs.ranking.Ranking.{flat_map, rank_order, pair_order}
+use Rattle.voting_drafts.proofs.draft.Places.{place_none, place-there}
 
 module _ (Q : Record) (index marks : List ℕ) (s : Settles Q index marks) (x i : ℕ) (e : i ≡ get_or index x 0) where
   at_place : i ≡ place_in (0 ∷ written Q) x
@@ -45,7 +33,7 @@ module _ (Q : Record) (index marks : List ℕ) (s : Settles Q index marks) (x i 
   draft-known-is : (i ≡ 0 → ⊥) → eqb (get_or marks i 0) 1 ≡ settled_in Q x
   unfolding settled_in
   draft-known-is z =
-      let m : x among written Q = place-some (written Q) x (λ q. z (at_place ∙ q)) in
+      let m : x among written Q = place-there (written Q) x (λ q. z (at_place ∙ q)) in
       let k : x among names Q = written-names Q x m in
       let p : i ≡ index_of x (names Q) = e ∙ s.indexed x ∙ place-known x (names Q) k in
       let l : i < length (names Q) = let b = mem_index x (names Q) k in omega arith in
@@ -64,7 +52,7 @@ module _ (Q : Record) (index marks : List ℕ) (s : Settles Q index marks) (x i 
       (λ z. let p : 0 < i = omega (arith, z) in rw (lt-ltb 0 i p) (ap (λ (b : Bool). cond b 1 2) (draft-known-is z)))
 
 -- with the ranks of an old proposal the pairs are ordered by what was settled in it
-module _ (Q : Record) (index marks ranks : List ℕ) (s : Settles Q index marks) (low : (x : ℕ) → get_or index x 0 < 128) (r : (i : ℕ) → i < 128 → get_or ranks i 0 ≡ settled_rank marks i) where
+module _ (Q : Record) (index marks : List ℕ) (s : Settles Q index marks) where
   first-by-rank : (l m : Bool) (a b : ℕ) → rank_order (cond l 1 2) (cond m 1 2) a b ≡ settled_first l m a b
   unfolding rank_order
   first-by-rank true true a b = refl
@@ -72,10 +60,10 @@ module _ (Q : Record) (index marks ranks : List ℕ) (s : Settles Q index marks)
   first-by-rank false true a b = refl
   first-by-rank false false a b = refl
 
-  rank_is : (x : ℕ) → rank_of index ranks x ≡ cond (settled_in Q x) 1 2
-  rank_is x = r (get_or index x 0) (low x) ∙ settled-rank Q index marks s x (get_or index x 0) refl
+  rank_is : (x : ℕ) → settled_rank marks (get_or index x 0) ≡ cond (settled_in Q x) 1 2
+  rank_is x = settled-rank Q index marks s x (get_or index x 0) refl
 
-  pub firsts-by-rank : (l : List Constraint) → flat_map (pair_order (rank_of index ranks)) l ≡ firsts Q l
+  pub firsts-by-rank : (l : List Constraint) → flat_map (pair_order (λ x. settled_rank marks (get_or index x 0))) l ≡ firsts Q l
   unfolding flat_map firsts
   firsts-by-rank [] = refl
   firsts-by-rank (c ∷ l) = rw (rank_is c.left, rank_is c.right, first-by-rank (settled_in Q c.left) (settled_in Q c.right) c.left c.right, firsts-by-rank l)

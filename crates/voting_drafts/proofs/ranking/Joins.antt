@@ -2,9 +2,9 @@
 use mathlib.Core.Path.{◌≡◌, refl, ap, sym, ◌∙◌}
 use mathlib.Core.Logic.{inl, inr}
 use mathlib.Core.List.{List, [], ◌∷◌, ◌++◌, map, append_assoc, append-nil}
+use Rattle.std.specs.Prelude.{Option}
 use Prim.Native.Nat.{ℕ, ◌+◌, ◌≤◌, ◌<◌}
 use native.Mathlib.Numerals.{add-one}
-use native.Mathlib.Omega.{arith}
 use lib.ListN.{length, take, get_or}
 use lib.Seq.{take-suc, take_all}
 use Rattle.record.specs.declared.Constraint.{Constraint}
@@ -54,7 +54,7 @@ unfolding united
 united-none key t = refl
 
 -- a table that is joined by no row, and by one
-module _ (t : List Constraint) {rows : List Constraint} {table : Constraints} where
+module _ (t : List Constraint) {rows : List Constraint} {table : Option Constraints} where
   pub joined-none : rows ≡ [] → table ≡ held_table t → table ≡ held_table (united constraint_key t rows)
   joined-none e q = q ∙ ap held_table (united-none constraint_key t ∙ ap (united constraint_key t) (sym e))
 
@@ -63,7 +63,7 @@ module _ (t : List Constraint) {rows : List Constraint} {table : Constraints} wh
 
 -- a table that is joined by what f gives for the first elements of a list
 module _ {A : Type 0} (f : A → List Constraint) (t : List Constraint) where
-  pub joins-start : (l : List A) {table : Constraints} → table ≡ held_table t → table ≡ held_table (united constraint_key t (flat_map f (take 0 l)))
+  pub joins-start : (l : List A) {table : Option Constraints} → table ≡ held_table t → table ≡ held_table (united constraint_key t (flat_map f (take 0 l)))
   unfolding flat_map
   joins-start l = joined-none t refl
 
@@ -71,13 +71,9 @@ module _ {A : Type 0} (f : A → List Constraint) (t : List Constraint) where
   pub joins-order : (l : List A) (i : ℕ) → Ascending constraint_key t → Ascending constraint_key (united constraint_key t (flat_map f (take i l)))
   joins-order l i = ascending-united constraint_key t (flat_map f (take i l))
 
-  pub joins-next : (l : List A) (i : ℕ) (d : A) {table : Constraints} → i < length l
+  pub joins-next : (l : List A) (i : ℕ) (d : A) {table : Option Constraints} → i < length l
       → table ≡ held_table (united constraint_key (united constraint_key t (flat_map f (take i l))) (f (get_or l i d))) → table ≡ held_table (united constraint_key t (flat_map f (take (i + 1) l)))
   joins-next l i d h e = e ∙ ap held_table (sym (ap (united constraint_key t) (flat-next f l i d h) ∙ united-append constraint_key t (flat_map f (take i l)) (f (get_or l i d))))
 
-  pub joins-end : (l : List A) (i : ℕ) {table : Constraints} → length l ≤ i → table ≡ held_table (united constraint_key t (flat_map f (take i l))) → table ≡ held_table (united constraint_key t (flat_map f l))
-  joins-end l i h e = e ∙ ap (λ (r : List A). held_table (united constraint_key t (flat_map f r))) (take_all i l h)
-
-  -- the same, of the first n rows of an array
-  pub joins-all : (l : List A) (i n : ℕ) {table : Constraints} → i ≤ n → n ≤ i → table ≡ held_table (united constraint_key t (flat_map f (take i l))) → table ≡ held_table (united constraint_key t (flat_map f (take n l)))
-  joins-all l i n h k e = let q : i ≡ n = omega arith in e ∙ ap (λ (j : ℕ). held_table (united constraint_key t (flat_map f (take j l)))) q
+  pub joined-end : (l : List A) (i : ℕ) {table : Option Constraints} → length l ≤ i → table ≡ held_table (united constraint_key t (flat_map f (take i l))) → table ≡ held_table (united constraint_key t (flat_map f l))
+  joined-end l i h e = e ∙ ap (λ (r : List A). held_table (united constraint_key t (flat_map f r))) (take_all i l h)

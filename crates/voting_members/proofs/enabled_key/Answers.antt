@@ -6,5 +6,5 @@ use Rattle.voting_members.proofs.enabled_key.Goals as goal
 pub returns-then-right-eq0 : goal.returns-then-right-eq0
 returns-then-right-eq0 c = (omega arith, enabled-init _ c.if-right-eq0.true)
 
-pub returns : goal.returns
-returns c = (omega arith, enabled-written _ c.if-right-eq0.false)
+pub returns-else-right-eq0 : goal.returns-else-right-eq0
+returns-else-right-eq0 c = (omega arith, enabled-written _ c.if-right-eq0.false)

@@ -1,61 +1,41 @@
--- `members::leading_rows` meets its contract. Assumes nothing.
-use Prim.Native.Nat.{◌*◌}
-use native.Mathlib.Omega.{arith}
-use Rattle.graph.proofs.links.Links.{linking-start, growing-start, growing-safe}
-use Rattle.voting_members.proofs.Rowing.{member_keys_of, member_lefts_of, growing-both, rowing-turn, rowing-end}
-use Rattle.graph.proofs.indexes.Tables.{constraint-within, within_low}
+-- `leading_rows` meets its contract. Assumes nothing.
+use Rattle.std.proofs.Common.{arith, rules, ap, length}
+use Rattle.std.proofs.lemmas.Grind.{common_steps}
+use Rattle.graph.proofs.indexes.Tables.{stored-constraints}
+use Rattle.graph.proofs.links.Links.{linking-start}
+use Rattle.voting_members.proofs.Rowing.{member_keys_of, member_lefts_of, rowing-turn, rowing-end}
 use Rattle.voting_members.proofs.leading_rows.Goals as goal
 
-pub loop-j-init : goal.loop-j-init
-loop-j-init c =
-    (growing-start, omega arith, within_low _ _ _ c.lesser-count.ensures, λ R e f t g. (constraint-within _ R _ e f c.lesser-count.ensures, linking-start (member_keys_of R) (member_lefts_of R)))
-
-pub index_of-a-requires : goal.index_of-a-requires
-index_of-a-requires c = c.requires.0
-
-pub index_of-b-requires : goal.index_of-b-requires
-index_of-b-requires c = c.requires.0
-
-pub forward_key-forward-requires : goal.forward_key-forward-requires
-forward_key-forward-requires c =
-    (c.requires.2, omega (arith, c.index_of-a.ensures, c.requires.1 c.index16.result), omega (arith, c.index_of-b.ensures, c.requires.1 c.index16-in-loop-j.result))
-
-pub backward_key-backward-requires : goal.backward_key-backward-requires
-backward_key-backward-requires c =
-    (c.requires.2, omega (arith, c.index_of-a.ensures, c.requires.1 c.index16.result), omega (arith, c.index_of-b.ensures, c.requires.1 c.index16-in-loop-j.result))
+pub loop-constraint-init : goal.loop-constraint-init
+loop-constraint-init c =
+    (search rules, grind (arith, common_steps), λ R e f t g. rw c.new-linking.ensures.cells (linking-start (member_keys_of R) (member_lefts_of R)))
 
 pub link_both-requires : goal.link_both-requires
 link_both-requires c =
-    let l = c.loop-j in (
-      l.invariant.0.size,
-      omega arith,
-      omega (arith, c.index_of-a.ensures, c.requires.1 c.index16.result),
-      omega (arith, c.index_of-b.ensures, c.requires.1 c.index16-in-loop-j.result),
-      c.forward_key-forward.ensures.0,
-      c.backward_key-backward.ensures.0,
-    )
+    let l = c.loop-constraint in record {
+      room = omega (arith, c.loop-constraint-test.true, l.invariant.0, l.invariant.1);
+      keys = (c.index_of-a.ensures.low, c.index_of-b.ensures.low, c.forward_key-forward.ensures.0, c.backward_key-backward.ensures.0);
+    }
 
-pub loop-j-preserved : goal.loop-j-preserved
-loop-j-preserved c =
-    let l = c.loop-j in
-    let lt = c.loop-j-test.true in
-    let lc = l.invariant.2 in
+pub loop-constraint-preserved : goal.loop-constraint-preserved
+loop-constraint-preserved c =
+    let l = c.loop-constraint in
     let a = c.index_of-a in
     let b = c.index_of-b in
     let f = c.forward_key-forward in
-    let g = c.backward_key-backward in
-    rw c.link_both.ensures (
-      growing-both l.rows l.j a.result b.result f.result g.result (omega arith) (omega (arith, a.ensures, c.requires.1 c.index16.result)) (omega (arith, b.ensures, c.requires.1 c.index16-in-loop-j.result)) f.ensures.0 g.ensures.0 l.invariant.0,
-      omega arith,
-      l.invariant.2,
-      λ R e fit t res. let w = l.invariant.3 R e fit t res in (
-        w.0,
-        rowing-turn c.args.multilog c.args.table.now l.rows l.j _ a.result b.result f.result g.result R e fit t (omega arith) (omega arith)
-            (rw (← c.index16.ensures) a.ensures) (rw (← c.index16-in-loop-j.ensures) b.ensures) (f.ensures.1 R res) (g.ensures.1 R res) f.ensures.0 g.ensures.0 l.invariant.0.size w.1,
-      ),
+    let g = c.backward_key-backward in (
+      omega (arith, c.link_both.ensures.count, l.invariant.0),
+      l.invariant.1,
+      λ R e fit t res. rw (c.link_both.ensures.cells, l.invariant.0)
+          (rowing-turn c.args.table.now l.linking.cells _ l.constraint-index _ a.result b.result f.result g.result R (stored-constraints _ R _ e c.constraint_slice-constraint-items.ensures) fit t
+          (omega (arith, c.loop-constraint-test.true, l.invariant.1)) c.loop-constraint-test.true (rw (← c.from.ensures) a.ensures.is) (rw (← c.from-in-loop-constraint.ensures) b.ensures.is) (f.ensures.1 R res) (g.ensures.1 R res)
+          f.ensures.0 g.ensures.0 l.linking.growing.size (l.invariant.2 R e fit t res)),
     )
 
+pub rows-requires : goal.rows-requires
+rows-requires c = let l = c.loop-constraint in omega (arith, l.auto.constraint-index-end, l.invariant.0, l.invariant.1)
+
 pub returns : goal.returns
-returns c =
-    let l = c.loop-j in
-    (growing-safe l.rows (2 * l.j) (omega arith) l.invariant.0, λ R e f t g. let w = l.invariant.3 R e f t g in rowing-end R f l.rows l.j (omega arith) w.1)
+returns c R e f t g =
+    let l = c.loop-constraint in
+    rw c.rows.ensures (rowing-end R f _ l.constraint-index (omega (arith, ap length (stored-constraints _ R _ e c.constraint_slice-constraint-items.ensures))) (l.invariant.2 R e f t g))

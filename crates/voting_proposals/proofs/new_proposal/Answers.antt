@@ -1,24 +1,29 @@
 -- `new_proposal` meets its contract. Assumes nothing.
+use mathlib.Core.Path.{sym, ◌∙◌}
+use Rattle.std.proofs.lemmas.Result.{err_from_is_err_and}
+use Rattle.refusals.specs.Numbers.{number}
+use Rattle.refusals.proofs.Numbers.{number-positive}
 use Rattle.record_tables.specs.Table.{decoded}
-use Rattle.voting_proposals.proofs.Answers.{propose-rows-refused, own-stored, own-checked, old-refused, both_stored, both-checked, old-checked, old-few, made-rows}
+use Rattle.voting_proposals.proofs.Answers.{propose-rows-refused, own-checked, old-refused, both-checked, old-checked, old-few, made-rows}
 use Rattle.voting_proposals.proofs.new_proposal.Goals as goal
 
-pub returns-then-number-ne0 : goal.returns-then-number-ne0
-returns-then-number-ne0 c =
+pub returns-in_err-multilog : goal.returns-in_err-multilog
+returns-in_err-multilog c =
     let s = c.args in
-    propose-rows-refused s.edits.now s.constraints.now s.oldedits.now s.oldconstraints.now _ c.lent-own.ensures c.if-number-ne0.true c.stopped.ensures
+    let p = err_from_is_err_and c.from_residual.result c.from_residual.ensures.1 in
+    let r = c.in_err-multilog.field-0.0 in
+    rw (p.1, p.2) (propose-rows-refused s.edits.now s.constraints.now s.oldedits.now s.oldconstraints.now (number r) c.in_err-multilog.ensures.0 (number-positive r), tt)
 
-pub returns-then-second-ne0 : goal.returns-then-second-ne0
-returns-then-second-ne0 c =
+pub returns-in_err-both : goal.returns-in_err-both
+returns-in_err-both c =
     let s = c.args in
     let es = s.edits.now in
     let cs = s.constraints.now in
-    let oes = s.oldedits.now in
-    let ocs = s.oldconstraints.now in
-    let e = c.lent-own.ensures in
-    let z = c.if-number-ne0.false in
-    let f = c.merge-joined.ensures (decoded es cs) (own-stored es cs oes ocs _ e z) (own-checked es cs oes ocs _ e z) in
-    old-refused es cs oes ocs _ e z _ f c.if-second-ne0.true c.stopped-then-second-ne0.ensures
+    let p = err_from_is_err_and c.from_residual-in_err-both.result c.from_residual-in_err-both.ensures.1 in
+    let r = c.in_err-both.field-0.0 in
+    let o = c.in_ok-multilog.ensures in
+    let b = c.in_err-both.ensures (decoded es cs) o.1 (own-checked es cs s.oldedits.now s.oldconstraints.now o.0) in
+    rw (p.1, p.2) (old-refused es cs s.oldedits.now s.oldconstraints.now o.0 (number r) b.0 (number-positive r), tt)
 
 pub returns : goal.returns
 returns c =
@@ -27,10 +32,8 @@ returns c =
     let cs = s.constraints.now in
     let oes = s.oldedits.now in
     let ocs = s.oldconstraints.now in
-    let e = c.lent-own.ensures in
-    let z = c.if-number-ne0.false in
-    let f = c.merge-joined.ensures (decoded es cs) (own-stored es cs oes ocs _ e z) (own-checked es cs oes ocs _ e z) in
-    let y = c.if-second-ne0.false in
-    let w = old-few es cs oes ocs _ e z _ f y in
-    made-rows es cs oes ocs _ e z _ f y
-    (c.made.ensures (decoded es cs) (decoded oes ocs) (both_stored es cs oes ocs _ e z _ f y) (both-checked es cs oes ocs _ e z _ f y) (c.decode-old.ensures w.0 w.1) (old-checked es cs oes ocs _ e z _ f y))
+    let o = c.in_ok-multilog.ensures in
+    let b = c.in_ok-both.ensures (decoded es cs) o.1 (own-checked es cs oes ocs o.0) in
+    let w = old-few es cs oes ocs o.0 b.0 in
+    let m = c.made.ensures (decoded es cs) (decoded oes ocs) b.1 (both-checked es cs oes ocs o.0 b.0) (c.decode-old.ensures w.0 w.1) (old-checked es cs oes ocs o.0 b.0) in
+    (m.0 ∙ sym (made-rows es cs oes ocs o.0 b.0), m.1)

@@ -1,23 +1,23 @@
--- `tally::with_bundle` meets its contract. Assumes nothing.
-use mathlib.Core.Path.{ap, ◌∙◌}
+-- `with_bundle` meets its contract. Assumes nothing.
+use mathlib.Core.Path.{◌≡◌, ap, ◌∙◌}
+use Prim.Native.Nat.{◌+◌}
 use native.Mathlib.Omega.{arith}
 use lib.ListN.{set}
-use Rattle.voting_tally.proofs.Steps.{total-is, tally-room, placed, weight-within, bundle-step}
+use Rattle.voting_tally.proofs.Steps.{total-is, tally-room, vote-placed, weight-raised, bundle-step}
 use Rattle.voting_tally.proofs.with_bundle.Goals as goal
 
 pub returns-then-n-ge8 : goal.returns-then-n-ge8
-returns-then-n-ge8 c = (c.plus-whole.ensures.0, λ l C e h t p. absurd (omega (arith, tally-room c.args.tally l c.args.weight e C h)))
+returns-then-n-ge8 c = λ l C e h t p. absurd (omega (arith, tally-room c.args.tally l c.args.weight e C h))
 
 pub returns : goal.returns
-returns c = (
-  c.plus-whole.ensures.0,
-  λ l C e h t p.
-      let t' = c.args.tally in
-      let w = c.args.weight in
-      let i = c.place_of-i.result in
-      let pi = placed t' l w e C h i (λ k u D g q. c.place_of-i.ensures.1 k u D g (p ∙ q)) in
-      let pm = c.plus-more.ensures.1 (weight-within t' l w e C h _ i 524280 pi t) in
-      let pt = c.plus-whole.ensures.1 (omega (arith, total-is t' l w e)) in
-      ap (λ x. record { groups = set t'.groups i (record { bundle = c.args.bundle; weight = c.plus-more.result }); count = c.count_with.result; election = x }) c.answer-r.ensures
-      ∙ bundle-step t' l w e C h _ c.args.bundle i c.plus-more.result c.count_with.result c.higher.result c.plus-whole.result p pi pm c.count_with.ensures c.higher.ensures pt,
-)
+returns c = λ l C e h t p.
+    let t' = c.args.tally in
+    let w = c.args.weight in
+    let f = c.ranges.weight.fits in
+    let i = c.unwrap_or-i.result in
+    let m = c.saturating_add-more.result in
+    let pi = vote-placed t' l w e C h c.place_of.result i (λ k u D g q. c.place_of.ensures.is k u D (c.group_slice.ensures ∙ g) (p ∙ q)) c.unwrap_or-i.ensures in
+    let pm = weight-raised t' l w e C h _ i m c.from-weight.result pi t f c.from-weight.ensures c.saturating_add-more.ensures in
+    let pt : c.saturating_add.result ≡ t'.election.total + w = omega (arith, total-is t' l w e, c.saturating_add.ensures, c.from-weight.ensures) in
+    ap (λ x. record { groups = set t'.groups i (record { bundle = c.args.bundle; weight = m }); count = c.max.result; election = x }) c.answer-r.ensures
+    ∙ bundle-step t' l w e C h _ c.args.bundle i m c.max.result c.max-2.result c.saturating_add.result p pi pm c.max.ensures c.max-2.ensures pt

@@ -1,16 +1,14 @@
--- `tally::won_bundle` meets its contract. Assumes nothing.
-use mathlib.Core.Path.{◌∙◌}
-use native.Mathlib.Omega.{arith}
-use Rattle.voting_tally.proofs.Winners.{no-winner, the-winner}
-use Rattle.voting_tally.proofs.Steps.{tally-count-is}
-use Rattle.voting_tally.proofs.Counts.{bundles-length}
+-- `won_bundle` meets its contract. Assumes nothing.
+use mathlib.Core.Bool.{true, false}
+use borrow.Author.Rules.{rules}
+use borrow.Author.Tests.{tests}
+use Rattle.std.proofs.lemmas.Iterator.{YieldsList-from_slice, first_from_find}
+use Rattle.voting_tally.proofs.Winners.{Won, winner-found}
 use Rattle.voting_tally.proofs.won_bundle.Goals as goal
 
-pub returns-then-n-gt8 : goal.returns-then-n-gt8
-returns-then-n-gt8 c = λ l e h. absurd (omega (arith, tally-count-is c.args.tally l 0 e, bundles-length l))
-
-pub returns-then-n-i : goal.returns-then-n-i
-returns-then-n-i c = λ l e h. c.empty-then-n-i.ensures ∙ no-winner c.args.tally l e c.winning_place-i.result c.winning_place-i.ensures.1 c.if-n-i.true
-
 pub returns : goal.returns
-returns c = λ l e h. the-winner c.args.tally l e c.winning_place-i.result c.winning_place-i.ensures.1 _ c.if-n-i.false
+returns c = λ l e.
+    let t = c.args.tally.now in
+    let w = winner-found t l e c.group_slice.result.now c.find-winner.result c.group_slice.ensures
+    (first_from_find _ _ _ (Won t.election.total true) (Won t.election.total false) c.find-winner.ensures.ran (YieldsList-from_slice c.group_slice.result.now cc) (λ x q k. search (rules, tests)) (λ x q k. search (rules, tests))) in
+    search rules

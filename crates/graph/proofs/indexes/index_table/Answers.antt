@@ -1,27 +1,22 @@
 -- `indexes::index_table` meets its contract. Assumes nothing.
-use Prim.Native.Nat.{◌+◌}
-use mathlib.Core.Path.{refl}
-use native.Mathlib.Omega.{arith}
-use Rattle.graph.proofs.indexes.Tables.{length-names, indexing-start, indexing-end, table-size, table_step, count-within, within_low}
-use Rattle.graph.proofs.links.Marks.{zeros-get, set_below}
+use Rattle.std.proofs.Common.{arith, refl, ◌+◌, ◌∙◌, length, length-set, ap}
+use Rattle.graph.proofs.indexes.Tables.{length-names, indexing-start, indexing-end, stored-edits, table-turn}
+use Rattle.graph.proofs.links.Marks.{zeros-get}
 use Rattle.graph.proofs.indexes.index_table.Goals as goal
 
+pub invariant_of-table : goal.invariant_of-table
+invariant_of-table c x = omega (arith, zeros-get 2304 x)
+
 pub loop-i-init : goal.loop-i-init
-loop-i-init c =
-    (refl, omega arith, within_low _ _ _ c.lesser-count.ensures, λ x. omega (arith, zeros-get 2304 x), λ R e f. (count-within _ R _ e f c.lesser-count.ensures, indexing-start R))
+loop-i-init c = (refl, λ R e f. indexing-start R)
 
 pub loop-i-preserved : goal.loop-i-preserved
 loop-i-preserved c =
     let l = c.loop-i in
-    rw c.put_index.ensures (
-      table-size c.args.multilog l.table l.i _ l.invariant.0,
-      omega arith,
-      l.invariant.2,
-      set_below l.table _ (l.i + 1) 128 (omega arith) l.invariant.3,
-      λ R e f. let w = l.invariant.4 R e f in (w.0, table_step c.args.multilog l.table l.i _ l.invariant.0 R e f (omega arith) w.1),
-    )
+    let q = c.edit_slice-edit-items.ensures in
+    rw c.put_index.ensures (length-set l.table _ _ ∙ l.invariant.0, λ R e f. table-turn R f l.table _ l.i _ l.invariant.0 (stored-edits _ R _ e q) c.loop-i-test.true (l.invariant.1 R e f))
 
 pub returns : goal.returns
-returns c =
+returns c R e f =
     let l = c.loop-i in
-    (l.invariant.0, l.invariant.3, λ R e f. let w = l.invariant.4 R e f in indexing-end R l.table (l.i + 1) (omega (arith, length-names R)) w.1)
+    indexing-end R l.table (l.i + 1) (omega (arith, length-names R, ap length (stored-edits _ R _ e c.edit_slice-edit-items.ensures))) (l.invariant.1 R e f)

@@ -1,8 +1,7 @@
 -- `indexes::name_count` meets its contract. Assumes nothing.
-use native.Mathlib.Omega.{arith}
-use Rattle.graph.proofs.indexes.Tables.{length-names, count-within, within_low}
+use Rattle.std.proofs.Common.{arith, length, ap}
+use Rattle.graph.proofs.indexes.Tables.{length-names, stored-edits}
 use Rattle.graph.proofs.indexes.name_count.Goals as goal
 
-pub returns : goal.returns
-returns c =
-    (omega (arith, within_low _ _ _ c.lesser.ensures), λ R e f. omega (arith, count-within _ R _ e f c.lesser.ensures, length-names R))
+pub returns-clause-count : goal.returns-clause-count
+returns-clause-count c R e f = omega (arith, length-names R, ap length (stored-edits _ R _ e c.edit_slice.ensures))

@@ -1,12 +1,11 @@
-use Prim.Native.Nat.{◌≤◌}
+use Rattle.std.proofs.Common.{◌≡◌}
 use Rattle.graph.proofs.links.Reach.{Going, unmarked}
 use Rattle.graph.proofs.links.+mark.Given as goal
 
 abbrev pub decreases-mark : goal.decreases-mark
 decreases-mark l = unmarked l.marks.now
 
-abbrev pub invariant-loop-j : goal.invariant-loop-j
-invariant-loop-j l = (l.j ≤ 1024) × Going l.base l.rows l.initial.marks l.x l.j l.marks
-
-abbrev pub decreases-loop-j : goal.decreases-loop-j
-decreases-loop-j l = l.j
+abbrev pub invariant-loop-left : goal.invariant-loop-left
+invariant-loop-left l =
+    (goal.iterator-loop-left).can_next l.left-iterator × (goal.iterator-loop-left).is_finite l.left-iterator
+    × (l.left-iterator.rows.now ≡ l.rows) × Going l.base l.rows l.initial.marks l.x l.left-iterator.row l.marks

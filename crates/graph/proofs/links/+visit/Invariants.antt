@@ -1,4 +1,4 @@
-use Prim.Native.Nat.{◌-◌, ◌≤◌}
+use Rattle.std.proofs.Common.{◌-◌, ◌≡◌}
 use Rattle.graph.proofs.links.Reach.{unmarked}
 use Rattle.graph.proofs.links.Search.{Walking}
 use Rattle.graph.proofs.links.+visit.Given as goal
@@ -6,8 +6,7 @@ use Rattle.graph.proofs.links.+visit.Given as goal
 abbrev pub decreases-visit : goal.decreases-visit
 decreases-visit l = 128 - unmarked l.states.now
 
-abbrev pub invariant-loop-j : goal.invariant-loop-j
-invariant-loop-j l = (l.j ≤ 1024) × Walking l.rows l.initial.states l.x l.j l.states
-
-abbrev pub decreases-loop-j : goal.decreases-loop-j
-decreases-loop-j l = l.j
+abbrev pub invariant-loop-left : goal.invariant-loop-left
+invariant-loop-left l =
+    (goal.iterator-loop-left).can_next l.left-iterator × (goal.iterator-loop-left).is_finite l.left-iterator
+    × (l.left-iterator.rows.now ≡ l.rows) × Walking l.rows l.initial.states l.x l.left-iterator.row l.states

@@ -1,28 +1,26 @@
 -- `links::linked_rows` meets its contract. Assumes nothing.
-use lib.ListN.{take}
-use native.Mathlib.Omega.{arith}
-use Rattle.graph.proofs.links.Links.{linking-start, growing-start, growing-step, growing-safe}
-use Rattle.graph.proofs.links.Reversing.{linking-more, linking-all}
+use Rattle.std.proofs.Common.{arith, rules, sym, ap, ◌∙◌, ◌+◌}
+use Rattle.graph.proofs.links.Links.{linking-start, linking-step, linking-end}
 use Rattle.graph.proofs.links.linked_rows.Goals as goal
 
 pub loop-j-init : goal.loop-j-init
-loop-j-init c = (omega arith, growing-start, linking-start (take c.args.count c.args.keys) c.args.lefts)
-
-pub link_row-requires : goal.link_row-requires
-link_row-requires c =
-    let l = c.loop-j in
-    (l.invariant.1.size, omega arith, omega (arith, c.index8.ensures, c.requires.3 l.j), omega (arith, c.index8-in-loop-j.ensures, c.requires.4 l.j))
+loop-j-init c = (search rules, rw c.new-linking.ensures.cells (linking-start c.args.keys.now c.args.lefts.now))
 
 pub loop-j-preserved : goal.loop-j-preserved
 loop-j-preserved c =
     let l = c.loop-j in
-    rw (c.link_row.ensures, c.index8.ensures, c.index8-in-loop-j.ensures) (
-      omega arith,
-      growing-step l.rows l.j _ _ (omega arith) (c.requires.3 l.j) (c.requires.4 l.j) l.invariant.1,
-      linking-more c.args.count c.args.keys c.args.lefts l.rows l.j c.requires.0 (omega arith) (c.requires.3 l.j) l.invariant.1.size l.invariant.2,
+    let key = c.from.ensures in
+    let left = c.from-in-loop-j.ensures in
+    let low = c.requires.keys l.j c.loop-j-test.true in (
+      c.link_row.ensures.count ∙ ap (λ n. n + 1) l.invariant.0,
+      rw (c.link_row.ensures.cells, l.invariant.0)
+          (linking-step _ _ l.linking.cells l.j _ _ l.linking.growing.size (omega (arith, c.requires.size)) (omega (arith, key)) (sym key) (sym left) l.invariant.1),
     )
 
 pub returns : goal.returns
 returns c =
     let l = c.loop-j in
-    (growing-safe l.rows l.j (omega arith) l.invariant.1, linking-all c.args.count c.args.keys c.args.lefts l.rows l.j c.requires.0 c.requires.1 (omega arith) l.invariant.2, λ i h. l.invariant.2.left i (omega arith))
+    rw c.rows.ensures (record {
+      linked = linking-end c.args.keys.now c.args.lefts.now _ l.j (omega arith) l.invariant.1;
+      lefts = λ i h. l.invariant.1.left i (omega arith);
+    })

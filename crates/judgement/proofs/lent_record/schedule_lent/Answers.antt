@@ -1,9 +1,11 @@
-use Rattle.judgement.proofs.lent_record.Answers.{schedule-refused, schedule-told}
-use mathlib.Core.Path.{ap, ◌∙◌}
+-- `lent_record::schedule_lent` meets its contract. Assumes nothing.
+use Rattle.std.proofs.Common.{ap, ◌∙◌}
+use Rattle.graph.proofs.indexes.Fit.{checked-fit}
+use Rattle.judgement.specs.Judged.{stored_schedule}
+use Rattle.judgement.proofs.lent_record.Lent.{none-marked-edits}
 use Rattle.judgement.proofs.lent_record.schedule_lent.Goals as goal
 
-pub returns-then-number-ne0 : goal.returns-then-number-ne0
-returns-then-number-ne0 c = ap (λ t. record { number = c.take_record-taken.result.number; schedule = t }) c.empty_schedule.ensures ∙ schedule-refused c.args.edits.now c.args.constraints.now c.take_record-taken.result.number c.take_record-taken.ensures.0 c.if-number-ne0.true
-
 pub returns : goal.returns
-returns c = schedule-told c.args.edits.now c.args.constraints.now c.take_record-taken.result.number c.take_record-taken.ensures.0 c.if-number-ne0.false c.take_record-taken.result.multilog (c.take_record-taken.ensures.1 c.if-number-ne0.false) c.schedule.result c.schedule.ensures
+returns c =
+    let t = c.in_ok-multilog.ensures.taken in
+    (c.in_ok-multilog.ensures.fault, c.schedule.ensures _ t.is (checked-fit _ t.checked) ∙ ap (stored_schedule _) (none-marked-edits _))

@@ -1,11 +1,22 @@
-use Rattle.judgement.proofs.lent_record.Answers.{lent-refused, lent-sound, lent-unsound}
+-- `lent_record::take_record` meets its contract. Assumes nothing.
+use Rattle.std.proofs.Common.{rules, sym}
+use Rattle.refusals.specs.Numbers.{number}
+use Rattle.refusals.proofs.Numbers.{number-positive}
+use Rattle.judgement.proofs.lent_record.Lent.{lent-refused, lent-taken, lent-sound, lent-unsound}
 use Rattle.judgement.proofs.lent_record.take_record.Goals as goal
 
-pub returns-then-number-ne0 : goal.returns-then-number-ne0
-returns-then-number-ne0 c = lent-refused c.args.edits.now c.args.constraints.now c.lent-joined.result c.lent-joined.ensures c.if-number-ne0.true
+pub returns-in_err-multilog-clause-fault : goal.returns-in_err-multilog-clause-fault
+returns-in_err-multilog-clause-fault c =
+    rw (← lent-refused c.args.edits.now c.args.constraints.now (number c.in_err-multilog.field-0.0) c.in_err-multilog.ensures.0 (number-positive _)) (search rules)
 
-pub returns-then-sound : goal.returns-then-sound
-returns-then-sound c = lent-sound c.args.edits.now c.args.constraints.now c.lent-joined.result c.lent-joined.ensures c.if-number-ne0.false c.sound.result c.sound.ensures c.if-sound.true
+pub returns-then-sound-clause-fault : goal.returns-then-sound-clause-fault
+returns-then-sound-clause-fault c =
+    lent-sound c.args.edits.now c.args.constraints.now (sym c.in_ok-multilog.ensures.0) _ c.in_ok-multilog.ensures.1 _ c.sound.ensures c.if-sound.true
 
-pub returns : goal.returns
-returns c = lent-unsound c.args.edits.now c.args.constraints.now c.lent-joined.result c.lent-joined.ensures c.if-number-ne0.false c.sound.result c.sound.ensures c.if-sound.false
+pub returns-then-sound-clause-taken : goal.returns-then-sound-clause-taken
+returns-then-sound-clause-taken c =
+    lent-taken c.args.edits.now c.args.constraints.now (sym c.in_ok-multilog.ensures.0) _ c.in_ok-multilog.ensures.1 _ c.sound.ensures c.if-sound.true
+
+pub returns-else-sound-clause-fault : goal.returns-else-sound-clause-fault
+returns-else-sound-clause-fault c =
+    lent-unsound c.args.edits.now c.args.constraints.now (sym c.in_ok-multilog.ensures.0) _ c.in_ok-multilog.ensures.1 _ c.sound.ensures c.if-sound.false

@@ -1,60 +1,36 @@
 -- `row_test::all_fit` meets its contract. Assumes nothing.
-use Prim.Native.Nat.{◌<◌}
-use mathlib.Core.Path.{refl, sym, ◌∙◌}
-use lib.ListN.{length}
-use native.Mathlib.Omega.{arith}
+use Rattle.std.proofs.Common.{refl, sym, ap, ◌∙◌}
+use Rattle.lists.specs.Lists.{all}
+use Rattle.record.specs.Judgement.{fits}
+use Rattle.graph.proofs.indexes.Tables.{stored-constraints}
 use Rattle.judgement.proofs.row_test.Fitting.{left-seat, right-seat, fitting-step, fitting-stop, row-fitting-end}
 use Rattle.judgement.proofs.row_test.all_fit.Goals as goal
 
-pub loop-j-init : goal.loop-j-init
-loop-j-init c = (omega arith, c.row_count-count.ensures.0, λ R row e f t u. (c.row_count-count.ensures.1 R e f, refl))
-
-pub index_of-requires : goal.index_of-requires
-index_of-requires c =
-    c.requires.0
-
-pub offset_bounds-places-index_of : goal.offset_bounds-places-index_of
-offset_bounds-places-index_of c =
-    omega (arith, c.index_of.ensures, c.requires.1 c.index16.result)
-
-pub bounds-places-index_of : goal.bounds-places-index_of
-bounds-places-index_of c =
-    omega (arith, c.index_of.ensures, c.requires.1 c.index16.result)
-
-pub index_of-requires-in-loop-j : goal.index_of-requires-in-loop-j
-index_of-requires-in-loop-j c =
-    c.requires.0
-
-pub offset_bounds-places-index_of-in-loop-j : goal.offset_bounds-places-index_of-in-loop-j
-offset_bounds-places-index_of-in-loop-j c =
-    omega (arith, c.index_of-in-loop-j.ensures, c.requires.1 c.index16-in-loop-j.result)
-
-pub bounds-places-index_of-in-loop-j : goal.bounds-places-index_of-in-loop-j
-bounds-places-index_of-in-loop-j c =
-    omega (arith, c.index_of-in-loop-j.ensures, c.requires.1 c.index16-in-loop-j.result)
+pub loop-constraint-init : goal.loop-constraint-init
+loop-constraint-init c R row e f t u = refl
 
 pub returns-then-not-rule_fits : goal.returns-then-not-rule_fits
-returns-then-not-rule_fits c =
-    let l = c.loop-j in
-    λ R row e f t u. let k = l.invariant.2 R row e f t u in
-    let h : l.j < length R.constraints = omega arith in
-    let b = c.rule_fits.ensures row _ _ (left-seat c.args.multilog R e f c.args.table.now t row c.args.places u l.j _ h c.index16.result c.index_of.result c.index16.ensures c.index_of.ensures)
-    (right-seat c.args.multilog R e f c.args.table.now t row c.args.places u l.j _ h c.index16-in-loop-j.result c.index_of-in-loop-j.result c.index16-in-loop-j.ensures c.index_of-in-loop-j.ensures) in
-    fitting-stop c.args.multilog R e f c.args.table.now t row c.args.places u l.j _ h _ b c.if-not-rule_fits.true ∙ sym k.1
+returns-then-not-rule_fits c R row e f t u =
+    let l = c.loop-constraint in
+    let s = stored-constraints _ R _ e c.constraint_slice-constraint-items.ensures in
+    let h = c.loop-constraint-test.true in
+    let b = c.rule_fits.ensures row _ _
+    (left-seat R f c.args.table.now t row c.args.places.now u _ s l.constraint-index _ h _ c.index_of.result c.from.ensures c.index_of.ensures.is)
+    (right-seat R f c.args.table.now t row c.args.places.now u _ s l.constraint-index _ h _ c.index_of-in-loop-constraint.result c.from-in-loop-constraint.ensures c.index_of-in-loop-constraint.ensures.is) in
+    fitting-stop R f c.args.table.now t row c.args.places.now u _ s l.constraint-index _ h _ b c.if-not-rule_fits.true ∙ sym (l.invariant R row e f t u) ∙ ap (all (λ x. fits row x.left x.rule x.right)) s
 
-pub loop-j-preserved : goal.loop-j-preserved
-loop-j-preserved c =
-    let l = c.loop-j in (
-      omega arith,
-      l.invariant.1,
-      λ R row e f t u. let k = l.invariant.2 R row e f t u in
-          let h : l.j < length R.constraints = omega arith in
-          let b = c.rule_fits.ensures row _ _ (left-seat c.args.multilog R e f c.args.table.now t row c.args.places u l.j _ h c.index16.result c.index_of.result c.index16.ensures c.index_of.ensures)
-          (right-seat c.args.multilog R e f c.args.table.now t row c.args.places u l.j _ h c.index16-in-loop-j.result c.index_of-in-loop-j.result c.index16-in-loop-j.ensures c.index_of-in-loop-j.ensures) in
-          (k.0, k.1 ∙ fitting-step c.args.multilog R e f c.args.table.now t row c.args.places u l.j _ h _ b c.if-not-rule_fits.false),
-    )
+pub loop-constraint-preserved : goal.loop-constraint-preserved
+loop-constraint-preserved c R row e f t u =
+    let l = c.loop-constraint in
+    let s = stored-constraints _ R _ e c.constraint_slice-constraint-items.ensures in
+    let h = c.loop-constraint-test.true in
+    let b = c.rule_fits.ensures row _ _
+    (left-seat R f c.args.table.now t row c.args.places.now u _ s l.constraint-index _ h _ c.index_of.result c.from.ensures c.index_of.ensures.is)
+    (right-seat R f c.args.table.now t row c.args.places.now u _ s l.constraint-index _ h _ c.index_of-in-loop-constraint.result c.from-in-loop-constraint.ensures c.index_of-in-loop-constraint.ensures.is) in
+    l.invariant R row e f t u ∙ fitting-step R f c.args.table.now t row c.args.places.now u _ s l.constraint-index _ h _ b c.if-not-rule_fits.false
 
 pub returns : goal.returns
-returns c =
-    let l = c.loop-j in
-    λ R row e f t u. let k = l.invariant.2 R row e f t u in row-fitting-end R row l.j (omega arith) ∙ sym k.1
+returns c R row e f t u =
+    let l = c.loop-constraint in
+    let s = stored-constraints _ R _ e c.constraint_slice-constraint-items.ensures in
+    row-fitting-end _ row l.constraint-index c.loop-constraint-test.false ∙ sym (l.invariant R row e f t u) ∙ ap (all (λ x. fits row x.left x.rule x.right)) s

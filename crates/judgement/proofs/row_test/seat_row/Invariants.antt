@@ -1,6 +1,4 @@
-use Prim.Native.Nat.{◌-◌, ◌≤◌}
-use mathlib.Core.Path.{◌≡◌}
-use lib.ListN.{length}
+use Rattle.std.proofs.Common.{◌≡◌, length}
 use Rattle.judgement.specs.row_test.Seats.{Indexed}
 use Rattle.judgement.proofs.row_test.Seating.{Seating}
 use Rattle.graph.specs.indexes.Fit.{Fit}
@@ -8,8 +6,4 @@ use Rattle.record.specs.Record.{Record}
 use Rattle.judgement.proofs.row_test.seat_row.Given as goal
 
 abbrev pub invariant-loop-q : goal.invariant-loop-q
-invariant-loop-q l =
-    (l.q ≤ length l.row) × (length l.places ≡ 128) × ((R : Record) → Fit R → Indexed R l.table → Seating R l.row l.places l.q)
-
-abbrev pub decreases-loop-q : goal.decreases-loop-q
-decreases-loop-q l = length l.row - l.q
+invariant-loop-q l = (length l.places ≡ 128) × ((R : Record) → Fit R → Indexed R l.table → Seating R l.row l.places l.q)

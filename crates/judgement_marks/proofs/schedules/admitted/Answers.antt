@@ -12,64 +12,34 @@ use Rattle.judgement_marks.proofs.schedules.admitted.Goals as goal
 
 pub returns-then-marks-x-eq1 : goal.returns-then-marks-x-eq1
 returns-then-marks-x-eq1 c =
-    (c.requires.5, λ R h t g f q u m i b r k calm miss e. rw (admit-had R g.formed h t k _ (marked-on R (λ y. mem y t) _ c.args.x e c.if-marks-x-eq1.true)) e)
-
-pub need_below-need-requires : goal.need_below-need-requires
-need_below-need-requires c =
-    (c.requires.0, c.requires.3)
-
-pub bounds-marks-need : goal.bounds-marks-need
-bounds-marks-need c =
-    omega (arith, c.need_below-need.ensures.1, c.requires.5)
+    λ R h t g f q u m i b r k calm miss e. rw (admit-had R g.formed h t k _ (marked-on R (λ y. mem y t) _ c.args.x e c.if-marks-x-eq1.true)) e
 
 pub returns-then-marks-need-ne1 : goal.returns-then-marks-need-ne1
 returns-then-marks-need-ne1 c =
-    let a = c.need_below-need in (
-      c.requires.5,
-      λ R h t g f q u m i b r k calm miss e. let j = a.ensures.3 R g (omega arith) in
-          rw (admit-need R g.formed h t k _ _ (get_or-among (names R) c.args.x (omega arith)) (get_or-among (names R) a.result j.0) j.1
-          (miss a.result (a.ensures.2 (unmarked-above R (λ y. mem y t) _ c.args.x e k.init-in c.if-marks-x-eq1.false)) (marked-off R (λ y. mem y t) _ a.result e j.0 c.if-marks-need-ne1.true))) e,
-    )
-
-pub closed-more-requires : goal.closed-more-requires
-closed-more-requires c =
-    (c.requires.0, omega arith, c.requires.3, c.requires.5)
-
-pub is_shut-requires : goal.is_shut-requires
-is_shut-requires c =
-    (c.requires.0, c.requires.2, c.requires.3)
+    let a = c.need_below-need in
+    λ R h t g f q u m i b r k calm miss e. let j = a.ensures.3 R g (omega arith) in
+    rw (admit-need R g.formed h t k _ _ (get_or-among (names R) c.args.x (omega arith)) (get_or-among (names R) a.result j.0) j.1
+    (miss a.result (a.ensures.2 (unmarked-above R (λ y. mem y t) _ c.args.x e k.init-in c.if-marks-x-eq1.false)) (marked-off R (λ y. mem y t) _ a.result e j.0 c.if-marks-need-ne1.true))) e
 
 pub returns-then-is_shut : goal.returns-then-is_shut
-returns-then-is_shut c = (
-  c.requires.5,
-  λ R h t g f q u m i b r k calm miss e. let w = c.closed-more.ensures.1 (enables R) R (names R) t g.enablers (enabler-known g.formed) k.closed (omega arith) k.known e ∙ needs-names R t _ in
-      rw (admit-barred R g.formed h t k _ (sym (c.is_shut.ensures R h t g q u k e w m i b) ∙ c.if-is_shut.true)) e,
-)
+returns-then-is_shut c =
+    λ R h t g f q u m i b r k calm miss e. let w = c.closed-more.ensures (enables R) R (names R) t g.enablers (enabler-known g.formed) k.closed (omega arith) k.known e ∙ needs-names R t _ in
+    rw (admit-barred R g.formed h t k _ (sym (c.is_shut.ensures R h t g q u k e w m i b) ∙ c.if-is_shut.true)) e
 
 pub returns-then-not-whole : goal.returns-then-not-whole
-returns-then-not-whole c = (
-  c.closed-more.ensures.0,
-  λ R h t g f q u m i b r k calm miss e. let w = c.closed-more.ensures.1 (enables R) R (names R) t g.enablers (enabler-known g.formed) k.closed (omega arith) k.known e ∙ needs-names R t _ in
-      rw (admit-new R g.formed h t k _ (marked-off R (λ y. mem y t) _ c.args.x e (omega arith) c.if-marks-x-eq1.false)
-      (sym (c.is_shut.ensures R h t g q u k e w m i b) ∙ c.if-is_shut.false)
-      (part-ring R _ (sym r ∙ not-true _ c.if-not-whole.true) (needs-cons R g.formed t _ (get_or-among (names R) c.args.x (omega arith)) k.known))) w,
-)
-
-pub closes_ring-requires : goal.closes_ring-requires
-closes_ring-requires c =
-    (c.requires.0, c.requires.1, c.requires.2, c.requires.3, c.closed-more.ensures.0)
+returns-then-not-whole c =
+    λ R h t g f q u m i b r k calm miss e. let w = c.closed-more.ensures (enables R) R (names R) t g.enablers (enabler-known g.formed) k.closed (omega arith) k.known e ∙ needs-names R t _ in
+    rw (admit-new R g.formed h t k _ (marked-off R (λ y. mem y t) _ c.args.x e (omega arith) c.if-marks-x-eq1.false)
+    (sym (c.is_shut.ensures R h t g q u k e w m i b) ∙ c.if-is_shut.false)
+    (part-ring R _ (sym r ∙ not-true _ c.if-not-whole.true) (needs-cons R g.formed t _ (get_or-among (names R) c.args.x (omega arith)) k.known))) w
 
 pub returns-then-closes_ring : goal.returns-then-closes_ring
-returns-then-closes_ring c = (
-  c.requires.5,
-  λ R h t g f q u m i b r k calm miss e. let w = c.closed-more.ensures.1 (enables R) R (names R) t g.enablers (enabler-known g.formed) k.closed (omega arith) k.known e ∙ needs-names R t _ in
-      rw (admit-ring R g.formed h t k _ (sym (c.closes_ring.ensures R t g f q u k.closed k.known e calm w) ∙ c.if-closes_ring.true)) e,
-)
+returns-then-closes_ring c =
+    λ R h t g f q u m i b r k calm miss e. let w = c.closed-more.ensures (enables R) R (names R) t g.enablers (enabler-known g.formed) k.closed (omega arith) k.known e ∙ needs-names R t _ in
+    rw (admit-ring R g.formed h t k _ (sym (c.closes_ring.ensures R t g f q u k.closed k.known e calm w) ∙ c.if-closes_ring.true)) e
 
 pub returns : goal.returns
-returns c = (
-  c.closed-more.ensures.0,
-  λ R h t g f q u m i b r k calm miss e. let w = c.closed-more.ensures.1 (enables R) R (names R) t g.enablers (enabler-known g.formed) k.closed (omega arith) k.known e ∙ needs-names R t _ in
-      rw (admit-new R g.formed h t k _ (marked-off R (λ y. mem y t) _ c.args.x e (omega arith) c.if-marks-x-eq1.false)
-      (sym (c.is_shut.ensures R h t g q u k e w m i b) ∙ c.if-is_shut.false) (sym (c.closes_ring.ensures R t g f q u k.closed k.known e calm w) ∙ c.if-closes_ring.false)) w,
-)
+returns c =
+    λ R h t g f q u m i b r k calm miss e. let w = c.closed-more.ensures (enables R) R (names R) t g.enablers (enabler-known g.formed) k.closed (omega arith) k.known e ∙ needs-names R t _ in
+    rw (admit-new R g.formed h t k _ (marked-off R (λ y. mem y t) _ c.args.x e (omega arith) c.if-marks-x-eq1.false)
+    (sym (c.is_shut.ensures R h t g q u k e w m i b) ∙ c.if-is_shut.false) (sym (c.closes_ring.ensures R t g f q u k.closed k.known e calm w) ∙ c.if-closes_ring.false)) w

@@ -5,19 +5,14 @@ use Rattle.judgement_marks.proofs.schedules.admitted_marks.Goals as goal
 
 pub loop-x-init : goal.loop-x-init
 loop-x-init c =
-    (omega arith, c.requires.3, λ R h g f q m i b r calm. admitting-start R g.formed h _ calm m)
-
-pub admitted-more-requires : goal.admitted-more-requires
-admitted-more-requires c =
-    let l = c.loop-x in
-    (c.requires.0, c.requires.1, c.requires.2, omega arith, c.requires.3, l.invariant.1)
+    (omega arith, λ R h g f q m i b r calm. admitting-start R g.formed h _ calm m)
 
 pub loop-x-preserved : goal.loop-x-preserved
 loop-x-preserved c =
     let l = c.loop-x in
-    (omega arith, c.admitted-more.ensures.0, λ R h g f q m i b r calm. admitting-step R g.formed h l.marks _ l.x (omega arith) (λ t k z o e. c.admitted-more.ensures.1 R h t g f q (omega arith) m i b r k z o e) (l.invariant.2 R h g f q m i b r calm))
+    (omega arith, λ R h g f q m i b r calm. admitting-step R g.formed h l.marks _ l.x (omega arith) (λ t k z o e. c.admitted-more.ensures R h t g f q (omega arith) m i b r k z o e) (l.invariant.1 R h g f q m i b r calm))
 
 pub returns : goal.returns
 returns c =
     let l = c.loop-x in
-    (l.invariant.1, λ R h g f q m i b r calm. admitting-end R h l.marks l.x (omega arith) (l.invariant.2 R h g f q m i b r calm))
+    λ R h g f q m i b r calm. admitting-end R h l.marks l.x (omega arith) (l.invariant.1 R h g f q m i b r calm)

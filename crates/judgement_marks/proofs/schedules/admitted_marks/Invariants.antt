@@ -1,4 +1,4 @@
-use Prim.Native.Nat.{ℕ, ◌-◌, ◌≤◌}
+use Prim.Native.Nat.{ℕ, ◌≤◌}
 use mathlib.Core.Path.{◌≡◌}
 use mathlib.Core.Bool.{false}
 use mathlib.Core.List.{List}
@@ -16,7 +16,4 @@ use Rattle.judgement_marks.proofs.schedules.admitted_marks.Given as goal
 
 abbrev pub invariant-loop-x : goal.invariant-loop-x
 invariant-loop-x l =
-    (1 ≤ l.x) × (length l.marks ≡ 128) × ((R : Record) (hiddens : List ℕ) → Resolved R l.rows → Reversed R l.reversed → l.whole.n ≡ length (names R) → l.mustmarks ≡ marks_of R (must R) → Hides R l.hidden hiddens → l.whole.barring ≡ any (bars R hiddens) (names R) → l.whole.ringed ≡ ring R (names R) → ring R (musts R) ≡ false → Admitting R hiddens l.marks l.x)
-
-abbrev pub decreases-loop-x : goal.decreases-loop-x
-decreases-loop-x l = l.whole.n - l.x
+    (1 ≤ l.x) × ((R : Record) (hiddens : List ℕ) → Resolved R l.graph.rows → Reversed R l.reversed → l.graph.count ≡ length (names R) → l.mustmarks ≡ marks_of R (must R) → Hides R l.hidden hiddens → l.whole.barring ≡ any (bars R hiddens) (names R) → l.whole.ringed ≡ ring R (names R) → ring R (musts R) ≡ false → Admitting R hiddens l.marks l.x)

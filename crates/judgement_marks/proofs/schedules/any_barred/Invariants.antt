@@ -1,4 +1,4 @@
-use Prim.Native.Nat.{ℕ, ◌-◌, ◌≤◌, ◌<◌}
+use Prim.Native.Nat.{ℕ, ◌<◌}
 use mathlib.Core.Path.{◌≡◌}
 use mathlib.Core.Bool.{false, ◌&&◌}
 use mathlib.Core.List.{List}
@@ -13,7 +13,4 @@ use Rattle.judgement_marks.proofs.schedules.any_barred.Given as goal
 
 abbrev pub invariant-loop-x : goal.invariant-loop-x
 invariant-loop-x l =
-    (l.x ≤ l.n) × ((R : Record) (hiddens t : List ℕ) → l.n ≡ length (names R) → l.marks ≡ marks_of R (λ y. mem y t) → l.mustmarks ≡ marks_of R (must R) → Hides R l.hidden hiddens → (y : ℕ) → y < l.x → (mem (name_at R y) t && bars R hiddens (name_at R y)) ≡ false)
-
-abbrev pub decreases-loop-x : goal.decreases-loop-x
-decreases-loop-x l = l.n - l.x
+    (R : Record) (hiddens t : List ℕ) → l.graph.count ≡ length (names R) → l.marks ≡ marks_of R (λ y. mem y t) → l.mustmarks ≡ marks_of R (must R) → Hides R l.hidden hiddens → (y : ℕ) → y < l.x → (mem (name_at R y) t && bars R hiddens (name_at R y)) ≡ false

@@ -1,4 +1,4 @@
-use Prim.Native.Nat.{ℕ, ◌-◌, ◌≤◌, ◌<◌}
+use Prim.Native.Nat.{ℕ, ◌<◌}
 use mathlib.Core.Path.{◌≡◌}
 use mathlib.Core.Bool.{Bool, false}
 use lib.ListN.{length}
@@ -10,7 +10,4 @@ use Rattle.judgement_marks.proofs.schedules.lowest.Given as goal
 
 abbrev pub invariant-loop-x : goal.invariant-loop-x
 invariant-loop-x l =
-    (l.x ≤ l.n) × ((R : Record) (test : ℕ → Bool) → Resolved R l.rows → l.n ≡ length (names R) → l.waits ≡ marks_of R test → ((y : ℕ) → y < l.from → free R test (name_at R y) ≡ false) → (y : ℕ) → y < l.x → free R test (name_at R y) ≡ false)
-
-abbrev pub decreases-loop-x : goal.decreases-loop-x
-decreases-loop-x l = l.n - l.x
+    (R : Record) (test : ℕ → Bool) → Resolved R l.graph.rows → l.graph.count ≡ length (names R) → l.waits ≡ marks_of R test → ((y : ℕ) → y < l.from → free R test (name_at R y) ≡ false) → (y : ℕ) → y < l.x → free R test (name_at R y) ≡ false

@@ -10,20 +10,15 @@ pub loop-k-init : goal.loop-k-init
 loop-k-init c =
     (omega arith, refl, λ R list d few k. paging-start R d few c.args.row list (omega arith) k)
 
-pub bounds-pages-index8 : goal.bounds-pages-index8
-bounds-pages-index8 c =
-    let l = c.loop-k in
-    omega (arith, c.index8.ensures, c.requires.2 (l.k - 1))
-
 pub loop-k-preserved : goal.loop-k-preserved
 loop-k-preserved c =
     let l = c.loop-k in (
       omega arith,
-      length-set l.pages c.index8.result (l.k - 1) ∙ l.invariant.1,
-      λ R list d few k. rw c.index8.ensures (paging-step R d few c.args.row list (omega arith) k l.pages (l.k - 1) l.invariant.1 (omega arith) (rw (back l.k (omega arith)) (l.invariant.2 R list d few k))),
+      length-set l.pages c.from.result (l.k - 1) ∙ l.invariant.1,
+      λ R list d few k. rw c.from.ensures (paging-step R d few c.args.row list (omega arith) k l.pages (l.k - 1) l.invariant.1 (omega arith) (rw (back l.k (omega arith)) (l.invariant.2 R list d few k))),
     )
 
 pub returns : goal.returns
 returns c =
     let l = c.loop-k in
-    (l.invariant.1, λ R list d few k. paging-end R d few c.args.row list (omega arith) k l.pages l.invariant.1 (rw (zero_left l.k (omega arith)) at (l.invariant.2 R list d few k)))
+    λ R list d few k. paging-end R d few c.args.row list (omega arith) k l.pages l.invariant.1 (rw (zero_left l.k (omega arith)) at (l.invariant.2 R list d few k))

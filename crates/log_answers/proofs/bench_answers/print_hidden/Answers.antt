@@ -1,15 +1,16 @@
 -- `bench_answers::print_hidden` meets its contract. Assumes nothing.
-use native.Mathlib.Omega.{arith}
+use mathlib.Core.Path.{◌≡◌}
+use borrow.Author.Rules.{rules}
+use lib.ListN.{length, take, drop}
+use Rattle.lists.specs.Lists.{filter}
 use Rattle.text_forms.specs.Spelling.{bytes}
+use Rattle.log_answers.specs.bench_answers.Asks.{hides}
 use Rattle.log_answers.proofs.bench_answers.Questions.{hidden-printed}
 use Rattle.log_answers.proofs.bench_answers.print_hidden.Goals as goal
 
-pub count_hidden-count-requires : goal.count_hidden-count-requires
-count_hidden-count-requires c = omega (arith, c.lesser-n.ensures)
-
-pub print_hidden_edits-requires : goal.print_hidden_edits-requires
-print_hidden_edits-requires c = omega (arith, c.lesser-n.ensures)
-
 pub returns : goal.returns
 unfolding bytes
-returns c = let s = c.args in hidden-printed s.bench.multilog.edits s.bench.multilog.editcount c.print_hidden_edits.ensures.1 c.lesser-n.ensures s.out.now s.at s.bench.hidden c.count_hidden-count.ensures c.print-place.ensures c.print_hidden_edits.ensures.0
+returns c =
+    let s = c.args in
+    let k : c.count_hidden-count.result ≡ length (filter hides (take (length c.edit_slice-edits.result.now) (drop 1 s.bench.hidden))) = search rules in
+    rw (← c.edit_slice-edits.ensures) (hidden-printed c.edit_slice-edits.result.now s.out.now s.at s.bench.hidden k c.print-place.ensures c.print_hidden_edits.ensures)

@@ -1,31 +1,17 @@
 -- `bench_answers::print_hidden_edits` meets its contract. Assumes nothing.
-use borrow.Author.Rules.{rules}
 use native.Mathlib.Omega.{arith}
 use Prim.Native.Nat.{◌+◌}
-use mathlib.Core.Path.{◌≡◌}
-use lib.ListN.{length}
-use Rattle.lists.proofs.Lists.{length-mapped}
-use Rattle.log_forms.proofs.Printing.{printing-start, printing-next, printing-end}
 use Rattle.log_answers.specs.bench_answers.Asks.{hidden_line}
+use Rattle.log_answers.proofs.bench_answers.Loops.{printed-first, printed-next, printed-last}
 use Rattle.log_answers.proofs.bench_answers.print_hidden_edits.Goals as goal
 
 pub loop-i-init : goal.loop-i-init
-loop-i-init c = let s = c.args in let l : length s.edits ≡ 127 = search (rules, length-mapped) in printing-start (hidden_line s.marks) 1 s.edits s.n s.out.now s.at (omega (arith, c.requires))
-
-pub overflow_add-mark : goal.overflow_add-mark
-overflow_add-mark c = omega (arith, c.loop-i-test.true, c.requires)
-
-pub bounds-marks-i : goal.bounds-marks-i
-bounds-marks-i c = omega (arith, c.loop-i-test.true, c.requires)
-
-pub overflow_add-i : goal.overflow_add-i
-overflow_add-i c = omega (arith, c.loop-i-test.true, c.requires)
-
-pub loop-i-smaller : goal.loop-i-smaller
-loop-i-smaller c = omega (arith, c.loop-i-test.true)
+loop-i-init c = let s = c.args in printed-first (hidden_line s.marks) 1 s.edits.now s.out.now s.at
 
 pub loop-i-preserved : goal.loop-i-preserved
-loop-i-preserved c = let s = c.args in printing-next (hidden_line s.marks) 1 s.edits s.n s.out.now s.at c.loop-i.invariant _ (c.loop-i.i + 1) (omega arith) c.loop-i-test.true c.print_if_hidden-place.ensures
+loop-i-preserved c =
+    let s = c.args in
+    printed-next (hidden_line s.marks) 1 s.edits.now s.out.now s.at _ (c.loop-i.i + 1) (omega arith) c.loop-i-test.true c.loop-i.invariant c.print_if_hidden-place.ensures
 
 pub returns : goal.returns
-returns c = let s = c.args in (printing-end (hidden_line s.marks) 1 s.edits s.n s.out.now s.at c.loop-i.invariant c.loop-i-test.false, search (rules, length-mapped))
+returns c = let s = c.args in printed-last (hidden_line s.marks) 1 s.edits.now s.out.now s.at c.loop-i.i (omega arith) c.loop-i.invariant

@@ -11,4 +11,6 @@ returns-then-mark-ne1 c = let s = c.args in printed-not (hides s.mark) (answer_l
 
 pub returns : goal.returns
 unfolding bytes
-returns c = let s = c.args in printed-so (hides s.mark) (answer_line "edit=@\n" (s.name ∷ [])) s.out.now s.at (is_hidden s.mark c.if-mark-ne1.false) c.print.ensures
+returns c =
+    let s = c.args in
+    printed-so (hides s.mark) (answer_line "edit=@\n" (s.name ∷ [])) s.out.now s.at (is_hidden s.mark c.if-mark-ne1.false) (rw c.from.ensures at c.print.ensures)

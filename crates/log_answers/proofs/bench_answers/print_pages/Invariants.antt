@@ -1,10 +1,6 @@
-use Prim.Native.Nat.{◌-◌}
-use Rattle.log_forms.proofs.Printing.{Printing}
+use Rattle.log_answers.proofs.bench_answers.Loops.{PrintedTo}
 use Rattle.log_answers.specs.bench_answers.Asks.{page_line}
 use Rattle.log_answers.proofs.bench_answers.print_pages.Given as goal
 
 abbrev pub invariant-loop-i : goal.invariant-loop-i
-invariant-loop-i l = Printing page_line 1 l.edits l.n l.initial.out l.at l.out l.place l.i
-
-abbrev pub decreases-loop-i : goal.decreases-loop-i
-decreases-loop-i l = l.n - l.i
+invariant-loop-i l = PrintedTo page_line 1 l.edits l.initial.out l.at l.out l.place l.i

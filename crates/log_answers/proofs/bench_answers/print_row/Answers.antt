@@ -1,8 +1,10 @@
 -- `bench_answers::print_row` meets its contract. Assumes nothing.
+use mathlib.Core.Path.{◌∙◌}
 use Rattle.text_forms.specs.Spelling.{bytes}
 use Rattle.log_answers.proofs.bench_answers.Questions.{row-printed}
+use Rattle.lists.proofs.Tests.{byte-bit}
 use Rattle.log_answers.proofs.bench_answers.print_row.Goals as goal
 
 pub returns : goal.returns
 unfolding bytes
-returns c = let s = c.args in row-printed s.out.now s.at s.page s.edit s.row c.place_of-chip.ensures c.bit-present.ensures c.print-place.ensures c.print_cells.ensures
+returns c = let s = c.args in row-printed s.out.now s.at s.page s.edit s.row c.place_of-chip.ensures (c.from-present.ensures ∙ byte-bit s.row.present) c.print-place.ensures c.print_cells.ensures

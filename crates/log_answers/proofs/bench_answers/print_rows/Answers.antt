@@ -1,23 +1,19 @@
 -- `bench_answers::print_rows` meets its contract. Assumes nothing.
-use borrow.Author.Rules.{rules}
 use native.Mathlib.Omega.{arith}
 use Prim.Native.Nat.{◌+◌}
-use mathlib.Core.Path.{◌≡◌}
-use lib.ListN.{length}
-use Rattle.lists.proofs.Lists.{length-mapped}
-use Rattle.log_forms.proofs.Printing.{printing-start, printing-next, printing-end, printed-as}
-use Rattle.log_answers.specs.bench_answers.Asks.{row_at}
+use Rattle.log_forms.proofs.Printing.{printed-as}
 use Rattle.log_answers.proofs.bench_answers.Questions.{row_before}
+use Rattle.log_answers.specs.bench_answers.Asks.{row_at}
+use Rattle.log_answers.proofs.bench_answers.Loops.{printed-first, printed-next, printed-last}
 use Rattle.log_answers.proofs.bench_answers.print_rows.Goals as goal
 
 pub loop-i-init : goal.loop-i-init
-loop-i-init c = let s = c.args in let l : length s.edits ≡ 127 = search (rules, length-mapped) in printing-start (row_at s.rows) 1 s.edits s.n s.out.now s.at (omega (arith, c.requires))
-
-pub loop-i-smaller : goal.loop-i-smaller
-loop-i-smaller c = omega (arith, c.loop-i-test.true)
+loop-i-init c = let s = c.args in printed-first (row_at s.rows) 1 s.edits.now s.out.now s.at
 
 pub loop-i-preserved : goal.loop-i-preserved
-loop-i-preserved c = let s = c.args in let l : length s.rows ≡ 127 = search (rules, length-mapped) in printing-next (row_at s.rows) 1 s.edits s.n s.out.now s.at c.loop-i.invariant _ (c.loop-i.i + 1) (omega arith) c.loop-i-test.true (printed-as _ c.loop-i.out c.loop-i.place (row_before s.rows c.loop-i.i _ _ (omega (arith, c.loop-i-test.true, c.requires))) c.print_row-place.ensures)
+loop-i-preserved c =
+    let s = c.args in
+    printed-next (row_at s.rows) 1 s.edits.now s.out.now s.at _ (c.loop-i.i + 1) (omega arith) c.loop-i-test.true c.loop-i.invariant (printed-as _ c.loop-i.out c.loop-i.place (row_before s.rows c.loop-i.i _ _ (omega (arith, c.loop-i-test.true, c.requires))) c.print_row-place.ensures)
 
 pub returns : goal.returns
-returns c = let s = c.args in (printing-end (row_at s.rows) 1 s.edits s.n s.out.now s.at c.loop-i.invariant c.loop-i-test.false, search (rules, length-mapped))
+returns c = let s = c.args in printed-last (row_at s.rows) 1 s.edits.now s.out.now s.at c.loop-i.i (omega arith) c.loop-i.invariant

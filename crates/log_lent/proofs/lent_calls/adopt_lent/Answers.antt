@@ -3,4 +3,4 @@ use Rattle.log_lent.proofs.lent_calls.Given.{adoption-given}
 use Rattle.log_lent.proofs.lent_calls.adopt_lent.Goals as goal
 
 pub returns : goal.returns
-returns c = λ L K. adoption-given L _ (c.proposed_edits.ensures L.edits K.edits) (c.proposed_constraints.ensures L.constraints K.constraints) K.roll.rows _ _ c.adopt.ensures
+returns c = λ L K. adoption-given L _ (c.proposals-proposals.ensures L K) (c.seats.ensures L _ _ K) _ _ c.adopt.ensures

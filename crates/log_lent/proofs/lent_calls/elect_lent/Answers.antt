@@ -6,4 +6,4 @@ use Rattle.log_lent.proofs.lent_calls.elect_lent.Goals as goal
 
 pub returns : goal.returns
 unfolding count_of
-returns c = λ L K. ap (λ (r : Counted). r.election) (c.count_lent-counted.ensures L K)
+returns c = λ L K. ap (λ (r : Counted). r.election) (c.count_lent.ensures L K)

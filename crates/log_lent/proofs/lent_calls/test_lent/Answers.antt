@@ -1,13 +1,22 @@
 -- `lent_calls::test_lent` meets its contract. Assumes nothing.
+use mathlib.Core.Path.{◌≡◌, ap, ◌∙◌}
 use native.Mathlib.Omega.{arith}
-use Rattle.log_lent.proofs.lent_calls.Given.{row-elsewhere, row-given}
+use native.Mathlib.Nat.{min-eq_left}
+use borrow.Author.Rules.{rules}
+use Rattle.refusals.specs.Numbers.{number_of}
+use Rattle.log_lent.proofs.lent_calls.Given.{err-given, row-elsewhere, row-given}
 use Rattle.log_lent.proofs.lent_calls.test_lent.Goals as goal
 
-pub returns-then-k-gt8 : goal.returns-then-k-gt8
-returns-then-k-gt8 c = λ L K. row-elsewhere L _ c.if-k-gt8.true
-
-pub returns-then-n-gt-ROW_PLACES : goal.returns-then-n-gt-ROW_PLACES
-returns-then-n-gt-ROW_PLACES c = λ L K. absurd (let h = c.if-n-gt-ROW_PLACES.true in let g = K.row.few in omega arith)
+pub returns-in_err-place : goal.returns-in_err-place
+returns-in_err-place c =
+    let e = c.in_err-place.ensures in
+    let n : number_of c.from_residual.result ≡ 2 = search rules in
+    λ L K. err-given _ _ c.from_residual.ensures.0 (n ∙ row-elsewhere L _ e.1)
 
 pub returns : goal.returns
-returns c = λ L K. let h = c.if-k-gt8.false in row-given L _ h c.test_names.ensures (c.edits_of.ensures L.edits K.edits (omega arith)) (c.constraints_of.ensures L.constraints K.constraints (omega arith)) K.row.rows
+returns c =
+    λ L K.
+    let q = c.in_ok-place.ensures in
+    let r = c.record-record.ensures L K (omega (arith, q.0, q.1)) in
+    let m : c.min.result ≡ c.args.lending.now.rowcount = c.min.ensures ∙ min-eq_left K.row.few in
+    row-given L _ _ q.1 c.test_row.ensures (r.0 ∙ ap L.edits q.0) (r.1 ∙ ap L.constraints q.0) (rw m K.row.rows)

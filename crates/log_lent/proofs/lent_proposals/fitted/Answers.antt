@@ -1,15 +1,12 @@
 -- `lent_proposals::fitted` meets its contract. Assumes nothing.
-use Rattle.log_lent.proofs.lent_proposals.Making.{rows-stop, lent-few-edits, lent-few-constraints, proposal-whole}
+use Rattle.log_lent.proofs.lent_proposals.Making.{few-edit-places, few-constraint-places, places-enough}
 use Rattle.log_lent.proofs.lent_proposals.fitted.Goals as goal
 
-pub returns-then-new-ne0 : goal.returns-then-new-ne0
-returns-then-new-ne0 c = λ E C D F q. let s = c.args in rows-stop E C D F s.n s.m _ q c.if-new-ne0.true
+pub returns-then-n-new : goal.returns-then-n-new
+returns-then-n-new c = λ P q. (few-edit-places P _ c.args.m q c.if-n-new.true, tt)
 
-pub returns-then-n-after : goal.returns-then-n-after
-returns-then-n-after c = λ E C D F q. let s = c.args in lent-few-edits E C D F s.n s.m _ q c.if-new-ne0.false c.if-n-after.true c.stopped.ensures
-
-pub returns-then-m-after : goal.returns-then-m-after
-returns-then-m-after c = λ E C D F q. let s = c.args in lent-few-constraints E C D F s.n s.m _ q c.if-new-ne0.false c.if-n-after.false c.if-m-after.true c.stopped-then-m-after.ensures
+pub returns-then-m-new : goal.returns-then-m-new
+returns-then-m-new c = λ P q. (few-constraint-places P c.args.n _ q c.if-n-new.false c.if-m-new.true, tt)
 
 pub returns : goal.returns
-returns c = λ E C D F q. let s = c.args in proposal-whole E C D F s.n s.m _ q c.if-new-ne0.false c.if-n-after.false c.if-m-after.false
+returns c = λ P q. (places-enough P c.args.n c.args.m q c.if-n-new.false c.if-m-new.false, q)

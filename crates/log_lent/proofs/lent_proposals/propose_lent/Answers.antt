@@ -1,21 +1,42 @@
 -- `lent_proposals::propose_lent` meets its contract. Assumes nothing.
+use mathlib.Core.Path.{◌≡◌, ap, ◌∙◌}
 use native.Mathlib.Omega.{arith}
-use Rattle.log_lent.proofs.lent_proposals.Making.{record-elsewhere, old-elsewhere, proposal-inside}
+use borrow.Author.Rules.{rules}
+use Rattle.refusals.specs.Numbers.{number, number_of}
+use Rattle.log_lent.proofs.lent_calls.Given.{err-given}
+use Rattle.log_lent.proofs.lent_proposals.Making.{record-elsewhere, old-elsewhere, proposal-refused, proposal-given}
 use Rattle.log_lent.proofs.lent_proposals.propose_lent.Goals as goal
 
-pub returns-then-k-gt8 : goal.returns-then-k-gt8
-returns-then-k-gt8 c = λ L K. record-elsewhere L _ _ _ _ c.if-k-gt8.true c.stopped.ensures
+pub returns-in_err-place : goal.returns-in_err-place
+returns-in_err-place c =
+    let e = c.in_err-place.ensures in
+    let n : number_of c.from_residual.result ≡ 2 = search rules in
+    λ L K. err-given _ _ c.from_residual.ensures.0 (n ∙ record-elsewhere L _ _ _ _ e.1)
 
-pub returns-then-old-gt8 : goal.returns-then-old-gt8
-returns-then-old-gt8 c = λ L K. old-elsewhere L _ _ _ _ c.if-old-gt8.true c.stopped-then-old-gt8.ensures
+pub returns-in_err-oldplace : goal.returns-in_err-oldplace
+returns-in_err-oldplace c =
+    let e = c.in_err-oldplace.ensures in
+    let n : number_of c.from_residual-in_err-oldplace.result ≡ 2 = search rules in
+    λ L K. err-given _ _ c.from_residual-in_err-oldplace.ensures.0 (n ∙ old-elsewhere L _ _ _ _ e.1)
+
+pub returns-in_err-new : goal.returns-in_err-new
+returns-in_err-new c =
+    λ L K.
+    let q = c.in_ok-place.ensures in
+    let r = c.in_ok-oldplace.ensures in
+    let e = c.record-record.ensures L K (omega (arith, q.0, q.1)) in
+    let f = c.record-proposal.ensures L K (omega (arith, r.0, r.1)) in
+    let g = c.in_err-new.ensures in
+    let n : number_of c.from_residual-in_err-new.result ≡ number c.in_err-new.field-0.0 = search rules in
+    err-given _ _ c.from_residual-in_err-new.ensures.0
+    (n ∙ proposal-refused L _ _ _ _ q.1 r.1 (e.0 ∙ ap L.edits q.0) (e.1 ∙ ap L.constraints q.0) (f.0 ∙ ap L.edits r.0) (f.1 ∙ ap L.constraints r.0) _ g.0)
 
 pub returns : goal.returns
 returns c =
     λ L K.
-    let h = c.if-k-gt8.false in
-    let i = c.if-old-gt8.false in
-    proposal-inside L _ _ _ _ h i (c.fitted.ensures _ _ _ _ c.new_proposal-new.ensures)
-    (c.edits_of.ensures L.edits K.edits (omega arith))
-    (c.constraints_of.ensures L.constraints K.constraints (omega arith))
-    (c.edits_of-2.ensures L.edits K.edits (omega arith))
-    (c.constraints_of-2.ensures L.constraints K.constraints (omega arith))
+    let q = c.in_ok-place.ensures in
+    let r = c.in_ok-oldplace.ensures in
+    let e = c.record-record.ensures L K (omega (arith, q.0, q.1)) in
+    let f = c.record-proposal.ensures L K (omega (arith, r.0, r.1)) in
+    let g = c.in_ok-new.ensures in
+    proposal-given L _ _ _ _ q.1 r.1 (e.0 ∙ ap L.edits q.0) (e.1 ∙ ap L.constraints q.0) (f.0 ∙ ap L.edits r.0) (f.1 ∙ ap L.constraints r.0) g.0 _ (c.fitted.ensures _ g.1)

@@ -1,9 +1,14 @@
 -- `calls::print_refused` meets its contract. Assumes nothing.
-use Rattle.log_session.proofs.calls.Telling.{setting-none, setting-some}
+use Rattle.refusals.specs.Numbers.{number}
+use Rattle.refusals.proofs.Numbers.{number-positive}
+use Rattle.log_forms.proofs.Printing.{printed-nothing}
+use Rattle.log_session.proofs.calls.Telling.{setting-some}
 use Rattle.log_session.proofs.calls.print_refused.Goals as goal
 
-pub returns-then-number-eq0 : goal.returns-then-number-eq0
-returns-then-number-eq0 c = setting-none _ _ c.if-number-eq0.true
+pub returns-in-Ok : goal.returns-in-Ok
+returns-in-Ok c = rw c.in-Ok.is (printed-nothing _ _)
 
-pub returns : goal.returns
-returns c = setting-some _ _ c.if-number-eq0.false c.print_refusal.ensures
+pub returns-in-Err : goal.returns-in-Err
+returns-in-Err c =
+    let r = c.in-Err.refusal in
+    rw c.in-Err.is (setting-some (number r) _ (number-positive r) (rw c.number.ensures at c.print_refusal.ensures))

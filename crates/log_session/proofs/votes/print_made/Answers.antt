@@ -1,9 +1,11 @@
 -- `votes::print_made` meets its contract. Assumes nothing.
-use Rattle.log_session.proofs.votes.Answered.{refused-so, answered-so}
+use Rattle.record.specs.Stored.{stored}
+use Rattle.log_answers.specs.Answers.{record_text}
+use Rattle.log_session.proofs.votes.Answered.{refused-given, answered-given}
 use Rattle.log_session.proofs.votes.print_made.Goals as goal
 
-pub returns-then-made-ne0 : goal.returns-then-made-ne0
-returns-then-made-ne0 c = refused-so _ _ _ _ _ c.if-made-ne0.true c.print_refusal.ensures
+pub returns-in-Ok : goal.returns-in-Ok
+returns-in-Ok c = λ n P g. answered-given record_text c.args.line _ _ n (stored P) c.in-Ok.is g c.print_record.ensures
 
-pub returns : goal.returns
-returns c = answered-so _ _ _ _ _ c.if-made-ne0.false c.print_record.ensures
+pub returns-in-Err : goal.returns-in-Err
+returns-in-Err c = λ n P g. refused-given record_text c.args.line _ _ n (stored P) c.in-Err.is g (rw c.number.ensures at c.print_refusal.ensures)

@@ -1,9 +1,10 @@
 -- `votes::print_suggestion` meets its contract. Assumes nothing.
-use Rattle.log_session.proofs.votes.Answered.{refused-so, answered-so}
+use Rattle.log_session.specs.votes.Votes.{suggestion_text}
+use Rattle.log_session.proofs.votes.Answered.{refused-given, answered-given}
 use Rattle.log_session.proofs.votes.print_suggestion.Goals as goal
 
-pub returns-then-suggested-ne0 : goal.returns-then-suggested-ne0
-returns-then-suggested-ne0 c = refused-so _ _ _ _ _ c.if-suggested-ne0.true c.print_refusal.ensures
+pub returns-in-Ok : goal.returns-in-Ok
+returns-in-Ok c = λ n x g. answered-given suggestion_text c.args.line _ _ n x c.in-Ok.is g c.print_rules.ensures
 
-pub returns : goal.returns
-returns c = answered-so _ _ _ _ _ c.if-suggested-ne0.false c.print_rules.ensures
+pub returns-in-Err : goal.returns-in-Err
+returns-in-Err c = λ n x g. refused-given suggestion_text c.args.line _ _ n x c.in-Err.is g (rw c.number.ensures at c.print_refusal.ensures)

@@ -9,10 +9,10 @@ pub returns-in-Bundle : goal.returns-in-Bundle
 returns-in-Bundle c = λ D K m. let s = c.args in vote-bundle D s.line s.out.now s.at _ _ c.in-Bundle.is _ (c.bundle_lent.ensures D.lent K) c.print_bundle.ensures
 
 pub returns-in-Suggest : goal.returns-in-Suggest
-returns-in-Suggest c = λ D K m. let s = c.args in vote-suggestion D s.line s.out.now s.at _ c.in-Suggest.is _ (c.suggest_named.ensures _ (bench-stored D m) (bench-checked D)) c.print_suggestion.ensures
+returns-in-Suggest c = λ D K m. let s = c.args in vote-suggestion D s.line s.out.now s.at _ c.in-Suggest.is (c.print_suggestion.ensures _ _ (c.suggest_named.ensures _ (bench-stored D m) (bench-checked D)))
 
 pub returns-in-Test : goal.returns-in-Test
-returns-in-Test c = λ D K m. let s = c.args in vote-test D s.line s.out.now s.at _ c.in-Test.is _ (c.test_lent.ensures D.lent K) c.print_test.ensures
+returns-in-Test c = λ D K m. let s = c.args in vote-test D s.line s.out.now s.at _ c.in-Test.is (c.print_test.ensures _ _ (c.test_lent.ensures D.lent K))
 
 pub returns-in-Winner : goal.returns-in-Winner
 returns-in-Winner c = λ D K m. let s = c.args in vote-winner D s.line s.out.now s.at _ c.in-Winner.is _ (c.count_lent.ensures D.lent K) (c.print_winner.ensures _ _ (c.count_lent.ensures D.lent K))

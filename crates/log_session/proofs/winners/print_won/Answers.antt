@@ -1,8 +1,14 @@
 -- `winners::print_won` meets its contract. Assumes nothing.
 use Rattle.text_forms.specs.Spelling.{bytes}
+use Rattle.lists.proofs.Tests.{byte-bit}
 use Rattle.log_session.proofs.winners.Won.{won-printed}
 use Rattle.log_session.proofs.winners.print_won.Goals as goal
 
 pub returns : goal.returns
 unfolding bytes
-returns c = let s = c.args in λ R q f i. won-printed s.edit s.out.now s.at R s.bundle q (c.verdict_of-said.ensures R q f i) c.print-head.ensures c.print_text.ensures
+returns c =
+    let s = c.args in
+    let v = c.verdict_of-said in
+    λ R q f i.
+    won-printed s.edit s.out.now s.at R s.bundle q (v.ensures R q f i)
+    (rw (c.from.ensures, c.from-2.ensures, c.from-3.ensures, byte-bit v.result.must, byte-bit v.result.never) at c.print-head.ensures) c.print_text.ensures

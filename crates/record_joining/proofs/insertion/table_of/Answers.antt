@@ -3,5 +3,4 @@ use Rattle.record_joining.proofs.insertion.Tables.{of-record}
 use Rattle.record_joining.proofs.insertion.table_of.Goals as goal
 
 pub returns : goal.returns
-returns c =
-    λ R e h. of-record c.args.multilog R e h
+returns c = λ R e h. of-record c.args.multilog R e h

@@ -3,5 +3,4 @@ use Rattle.record_joining.proofs.insertion.Tables.{with-table-is}
 use Rattle.record_joining.proofs.insertion.with_table.Goals as goal
 
 pub returns : goal.returns
-returns c =
-    λ R l e f g. with-table-is c.args.multilog R c.args.table l e f g
+returns c = λ R l e f. with-table-is c.args.multilog R c.args.table l e f

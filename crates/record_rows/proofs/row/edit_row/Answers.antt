@@ -1,12 +1,15 @@
 -- `row::edit_row` meets its contract. Assumes nothing.
-use Rattle.record_rows.proofs.row.Cells.{edit-row-is, row-set-is}
+use Rattle.record_rows.specs.row.Row.{edit_row}
 use Rattle.record_rows.proofs.row.edit_row.Goals as goal
 
 pub returns-in-Insert : goal.returns-in-Insert
-returns-in-Insert c = edit-row-is c.args.e c.in-Insert.is
+unfolding edit_row
+returns-in-Insert c = rw (c.in-Insert.is, c.from-name.ensures, c.from.ensures)
 
 pub returns-in-Set : goal.returns-in-Set
-returns-in-Set c = row-set-is c.args.e c.in-Set.is c.field_number.ensures
+unfolding edit_row
+returns-in-Set c = rw (c.in-Set.is, c.from-name.ensures, c.from-in-Set.ensures, c.field_number.ensures)
 
 pub returns-in-Remove : goal.returns-in-Remove
-returns-in-Remove c = edit-row-is c.args.e c.in-Remove.is
+unfolding edit_row
+returns-in-Remove c = rw (c.in-Remove.is, c.from-name.ensures, c.from-in-Remove.ensures)

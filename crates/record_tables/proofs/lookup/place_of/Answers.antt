@@ -1,14 +1,18 @@
 -- `lookup::place_of` meets its contract. Assumes nothing.
-use native.Mathlib.Omega.{arith}
-use Rattle.record_tables.proofs.Tables.{stored-ordered}
-use Rattle.record_tables.proofs.lookup.Places.{place_is}
+use mathlib.Core.Path.{◌≡◌, ap, ◌∙◌}
+use Rattle.std.proofs.Common.{rules}
+use Rattle.std.proofs.lemmas.Fn.{always_returns_same}
+use Rattle.std.specs.Ordering.{nat_cmp}
+use Rattle.record.specs.declared.Edit.{Edit}
+use Rattle.record.specs.Record.{Record, name_of, written}
+use Rattle.record_tables.proofs.Tables.{held}
+use Rattle.record_tables.proofs.lookup.Places.{searched, written-ascends}
 use Rattle.record_tables.proofs.lookup.place_of.Goals as goal
 
-pub returns-then-n-gt-EDITS : goal.returns-then-n-gt-EDITS
-returns-then-n-gt-EDITS c = λ R e k. absurd (let o = stored-ordered c.args.joined R e k in omega (arith, o.editplaces))
-
 pub returns : goal.returns
+unfolding written
 returns c = λ R e k.
     let s = c.args in
-    let n = c.names_of-names in
-    place_is s.joined R e k s.name n.result n.ensures c.place.ensures
+    let l : c.edit_slice.result.now ≡ R.edits = c.edit_slice.ensures ∙ ap (λ (x : Record). x.edits) (held s.joined R e) in
+    let found = c.binary_search_by.ensures.position (λ (x : Edit). nat_cmp (name_of x) s.name) (always_returns_same _ _ _ (λ a r h q. search rules)) in
+    c.ok.ensures.value ∙ searched R.edits s.name (written-ascends R k) c.binary_search_by.result (rw l at c.binary_search_by.ensures.bound) (rw l at found)

@@ -3,6 +3,3 @@ use Rattle.text_forms.proofs.decimal.write_number.Given as goal
 
 abbrev pub invariant-loop-i : goal.invariant-loop-i
 invariant-loop-i l = Writing l.n l.initial.out l.i l.rest l.out
-
-abbrev pub decreases-loop-i : goal.decreases-loop-i
-decreases-loop-i l = l.i

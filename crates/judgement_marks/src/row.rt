@@ -1,0 +1,14 @@
+// Edits in order, by index.
+ghost use Rattle.std.specs.Prelude.{ℕ, ◌<◌, ◌≤◌, get_or};
+ghost use Rattle.graph.specs.links.Marks.{mark_limit};
+
+use graph::links::Marks;
+
+// Indexes past the count are of no meaning, but indexes too.
+#[derive(Clone, Copy)]
+pub struct Row {
+    pub indexes: Marks,
+    pub count: usize,
+    ghost few: { count ≤ mark_limit },
+    ghost low: { (q : ℕ) → get_or indexes q 0 < mark_limit },
+}

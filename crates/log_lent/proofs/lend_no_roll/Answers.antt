@@ -1,6 +1,0 @@
--- `lend_no_roll` meets its contract. Assumes nothing.
-use Rattle.log_lent.proofs.Settings.{no-roll-lent}
-use Rattle.log_lent.proofs.lend_no_roll.Goals as goal
-
-pub returns : goal.returns
-returns c = λ L edits constraints K. no-roll-lent K

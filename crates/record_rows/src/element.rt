@@ -1,0 +1,164 @@
+// What edits and constraints have in common: a row of numbers, of which the first cells are a key, and a filler for the rows of a table past its count.
+// What is said of tables of any kind is said of an element's type.
+ghost use Rattle.std.specs.Prelude.{◌≡◌, Bool, List, ℕ, ◌≤◌, length, take};
+ghost use Rattle.lists.specs.Keyed.{precedes};
+ghost use Rattle.record_rows.specs.row.Row.{Row};
+
+use crate::row;
+use record::{Body, CONSTRAINTS, Constraint, EDITS, Edit};
+
+pub trait Element<const CELLS: usize>: Copy {
+    // The row of an element, and its first cells, the key.
+    ghost row_of: { Self → Row };
+
+    ghost key_of: { Self → List ℕ };
+
+    // Whether a row is in range, and the element that it then is.
+    ghost fits: { Row → Bool };
+
+    ghost element_of: { Row → Self };
+
+    // What stands in the rows past a count.
+    ghost filler: { Self };
+
+    // How many cells the key has, and how many elements a record has places for.
+    ghost KEY: { ℕ };
+
+    const KEY: usize;
+
+    ghost PLACES: { ℕ };
+
+    const PLACES: usize;
+
+    fn row(self) -> [u32; CELLS]
+        ensures { result ≡ row_of self };
+
+    fn in_range(row: &[u32; CELLS]) -> bool
+        ensures { result ≡ fits row.now };
+
+    // A row in range as an element; of any other the filler.
+    fn of(row: &[u32; CELLS]) -> Self
+        ensures { result ≡ element_of row.now };
+
+    fn filler() -> Self
+        ensures { result ≡ filler };
+
+    // Whether the key of this element precedes that of the other.
+    fn below(self, other: Self) -> bool
+        ensures { result ≡ precedes (key_of self) (key_of other) };
+
+    ghost narrow: { KEY ≤ CELLS };
+
+    ghost wide: { (x : Self) → length (row_of x) ≡ CELLS };
+
+    ghost keyed: { (x : Self) → take KEY (row_of x) ≡ key_of x };
+}
+
+impl Element<5> for Edit {
+    ghost use Rattle.std.specs.Prelude.{[], ◌∷◌};
+    ghost use Rattle.record.specs.Stored.{filler_edit};
+    ghost use Rattle.record_rows.specs.row.Row.{edit_row, edit_in_range, edit_of};
+    ghost use Rattle.record_rows.specs.element.Laws.{edit-narrow, edit-wide, edit-keyed};
+
+    ghost row_of = { edit_row };
+
+    ghost key_of = { λ e. e.name ∷ [] };
+
+    ghost fits = { edit_in_range };
+
+    ghost element_of = { edit_of };
+
+    ghost filler = { filler_edit };
+
+    ghost KEY = { 1 };
+
+    const KEY: usize = 1;
+
+    ghost PLACES = { 127 };
+
+    const PLACES: usize = EDITS;
+
+    fn row(self) -> [u32; 5] {
+        row::edit_row(self)
+    }
+
+    fn in_range(row: &[u32; 5]) -> bool {
+        row::edit_in_range(*row)
+    }
+
+    fn of(row: &[u32; 5]) -> Edit {
+        row::edit_of(*row)
+    }
+
+    fn filler() -> Edit {
+        Edit {
+            name: 0,
+            body: Body::Insert(0),
+        }
+    }
+
+    fn below(self, other: Edit) -> bool {
+        self.name < other.name
+    }
+
+    ghost narrow = { edit-narrow };
+
+    ghost wide = { edit-wide };
+
+    ghost keyed = { edit-keyed };
+}
+
+impl Element<3> for Constraint {
+    ghost use Rattle.std.specs.Prelude.{[], ◌∷◌};
+    ghost use Rattle.record.specs.Stored.{filler_constraint};
+    ghost use Rattle.record_rows.specs.row.Row.{constraint_row, constraint_in_range, constraint_of};
+    ghost use Rattle.record_rows.specs.element.Laws.{constraint-narrow, constraint-wide, constraint-keyed};
+
+    ghost row_of = { constraint_row };
+
+    ghost key_of = { λ c. c.left ∷ c.rule ∷ c.right ∷ [] };
+
+    ghost fits = { constraint_in_range };
+
+    ghost element_of = { constraint_of };
+
+    ghost filler = { filler_constraint };
+
+    ghost KEY = { 3 };
+
+    const KEY: usize = 3;
+
+    ghost PLACES = { 512 };
+
+    const PLACES: usize = CONSTRAINTS;
+
+    fn row(self) -> [u32; 3] {
+        row::constraint_row(self)
+    }
+
+    fn in_range(row: &[u32; 3]) -> bool {
+        row::constraint_in_range(*row)
+    }
+
+    fn of(row: &[u32; 3]) -> Constraint {
+        row::constraint_of(*row)
+    }
+
+    fn filler() -> Constraint {
+        Constraint {
+            left: 0,
+            rule: 0,
+            right: 0,
+        }
+    }
+
+    fn below(self, other: Constraint) -> bool {
+        self < other
+    }
+
+    ghost narrow = { constraint-narrow };
+
+    ghost wide = { constraint-wide };
+
+    ghost keyed = { constraint-keyed };
+}

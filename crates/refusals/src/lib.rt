@@ -1,0 +1,43 @@
+// The grounds on which a call is turned away (document 01, "What is turned away"; document 02, A9).
+#![tactic(auto)]
+
+ghost use Rattle.std.specs.Prelude.{◌≡◌};
+ghost use Rattle.refusals.specs.Numbers.{number, number_of};
+
+// Each has the number that the documents give it. 15 and 16 belong to requests that have not landed.
+#[derive(Clone, Copy, PartialEq, Eq, PartialOrd, Ord)]
+pub enum Refusal {
+    NotInForm = 1,
+    OutOfRange = 2,
+    NoPlace = 3,
+    OtherBody = 4,
+    Unknown = 5,
+    NotAllowed = 6,
+    Decision = 7,
+    Unsound = 8,
+    NotHideable = 9,
+    NoPage = 10,
+    NotKept = 11,
+    NoRoom = 12,
+    Misplaced = 13,
+    FaultyRoll = 14,
+    TooWide = 17,
+}
+
+impl Refusal {
+    pub fn number(self) -> u32
+        ensures { result ≡ number self }
+    {
+        self as u32
+    }
+}
+
+// The number that an answer is printed with: 0 where nothing is refused.
+pub fn number_of<T>(answer: &Result<T, Refusal>) -> u32
+    ensures { result ≡ number_of answer.now }
+{
+    match answer {
+        Ok(_) => 0,
+        Err(refusal) => refusal.number(),
+    }
+}
