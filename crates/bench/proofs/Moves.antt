@@ -18,8 +18,8 @@ use Rattle.record.specs.Schedule.{schedule}
 use Rattle.record.specs.Judgement.{sound}
 use Rattle.graph.specs.links.Marks.{marks_of}
 use Rattle.record_tables.specs.Checked.{Checked}
-use Rattle.voting.specs.declared.Election.{Election}
-use Rattle.std.specs.Prelude.{Option, Some, None, Result, Ok, Err}
+use Rattle.voting.specs.Tally.{Election}
+use Rattle.std.specs.Prelude.{Option, Some, None, Err}
 use Rattle.refusals.specs.declared.Refusal.{Refusal}
 use Rattle.refusals.specs.Numbers.{number}
 use Rattle.refusals.proofs.Numbers.{number-positive}
@@ -34,14 +34,12 @@ use Rattle.catalogue.specs.declared.View.{View}
 use Rattle.catalogue.specs.declared.Changed.{Changed}
 use Rattle.catalogue.specs.Chips.{rows, chips_view, schedule_of}
 use Rattle.catalogue.specs.Changes as moves
-use Rattle.ledger.specs.declared.Answer.{Answer}
 use Rattle.ledger.specs.declared.Bench.{Bench}
-use Rattle.ledger.specs.declared.Outcome.{Outcome}
-use Rattle.ledger.specs.Ledger.{Ledger, Call, turn, start, pages, last, at_page, judge, act, refusal, change, step, fed, plain_answer, answered}
-use Rattle.ledger.specs.Bench.{page_edits, open_edits, bench_of, outcome, Answers}
+use Rattle.ledger.specs.Ledger.{Ledger, Call, CallAnswer, turn, start, pages, last, at_page, judge, act, refusal, change, step, fed, plain_answer, answered}
+use Rattle.ledger.specs.Bench.{Outcome, page_edits, open_edits, bench_of, outcome, told_outcome, Answers}
 use Rattle.ledger.proofs.Valid.{Valid, start-valid, fed-valid}
 use Rattle.ledger.proofs.Undone.{from-valid, step-refused, step-accepted}
-use Rattle.bench.specs.Changes.{refused_with, settled_outcome, Tries, open_at, turn_reply, Opens, KeepsEdits, pages_of, Reschedules}
+use Rattle.bench.specs.Changes.{refused_with, open_at, turn_reply, Opens, KeepsEdits, pages_of, Reschedules}
 use Rattle.bench.proofs.Pages.{names-named, named-agree, pages-written, pages-room, open-written, last-room}
 
 -- a call that the ledger refuses with this number
@@ -51,16 +49,12 @@ refused-is L bench call n e j z =
     let s = step-refused L call (λ q. z (sym j ∙ q)) in
     (λ i. refused_with (e i) (sym j i)) ∙ ap outcome (sym s)
 
+-- as the code tells it
+pub told-refused : (L : Ledger) (bench : Bench) (call : Call) (refusal : Refusal) → bench ≡ bench_of L → number refusal ≡ judge L call → told_outcome (Err refusal) bench ≡ outcome (step L call)
+told-refused L bench call refusal e j = refused-is L bench call (number refusal) e (sym j) (number-positive refusal)
+
 pub accepted-is : (L : Ledger) (call : Call) (r : Outcome) → judge L call ≡ 0 → r ≡ outcome (act L call) → r ≡ outcome (step L call)
 accepted-is L call r j e = e ∙ ap outcome (sym (step-accepted L call j))
-
--- a call that is tried
-pub tried-answers : (bench : Bench) (call : Call) (tried : Result Outcome Refusal) → Tries bench call tried → Answers bench call (settled_outcome bench tried)
-unfolding Tries Answers
-tried-answers bench call (Ok r) t = λ calls e. let g = t calls e in accepted-is (fed start calls) call r (sym g.0) g.1
-tried-answers bench call (Err refusal) t = λ calls e.
-    let g = t calls e in
-    refused-is (fed start calls) bench call (number refusal) e (sym g.0) (number-positive refusal)
 
 length-pages : (L : Ledger) → length (page_edits L) ≡ last L
 unfolding page_edits last
@@ -136,8 +130,8 @@ module _ (L : Ledger) (v : Valid L) (bench : Bench) (e : bench ≡ bench_of L) (
   unfolding judge
   fault-is = ap turn_fault (sym page-is)
 
-  pub turn-refused : (n : ℕ) → n ≡ turner_fault bench.turner by → (n ≡ 0 → ⊥) → refused_with bench n ≡ outcome (step L (turn by))
-  turn-refused n h z = refused-is L bench (turn by) n e (fault-is ∙ sym h) z
+  pub turn-refused : (refusal : Refusal) → number refusal ≡ turner_fault bench.turner by → told_outcome (Err refusal) bench ≡ outcome (step L (turn by))
+  turn-refused refusal h = told-refused L bench (turn by) refusal e (h ∙ sym fault-is)
 
   landed-within : (t : Option ℕ) → turned L.opened (last L) by ≡ t → open_after L.opened t ≤ last L
   landed-within (Some page) q = (turned-lands (last L) page L.opened by q).within
@@ -168,14 +162,14 @@ module _ (L : Ledger) (v : Valid L) (bench : Bench) (e : bench ≡ bench_of L) (
       go None q =
           let x : open_at bench (after_turn bench.turner by).opened ≡ bench = ap (λ (u : Option ℕ). open_at bench (open_after bench.turner.opened u)) q ∙ open-same L v bench e in
           ap (λ (b : Bench). record { answer = plain_answer (turner_fault bench.turner by); bench = b }) x
-          ∙ turn-refused (turner_fault bench.turner by) refl (λ z. omega (arith, ap turn_fault q))
+          ∙ refused-is L bench (turn by) (turner_fault bench.turner by) e fault-is (λ z. omega (arith, ap turn_fault q))
 
 -- the same of every list of calls
 pub turn-answers : (bench : Bench) (by : ℤ) → Answers bench (turn by) (turn_reply bench (turner_fault bench.turner by) (after_turn bench.turner by))
 turn-answers bench by = from-valid bench (turn by) (turn_reply bench (turner_fault bench.turner by) (after_turn bench.turner by)) (λ L v e. turn-told L v bench e by)
 
 pub turn-opens : (bench : Bench) (by : ℤ) (after : Turner) → turner_fault bench.turner by ≡ 0 → after ≡ after_turn bench.turner by
-    → (b : Bench) → Opens bench after.opened b → (a : Answer) → a ≡ plain_answer 0 → Answers bench (turn by) (record { answer = a; bench = b })
+    → (b : Bench) → Opens bench after.opened b → (a : CallAnswer) → a ≡ plain_answer 0 → Answers bench (turn by) (record { answer = a; bench = b })
 unfolding Answers Opens
 turn-opens bench by after z h b o a q = λ calls e.
     let L = fed start calls in

@@ -21,9 +21,9 @@ use Rattle.judgement.specs.Judged.{marked_edits}
 use Rattle.graph.specs.indexes.Fit.{Fit}
 use Rattle.graph.proofs.indexes.Fit.{checked-fit}
 use Rattle.catalogue.specs.Chips.{schedule_of}
-use Rattle.voting.specs.declared.Election.{Election}
+use Rattle.voting.specs.Tally.{Election}
 use Rattle.ledger.specs.declared.Bench.{Bench}
-use Rattle.ledger.specs.declared.Outcome.{Outcome}
+use Rattle.ledger.specs.Bench.{Outcome}
 use Rattle.bench.specs.Changes.{pages_of, Changes, Reschedules}
 
 -- a mark is 1 just where the test holds

@@ -1,7 +1,5 @@
 -- Inner: what the calls' code shares (document 01, "Entries and pages"): a refusal, a page opened, and the promise of a change. Assumes nothing.
-use Rattle.std.specs.Prelude.{◌≡◌, true, List, map, ℕ, ◌≤◌, take, drop, Result, Ok, Err}
-use Rattle.refusals.specs.declared.Refusal.{Refusal}
-use Rattle.refusals.specs.Numbers.{number, Gives}
+use Rattle.std.specs.Prelude.{◌≡◌, true, List, map, ℕ, ◌≤◌, take, drop}
 use Rattle.record.specs.declared.Record as declared
 use Rattle.record.specs.declared.Schedule.{Schedule}
 use Rattle.lists.specs.Lists.{mem, ◌among◌, ◌within◌}
@@ -11,26 +9,16 @@ use Rattle.record.specs.Schedule.{schedule}
 use Rattle.record.specs.Judgement.{sound}
 use Rattle.graph.specs.links.Marks.{marks_of}
 use Rattle.record_tables.specs.Checked.{Checked}
-use Rattle.voting.specs.declared.Election.{Election}
+use Rattle.voting.specs.Tally.{Election}
 use Rattle.pages_turner.specs.declared.Turner.{Turner}
 use Rattle.catalogue.specs.Chips.{chips_view, schedule_of}
 use Rattle.ledger.specs.declared.Bench.{Bench}
-use Rattle.ledger.specs.declared.Outcome.{Outcome}
-use Rattle.ledger.specs.Ledger.{Call, start, fed, plain_answer, judge, act, change}
-use Rattle.ledger.specs.Bench.{bench_of, outcome}
+use Rattle.ledger.specs.Ledger.{Call, start, fed, plain_answer, change}
+use Rattle.ledger.specs.Bench.{Outcome, bench_of, outcome}
 
 -- the bench that came in, with the number
 abbrev pub refused_with : Bench → ℕ → Outcome
 refused_with bench number = record { answer = plain_answer number; bench = bench }
-
--- what a call comes to: refused, the bench that came in with the number
-abbrev pub settled_outcome : Bench → Result Outcome Refusal → Outcome
-settled_outcome bench (Ok r) = r
-settled_outcome bench (Err refusal) = refused_with bench (number refusal)
-
--- THE PROMISE OF A CALL that is tried on a bench that calls left: the number of its judgement, or what it does
-unfoldable pub Tries : Bench → Call → Result Outcome Refusal → Type 0
-Tries bench call tried = (calls : List Call) → bench ≡ bench_of (fed start calls) → Gives (judge (fed start calls) call) (outcome (act (fed start calls) call)) tried
 
 -- the bench with another page open, the edits of the pages up to it run on an empty catalogue
 unfoldable pub open_at : Bench → ℕ → Bench

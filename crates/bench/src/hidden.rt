@@ -25,7 +25,8 @@ pub fn edit_index(multilog: Record, name: u32) -> Option<usize>
     if place < EDITS { Some(place + 1) } else { None }
 }
 
-// The marks of a record's edits by index: each edit has the mark of its name in another record, given by that record's table of indexes and its marks.
+// The marks of a record's edits by index: each edit has the mark of its name in another record, given by that record's table of indexes and
+// its marks.
 fn by_index(multilog: Record, index: &IndexTable, hidden: [u8; MARKS]) -> [u8; MARKS]
     ensures { (R : theory.Record) (test : ℕ → Bool) → multilog ≡ stored R → Checked R → test 0 ≡ false
         → ((x : ℕ) → x among written R → mark_named index.now hidden x ≡ cond (test x) 1 0) → result ≡ marks_of R test }

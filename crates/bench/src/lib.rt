@@ -1,19 +1,21 @@
-// The empty bench, a turn, and what the other calls share: a refusal and a change (document 01, "Entries and pages").
+// The empty bench, a turn, and what the other calls share: a change (document 01, "Entries and pages"). A call changes the bench in place, and a
+// refused one assigns nothing of it.
 #![tactic(auto)]
 
 pub mod hidden;
 
-ghost use Rattle.std.specs.Prelude.{◌≡◌};
-ghost use Rattle.ledger.specs.Ledger.{Call, no_election, start, plain_answer, answered};
-ghost use Rattle.ledger.specs.Bench.{Answers, bench_of};
-ghost use Rattle.bench.specs.Changes.{Opens, Reschedules, Tries, refused_with, settled_outcome};
+ghost use Rattle.std.specs.Prelude.{◌≡◌, Ok};
+ghost use Rattle.voting.specs.Tally.{election_told};
+ghost use Rattle.ledger.specs.Ledger.{Call, call_told, no_election, plain_answer, start};
+ghost use Rattle.ledger.specs.Bench.{Answers, bench_of, told_outcome};
+ghost use Rattle.bench.specs.Changes.{Opens, Reschedules};
 
 use graph::links::MARKS;
-use ledger::{Answer, Bench, Outcome};
+use ledger::{Bench, CallResult};
 use pages_turner::{Turner, turning};
 use record::{Record, Schedule};
 use refusals::Refusal;
-use voting::Election;
+use voting::ElectionResult;
 
 // A bench with no edit and no page.
 pub fn empty_bench() -> Bench
@@ -30,120 +32,65 @@ pub fn empty_bench() -> Bench
     }
 }
 
-// An answer that tells of no pages and no election. Pub for the crates of the call log.
-pub fn plain_answer(number: u32) -> Answer
-    ensures { result ≡ plain_answer number }
+// The bench with another page open. Pub for the crates that turn pages.
+pub fn open_at(bench: &mut Bench, page: usize)
+    ensures { Opens bench.old page bench.new }
 {
-    Answer {
-        number,
+    bench.view = catalogue::turn_to(bench.view, bench.schedule, bench.turner.opened, page);
+    bench.turner.opened = page;
+}
+
+// What a turn answers: no pages undone or redone, and no election. Pub for the crates of the call log.
+pub fn plain_result() -> CallResult
+    ensures { call_told (Ok result) ≡ plain_answer 0 }
+{
+    CallResult {
         undone: 0,
         redone: 0,
-        won: false,
-        greatest: 0,
-        silent: 0,
-        total: 0,
+        election: no_election(),
     }
 }
 
-// The bench that came in, with the number. Pub for the crates of the other calls.
-pub fn refused(bench: Bench, number: u32) -> Outcome
-    ensures { result ≡ refused_with bench number }
+pub fn turn(bench: &mut Bench, by: i32) -> Result<CallResult, Refusal>
+    ensures { Answers bench.old (Call.turn by) (told_outcome result bench.new) }
 {
-    Outcome {
-        answer: plain_answer(number),
-        bench,
-    }
-}
-
-// What a call comes to: its outcome, or its refusal on the bench that came in. Pub for the crates of the other calls.
-pub fn settled(bench: Bench, tried: Result<Outcome, Refusal>) -> Outcome
-    ensures is { result ≡ settled_outcome bench tried }
-    ensures answers { (call : Call) → Tries bench call tried → Answers bench call result }
-{
-    match tried {
-        Ok(outcome) => outcome,
-        Err(refusal) => refused(bench, refusal.number()),
-    }
-}
-
-// The bench with another page open. Pub for the crates that turn pages.
-pub fn open_at(bench: Bench, page: usize) -> Bench
-    ensures { Opens bench page result }
-{
-    let turner = bench.turner;
-    let view = catalogue::turn_to(bench.view, bench.schedule, turner.opened, page);
-    let turner = Turner {
-        opened: page,
-        last: turner.last,
-    };
-    Bench {
-        turner,
-        view,
-        ..bench
-    }
-}
-
-pub fn turn(bench: Bench, by: i32) -> Outcome
-    ensures { Answers bench (Call.turn by) result }
-{
-    match turning::turned(bench.turner, by) {
-        Ok(after) => Outcome {
-            answer: plain_answer(0),
-            bench: open_at(bench, after.opened),
-        },
-        Err(refusal) => refused(bench, refusal.number()),
-    }
+    let after = turning::turned(bench.turner, by)?;
+    open_at(bench, after.opened);
+    Ok(plain_result())
 }
 
 // What a call without an election tells of one. Pub for the crates of the other calls.
-pub fn no_election() -> Election
-    ensures { result ≡ no_election }
+pub fn no_election() -> ElectionResult
+    ensures { election_told (Ok result) ≡ no_election }
 {
-    Election {
-        number: 0,
+    ElectionResult {
         won: false,
         greatest: 0,
         silent: 0,
         total: 0,
-    }
-}
-
-// The answer of a call that is not refused: its pages, and what it tells of an election. Pub for the crate of adoption.
-pub fn answered(undone: usize, redone: usize, election: Election) -> Answer
-    ensures { result ≡ answered undone redone election }
-{
-    Answer {
-        number: 0,
-        undone,
-        redone,
-        won: election.won,
-        greatest: election.greatest,
-        silent: election.silent,
-        total: election.total,
     }
 }
 
 // To the last page of a new schedule, with the record and the hidden edits that it is made from. Pub for the crates of the calls that change.
 pub fn reschedule(
-    bench: Bench,
+    bench: &mut Bench,
     multilog: Record,
     hidden: [u8; MARKS],
     schedule: Schedule,
-    election: Election,
-) -> Outcome
-    ensures { Reschedules bench multilog hidden schedule election result }
+    election: ElectionResult,
+) -> CallResult
+    ensures { Reschedules bench.old multilog hidden schedule (election_told (Ok election)) (told_outcome (Ok result) bench.new) }
 {
-    let turner = bench.turner;
     let last = schedule.count;
-    let moved = catalogue::change(bench.view, bench.schedule, turner.opened, schedule);
-    Outcome {
-        answer: answered(moved.undone, moved.redone, election),
-        bench: Bench {
-            multilog,
-            hidden,
-            schedule,
-            turner: Turner { opened: last, last },
-            view: moved.view,
-        },
+    let moved = catalogue::change(bench.view, bench.schedule, bench.turner.opened, schedule);
+    bench.multilog = multilog;
+    bench.hidden = hidden;
+    bench.schedule = schedule;
+    bench.turner = Turner { opened: last, last };
+    bench.view = moved.view;
+    CallResult {
+        undone: moved.undone,
+        redone: moved.redone,
+        election,
     }
 }

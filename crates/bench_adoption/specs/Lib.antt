@@ -1,1 +1,1 @@
-pub mod adoption
+pub mod Adopts

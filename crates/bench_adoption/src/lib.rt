@@ -1,19 +1,27 @@
-// Adoption as a call on a bench (document 01, "Proposals and votes"): the election is counted, and a won bundle joins the bench's record.
+// Adoption as a call on a bench (document 01, "Proposals and votes" and "Entries and pages"): the election is counted, and a won bundle joins the
+// bench's record.
 #![tactic(auto)]
-
-pub mod adoption;
 
 ghost use Rattle.voting_count.specs.Count.{lent};
 ghost use Rattle.ledger.specs.Ledger.{Call};
-ghost use Rattle.ledger.specs.Bench.{Answers};
+ghost use Rattle.ledger.specs.Bench.{Answers, told_outcome};
 
-use ledger::{Bench, Outcome};
-use voting::RollRow;
-use voting_count::LentProposals;
+use ledger::{Bench, CallResult};
+use refusals::Refusal;
+use voting_count::Poll;
 
-pub fn adopt(bench: Bench, edit: u32, proposals: &LentProposals, roll: &[RollRow]) -> Outcome
-    ensures { Answers bench (Call.adopt edit (lent proposals.now) roll.now) result }
+// An open election is accepted with its weights, and nothing changes.
+pub fn adopt(bench: &mut Bench, edit: u32, poll: &Poll) -> Result<CallResult, Refusal>
+    ensures { Answers bench.old (Call.adopt edit (lent poll.now.proposals) poll.now.roll.now) (told_outcome result bench.new) }
 {
-    let counted = voting_count::count(edit, proposals, roll);
-    adoption::adopted_bench(bench, counted.election, counted.bundle)
+    let counted = voting_count::count(edit, poll)?;
+    let Some(bundle) = counted.bundle else {
+        return Ok(CallResult {
+            undone: 0,
+            redone: 0,
+            election: counted.election,
+        });
+    };
+    let joined = record_joining::merge_record(bench.multilog, bundle);
+    bench_edits::joined_bench(bench, joined, counted.election)
 }

@@ -3,24 +3,26 @@
 
 pub mod visibility;
 
+ghost use Rattle.std.specs.Prelude.{Ok};
+ghost use Rattle.voting.specs.Tally.{election_told};
 ghost use Rattle.ledger.specs.Ledger.{Call};
-ghost use Rattle.ledger.specs.Bench.{Answers};
+ghost use Rattle.ledger.specs.Bench.{Answers, told_outcome};
 ghost use Rattle.bench_edits.specs.Joins.{Joins};
 
 use bench::hidden;
-use ledger::{Bench, Outcome};
+use ledger::{Bench, CallResult};
 use record::Record;
-use record_rows::row::{ConstraintRow, EditRow};
+use record_rows::row::{ConstraintRow, EditRow, LentRecord};
 use refusals::Refusal;
-use voting::Election;
+use voting::ElectionResult;
 
 // The refusal of the rows, then one test of the union, then the change. Pub for the crate of adoption.
 pub fn joined_bench(
-    bench: Bench,
+    bench: &mut Bench,
     joined: Result<Record, Refusal>,
-    election: Election,
-) -> Result<Outcome, Refusal>
-    ensures { Joins bench joined election result }
+    election: ElectionResult,
+) -> Result<CallResult, Refusal>
+    ensures { Joins bench.old joined (election_told (Ok election)) (told_outcome result bench.new) }
 {
     let union = joined?;
     let hidden = hidden::carried(bench.multilog, bench.hidden, union);
@@ -31,23 +33,26 @@ pub fn joined_bench(
     Ok(bench::reschedule(bench, union, hidden, planned.schedule, election))
 }
 
-pub fn add_edit(bench: Bench, row: EditRow) -> Outcome
-    ensures { Answers bench (Call.add_edit row) result }
+// Kept: joins an own kind of rows; what the three calls share is `joined_bench`.
+pub fn add_edit(bench: &mut Bench, row: EditRow) -> Result<CallResult, Refusal>
+    ensures { Answers bench.old (Call.add_edit row) (told_outcome result bench.new) }
 {
     let joined = record_joining::add_edit(bench.multilog, row);
-    bench::settled(bench, joined_bench(bench, joined, bench::no_election()))
+    joined_bench(bench, joined, bench::no_election())
 }
 
-pub fn add_constraint(bench: Bench, row: ConstraintRow) -> Outcome
-    ensures { Answers bench (Call.add_constraint row) result }
+// Kept: joins an own kind of rows; what the three calls share is `joined_bench`.
+pub fn add_constraint(bench: &mut Bench, row: ConstraintRow) -> Result<CallResult, Refusal>
+    ensures { Answers bench.old (Call.add_constraint row) (told_outcome result bench.new) }
 {
     let joined = record_joining::add_constraint(bench.multilog, row);
-    bench::settled(bench, joined_bench(bench, joined, bench::no_election()))
+    joined_bench(bench, joined, bench::no_election())
 }
 
-pub fn merge(bench: Bench, edits: &[EditRow], constraints: &[ConstraintRow]) -> Outcome
-    ensures { Answers bench (Call.merge edits.now constraints.now) result }
+// Kept: joins an own kind of rows; what the three calls share is `joined_bench`.
+pub fn merge(bench: &mut Bench, lent: LentRecord) -> Result<CallResult, Refusal>
+    ensures { Answers bench.old (Call.merge lent.entry.edits.now lent.entry.constraints.now) (told_outcome result bench.new) }
 {
-    let joined = record_joining::merge(bench.multilog, edits, constraints);
-    bench::settled(bench, joined_bench(bench, joined, bench::no_election()))
+    let joined = record_joining::merge(bench.multilog, lent);
+    joined_bench(bench, joined, bench::no_election())
 }

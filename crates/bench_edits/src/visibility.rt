@@ -1,11 +1,10 @@
 // Hide and show (document 01, "Entries and pages" and "What is turned away"): the mark of an edit becomes 1, or 0.
 ghost use Rattle.ledger.specs.Ledger.{Call};
-ghost use Rattle.ledger.specs.Bench.{Answers};
-ghost use Rattle.bench.specs.Changes.{Tries};
+ghost use Rattle.ledger.specs.Bench.{Answers, told_outcome};
 ghost use Rattle.bench_edits.specs.visibility.Named.{mark_call};
 
 use bench::hidden;
-use ledger::{Bench, Outcome};
+use ledger::{Bench, CallResult};
 use record_rows::row;
 use refusals::Refusal;
 
@@ -13,35 +12,41 @@ use refusals::Refusal;
 const STANDS: u8 = 1;
 
 // The edit named gets the mark of a hidden one, or of one that is shown.
-fn remarked(bench: Bench, edit: u32, hides: bool) -> Result<Outcome, Refusal>
-    ensures { Tries bench (mark_call hides edit) result }
+fn remarked(bench: &mut Bench, edit: u32, hides: bool) -> Result<CallResult, Refusal>
+    ensures { Answers bench.old (mark_call hides edit) (told_outcome result bench.new) }
 {
     if !row::is_name(edit) {
         return Err(Refusal::OutOfRange);
     }
-    let index = hidden::edit_index(bench.multilog, edit).ok_or(Refusal::Unknown)?;
+    let multilog = bench.multilog;
+    let index = hidden::edit_index(multilog, edit).ok_or(Refusal::Unknown)?;
     let mark = u8::from(hides);
     let mut marks = bench.hidden;
     if marks[index] == mark {
         return Err(Refusal::NotHideable);
     }
     marks[index] = mark;
-    let planned = judgement::plan(bench.multilog, marks);
+    let planned = judgement::plan(multilog, marks);
     if hides && planned.must[index] == STANDS {
         return Err(Refusal::NotHideable);
     }
-    let election = bench::no_election();
-    Ok(bench::reschedule(bench, bench.multilog, marks, planned.schedule, election))
+    Ok(bench::reschedule(
+        bench,
+        multilog,
+        marks,
+        planned.schedule,
+        bench::no_election(),
+    ))
 }
 
-pub fn hide(bench: Bench, edit: u32) -> Outcome
-    ensures { Answers bench (Call.hide edit) result }
+pub fn hide(bench: &mut Bench, edit: u32) -> Result<CallResult, Refusal>
+    ensures { Answers bench.old (Call.hide edit) (told_outcome result bench.new) }
 {
-    bench::settled(bench, remarked(bench, edit, true))
+    remarked(bench, edit, true)
 }
 
-pub fn show(bench: Bench, edit: u32) -> Outcome
-    ensures { Answers bench (Call.show edit) result }
+pub fn show(bench: &mut Bench, edit: u32) -> Result<CallResult, Refusal>
+    ensures { Answers bench.old (Call.show edit) (told_outcome result bench.new) }
 {
-    bench::settled(bench, remarked(bench, edit, false))
+    remarked(bench, edit, false)
 }

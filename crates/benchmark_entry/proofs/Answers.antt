@@ -5,15 +5,15 @@ use mathlib.Core.List.{[], ◌∷◌}
 use Prim.Native.Nat.{ℕ}
 use Rattle.record_rows.specs.grounds.Ground.{Rows}
 use Rattle.ledger.specs.declared.Bench.{Bench}
-use Rattle.ledger.specs.declared.Outcome.{Outcome}
 use Rattle.ledger.specs.Ledger.{merge, start, fed}
-use Rattle.ledger.specs.Bench.{Answers, bench_of, outcome}
-use Rattle.voting.specs.declared.Election.{Election}
+use Rattle.ledger.specs.Bench.{Outcome, Answers, bench_of, outcome}
+use Rattle.voting.specs.Tally.{Election, election_told}
 use Rattle.voting_roll.specs.Election.{election_of}
 use Rattle.voting_count.specs.Count.{lent_proposals}
 use Rattle.benchmark_entry.specs.declared.Merged.{Merged}
 use Rattle.benchmark_entry.specs.declared.Elected.{Elected}
 use borrow.Author.Tests.{ne_eqb}
+use Rattle.std.specs.Prelude.{Err}
 use Rattle.refusals.specs.declared.Refusal.{Refusal}
 use Rattle.refusals.specs.Numbers.{number}
 use Rattle.refusals.proofs.Numbers.{number-positive}
@@ -37,6 +37,10 @@ pub measured-election : (x : ℕ) (E C F D : Rows) (a : Election) → a ≡ elec
     → ◌≡◌ {A = Elected} (record { number = a.number; won = won; greatest = a.greatest; silent = a.silent; total = a.total }) (elected_of x E C F D)
 unfolding elected_of
 measured-election x E C F D a e won w = rw (w, e) refl
+
+pub election-refused : (x : ℕ) (E C F D : Rows) (refusal : Refusal) → election_told (Err refusal) ≡ election_of x (lent_proposals (halves E F) (halves C D)) equal_seats → (n : ℕ) → n ≡ number refusal
+    → ◌≡◌ {A = Elected} (record { number = n; won = 0; greatest = 0; silent = 0; total = 0 }) (elected_of x E C F D)
+election-refused x E C F D refusal e n q = rw q (measured-election x E C F D (election_told (Err refusal)) e 0 refl)
 
 -- the judgement of a lent record, and its schedule, as the code answers them
 module _ (E C : Rows) where

@@ -2,16 +2,19 @@
 #![tactic(auto)]
 
 ghost use Rattle.std.specs.Prelude.{◌≡◌};
-ghost use Rattle.benchmark_entry.specs.Measured.{judged_numbers, judgement_numbers, scheduled_of, merged_of, seat, equal_seats, elected_of};
+ghost use Rattle.benchmark_entry.specs.Measured.{judged_numbers, judgement_numbers, scheduled_of, merged_of, elected_of};
 
 use graph::links::MARKS;
 use judgement::lent_record;
 use judgement::lent_record::Judgement;
-use record_rows::row::{ConstraintRow, EditRow};
+use record_rows::row::{ConstraintRow, EditRow, LentRecord};
 use voting::RollRow;
-use voting_count::LentRecord;
+use voting_count::Poll;
 
-// Kept: a number beside the values in each answer, which C reads.
+// The marks of a record's edits.
+// Kept: `constraints`, `edits`: C lends the two tables of a record apart.
+
+// Kept: a number beside the values, which C reads.
 #[repr(C)]
 #[derive(Clone, Copy)]
 pub struct Judged {
@@ -23,6 +26,7 @@ pub struct Judged {
 }
 
 // How many pages the bench schedule has.
+// Kept: a number beside the values, which C reads.
 #[repr(C)]
 #[derive(Clone, Copy)]
 pub struct Scheduled {
@@ -31,6 +35,7 @@ pub struct Scheduled {
 }
 
 // The answer to a merge.
+// Kept: a number beside the values, which C reads.
 #[repr(C)]
 #[derive(Clone, Copy)]
 pub struct Merged {
@@ -40,6 +45,7 @@ pub struct Merged {
 }
 
 // The answer of an election; won is 1, otherwise 0.
+// Kept: a number beside the values, which C reads.
 #[repr(C)]
 #[derive(Clone, Copy)]
 pub struct Elected {
@@ -53,7 +59,7 @@ pub struct Elected {
 pub fn measure_judgement(edits: &[EditRow], constraints: &[ConstraintRow]) -> Judged
     ensures { result ≡ judged_numbers edits.now constraints.now }
 {
-    match lent_record::judge_lent(edits, constraints) {
+    match lent_record::judge_lent(LentRecord { edits, constraints }) {
         Ok(judgement) => judgement_numbers(judgement),
         Err(refusal) => Judged {
             number: refusal.number(),
@@ -87,7 +93,7 @@ fn judgement_numbers(judgement: Judgement) -> Judged
 pub fn measure_schedule(edits: &[EditRow], constraints: &[ConstraintRow]) -> Scheduled
     ensures { result ≡ scheduled_of edits.now constraints.now }
 {
-    match lent_record::schedule_lent(edits, constraints) {
+    match lent_record::schedule_lent(LentRecord { edits, constraints }) {
         Ok(schedule) => Scheduled {
             number: 0,
             count: schedule.count,
@@ -108,38 +114,61 @@ pub fn measure_merge(
 ) -> Merged
     ensures { result ≡ merged_of edits.now constraints.now others.now otherconstraints.now }
 {
-    let first = bench_edits::merge(bench::empty_bench(), edits, constraints);
-    let answer = bench_edits::merge(first.bench, others, otherconstraints).answer;
-    Merged {
-        number: answer.number,
-        undone: answer.undone,
-        redone: answer.redone,
+    let mut bench = bench::empty_bench();
+    let _ = bench_edits::merge(&mut bench, LentRecord { edits, constraints });
+    let other = LentRecord {
+        edits: others,
+        constraints: otherconstraints,
+    };
+    match bench_edits::merge(&mut bench, other) {
+        Ok(answer) => Merged {
+            number: 0,
+            undone: answer.undone,
+            redone: answer.redone,
+        },
+        Err(refusal) => Merged {
+            number: refusal.number(),
+            undone: 0,
+            redone: 0,
+        },
     }
 }
 
-// A bench of weight 1.
-fn seat(bench: u8) -> RollRow
-    ensures { result ≡ seat bench }
-{
-    RollRow { bench, weight: 1 }
-}
-
-// Benches 1 to 8.
-#[tactic(auto, unfolding(crate::specs::Measured::equal_seats))]
-fn equal_seats() -> [RollRow; 8]
-    ensures { result ≡ equal_seats }
-{
-    [
-        seat(1),
-        seat(2),
-        seat(3),
-        seat(4),
-        seat(5),
-        seat(6),
-        seat(7),
-        seat(8),
-    ]
-}
+// Benches 1 to 8, each of weight 1.
+const EQUAL_SEATS: [RollRow; 8] = [
+    RollRow {
+        bench: 1,
+        weight: 1,
+    },
+    RollRow {
+        bench: 2,
+        weight: 1,
+    },
+    RollRow {
+        bench: 3,
+        weight: 1,
+    },
+    RollRow {
+        bench: 4,
+        weight: 1,
+    },
+    RollRow {
+        bench: 5,
+        weight: 1,
+    },
+    RollRow {
+        bench: 6,
+        weight: 1,
+    },
+    RollRow {
+        bench: 7,
+        weight: 1,
+    },
+    RollRow {
+        bench: 8,
+        weight: 1,
+    },
+];
 
 // Benches 1 to 4 lend one record, benches 5 to 8 its rival.
 pub fn measure_election<'a>(
@@ -157,12 +186,24 @@ pub fn measure_election<'a>(
         constraints: rivalconstraints,
     };
     let proposals = [one, one, one, one, rival, rival, rival, rival];
-    let answer = voting_count::election(edit, &proposals, &equal_seats());
-    Elected {
-        number: answer.number,
-        won: u32::from(answer.won),
-        greatest: answer.greatest,
-        silent: answer.silent,
-        total: answer.total,
+    let poll = Poll {
+        proposals,
+        roll: &EQUAL_SEATS,
+    };
+    match voting_count::election(edit, &poll) {
+        Ok(answer) => Elected {
+            number: 0,
+            won: u32::from(answer.won),
+            greatest: answer.greatest,
+            silent: answer.silent,
+            total: answer.total,
+        },
+        Err(refusal) => Elected {
+            number: refusal.number(),
+            won: 0,
+            greatest: 0,
+            silent: 0,
+            total: 0,
+        },
     }
 }

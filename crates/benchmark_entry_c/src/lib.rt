@@ -7,6 +7,8 @@ ghost use Rattle.benchmark_entry.specs.Measured.{judged_numbers, scheduled_of, m
 use benchmark_entry::{Elected, Judged, Merged, Scheduled};
 use record_rows::row::{ConstraintRow, EditRow};
 
+// Kept: `constraints`, `edits`: C lends the two tables of a record apart.
+
 #[unsafe(no_mangle)]
 pub extern "C" fn measure_judgement(edits: &[EditRow], constraints: &[ConstraintRow]) -> Judged
     ensures { result ≡ judged_numbers edits.now constraints.now }

@@ -9,12 +9,11 @@ use Rattle.stream.specs.Pieces.{last_end}
 use Rattle.stream.proofs.Pieces.{last-append, lines-few}
 use Rattle.ledger.specs.Ledger.{start}
 use Rattle.ledger.specs.Bench.{bench_of}
-use Rattle.ledger.specs.declared.Bench.{Bench}
-use Rattle.record_rows.specs.grounds.Ground.{Rows}
-use Rattle.log_forms.specs.Printed.{Buffer, with_texts, Printed}
-use Rattle.log_lent.specs.declared.Lending.{Lending}
+use Rattle.log_forms.specs.declared.Printer.{Printer}
+use Rattle.log_forms.specs.Printed.{Buffer, with_texts, PrintedLines}
 use Rattle.log_lent.specs.Lent.{nothing_lent}
 use Rattle.log_lent.specs.Kept.{Kept}
+use Rattle.log_session.specs.declared.Session.{Session}
 use Rattle.log_session.specs.Desk.{Desk, empty_desk}
 use Rattle.log_session.specs.calls.Lines.{Holds}
 use Rattle.log_run.specs.Log.{begun, run_lines, log_run}
@@ -22,27 +21,35 @@ use Rattle.log_run.proofs.Runs.{prefixed, run-count, run-after, empty_holds}
 use Rattle.log_run.proofs.Kept.{kept_run}
 use Rattle.c_library.specs.Replies.{texts_after, worked}
 
--- the run of the lines of a log, in memory
-abbrev Ran : Desk → ℕ → List ℕ → Bench → Lending → Rows → Rows → ℕ → List ℕ → List ℕ → ℕ → Type 0
-Ran D count log bench lending edits constraints prefixed before out at =
-    Holds (run_lines (begun D count) (lines log)).desk bench lending edits constraints × (prefixed ≡ (run_lines (begun D count) (lines log)).count)
-    × Printed (run_lines (begun D count) (lines log)).printed before 0 out at
+-- the run of the lines of a log, in memory and printed
+abbrev Ran : List ℕ → Desk → Printer → Session → Printer → Type 0
+Ran log D before session after =
+    let R = run_lines (begun D before.line) (lines log) in
+    Holds R.desk session × (after.line ≡ R.count) × PrintedLines R.printed before after
 
-module _ (kept log work : List ℕ) (few : length kept + length log ≤ 4611686018427387904) {bench held last : Bench} {lending lent lastlent : Lending} {edits constraints edits1 constraints1 edits2 constraints2 : Rows} {n m at end : ℕ} {between prefixed : List ℕ}
-    (b : bench ≡ bench_of start) (k : Kept nothing_lent lending edits constraints)
-    (f : (D : Desk) → Holds D bench lending edits constraints → 0 + length kept ≤ 4611686018427387904 → Ran D 0 kept held lent edits1 constraints1 n work between at)
-    (g : (D : Desk) → Holds D held lent edits1 constraints1 → n + length log ≤ 4611686018427387904 → Ran D n log last lastlent edits2 constraints2 m between prefixed end) where
-  pub two-logs : (prefixed ≡ (worked kept log work).bytes) × (end ≡ (worked kept log work).place)
+module _ (kept log work : List ℕ) (few : length kept + length log ≤ 4611686018427387904) {start_session held last_session : Session} {first middle last : Printer}
+    (b : start_session.bench ≡ bench_of start) (k : Kept nothing_lent start_session.lending) (w : first.out.now ≡ work) (a : first.at ≡ 0) (l : first.line ≡ 0)
+    (f : (D : Desk) → Holds D start_session → first.line + length kept ≤ 4611686018427387904 → Ran kept D first held middle)
+    (g : (D : Desk) → Holds D held → middle.line + length log ≤ 4611686018427387904 → Ran log D (record middle { at = 0 }) last_session last) where
+  first_run : Ran kept empty_desk (record first { line = 0 }) held middle
+  first_run = rw l at (f empty_desk (empty_holds b k) (omega (arith, l)))
+
+  second_run : Ran log (log_run kept).desk (record middle { at = 0; line = (log_run kept).count }) last_session last
+  unfolding log_run
+  second_run =
+      let p = first_run in
+      let c : middle.line ≡ (log_run kept).count = p.1 in
+      rw c at (g (log_run kept).desk p.0 (omega (arith, c, run-count (begun empty_desk 0) (lines kept), lines-few kept)))
+
+  pub two-logs : (last.out.now ≡ (worked kept log work).bytes) × (last.at ≡ (worked kept log work).place) × (last.out.ghost_name ≡ first.out.ghost_name)
   unfolding worked texts_after log_run
   two-logs =
-      let p = f empty_desk (empty_holds b k) (omega arith) in
-      let c : n ≡ (log_run kept).count = p.1 in
-      let l : (log_run kept).count ≡ 0 + length (lines kept) = run-count (begun empty_desk 0) (lines kept) in
-      let w = lines-few kept in
-      let q = g (log_run kept).desk p.0 (omega arith) in
-      let t : Printed (texts_after kept log) between 0 prefixed end = rw c at q.2 in
-      let e = t.buffer ∙ ap (λ (m : List ℕ). with_texts (record { bytes = m; place = 0 }) (texts_after kept log)) (ap (λ (x : Buffer). x.bytes) p.2.buffer) in
-      (ap (λ (x : Buffer). x.bytes) e, ap (λ (x : Buffer). x.place) e)
+      let p = first_run in
+      let q = second_run in
+      let o : ◌≡◌ {A = Buffer} (record { bytes = first.out.now; place = first.at }) (record { bytes = work; place = 0 }) = λ i. record { bytes = w i; place = a i } in
+      let m = p.2.into.buffer ∙ ap (λ (x : Buffer). with_texts x (log_run kept).printed) o in
+      let e = q.2.into.buffer ∙ ap (λ (m : List ℕ). with_texts (record { bytes = m; place = 0 }) (texts_after kept log)) (ap (λ (x : Buffer). x.bytes) m) in
+      (ap (λ (x : Buffer). x.bytes) e, ap (λ (x : Buffer). x.place) e, q.2.same_reference ∙ p.2.same_reference)
 
 -- A LOG THAT ENDS WITH THE END OF A LINE CAN BE KEPT: it and what follows it, run in one piece, print what it printed and then what is answered to
 -- the rest, and leave the same desk.

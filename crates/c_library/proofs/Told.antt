@@ -12,7 +12,7 @@ use Rattle.std.specs.Prelude.{Ok, Err}
 use Rattle.refusals.specs.declared.Refusal.TheVariants.{NoRoom}
 use Rattle.lists.proofs.Lists.{le-by}
 use Rattle.text.specs.Text.{joined_lines}
-use Rattle.log_forms.specs.Printed.{Texts, Buffer, Printed}
+use Rattle.log_forms.specs.Printed.{Texts, Buffer, PrintedInto}
 use Rattle.log_forms.proofs.Printing.{texts-size, printed-length, printed-whole, printed-short}
 use Rattle.log_run.specs.Log.{log_run}
 use Rattle.c_library.specs.Replies.{placed_reply, answers_after, texts_after, answered_reply, answered_out, worked}
@@ -24,7 +24,7 @@ pub record Worked (answers before after : List ℕ) (end : ℕ) : Type 0 where
   pub bytes : length answers ≤ length before → take (length answers) after ≡ answers
 
 -- texts printed over what a kept log left there
-work-printed : (texts : Texts) (before : List ℕ) {between after : List ℕ} {end : ℕ} → length between ≡ length before → Printed texts between 0 after end → Worked (joined_lines texts) before after end
+work-printed : (texts : Texts) (before : List ℕ) {between after : List ℕ} {end : ℕ} → length between ≡ length before → PrintedInto texts between 0 after end → Worked (joined_lines texts) before after end
 work-printed texts before {between} {after} {end} e p =
     let z : 0 + length (joined_lines texts) ≡ length (joined_lines texts) = omega arith in
     record {

@@ -9,17 +9,14 @@ ghost use Rattle.unity_table.specs.Unity.{weights_of, unity_of, answer_told};
 ghost use Rattle.c_library.specs.Replies.{placed_reply, told_reply, unity_reply, reported_reply, checked_reply, rewritten_reply, rewritten_out, answers_to, answers_after, answered_reply, answered_out, worked};
 
 use fraction::Fraction;
-use log_lent::{CONSTRAINT_PLACES, EDIT_PLACES, RECORDS};
+use log_forms::Printer;
+use log_session::Session;
 use record_rows::row::ConstraintRow;
 use refusals::Refusal;
 use text_reader::Fault;
 use unity_table::RowFault;
 
-// The rows that are kept of what was lent: those of each record.
-const KEPT_EDITS: usize = EDIT_PLACES * RECORDS;
-
-const KEPT_CONSTRAINTS: usize = CONSTRAINT_PLACES * RECORDS;
-
+// Kept: C reads the answer, so that the number stands beside the values.
 // Number 0: how many bytes were written. 12: they do not fit, or the place for them is too short. Any other: the text is refused, at this line.
 #[repr(C)]
 #[derive(Clone, Copy)]
@@ -54,21 +51,11 @@ impl From<Result<usize, Refusal>> for Reply {
     ghost from_gives = { λ answer reply. reply ≡ placed_reply answer };
 
     fn from(answer: Result<usize, Refusal>) -> Reply {
-        match answer {
-            Ok(size) => Reply {
-                number: 0,
-                line: 0,
-                size,
-            },
-            Err(refusal) => Reply {
-                number: refusal.number(),
-                line: 0,
-                size: 0,
-            },
-        }
+        Reply::from(answer.map_err(|refusal| Fault { refusal, line: 0 }))
     }
 }
 
+// Kept: C reads the answer, so that the number stands beside the values.
 // Number 0: mean, least and greatest share, how many elections are won, and how many have total 0. Any other: that of the refusal and the
 // faulty row, from 1; every other part is 0.
 #[repr(C)]
@@ -142,46 +129,42 @@ pub fn catalogue_rewrite(text: &[u8], out: &mut [u8]) -> Reply
     }
 }
 
+// A log that was kept, and the lines that follow it.
+#[derive(Clone, Copy)]
+struct Logs<'a> {
+    kept: &'a [u8],
+    log: &'a [u8],
+}
+
 // The place after the answers in work. What the kept log printed there is written over.
-fn log_size(kept: &[u8], log: &[u8], work: &mut [u8]) -> usize
-    ensures { length kept.now + length log.now ≤ 4611686018427387904
-        → (work.new ≡ (worked kept.now log.now work.old).bytes)
-        × (result ≡ (worked kept.now log.now work.old).place) }
+fn log_size(logs: Logs, work: &mut [u8]) -> usize
+    ensures { length logs.entry.kept.now + length logs.entry.log.now ≤ 4611686018427387904
+        → (work.new ≡ (worked logs.entry.kept.now logs.entry.log.now work.old).bytes)
+        × (result ≡ (worked logs.entry.kept.now logs.entry.log.now work.old).place) }
 {
-    let mut edits = [[0u32; 5]; KEPT_EDITS];
-    let mut constraints = [[0u32; 3]; KEPT_CONSTRAINTS];
-    let held = log_run::run_log(
-        bench::empty_bench(),
-        log_lent::nothing_lent(),
-        &mut edits,
-        &mut constraints,
-        kept,
-        0,
-        &mut work[..],
-        0,
-    );
-    let logged = log_run::run_log(
-        held.bench,
-        held.lending,
-        &mut edits,
-        &mut constraints,
-        log,
-        held.count,
-        &mut work[..],
-        0,
-    );
-    logged.at
+    let mut session = Session {
+        bench: bench::empty_bench(),
+        lending: log_lent::nothing_lent(),
+    };
+    let mut printer = Printer {
+        out: work,
+        at: 0,
+        line: 0,
+    };
+    log_run::run_log(&mut printer, &mut session, logs.kept);
+    printer.at = 0;
+    log_run::run_log(&mut printer, &mut session, logs.log)
 }
 
 // A kept log is run from an empty bench, then the log that follows it, into work; where work and out are long enough, the answers to the
 // second are copied to the start of out.
-fn answered(kept: &[u8], log: &[u8], work: &mut [u8], out: &mut [u8]) -> Result<usize, Refusal>
-    ensures { length kept.now + length log.now ≤ 4611686018427387904
-        → (placed_reply result ≡ answered_reply (answers_after kept.now log.now) work.old out.old)
-        × (out.new ≡ answered_out (answers_after kept.now log.now) work.old out.old)
-        × (work.new ≡ (worked kept.now log.now work.old).bytes) }
+fn answered(logs: Logs, work: &mut [u8], out: &mut [u8]) -> Result<usize, Refusal>
+    ensures { length logs.entry.kept.now + length logs.entry.log.now ≤ 4611686018427387904
+        → (placed_reply result ≡ answered_reply (answers_after logs.entry.kept.now logs.entry.log.now) work.old out.old)
+        × (out.new ≡ answered_out (answers_after logs.entry.kept.now logs.entry.log.now) work.old out.old)
+        × (work.new ≡ (worked logs.entry.kept.now logs.entry.log.now work.old).bytes) }
 {
-    let size = log_size(kept, log, &mut work[..]);
+    let size = log_size(logs, &mut work[..]);
     if work.len() < size || out.len() < size {
         return Err(Refusal::NoRoom);
     }
@@ -197,7 +180,8 @@ pub fn catalogue_replay(log: &[u8], work: &mut [u8], out: &mut [u8]) -> Reply
         × (out.new ≡ answered_out (answers_to log.now) work.old out.old)
         × (work.new ≡ (worked [] log.now work.old).bytes) }
 {
-    Reply::from(answered(&[], log, &mut work[..], &mut out[..]))
+    let logs = Logs { kept: &[], log };
+    Reply::from(answered(logs, &mut work[..], &mut out[..]))
 }
 
 // The answers to the lines that follow a kept log, which is how a bench is kept between calls.
@@ -207,7 +191,8 @@ pub fn catalogue_continue(kept: &[u8], log: &[u8], work: &mut [u8], out: &mut [u
         × (out.new ≡ answered_out (answers_after kept.now log.now) work.old out.old)
         × (work.new ≡ (worked kept.now log.now work.old).bytes) }
 {
-    Reply::from(answered(kept, log, &mut work[..], &mut out[..]))
+    let logs = Logs { kept, log };
+    Reply::from(answered(logs, &mut work[..], &mut out[..]))
 }
 
 // How united the benches are, from a table of election answers.

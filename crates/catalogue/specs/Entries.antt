@@ -2,13 +2,9 @@
 use Rattle.std.specs.Prelude.{true, false, cond, ℕ, set, replicate, Some, None}
 use Rattle.record.specs.declared.Body.{Body}
 use Rattle.record.specs.declared.Body.TheVariants.{Insert, Set, Remove}
+pub use Rattle.record.specs.Record.{place_of}
 use Rattle.record_rows.specs.row.Row.{field_number}
 use Rattle.catalogue.specs.declared.Entry.{Entry}
-
-abbrev pub place_of : Body → ℕ
-place_of (Insert place) = place
-place_of (Set place field value) = place
-place_of (Remove place) = place
 
 -- an absent entry has blank cells; a blank cell is none
 abbrev pub absent_entry : ℕ → Entry

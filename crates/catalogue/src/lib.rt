@@ -5,7 +5,7 @@ ghost use Rattle.std.specs.Prelude.{◌≡◌, set, take};
 ghost use Rattle.std.proofs.Math.Seq.{slice};
 ghost use Rattle.pages.specs.Pages.{run_edit, touched};
 ghost use Rattle.pages.specs.Steps.{back, forward, turn};
-ghost use Rattle.catalogue.specs.Entries.{absent_entry, place_of, run_body};
+ghost use Rattle.catalogue.specs.Entries.{absent_entry, run_body};
 ghost use Rattle.catalogue.specs.Chips.{cells, chips, content_of, empty_view, stored_view};
 ghost use Rattle.catalogue.specs.Changes.{ViewChanges, ViewTurns, changed, common};
 
@@ -21,7 +21,7 @@ pub const PAGES: usize = EDITS;
 // What is known of a chip in one field, if anything.
 pub type Cell = Option<u32>;
 
-// Kept: `present` beside the cells and no Option of them, since an absent entry has cells too, all blank, which the journal's lines print.
+// Kept: document 01 has "an entry of four cells, present or absent", and an absent entry has four blank cells.
 #[derive(Clone, Copy)]
 pub struct Entry {
     pub present: bool,
@@ -43,15 +43,6 @@ pub struct Journal {
 pub struct View {
     pub catalogue: Catalogue,
     pub journal: Journal,
-}
-
-// The place of the entry that an edit touches. Pub for the crate of questions.
-pub fn place_of(body: Body) -> u8
-    ensures { result ≡ place_of body }
-{
-    match body {
-        Body::Insert(place) | Body::Set(place, _, _) | Body::Remove(place) => place,
-    }
 }
 
 fn absent_entry() -> Entry
@@ -89,7 +80,7 @@ impl Catalogue {
         ensures kept { result ≡ touched chips self.old.entries edit }
         ensures ran { self.new.entries ≡ run_edit chips self.old.entries edit }
     {
-        let place = usize::from(place_of(edit.body));
+        let place = usize::from(edit.body.place());
         if place < PLACES {
             let entry = self.entries[place];
             self.entries[place] = run_entry(entry, edit.body);
@@ -151,8 +142,7 @@ fn back_to(mut view: View, schedule: Schedule, from: usize, to: usize) -> View
     for page in (to..from.min(PAGES)).rev() {
         let kept = view.journal.rows[page];
         view.journal.rows[page] = absent_entry();
-        view.catalogue
-            .put(place_of(schedule.edits[page].body), kept);
+        view.catalogue.put(schedule.edits[page].body.place(), kept);
     }
     view
 }

@@ -42,14 +42,14 @@ pub fn lowest_terms(a: u64, b: u64) -> Fraction
     }
 }
 
-// Pub for `unity_table`, whose shares are of small numbers.
-// Kept: no PartialOrd, whose laws fail at 0/0, which is below no fraction and above none, and whose products fit 64 bits only under a `requires`.
+// Kept: no PartialOrd: 1/2 and 2/4 are not equal by their parts, and 0/0 is below no fraction and above none, so that its laws fail.
 #[tactic(auto, unfolding(crate::specs::Fraction::is_below))]
 pub fn is_below(f: Fraction, g: Fraction) -> bool
-    requires { (f.numerator * g.denominator < bound.limit64) × (g.numerator * f.denominator < bound.limit64) }
     ensures { result ≡ is_below f g }
 {
-    f.numerator * g.denominator < g.numerator * f.denominator
+    let left = u128::from(f.numerator) * u128::from(g.denominator);
+    let right = u128::from(g.numerator) * u128::from(f.denominator);
+    left < right
 }
 
 fn least_common_multiple(a: u64, b: u64) -> Option<u64>

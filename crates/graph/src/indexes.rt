@@ -3,6 +3,7 @@
 ghost use Rattle.std.specs.Prelude.{◌≡◌, ℕ, ◌+◌, ◌*◌, ◌<◌, ◌≤◌, length, get_or, set};
 ghost use Rattle.record.specs.Record as theory;
 ghost use Rattle.record.specs.Stored.{stored};
+ghost use Rattle.record_rows.specs.row.Row.{name_limit};
 ghost use Rattle.graph.specs.links.Marks.{mark_limit, place_in};
 ghost use Rattle.graph.specs.links.Links.{key_limit};
 ghost use Rattle.graph.specs.links.Resolved.{Resolved};
@@ -12,6 +13,8 @@ use crate::links::{ENABLES, Graph, Linking, NONCOMMUTING, Rows};
 use record::Record;
 use record_rows::row::NAMES;
 use std::marker::Model;
+
+// Kept: `x < mark_limit`, `key < key_limit`: as in `graph::links`, where a type of indexes was tried.
 
 // How many indexes there are, INIT's included.
 fn name_count(multilog: Record) -> usize
@@ -29,17 +32,46 @@ pub struct IndexTable {
 
 // Clauses see the indexes.
 impl Model for IndexTable {
-    ghost use Rattle.std.specs.Prelude.{List, ℕ, ◌<◌, get_or};
+    ghost use Rattle.std.specs.Prelude.{◌≡◌, List, ℕ, ◌<◌, get_or, length};
+    ghost use Rattle.record_rows.specs.row.Row.{name_limit};
     ghost use Rattle.graph.specs.links.Marks.{mark_limit};
 
     ghost Value = { List ℕ };
 
     ghost view = { λ t. t.indexes };
 
-    ghost invariant = { λ t. (x : ℕ) → get_or t.indexes x 0 < mark_limit };
+    ghost invariant = { λ t. (length t.indexes ≡ name_limit) × ((x : ℕ) → get_or t.indexes x 0 < mark_limit) };
+}
+
+// The entry of a name in any table by name, 0 where it has none.
+pub fn index_in(indexes: &[u8], name: usize) -> usize
+    ensures { result ≡ get_or indexes.now name 0 }
+{
+    match indexes.get(name) {
+        Some(index) => usize::from(*index),
+        None => 0,
+    }
 }
 
 impl IndexTable {
+    // A table that a caller has filled.
+    pub fn from_indexes(indexes: [u8; NAMES]) -> IndexTable
+        requires { (x : ℕ) → get_or indexes x 0 < mark_limit }
+        ensures { result ≡ indexes }
+    {
+        IndexTable { indexes }
+    }
+
+    // The indexes as an array, for callers that keep it.
+    pub fn indexes(&self) -> &[u8; NAMES]
+        ensures is { result.now ≡ self.now }
+        ensures size { length self.now ≡ name_limit }
+        ensures low { (x : ℕ) → get_or self.now x 0 < mark_limit }
+    {
+        &self.indexes
+    }
+
+    // Kept: tested and then indexed, as in crate catalogue: a proof learns no element that was written through get_mut.
     fn put_index(&mut self, name: u16, index: usize)
         requires { index < mark_limit }
         ensures { self.new ≡ set self.old name index }
@@ -51,14 +83,12 @@ impl IndexTable {
     }
 
     // The index of a name, 0 where the record has none. Pub for the crates that resolve names.
+    // Kept: 0 for INIT and for no name, as place_in has it; known_index of crate judgement tells them apart.
     pub fn index_of(&self, name: usize) -> usize
         ensures is { result ≡ get_or self.now name 0 }
         ensures low { result < mark_limit }
     {
-        match self.indexes.get(name) {
-            Some(index) => usize::from(*index),
-            None => 0,
-        }
+        index_in(&self.indexes, name)
     }
 }
 

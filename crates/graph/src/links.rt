@@ -6,12 +6,18 @@ ghost use Rattle.lists.specs.Lists.{mem, ◌among◌, ◌within◌, closure};
 ghost use Rattle.record.specs.Record.{Record, names, notafter};
 ghost use Rattle.record.specs.Schedule.{ring};
 ghost use Rattle.graph.specs.links.Marks.{mark_limit, name_at, marks_of};
-ghost use Rattle.graph.specs.links.Links.{notafter_base, noncommuting_base, key_limit, row_limit, rows_length, left_at, with_row, Growing, FirstRow, NextRow, LeftEnd, Walks, LinkedByKey, NoRow, SomeRow, Leads};
+ghost use Rattle.graph.specs.links.Links.{notafter_base, noncommuting_base, key_limit, row_limit, rows_length, left_at, with_row, Safe, Growing, FirstRow, NextRow, LeftEnd, Walks, LinkedByKey, NoRow, SomeRow, Leads};
 ghost use Rattle.graph.specs.links.Reach.{Marked};
 ghost use Rattle.graph.specs.links.Reversed.{Noting, Reversed};
 ghost use Rattle.graph.specs.links.Search.{Visited, VisitedNew};
 
 use std::marker::Model;
+
+// Kept: `x < mark_limit`, `key < key_limit`: a type of indexes with that invariant was tried; each access to marks and each turn of a loop over
+// indexes then converts, and each proof of a loop rewrites by what the conversion ensures. Keys are sums of a base and an index, and would convert
+// twice.
+// Kept: `base ≤ noncommuting_base`: any base is taken; an enum of the three rules would ask more, and would not name the relation of a
+// bundle's members, which stands above 0.
 
 // Marks of the edits of a record, one to each index.
 pub const MARKS: usize = 128;
@@ -19,6 +25,7 @@ pub const MARKS: usize = 128;
 // Linked rows in one array: the head of each key, then the link and then the left end of each row. The specs of `links` have the same numbers.
 pub const ROWS: usize = 2432;
 
+// Kept: numbers and no truth values: document 01 names "an array of 128 marks", and pages of edits stand in one too.
 pub type Marks = [u8; MARKS];
 
 const ROW_LIMIT: usize = 1024;
@@ -34,7 +41,21 @@ pub const ENABLES: usize = 128;
 
 pub const NONCOMMUTING: usize = 256;
 
+// Links row j, counted from 0, before all others of its key. Any array is taken, and any place in it.
+#[tactic(auto, unfolding(crate::specs::links::Links::head_at, crate::specs::links::Links::with_row))]
+pub fn put_row(cells: &mut [u16; ROWS], j: usize, key: usize, left: usize)
+    requires row { j < row_limit }
+    requires key { key < key_limit }
+    requires left { left < mark_limit }
+    ensures { cells.new ≡ with_row cells.old j key left }
+{
+    cells[LINKS_START + j] = cells[key];
+    cells[key] = (j + 1) as u16;
+    cells[LEFTS_START + j] = left as u16;
+}
+
 // Rows that are being linked, each before all others of its key.
+// Kept: the count is of rows, and the array has three cells of a row far apart, so that no slice of it has the rows so far.
 #[derive(Drop)]
 pub struct Linking {
     cells: [u16; ROWS],
@@ -62,20 +83,24 @@ impl Linking {
         ensures cells { self.new.cells ≡ with_row self.old.cells self.old.count key left }
         ensures count { self.new.count ≡ self.old.count + 1 }
     {
-        let j = self.count;
-        self.cells[LINKS_START + j] = self.cells[key];
-        self.cells[key] = (j + 1) as u16;
-        self.cells[LEFTS_START + j] = left as u16;
-        self.count = j + 1;
+        put_row(&mut self.cells, self.count, key, left);
+        self.count += 1;
     }
 
     pub fn rows(self) -> Rows
         requires { self.count ≤ row_limit }
         ensures { result ≡ self.cells }
     {
-        let cells = self.cells;
-        Rows { cells }
+        Rows::from_cells(self.cells)
     }
+}
+
+// A row of a key: its left end, and the row that comes next, 0 where none does.
+// Kept: 0 for no row, as the cells of the array have it; an Option would be made and taken apart at each step of the innermost loop.
+#[derive(Clone, Copy)]
+pub struct LinkedRow {
+    pub left: usize,
+    pub next: usize,
 }
 
 // Linked rows. No step along the links leaves them, and each goes down.
@@ -97,7 +122,24 @@ impl Model for Rows {
 }
 
 impl Rows {
+    // Rows that a caller has linked in an array of its own.
+    pub fn from_cells(cells: [u16; ROWS]) -> Rows
+        requires { Safe cells }
+        ensures { result ≡ cells }
+    {
+        Rows { cells }
+    }
+
+    // The cells as an array, for callers that keep it.
+    pub fn cells(&self) -> &[u16; ROWS]
+        ensures is { result.now ≡ self.now }
+        ensures safe { Safe self.now }
+    {
+        &self.cells
+    }
+
     // The first row of a key, counted from 1; 0 where there is none. Pub for all that walk along the rows of a key.
+    // Kept: 0 for no row, as in `LinkedRow`.
     pub fn first_row(&self, key: usize) -> usize
         requires { key < key_limit }
         ensures { FirstRow self.now key result }
@@ -105,22 +147,17 @@ impl Rows {
         usize::from(self.cells[key])
     }
 
-    // The row after row j of the same key; 0 where j is the last.
-    pub fn next_row(&self, j: usize) -> usize
+    // Row j: its left end, an index, and the row after it of the same key.
+    pub fn row(&self, j: usize) -> LinkedRow
         requires above { 0 < j }
         requires low { j ≤ row_limit }
-        ensures { NextRow self.now j result }
+        ensures left { LeftEnd self.now j result.left }
+        ensures next { NextRow self.now j result.next }
     {
-        usize::from(self.cells[LINKS_START + (j - 1)])
-    }
-
-    // The left end of row j, an index.
-    pub fn row_left(&self, j: usize) -> usize
-        requires above { 0 < j }
-        requires low { j ≤ row_limit }
-        ensures { LeftEnd self.now j result }
-    {
-        usize::from(self.cells[LEFTS_START + (j - 1)])
+        LinkedRow {
+            left: usize::from(self.cells[LEFTS_START + (j - 1)]),
+            next: usize::from(self.cells[LINKS_START + (j - 1)]),
+        }
     }
 
     // The left ends of the rows of a key.
@@ -182,6 +219,7 @@ impl Rows {
 pub struct Lefts<'a> {
     rows: &'a Rows,
     // the row that comes next, 0 where none is left
+    // Kept: 0 for no row, as in `LinkedRow`.
     row: usize,
 }
 
@@ -198,9 +236,9 @@ impl<'a> Iterator for Lefts<'a> {
         if self.row == 0 {
             return None;
         }
-        let left = self.rows.row_left(self.row);
-        self.row = self.rows.next_row(self.row);
-        Some(left)
+        let row = self.rows.row(self.row);
+        self.row = row.next;
+        Some(row.left)
     }
 }
 
@@ -224,7 +262,7 @@ fn visit(rows: &Rows, states: &mut Marks, x: usize) -> bool
     requires { x < mark_limit }
     ensures { Visited rows.now states.old x result states.new }
 {
-    // Kept: states are numbers, since their array is filled from marks.
+    // Kept: states are numbers: 0 and 1 are the marks that their array is a copy of; an enum would convert 128 of them at each search.
     let v = states[x];
     if v == 2 {
         return true;
@@ -258,16 +296,18 @@ fn reverse_rows(rows: &Rows, lefts: &mut [u8; ROW_LIMIT], rights: &mut [u8; ROW_
     requires { b < mark_limit }
     ensures { Noting rows.now b lefts.old rights.old lefts.new rights.new }
 {
-    // Kept: what is noted of a row stands at the row's number, which a walk over left ends does not give.
     let mut j = rows.first_row(b);
+    // Kept: what is noted of a row stands at the row's number, which a walk over left ends does not give.
     while j != 0 {
-        lefts[j - 1] = rows.row_left(j) as u8;
+        let row = rows.row(j);
+        lefts[j - 1] = row.left as u8;
         rights[j - 1] = b as u8;
-        j = rows.next_row(j);
+        j = row.next;
     }
 }
 
 // The rows of these keys and left ends.
+// Kept: two arrays of one length: LinkedByKey speaks of the list of keys alone, which an array of pairs would have to give as a map.
 fn linked_rows(keys: &[u8], lefts: &[u8]) -> Rows
     requires size { length keys.now ≤ row_limit }
     requires same { length lefts.now ≡ length keys.now }
@@ -292,8 +332,8 @@ pub struct Graph {
 }
 
 impl Graph {
-    // Whether the marked set holds a ring of notafter, where the old set holds none: a ring then has one that is new, and the search starts from these.
-    // Pub for `judgement_marks`.
+    // Whether the marked set holds a ring of notafter, where the old set holds none: a ring then has one that is new, and the search starts from
+    // these. Pub for `judgement_marks`.
     pub fn has_new_ring(&self, old: &Marks, marks: Marks) -> bool
         ensures { (R : Record) (u t : List ℕ) → Leads (notafter R) R notafter_base self.now.rows
             → self.now.count ≡ length (names R) → t within names R → old.now ≡ marks_of R (λ y. mem y u) → ring R u ≡ false → marks ≡ marks_of R (λ y. mem y t) → result ≡ ring R t }
@@ -320,14 +360,13 @@ impl Graph {
         ensures { (R : Record) → self.now.count ≡ length (names R) → result ≡ marks_of R (λ y. mem y (names R)) }
     {
         let mut marks = [0; MARKS];
-        for x in 0..self.count {
-            marks[x] = 1;
-        }
+        marks[..self.count].fill(1);
         marks
     }
 
     // The reversed graph of notafter: rows by their left edits, with the right ones. A row that is none has the key 255, which is no edit's. Pub for
     // `judgement_marks` and `judgement_marks::schedules`.
+    // Kept: the key 255 for no row: a row of notafter is noted at its own number, and those of other rules leave gaps between.
     pub fn reversed(&self) -> Rows
         ensures { (R : Record) → Leads (notafter R) R notafter_base self.now.rows → self.now.count ≡ length (names R) → Reversed R result }
     {

@@ -10,10 +10,11 @@ ghost use Rattle.judgement.specs.lent_record.Lent.{record_fault, Taking, judgeme
 use crate::{Judged, row_test};
 use graph::links::{MARKS, Marks};
 use record::{Record, Schedule};
-use record_rows::row::{ConstraintRow, EditRow};
+use record_rows::row::LentRecord;
 use refusals::Refusal;
 
 // For each edit, INIT first: must, never, settled and its page with nothing hidden (0: not in it).
+// Kept: the arrays of `Judged` one by one and no `Judged` inside, for crate benchmark_entry takes them out by name.
 #[derive(Clone, Copy)]
 pub struct Judgement {
     pub count: usize,
@@ -24,11 +25,11 @@ pub struct Judgement {
 }
 
 // A lent record without fault.
-fn take_record(edits: &[EditRow], constraints: &[ConstraintRow]) -> Result<Record, Refusal>
-    ensures fault { number_of result ≡ record_fault edits.now constraints.now }
-    ensures taken { IfOk result (λ multilog. Taking edits.now constraints.now multilog) }
+fn take_record(lent: LentRecord) -> Result<Record, Refusal>
+    ensures fault { number_of result ≡ record_fault lent.entry.edits.now lent.entry.constraints.now }
+    ensures taken { IfOk result (λ multilog. Taking lent.entry.edits.now lent.entry.constraints.now multilog) }
 {
-    let multilog = record_joining::lent(edits, constraints)?;
+    let multilog = record_joining::lent(lent)?;
     if crate::sound(multilog) {
         Ok(multilog)
     } else {
@@ -37,10 +38,10 @@ fn take_record(edits: &[EditRow], constraints: &[ConstraintRow]) -> Result<Recor
 }
 
 // Must, never, settled and page of each edit of a lent record.
-pub fn judge_lent(edits: &[EditRow], constraints: &[ConstraintRow]) -> Result<Judgement, Refusal>
-    ensures { Gives (record_fault edits.now constraints.now) (judgement_is (decoded edits.now constraints.now)) result }
+pub fn judge_lent(lent: LentRecord) -> Result<Judgement, Refusal>
+    ensures { Gives (record_fault lent.entry.edits.now lent.entry.constraints.now) (judgement_is (decoded lent.entry.edits.now lent.entry.constraints.now)) result }
 {
-    let multilog = take_record(edits, constraints)?;
+    let multilog = take_record(lent)?;
     let Judged {
         must,
         never,
@@ -57,21 +58,17 @@ pub fn judge_lent(edits: &[EditRow], constraints: &[ConstraintRow]) -> Result<Ju
 }
 
 // The bench schedule of a lent record, with nothing hidden.
-pub fn schedule_lent(edits: &[EditRow], constraints: &[ConstraintRow]) -> Result<Schedule, Refusal>
-    ensures { Gives (record_fault edits.now constraints.now) (stored_schedule (decoded edits.now constraints.now) []) result }
+pub fn schedule_lent(lent: LentRecord) -> Result<Schedule, Refusal>
+    ensures { Gives (record_fault lent.entry.edits.now lent.entry.constraints.now) (stored_schedule (decoded lent.entry.edits.now lent.entry.constraints.now) []) result }
 {
-    let multilog = take_record(edits, constraints)?;
+    let multilog = take_record(lent)?;
     Ok(crate::schedule(multilog, [0; MARKS]))
 }
 
 // The test of any row of numbers against a lent record.
-pub fn test_row(
-    edits: &[EditRow],
-    constraints: &[ConstraintRow],
-    row: &[u32],
-) -> Result<bool, Refusal>
-    ensures { Gives (record_fault edits.now constraints.now) (sound_row (decoded edits.now constraints.now) row.now) result }
+pub fn test_row(lent: LentRecord, row: &[u32]) -> Result<bool, Refusal>
+    ensures { Gives (record_fault lent.entry.edits.now lent.entry.constraints.now) (sound_row (decoded lent.entry.edits.now lent.entry.constraints.now) row.now) result }
 {
-    let multilog = take_record(edits, constraints)?;
+    let multilog = take_record(lent)?;
     Ok(row_test::is_schedule(multilog, row))
 }

@@ -8,7 +8,7 @@ pub mod row_test;
 ghost use Rattle.std.specs.Prelude.{◌≡◌, List, [], ◌∷◌, ℕ};
 ghost use Rattle.record.specs.Record as theory;
 ghost use Rattle.lists.specs.Lists.{mem};
-ghost use Rattle.record.specs.Stored.{stored, filler_edit};
+ghost use Rattle.record.specs.Stored.{stored};
 ghost use Rattle.record.specs.Schedule as theory_schedule;
 ghost use Rattle.record.specs.Judgement as judgement;
 ghost use Rattle.graph.specs.links.Marks.{name_at, marks_of};
@@ -20,9 +20,11 @@ use graph::indexes;
 use graph::links::{MARKS, Marks};
 use judgement_marks::row::Row;
 use judgement_marks::schedules;
-use record::{Body, EDITS, Edit, Record, Schedule};
+use record::{EDITS, Edit, Record, Schedule};
+use record_rows::element::Element;
 
 // Marks by index, 0 for INIT and i for the i-th edit; the page of each edit with nothing hidden, 0 where it is not in the schedule.
+// Kept: four arrays, as document 01 has the marks ("an array of 128 marks, one to each edit").
 #[derive(Clone, Copy)]
 pub struct Judged {
     pub must: Marks,
@@ -77,21 +79,11 @@ pub fn needs(multilog: Record, index: usize) -> Marks
     judgement_marks::needs_marks(&graph.rows, mustmarks, known)
 }
 
-fn filler() -> Edit
-    ensures { result ≡ filler_edit }
-{
-    Edit {
-        name: 0,
-        body: Body::Insert(0),
-    }
-}
-
 // A row of indexes as edits, without INIT, which comes first in every schedule.
 fn edits_of(multilog: Record, row: Row) -> Schedule
     ensures { (R : theory.Record) (hidden : List ℕ) → multilog ≡ stored R → Fit R → RowIs R row (theory_schedule.schedule R hidden) → result ≡ stored_schedule R hidden }
 {
-    let edit = filler();
-    let mut edits = [edit; EDITS];
+    let mut edits = [Edit::filler(); EDITS];
     for q in 1..row.count {
         let index = usize::from(row.indexes[q]);
         if index == 0 {
@@ -119,6 +111,7 @@ pub fn schedule(multilog: Record, hidden: Marks) -> Schedule
 }
 
 // Whether a record is sound, the edits that must stand, and its bench schedule.
+// Kept: no Option: who hides an edit of a bench needs schedule and must without asking, since a bench's record is sound.
 #[derive(Clone, Copy)]
 pub struct Planned {
     pub sound: bool,

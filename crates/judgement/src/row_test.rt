@@ -43,31 +43,15 @@ fn seat_row(table: &IndexTable, row: &[u32]) -> Option<[usize; MARKS]>
     Some(places)
 }
 
-// Where both stand, the first stands earlier.
-fn stands_earlier(a: usize, b: usize) -> bool
-    ensures { (row : List ℕ) (x y : ℕ) → a ≡ position_of x row → b ≡ position_of y row → result ≡ fits row x 0 y }
-{
-    if a == 0 || b == 0 {
-        return true;
-    }
-    a < b
-}
-
-// Where the second stands, the first stands.
-fn stands_with(a: usize, b: usize) -> bool
-    ensures { (row : List ℕ) (x y : ℕ) → a ≡ position_of x row → b ≡ position_of y row → result ≡ fits row x 1 y }
-{
-    b == 0 || a != 0
-}
-
-// A rule's demand of a row in which its edits have these places.
-fn rule_fits(rule: u8, a: usize, b: usize) -> bool
-    ensures { (row : List ℕ) (x y : ℕ) → a ≡ position_of x row → b ≡ position_of y row → result ≡ fits row x rule y }
+// A rule's demand of a row in which its edits have these places: where both stand, the left one stands earlier; where the right one stands, the left
+// one stands.
+fn rule_fits(rule: u8, left: usize, right: usize) -> bool
+    ensures { (row : List ℕ) (x y : ℕ) → left ≡ position_of x row → right ≡ position_of y row → result ≡ fits row x rule y }
 {
     // Kept: the specification names a constraint's rule by number.
     match rule {
-        0 => stands_earlier(a, b),
-        1 => stands_with(a, b),
+        0 => left == 0 || right == 0 || left < right,
+        1 => right == 0 || left != 0,
         _ => true,
     }
 }

@@ -16,6 +16,8 @@ ghost use Rattle.judgement_marks.specs.Opened.{Opened};
 
 use graph::links::{ENABLES, Graph, MARKS, Marks, NONCOMMUTING, NOTAFTER, Rows};
 
+// Kept: `x < mark_limit`: as in `graph::links`, where a type of indexes was tried.
+
 // The edits that must stand. Pub for `judgement` and `voting_decisions`.
 pub fn must_marks(rows: &Rows) -> Marks
     ensures { (R : Record) → Resolved R rows.now → result ≡ marks_of R (must R) }
@@ -51,7 +53,7 @@ pub fn closes_ring(graph: &Graph, reversed: &Rows, old: &Marks, marks: Marks, x:
 }
 
 // A need of the edit at x that comes before it in the table: one that enables it, or INIT. Pub for `schedules`.
-pub fn need_below(rows: &Rows, x: usize) -> usize
+pub fn need_before(rows: &Rows, x: usize) -> usize
     requires { x < mark_limit }
     ensures { (result ≤ x) × (result < mark_limit) × (0 < x → result < x) × ((R : Record) → Resolved R rows.now → x < length (names R)
         → (result < length (names R)) × (name_at R result among needs R (0 ∷ name_at R x ∷ []))) }
@@ -72,7 +74,7 @@ fn is_never(graph: &Graph, reversed: &Rows, mustmarks: Marks, nevermarks: &Marks
     if mustmarks[x] == 1 {
         return false;
     }
-    let a = need_below(&graph.rows, x);
+    let a = need_before(&graph.rows, x);
     if nevermarks[a] == 1 {
         return true;
     }

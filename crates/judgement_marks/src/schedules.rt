@@ -12,6 +12,8 @@ ghost use Rattle.judgement_marks.specs.schedules.Rows.{free, HeldBack, found, Hi
 use crate::row::Row;
 use graph::links::{ENABLES, Graph, MARKS, Marks, Rows};
 
+// Kept: `x < mark_limit`: as in `graph::links`, where a type of indexes was tried.
+
 // Whether the edit at x waits and none that waits comes before it.
 fn is_free(rows: &Rows, waits: &Marks, x: usize) -> bool
     requires { x < mark_limit }
@@ -70,19 +72,19 @@ fn ordered_row(graph: &Graph, reversed: &Rows, marks: Marks) -> Row
 {
     let mut waits = marks;
     let mut indexes = [0; MARKS];
-    let mut count = 0;
     let mut from = 0;
-    // Kept: the count is the row's after the loop, which may stop early.
-    while count < graph.count {
+    for count in 0..graph.count {
         let Some(x) = lowest(graph, from, &waits) else {
-            break;
+            return Row { indexes, count };
         };
         waits[x] = 0;
         indexes[count] = x as u8;
-        count += 1;
         from = lowest_freed(&graph.rows, reversed, &waits, x);
     }
-    Row { indexes, count }
+    Row {
+        indexes,
+        count: graph.count,
+    }
 }
 
 // Whether the edit at x is marked and hidden, and isn't a must.
@@ -107,114 +109,108 @@ fn any_barred(graph: &Graph, marks: &Marks, hidden: &Marks, mustmarks: &Marks) -
     false
 }
 
-// Whether one that is barred enters with the edit at x, where the old set holds none and it is known whether any edit at all is barred.
-fn is_shut(
-    graph: &Graph,
-    old: &Marks,
-    marks: &Marks,
-    hidden: &Marks,
-    mustmarks: &Marks,
-    x: usize,
-    barring: bool,
-) -> bool
-    requires { x < mark_limit }
-    ensures { (R : Record) (hiddens t : List ℕ) → Resolved R graph.now.rows → graph.now.count ≡ length (names R) → x < graph.now.count
-        → Clear R hiddens t → old.now ≡ marks_of R (λ y. mem y t) → marks.now ≡ marks_of R (λ y. mem y (needs R (name_at R x ∷ t)))
-        → mustmarks.now ≡ marks_of R (must R) → Hides R hidden.now hiddens → barring ≡ any (bars R hiddens) (names R)
-        → result ≡ any (bars R hiddens) (needs R (name_at R x ∷ t)) }
-{
-    if !barring {
-        return false;
-    }
-    if graph.rows.any_row(ENABLES + x, old, 0) {
-        return any_barred(graph, marks, hidden, mustmarks);
-    }
-    is_barred(marks, hidden, mustmarks, x)
-}
-
-// A record as a whole: whether one of its edits is barred, whether all together hold a ring.
+// What the set of the schedule is taken from: the graph with its reversed rows, what must stand and what is hidden; and of the record as a whole,
+// whether one of its edits is barred and whether all together hold a ring.
 #[derive(Clone, Copy)]
-struct Whole {
+struct Admission<'a> {
+    graph: &'a Graph,
+    reversed: &'a Rows,
+    mustmarks: &'a Marks,
+    hidden: &'a Marks,
     barring: bool,
     ringed: bool,
 }
 
-// One edit: taken into the marked set with all its needs, or left out. Nothing of the set is barred, so that only the new needs can be. Where a
-// need that comes before it was left out, so is the edit.
-fn admitted(
-    graph: &Graph,
-    whole: Whole,
-    reversed: &Rows,
-    mustmarks: Marks,
-    hidden: &Marks,
-    marks: Marks,
-    x: usize,
-) -> Marks
-    requires { x < mark_limit }
-    ensures { (R : Record) (hiddens t : List ℕ) → Resolved R graph.now.rows → Reversed R reversed.now
-        → graph.now.count ≡ length (names R)
-        → x < graph.now.count → mustmarks ≡ marks_of R (must R) → Hides R hidden.now hiddens → whole.barring ≡ any (bars R hiddens) (names R) → whole.ringed ≡ ring R (names R)
-        → Clear R hiddens t → ring R t ≡ false → Missed R hiddens t x → marks ≡ marks_of R (λ y. mem y t) → result ≡ marks_of R (λ y. mem y (admit R hiddens t (name_at R x))) }
-{
-    if marks[x] == 1 {
-        return marks;
+impl Admission<'_> {
+    // Whether one that is barred enters with the edit at x, where the old set holds none.
+    fn is_shut(&self, old: &Marks, marks: &Marks, x: usize) -> bool
+        requires { x < mark_limit }
+        ensures { (R : Record) (hiddens t : List ℕ) → Resolved R self.now.graph.now.rows → self.now.graph.now.count ≡ length (names R) → x < self.now.graph.now.count
+            → Clear R hiddens t → old.now ≡ marks_of R (λ y. mem y t) → marks.now ≡ marks_of R (λ y. mem y (needs R (name_at R x ∷ t)))
+            → self.now.mustmarks.now ≡ marks_of R (must R) → Hides R self.now.hidden.now hiddens → self.now.barring ≡ any (bars R hiddens) (names R)
+            → result ≡ any (bars R hiddens) (needs R (name_at R x ∷ t)) }
+    {
+        if !self.barring {
+            return false;
+        }
+        if self.graph.rows.any_row(ENABLES + x, old, 0) {
+            return any_barred(self.graph, marks, self.hidden, self.mustmarks);
+        }
+        is_barred(marks, self.hidden, self.mustmarks, x)
     }
-    let need = crate::need_below(&graph.rows, x);
-    if marks[need] != 1 {
-        return marks;
-    }
-    let more = graph.rows.closed(ENABLES, marks, x);
-    if is_shut(graph, &marks, &more, hidden, &mustmarks, x, whole.barring) {
-        return marks;
-    }
-    if !whole.ringed {
-        return more;
-    }
-    if crate::closes_ring(graph, reversed, &marks, more, x) {
-        return marks;
-    }
-    more
-}
 
-// What must stand, which holds no ring, then the others by ascending name.
-fn admitted_marks(
-    graph: &Graph,
-    whole: Whole,
-    reversed: &Rows,
-    mustmarks: Marks,
-    hidden: &Marks,
-) -> Marks
-    ensures { (R : Record) (hiddens : List ℕ) → Resolved R graph.now.rows → Reversed R reversed.now
-        → graph.now.count ≡ length (names R)
-        → mustmarks ≡ marks_of R (must R) → Hides R hidden.now hiddens → whole.barring ≡ any (bars R hiddens) (names R) → whole.ringed ≡ ring R (names R) → ring R (musts R) ≡ false
-        → result ≡ marks_of R (λ y. mem y (scheduled R hiddens)) }
-{
-    let mut marks = mustmarks;
-    for x in 1..graph.count {
-        let more = admitted(graph, whole, reversed, mustmarks, hidden, marks, x);
-        marks = more;
+    // One edit: taken into the marked set with all its needs, or left out. Nothing of the set is barred, so that only the new needs can be. Where a
+    // need that comes before it was left out, so is the edit.
+    fn admitted(&self, marks: Marks, x: usize) -> Marks
+        requires { x < mark_limit }
+        ensures { (R : Record) (hiddens t : List ℕ) → Resolved R self.now.graph.now.rows → Reversed R self.now.reversed.now
+            → self.now.graph.now.count ≡ length (names R)
+            → x < self.now.graph.now.count → self.now.mustmarks.now ≡ marks_of R (must R) → Hides R self.now.hidden.now hiddens → self.now.barring ≡ any (bars R hiddens) (names R) → self.now.ringed ≡ ring R (names R)
+            → Clear R hiddens t → ring R t ≡ false → Missed R hiddens t x → marks ≡ marks_of R (λ y. mem y t) → result ≡ marks_of R (λ y. mem y (admit R hiddens t (name_at R x))) }
+    {
+        if marks[x] == 1 {
+            return marks;
+        }
+        let graph = self.graph;
+        let need = crate::need_before(&graph.rows, x);
+        if marks[need] != 1 {
+            return marks;
+        }
+        let more = graph.rows.closed(ENABLES, marks, x);
+        if self.is_shut(&marks, &more, x) {
+            return marks;
+        }
+        if !self.ringed {
+            return more;
+        }
+        if crate::closes_ring(graph, self.reversed, &marks, more, x) {
+            return marks;
+        }
+        more
     }
-    marks
+
+    // What must stand, which holds no ring, then the others by ascending name.
+    fn admitted_marks(&self) -> Marks
+        ensures { (R : Record) (hiddens : List ℕ) → Resolved R self.now.graph.now.rows → Reversed R self.now.reversed.now
+            → self.now.graph.now.count ≡ length (names R)
+            → self.now.mustmarks.now ≡ marks_of R (must R) → Hides R self.now.hidden.now hiddens → self.now.barring ≡ any (bars R hiddens) (names R) → self.now.ringed ≡ ring R (names R) → ring R (musts R) ≡ false
+            → result ≡ marks_of R (λ y. mem y (scheduled R hiddens)) }
+    {
+        let mut marks = *self.mustmarks;
+        for x in 1..self.graph.count {
+            // Kept: by way of `more`: the borrow checker does not cover a call's result that is laid in a local that holds an array.
+            let more = self.admitted(marks, x);
+            marks = more;
+        }
+        marks
+    }
 }
 
 // The set of the schedule: all edits, where none is barred and all together hold no ring; what must stand, where that holds a ring.
-fn scheduled_marks(graph: &Graph, reversed: &Rows, mustmarks: Marks, hidden: &Marks) -> Marks
+fn scheduled_marks(graph: &Graph, reversed: &Rows, mustmarks: &Marks, hidden: &Marks) -> Marks
     ensures { (R : Record) (hiddens : List ℕ) → Resolved R graph.now.rows → Reversed R reversed.now
         → graph.now.count ≡ length (names R)
-        → mustmarks ≡ marks_of R (must R) → Hides R hidden.now hiddens → result ≡ marks_of R (λ y. mem y (scheduled R hiddens)) }
+        → mustmarks.now ≡ marks_of R (must R) → Hides R hidden.now hiddens → result ≡ marks_of R (λ y. mem y (scheduled R hiddens)) }
 {
     let all = graph.all_marks();
-    let barring = any_barred(graph, &all, hidden, &mustmarks);
+    let barring = any_barred(graph, &all, hidden, mustmarks);
     let ringed = graph.has_ring(all);
-    let whole = Whole { barring, ringed };
+    let admission = Admission {
+        graph,
+        reversed,
+        mustmarks,
+        hidden,
+        barring,
+        ringed,
+    };
     if ringed {
-        if graph.has_ring(mustmarks) {
-            return mustmarks;
+        if graph.has_ring(*mustmarks) {
+            return *mustmarks;
         }
-        return admitted_marks(graph, whole, reversed, mustmarks, hidden);
+        return admission.admitted_marks();
     }
     if barring {
-        return admitted_marks(graph, whole, reversed, mustmarks, hidden);
+        return admission.admitted_marks();
     }
     all
 }
@@ -225,12 +221,12 @@ pub fn schedule_row(graph: &Graph, mustmarks: Marks, hidden: &Marks) -> Row
         → mustmarks ≡ marks_of R (must R) → Hides R hidden.now hiddens → RowIs R result (schedule R hiddens) }
 {
     let reversed = graph.reversed();
-    let marks = scheduled_marks(graph, &reversed, mustmarks, hidden);
+    let marks = scheduled_marks(graph, &reversed, &mustmarks, hidden);
     ordered_row(graph, &reversed, marks)
 }
 
-// The page of each edit. From the end, so that where a row had a repeat its first place would count. Pub for `judgement` and `voting_decisions`, which have it
-// of a schedule.
+// The page of each edit. From the end, so that where a row had a repeat its first place would count. Pub for `judgement` and `voting_decisions`,
+// which have it of a schedule.
 pub fn page_values(row: Row) -> Marks
     ensures { (R : Record) (list : List ℕ) → distinct (names R) ≡ true → length (names R) ≤ mark_limit → RowIs R row list → result ≡ values_of R (place_in list) }
 {

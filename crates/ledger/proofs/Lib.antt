@@ -1,2 +1,3 @@
 pub mod Valid
 pub mod Undone
+pub mod Told

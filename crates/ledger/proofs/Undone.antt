@@ -23,8 +23,7 @@ use Rattle.record_rows.specs.row.Row.{Row, is_name, edit_of}
 use Rattle.record_rows.specs.grounds.Ground.{◌given◌}
 use Rattle.record_tables.specs.Table.{edit_key, unite}
 use Rattle.record_tables.proofs.Records.{joining-kept}
-use Rattle.voting.specs.declared.Election.{Election}
-use Rattle.voting.specs.Tally.{winner}
+use Rattle.voting.specs.Tally.{Election, winner}
 use Rattle.voting_roll.specs.Election.{cast, counted}
 use Rattle.std.specs.Prelude.{Option as Page, Some, None}
 use Rattle.pages_turner.specs.Turn.{landed, turned, turn_fault, open_after}
@@ -33,9 +32,8 @@ use Rattle.pages.specs.Pages.{run, empty_catalogue}
 use Rattle.pages.proofs.Pages.{catalogue-of}
 use Rattle.catalogue.specs.Chips.{chips, places, rows, chips_view}
 use Rattle.ledger.specs.declared.Bench.{Bench}
-use Rattle.ledger.specs.declared.Outcome.{Outcome}
 use Rattle.ledger.specs.Ledger.{Ledger, Call, add_edit, add_constraint, merge, hide, show, turn, adopt, Reply, start, pages, last, at_page, judge, change, shown, adopted, act, refusal, step, fed}
-use Rattle.ledger.specs.Bench.{open_edits, bench_of, outcome, Answers, Linked, none, more, answers_of, told, Undo}
+use Rattle.ledger.specs.Bench.{Outcome, open_edits, bench_of, outcome, Answers, Linked, none, more, answers_of, told, Undo}
 use Rattle.ledger.proofs.Valid.{Valid, ledger-well-formed, start-valid, fed-valid}
 
 -- what is shown of every valid ledger is promised of every list of calls

@@ -20,8 +20,7 @@ use Rattle.record_tables.specs.Table.{empty_tables, decoded, lent_fault, add_edi
 use Rattle.record_tables.specs.Checked.{Checked}
 use Rattle.record_tables.proofs.Unions.{united-extends}
 use Rattle.record_tables.proofs.Records.{empty-checked, empty-sound, joined-checked, added-edit-checked, added-constraint-checked, record-checked, checked-wellformed}
-use Rattle.voting.specs.declared.Election.{Election}
-use Rattle.voting.specs.Tally.{winner}
+use Rattle.voting.specs.Tally.{Election, winner}
 use Rattle.voting_roll.specs.Election.{election_fault, cast, counted}
 use Rattle.std.specs.Prelude.{Option as Page, Some, None}
 use Rattle.pages_turner.specs.Turn.{turned, open_after}

@@ -1,15 +1,15 @@
 -- Document 01, "Entries and pages": what the bench in memory is for a ledger, what is promised of a call, and the undo rule. Assumes nothing.
-use Rattle.std.specs.Prelude.{◌≡◌, List, [], ◌∷◌, map, take}
+use Rattle.std.specs.Prelude.{◌≡◌, List, [], ◌∷◌, map, take, Result}
+use Rattle.refusals.specs.declared.Refusal.{Refusal}
 use Rattle.record.specs.declared.Edit.{Edit}
 use Rattle.lists.specs.Lists.{mem}
 use Rattle.record.specs.Stored.{stored, edit_named}
 use Rattle.graph.specs.links.Marks.{marks_of}
 use Rattle.pages.specs.Pages.{run, empty_catalogue}
 use Rattle.catalogue.specs.Chips.{chips, places, chips_view, schedule_of}
-use Rattle.ledger.specs.declared.Answer.{Answer}
 use Rattle.ledger.specs.declared.Bench.{Bench}
-use Rattle.ledger.specs.declared.Outcome.{Outcome}
-use Rattle.ledger.specs.Ledger.{Ledger, Call, Reply, start, pages, last, step, fed}
+use Rattle.ledger.specs.declared.CallResult.{CallResult}
+use Rattle.ledger.specs.Ledger.{Ledger, Call, CallAnswer, Reply, call_told, start, pages, last, step, fed}
 
 -- the edits of the pages, with their bodies
 unfoldable pub page_edits : Ledger → List Edit
@@ -29,8 +29,17 @@ bench_of L = record {
   view = chips_view (open_edits L);
 }
 
+-- an answer and the bench after it
+pub record Outcome : Type 0 where
+  pub answer : CallAnswer
+  pub bench : Bench
+
 unfoldable pub outcome : Reply → Outcome
 outcome r = record { answer = r.answer; bench = bench_of r.after }
+
+-- the outcome of a call: what it answers, and the bench that it leaves
+abbrev pub told_outcome : Result CallResult Refusal → Bench → Outcome
+told_outcome answer bench = record { answer = call_told answer; bench = bench }
 
 -- THE PROMISE OF A CALL: on the empty bench, or one that any calls left, it gives what the ledger fed the same calls gives.
 unfoldable pub Answers : Bench → Call → Outcome → Type 0
@@ -42,11 +51,11 @@ pub data Linked : Bench → List Call → List Outcome → Bench → Type 0 wher
   more : {b c : Bench} {call : Call} {r : Outcome} {calls : List Call} {rs : List Outcome}
       → Answers b call r → Linked r.bench calls rs c → Linked b (call ∷ calls) (r ∷ rs) c
 
-unfoldable pub answers_of : List Outcome → List Answer
+unfoldable pub answers_of : List Outcome → List CallAnswer
 answers_of rs = map (λ r. r.answer) rs
 
 -- what the ledger answers
-unfoldable pub told : Ledger → List Call → List Answer
+unfoldable pub told : Ledger → List Call → List CallAnswer
 told L [] = []
 told L (call ∷ calls) = (step L call).answer ∷ told (step L call).after calls
 

@@ -1,6 +1,8 @@
 -- Document 01, "Entries and pages": the ledger, fed each call with its arguments but never the bench. Assumes nothing.
-use Rattle.std.specs.Prelude.{false, not, ◌&&◌, ◌||◌, cond, List, [], ◌∷◌, ℕ, ◌-◌, eqb, ℤ, length, take, drop}
+use Rattle.std.specs.Prelude.{Bool, false, not, ◌&&◌, ◌||◌, cond, List, [], ◌∷◌, ℕ, ◌-◌, eqb, ℤ, length, take, drop, Result, Ok, Err}
 use Rattle.std.proofs.Math.Option.{Option, none, some}
+use Rattle.refusals.specs.declared.Refusal.{Refusal}
+use Rattle.refusals.specs.Numbers.{number}
 use Rattle.lists.specs.Lists.{filter, mem}
 use Rattle.record.specs.Record.{Record, written}
 use Rattle.record.specs.Schedule.{schedule}
@@ -9,12 +11,11 @@ use Rattle.record_rows.specs.row.Row.{Row, is_name}
 use Rattle.record_rows.specs.grounds.Ground.{Rows, ◌given◌, ◌orelse◌}
 use Rattle.record_tables.specs.Table.{empty_tables, decoded, lent_fault, add_edit_fault, add_constraint_fault, record_join_fault, unite}
 use Rattle.voting.specs.declared.RollRow.{RollRow}
-use Rattle.voting.specs.declared.Election.{Election}
-use Rattle.voting.specs.Tally.{winner}
+use Rattle.voting.specs.Tally.{Election, election_told, winner}
 use Rattle.voting_roll.specs.Election.{Proposals, election_fault, cast, counted, refused_election}
 use Rattle.pages_turner.specs.Turn.{turned, turn_fault, open_after}
 use Rattle.pages.specs.Steps.{common_beginning}
-use Rattle.ledger.specs.declared.Answer.{Answer}
+use Rattle.ledger.specs.declared.CallResult.{CallResult}
 
 -- Record, hidden edits, schedule and open page. The record is 000's multilog.
 pub record Ledger : Type 0 where
@@ -66,21 +67,36 @@ judge L (show x) = 2 given not (is_name x) orelse 5 given not (mem x (written L.
 judge L (turn n) = turn_fault (turned L.opened (last L) n)
 judge L (adopt e P roll) = election_fault e P roll orelse bundle_fault L.multilog (winner (cast e P roll))
 
+-- What a call answers, in numbers: the number of its refusal, 0 for none, and the pages undone and redone; of an adoption also the election's answer.
+pub record CallAnswer : Type 0 where
+  pub number : ℕ
+  pub undone : ℕ
+  pub redone : ℕ
+  pub won : Bool
+  pub greatest : ℕ
+  pub silent : ℕ
+  pub total : ℕ
+
 -- an answer and the ledger after it
 pub record Reply : Type 0 where
-  pub answer : Answer
+  pub answer : CallAnswer
   pub after : Ledger
 
 abbrev pub no_election : Election
 no_election = refused_election 0
 
 -- every part of the answer but the number is 0
-abbrev pub plain_answer : ℕ → Answer
+abbrev pub plain_answer : ℕ → CallAnswer
 plain_answer number = record { number = number; undone = 0; redone = 0; won = false; greatest = 0; silent = 0; total = 0 }
 
-abbrev pub answered : ℕ → ℕ → Election → Answer
+abbrev pub answered : ℕ → ℕ → Election → CallAnswer
 answered undone redone E =
     record { number = 0; undone = undone; redone = redone; won = E.won; greatest = E.greatest; silent = E.silent; total = E.total }
+
+-- the answer that a call gives
+abbrev pub call_told : Result CallResult Refusal → CallAnswer
+call_told (Ok r) = answered r.undone r.redone (election_told (Ok r.election))
+call_told (Err refusal) = plain_answer (number refusal)
 
 -- A CHANGE makes the schedule anew, opens the last page and reports pages undone and redone: old open page minus c, and new last page minus c,
 -- c pages being the common beginning of the old open part and the new schedule.

@@ -6,6 +6,7 @@ use catalogue::View;
 use graph::links::MARKS;
 use pages_turner::Turner;
 use record::{Record, Schedule};
+use voting::ElectionResult;
 
 // A bench: its record, the marks of its hidden edits, its schedule, its open and last page, and what the open pages make.
 #[derive(Clone, Copy)]
@@ -17,20 +18,11 @@ pub struct Bench {
     pub view: View,
 }
 
-// What a call answers: the number of its refusal, 0 for none, and the pages undone and redone; of an adoption also the election's answer.
+// What a call that is not refused answers: the pages undone and redone, and of an adoption the election.
+// Kept: no Option: the ledger's answer has an election's numbers for every call, 0 where there is none (no_election), and these are its parts.
 #[derive(Clone, Copy)]
-pub struct Answer {
-    pub number: u32,
+pub struct CallResult {
     pub undone: usize,
     pub redone: usize,
-    pub won: bool,
-    pub greatest: u32,
-    pub silent: u32,
-    pub total: u32,
-}
-
-#[derive(Clone, Copy)]
-pub struct Outcome {
-    pub answer: Answer,
-    pub bench: Bench,
+    pub election: ElectionResult,
 }

@@ -5,10 +5,13 @@ ghost use Rattle.log_forms.specs.Printed.{Printed, texts_from};
 ghost use Rattle.log_answers.specs.Answers.{answer_line};
 ghost use Rattle.log_answers.specs.bench_answers.Asks.{hides, hidden_line, hidden_text, page_line, schedule_text, cell_form, cell_line, cells_text, is_present, entry_text, catalogue_text, row_text, row_at, journal_text, page_text};
 
+// Kept: `bench`, `printer`: what is asked of and where it is printed meet in a question alone; a struct of both would be made for each.
+
 use catalogue::{CELLS, Cell, Entry, PAGES, PLACES};
 use ledger::Bench;
+use log_forms::Printer;
 use pages_turner::Turner;
-use record::Edit;
+use record::{EDITS, Edit};
 
 // Whose cells are printed: a chip's of the catalogue, or those that a page of the journal keeps.
 #[derive(Clone, Copy)]
@@ -25,58 +28,53 @@ fn count_hidden(marks: &[u8]) -> usize
 }
 
 // The line of an edit that is hidden.
-fn print_if_hidden(out: &mut [u8], at: usize, mark: u8, name: u16) -> usize
-    ensures { Printed (cond (hides mark) (answer_line "edit=@\n" (name ∷ [])) []) out.old at out.new result }
+fn print_if_hidden(printer: &mut Printer<'_>, mark: u8, name: u16)
+    ensures { Printed (cond (hides mark) (answer_line "edit=@\n" (name ∷ [])) []) printer.old printer.new }
 {
-    if mark != 1 {
-        return at;
+    if mark == 1 {
+        printer.print(b"edit=@\n", &[u64::from(name)]);
     }
-    log_forms::print(out, at, b"edit=@\n", &[u64::from(name)])
 }
 
-// Kept: the mark of an edit stands one place further than the edit, and a row at its page, so that an index says more than a zip.
-fn print_hidden_edits(out: &mut [u8], at: usize, edits: &[Edit], marks: [u8; 128]) -> usize
+// Kept: by index, here and for rows: the laws of printing number the elements (texts_from), and a zip would be taken apart to that.
+fn print_hidden_edits(printer: &mut Printer<'_>, edits: &[Edit], marks: &[u8; 128])
     requires { length edits.now ≤ 127 }
-    ensures { Printed (texts_from (hidden_line marks) 1 edits.now) out.old at out.new result }
+    ensures { Printed (texts_from (hidden_line marks.now) 1 edits.now) printer.old printer.new }
 {
-    let mut place = at;
     for (i, edit) in edits.iter().enumerate() {
-        place = print_if_hidden(out, place, marks[i + 1], edit.name);
+        print_if_hidden(printer, marks[i + 1], edit.name);
     }
-    place
 }
 
-pub fn print_hidden(out: &mut [u8], at: usize, bench: Bench) -> usize
-    ensures { Printed (hidden_text (take bench.multilog.editcount bench.multilog.edits) bench.hidden) out.old at out.new result }
+pub fn print_hidden(printer: &mut Printer<'_>, bench: &Bench)
+    ensures { Printed (hidden_text (take bench.now.multilog.editcount bench.now.multilog.edits) bench.now.hidden) printer.old printer.new }
 {
     let edits = bench.multilog.edit_slice();
-    let marks = bench.hidden;
-    let count = count_hidden(&marks[1..=edits.len()]);
-    let place = log_forms::print(out, at, b"hidden=#\n", &[count as u64]);
-    print_hidden_edits(out, place, edits, marks)
+    let count = count_hidden(&bench.hidden[1..=edits.len()]);
+    printer.print(b"hidden=#\n", &[count as u64]);
+    print_hidden_edits(printer, edits, &bench.hidden);
 }
 
-fn print_pages(out: &mut [u8], at: usize, edits: &[Edit]) -> usize
-    requires { length edits.now ≤ 127 }
-    ensures { Printed (texts_from page_line 1 edits.now) out.old at out.new result }
+fn print_pages(printer: &mut Printer<'_>, edits: &[Edit])
+    ensures { Printed (texts_from page_line 1 edits.now) printer.old printer.new }
 {
-    let mut place = at;
     for (i, edit) in edits.iter().enumerate() {
         let numbers = [i as u64 + 1, u64::from(edit.name)];
-        place = log_forms::print(out, place, b"page=# edit=@\n", &numbers);
+        printer.print(b"page=# edit=@\n", &numbers);
     }
-    place
 }
 
-pub fn print_schedule(out: &mut [u8], at: usize, bench: Bench) -> usize
-    ensures { Printed (schedule_text (take bench.schedule.count bench.schedule.edits)) out.old at out.new result }
+pub fn print_schedule(printer: &mut Printer<'_>, bench: &Bench)
+    ensures { Printed (schedule_text (take bench.now.schedule.count bench.now.schedule.edits)) printer.old printer.new }
 {
     let edits = bench.schedule.edit_slice();
-    let place = log_forms::print(out, at, b"last=#\n", &[edits.len() as u64]);
-    print_pages(out, place, edits)
+    printer.print(b"last=#\n", &[edits.len() as u64]);
+    print_pages(printer, edits);
 }
 
+// Kept: fields by number, as document 01 has field numbers matched in the text.
 // The line of a cell by its field: of a chip's cell, or of a page's.
+#[tactic(auto, unfolding(crate::specs::bench_answers::Asks::cell_form, text_forms::specs::Spelling::bytes))]
 fn cell_form(owner: Owner, field: usize) -> &'static [u8]
     ensures { result.now ≡ cell_form owner field }
 {
@@ -93,103 +91,93 @@ fn cell_form(owner: Owner, field: usize) -> &'static [u8]
 }
 
 // The line of a cell that is filled.
-fn print_cell(
-    out: &mut [u8],
-    at: usize,
-    owner: Owner,
-    label: u64,
-    field: usize,
-    cell: Cell,
-) -> usize
-    ensures { Printed (cell_line owner label field cell) out.old at out.new result }
+fn print_cell(printer: &mut Printer<'_>, owner: Owner, label: u64, field: usize, cell: Cell)
+    ensures { Printed (cell_line owner label field cell) printer.old printer.new }
 {
-    let Some(value) = cell else {
-        return at;
-    };
-    let form = cell_form(owner, field);
-    log_forms::print(out, at, form, &[label, u64::from(value)])
+    if let Some(value) = cell {
+        printer.print(cell_form(owner, field), &[label, u64::from(value)]);
+    }
 }
 
 // The lines of an entry's cells; the label is the chip or the page.
-fn print_cells(out: &mut [u8], at: usize, owner: Owner, label: u64, cells: [Cell; CELLS]) -> usize
-    ensures { Printed (cells_text owner label cells) out.old at out.new result }
+fn print_cells(printer: &mut Printer<'_>, owner: Owner, label: u64, cells: &[Cell; CELLS])
+    ensures { Printed (cells_text owner label cells.now) printer.old printer.new }
 {
-    let mut place = at;
     for (field, cell) in cells.iter().enumerate() {
-        place = print_cell(out, place, owner, label, field, *cell);
+        print_cell(printer, owner, label, field, *cell);
     }
-    place
 }
 
-fn print_entry(out: &mut [u8], at: usize, chip: usize, entry: Entry) -> usize
-    ensures { Printed (entry_text chip entry) out.old at out.new result }
+fn print_entry(printer: &mut Printer<'_>, chip: usize, entry: &Entry)
+    ensures { Printed (entry_text chip entry.now) printer.old printer.new }
 {
-    if !entry.present {
-        return at;
+    if entry.present {
+        printer.print(b"chip=#\n", &[chip as u64]);
+        print_cells(printer, Owner::Chip, chip as u64, &entry.cells);
     }
-    let place = log_forms::print(out, at, b"chip=#\n", &[chip as u64]);
-    print_cells(out, place, Owner::Chip, chip as u64, entry.cells)
 }
 
-fn count_present(entries: [Entry; PLACES]) -> usize
-    ensures { result ≡ length (filter is_present entries) }
+fn count_present(entries: &[Entry; PLACES]) -> usize
+    ensures { result ≡ length (filter is_present entries.now) }
 {
     entries.iter().filter(|entry| entry.present).count()
 }
 
-fn print_entries(out: &mut [u8], at: usize, entries: [Entry; PLACES]) -> usize
-    ensures { Printed (texts_from entry_text 0 entries) out.old at out.new result }
+fn print_entries(printer: &mut Printer<'_>, entries: &[Entry; PLACES])
+    ensures { Printed (texts_from entry_text 0 entries.now) printer.old printer.new }
 {
-    let mut place = at;
     for (chip, entry) in entries.iter().enumerate() {
-        place = print_entry(out, place, chip, *entry);
+        print_entry(printer, chip, entry);
     }
-    place
 }
 
-pub fn print_catalogue(out: &mut [u8], at: usize, bench: Bench) -> usize
-    ensures { Printed (catalogue_text bench.view.catalogue.entries) out.old at out.new result }
+pub fn print_catalogue(printer: &mut Printer<'_>, bench: &Bench)
+    ensures { Printed (catalogue_text bench.now.view.catalogue.entries) printer.old printer.new }
 {
-    let entries = bench.view.catalogue.entries;
-    let count = count_present(entries);
-    let place = log_forms::print(out, at, b"chips=#\n", &[count as u64]);
-    print_entries(out, place, entries)
+    let entries = &bench.view.catalogue.entries;
+    printer.print(b"chips=#\n", &[count_present(entries) as u64]);
+    print_entries(printer, entries);
 }
 
 // The touched chip and the entry that a page keeps.
-fn print_row(out: &mut [u8], at: usize, page: usize, edit: Edit, row: Entry) -> usize
-    ensures { Printed (row_text page edit row) out.old at out.new result }
+fn print_row(printer: &mut Printer<'_>, page: usize, edit: &Edit, row: &Entry)
+    ensures { Printed (row_text page edit.now row.now) printer.old printer.new }
 {
-    let chip = catalogue::place_of(edit.body);
-    let present = u64::from(row.present);
-    let numbers = [page as u64, chip as u64, present];
-    let place = log_forms::print(out, at, b"page=# chip=# present=?\n", &numbers);
-    print_cells(out, place, Owner::Page, page as u64, row.cells)
+    let chip = edit.body.place();
+    let numbers = [page as u64, chip as u64, u64::from(row.present)];
+    printer.print(b"page=# chip=# present=?\n", &numbers);
+    print_cells(printer, Owner::Page, page as u64, &row.cells);
 }
 
-fn print_rows(out: &mut [u8], at: usize, edits: &[Edit], rows: [Entry; PAGES]) -> usize
+fn print_rows(printer: &mut Printer<'_>, edits: &[Edit], rows: &[Entry; PAGES])
     requires { length edits.now ≤ 127 }
-    ensures { Printed (texts_from (row_at rows) 1 edits.now) out.old at out.new result }
+    ensures { Printed (texts_from (row_at rows.now) 1 edits.now) printer.old printer.new }
 {
-    let mut place = at;
     for (i, edit) in edits.iter().enumerate() {
-        place = print_row(out, place, i + 1, *edit, rows[i]);
+        print_row(printer, i + 1, edit, &rows[i]);
     }
-    place
 }
 
-pub fn print_journal(out: &mut [u8], at: usize, bench: Bench) -> usize
-    ensures { Printed (journal_text (take bench.turner.opened bench.schedule.edits) bench.view.journal.rows) out.old at out.new result }
+// The edits of the open pages.
+fn open_edits(edits: &[Edit; EDITS], opened: usize) -> &[Edit]
+    ensures edits { result.now ≡ take opened edits.now }
+    ensures short { length result.now ≤ 127 }
 {
-    let edits = &bench.schedule.edits[..bench.turner.opened.min(PAGES)];
-    let place = log_forms::print(out, at, b"open=#\n", &[edits.len() as u64]);
-    print_rows(out, place, edits, bench.view.journal.rows)
+    &edits[..opened.min(EDITS)]
+}
+
+pub fn print_journal(printer: &mut Printer<'_>, bench: &Bench)
+    ensures { Printed (journal_text (take bench.now.turner.opened bench.now.schedule.edits) bench.now.view.journal.rows) printer.old printer.new }
+{
+    let edits = open_edits(&bench.schedule.edits, bench.turner.opened);
+    printer.print(b"open=#\n", &[edits.len() as u64]);
+    print_rows(printer, edits, &bench.view.journal.rows);
 }
 
 // The turner alone tells the page.
-pub fn print_page(out: &mut [u8], at: usize, turner: Turner) -> usize
-    ensures { Printed (page_text turner.opened turner.last) out.old at out.new result }
+pub fn print_page(printer: &mut Printer<'_>, turner: Turner)
+    ensures { Printed (page_text turner.opened turner.last) printer.old printer.new }
 {
     let numbers = [turner.opened as u64, turner.last as u64];
-    log_forms::print(out, at, b"open=# last=#\n", &numbers)
+    printer.print(b"open=# last=#\n", &numbers);
 }

@@ -4,6 +4,7 @@
 pub mod bench_answers;
 
 ghost use Rattle.std.specs.Prelude.{◌≡◌, [], ◌∷◌};
+ghost use Rattle.refusals.specs.Numbers.{number};
 ghost use Rattle.record.specs.Record as theory;
 ghost use Rattle.record.specs.Stored.{record_of, stored};
 ghost use Rattle.record_tables.specs.Checked.{Checked};
@@ -12,53 +13,52 @@ ghost use Rattle.log_forms.specs.Printed.{Printed};
 ghost use Rattle.text_report.specs.Report.{report_of, refusal_line};
 ghost use Rattle.log_answers.specs.Answers.{record_text};
 
+use log_forms::Printer;
 use record::Record;
+use refusals::Refusal;
 
 // The line of a refusal.
-pub fn print_refusal(number: u32, line: usize, out: &mut [u8], at: usize) -> usize
-    ensures { Printed (refusal_line number line ∷ []) out.old at out.new result }
+pub fn print_refusal(printer: &mut Printer<'_>, refusal: Refusal)
+    ensures { Printed (refusal_line (number refusal) printer.old.line ∷ []) printer.old printer.new }
 {
-    log_forms::print(
-        out,
-        at,
-        b"refused=# line=#\n",
-        &[u64::from(number), line as u64],
-    )
+    let numbers = [u64::from(refusal.number()), printer.line as u64];
+    printer.print(b"refused=# line=#\n", &numbers);
 }
 
 // Prints the text of a record.
-pub fn print_text(out: &mut [u8], at: usize, content: Record) -> usize
-    ensures { Printed (text_of (record_of content) ∷ []) out.old at out.new result }
+pub fn print_text(printer: &mut Printer<'_>, content: &Record)
+    ensures { Printed (text_of (record_of content.now) ∷ []) printer.old printer.new }
 {
-    let size = out.len();
-    let Ok(end) = text_writer::write_text(content, out, at) else {
-        return size + 1;
-    };
-    end
+    let past = printer.out.len() + 1;
+    let end = text_writer::write_text(*content, printer.out, printer.at);
+    printer.at = end.unwrap_or(past);
 }
 
 // Prints the counts of a record, then its text.
-pub fn print_record(out: &mut [u8], at: usize, content: Record) -> usize
-    ensures { Printed (record_text content) out.old at out.new result }
+pub fn print_record(printer: &mut Printer<'_>, content: &Record)
+    ensures { Printed (record_text content.now) printer.old printer.new }
 {
     let numbers = [content.editcount as u64, content.constraintcount as u64];
-    let head = log_forms::print(out, at, b"edits=# rules=#\n", &numbers);
-    print_text(out, head, content)
+    printer.print(b"edits=# rules=#\n", &numbers);
+    print_text(printer, content);
 }
 
 // Prints the report of a sound record.
-pub fn print_report(out: &mut [u8], at: usize, content: Record) -> usize
-    ensures { (R : theory.Record) → content ≡ stored R → Checked R → Printed (report_of R ∷ []) out.old at out.new result }
+pub fn print_report(printer: &mut Printer<'_>, content: &Record)
+    ensures { (R : theory.Record) → content.now ≡ stored R → Checked R → Printed (report_of R ∷ []) printer.old printer.new }
 {
-    let size = out.len();
-    if size < at {
-        return size + 1;
+    let size = printer.out.len();
+    if size < printer.at {
+        printer.at = size + 1;
+        return;
     }
-    let Ok(end) = text_report::report_record(content, &mut out[at..]) else {
-        return size + 1;
+    let Ok(end) = text_report::report_record(*content, &mut printer.out[printer.at..]) else {
+        printer.at = size + 1;
+        return;
     };
-    if size - at < end {
-        return size + 1;
+    if size - printer.at < end {
+        printer.at = size + 1;
+        return;
     }
-    at + end
+    printer.at += end;
 }

@@ -22,15 +22,13 @@ use Rattle.record_rows.proofs.grounds.Grounds.{given-none}
 use Rattle.record_rows.proofs.row.Cells.{edit-filler, edit-back}
 use Rattle.record_tables.specs.Table.{edit_rows, empty_tables, edit_key, unite}
 use Rattle.voting.specs.declared.RollRow.{RollRow as Seat}
-use Rattle.voting.specs.declared.Election.{Election}
 use Rattle.voting.specs.Bundle.{members, bundle, eligible, vote}
-use Rattle.voting.specs.Tally.{Ballot, ballots, total, group, winner_of, winner, counted}
+use Rattle.voting.specs.Tally.{Election, Ballot, ballots, total, group, winner_of, winner, counted}
 use Rattle.voting.specs.Proposal.{joined_constraints, started, finished, proposed}
 use Rattle.voting_roll.specs.Election.{Proposals, benches, held, cast}
 use Rattle.voting_proposals.specs.Propose as proposal
 use Rattle.voting_proposals.specs.Propose.{propose_fault, new_proposal, record_m, proposal_q}
-use Rattle.ledger.specs.declared.Answer.{Answer}
-use Rattle.ledger.specs.Ledger.{Ledger, Call, add_edit, add_constraint, merge, hide, show, turn, adopt, start, change, adopted, act, refusal, judge, step, fed}
+use Rattle.ledger.specs.Ledger.{Ledger, Call, CallAnswer, add_edit, add_constraint, merge, hide, show, turn, adopt, start, change, adopted, act, refusal, judge, step, fed}
 use Rattle.ledger.proofs.Undone.{fed-more}
 use Rattle.log_forms.specs.Printed.{Texts}
 use Rattle.log_bounds.proofs.Small.{Each, each_both, each_at}
@@ -156,7 +154,7 @@ abbrev pub RequestFits : Request → Type 0
 RequestFits outside = Unit
 RequestFits (make call) = CallFits call
 
-requested-bounded : (D : Desk) → Bounded D → (text : Answer → Ledger → Texts) (q : Request) → RequestFits q → Bounded (requested D text q).after
+requested-bounded : (D : Desk) → Bounded D → (text : CallAnswer → Ledger → Texts) (q : Request) → RequestFits q → Bounded (requested D text q).after
 unfolding requested ledger_of
 requested-bounded D B text outside r = B
 requested-bounded D B text (make call) r =
@@ -185,7 +183,7 @@ request-fits D B (Show edit) v = tt
 request-fits D B (Turn pages) v = tt
 request-fits D B (Adopt edit) v = (proposals-fit D B, B.weights)
 
-pub call-bounded : (D : Desk) → Bounded D → (text : Answer → Ledger → Texts) (call : Calls) → CallLineFits call → Bounded (requested D text (request_of D call)).after
+pub call-bounded : (D : Desk) → Bounded D → (text : CallAnswer → Ledger → Texts) (call : Calls) → CallLineFits call → Bounded (requested D text (request_of D call)).after
 call-bounded D B text call v = requested-bounded D B text (request_of D call) (request-fits D B call v)
 
 -- what is lent

@@ -35,23 +35,20 @@ use Rattle.text_forms.proofs.Forms.{room}
 use Rattle.text_lines.specs.Line.{constraint_line}
 use Rattle.text_report.specs.Report.{report_of}
 use Rattle.text_report.proofs.Size.{report-size}
-use Rattle.voting.specs.declared.Election.{Election}
 use Rattle.voting.specs.declared.RollRow.{RollRow}
 use Rattle.voting.specs.Bundle.{members, between, bundle}
-use Rattle.voting.specs.Tally.{winner, counted}
+use Rattle.voting.specs.Tally.{Election, winner, counted}
 use Rattle.voting_roll.specs.Roll.{is_bench}
 use Rattle.voting_roll.specs.Election.{Proposals, held, election_fault, cast, election_of}
 use Rattle.voting_count.specs.Count.{count_of}
-use Rattle.voting_bundles.specs.declared.BundleAnswer.{BundleAnswer}
-use Rattle.voting_bundles.specs.Bundles.{lent_bundle_fault, bundle_answer}
+use Rattle.voting_bundles.specs.Bundles.{BundleAnswer, lent_bundle_fault, bundle_answer}
 use Rattle.voting_proposals.specs.Propose as proposal
 use Rattle.voting_proposals.specs.Propose.{draft_fault, record_m, proposal_q, propose_fault, new_proposal}
 use Rattle.voting_proposals.proofs.Drafts.{drafted-checked}
 use Rattle.suggestions.specs.declared.Advice.{Advice}
 use Rattle.suggestions.specs.declared.Advice.TheVariants.{Nothing, Notafter, NotafterEnables, Noncommuting}
-use Rattle.suggestions.specs.Suggest.{rows_of, advised, given, pair_fault, suggested}
-use Rattle.ledger.specs.declared.Answer.{Answer}
-use Rattle.ledger.specs.Ledger.{Ledger, Call, add_edit, add_constraint, merge, hide, show, turn, adopt, pages, last, judge, no_election, plain_answer, change, adopted, act, refusal, step}
+use Rattle.suggestions.specs.Suggest.{rows_of, advised, given, pair_fault, suggested_rules}
+use Rattle.ledger.specs.Ledger.{Ledger, Call, CallAnswer, add_edit, add_constraint, merge, hide, show, turn, adopt, pages, last, judge, no_election, plain_answer, change, adopted, act, refusal, step}
 use Rattle.ledger.specs.Bench.{page_edits, open_edits, bench_of}
 use Rattle.ledger.proofs.Valid.{Valid, step-valid}
 use Rattle.bench.proofs.Pages.{last-room}
@@ -69,7 +66,7 @@ use Rattle.log_commands.specs.declared.Proposing.{Proposing}
 use Rattle.log_commands.specs.declared.Vote.{Vote}
 use Rattle.log_commands.specs.declared.Vote.TheVariants.{Elect, Bundle, Suggest, Test, Winner}
 use Rattle.log_lent.specs.Lent.{is_lent}
-use Rattle.log_lent.specs.lent_calls.Calls.{proposals_of, bundle_in, lent_row_fault, row_sound, suggest_fault, suggestion_fault, suggested_in}
+use Rattle.log_lent.specs.lent_calls.Calls.{proposals_of, bundle_in, lent_row_fault, row_sound, suggest_fault, suggestion_fault, suggested_rules_in}
 use Rattle.log_lent.specs.lent_proposals.Made.{tables_of, lent_proposal_fault, proposal_made}
 use Rattle.log_session.specs.Desk.{Desk, Request, outside, make, ledger_of, bench_in, requested, printed_of}
 use Rattle.log_bounds.specs.Bounded.{answer_limit, Bounded}
@@ -148,7 +145,7 @@ module _ (D : Desk) (B : Bounded D) where
       omega (arith, page-size L.opened (last L) (omega (arith, (ledger-valid D).opened-within)) h)
 
 -- the numbers of an answer
-record SmallAnswer (a : Answer) : Type 0 where
+record SmallAnswer (a : CallAnswer) : Type 0 where
   number : a.number < 4294967296
   undone : a.undone < 4294967296
   redone : a.redone < 4294967296
@@ -191,11 +188,11 @@ step_small L v call c =
     (λ (e : eqb (judge L call) 0 ≡ true). rw e (act-small L v call c (eqb-true (judge L call) 0 e) (rw e at w)))
     (λ (e : eqb (judge L call) 0 ≡ false). rw e (plain-small (judge L call) (judge-small L call)))
 
-pages-size : (a : Answer) (opened last : ℕ) → SmallAnswer a → opened < 4294967296 → last < 4294967296 → size_of (pages_text a opened last) ≤ 200
+pages-size : (a : CallAnswer) (opened last : ℕ) → SmallAnswer a → opened < 4294967296 → last < 4294967296 → size_of (pages_text a opened last) ≤ 200
 unfolding pages_text room bytes is_mark
 pages-size a opened last s h i = line-size (bytes "undone=# redone=# open=# last=#\n") (a.undone ∷ a.redone ∷ opened ∷ last ∷ []) 200 (s.undone, (s.redone, (h, (i, tt)))) refl
 
-call-text-size : (call : Calls) (a : Answer) (opened last : ℕ) → SmallAnswer a → opened < 4294967296 → last < 4294967296 → size_of (call_text call a opened last) ≤ 200
+call-text-size : (call : Calls) (a : CallAnswer) (opened last : ℕ) → SmallAnswer a → opened < 4294967296 → last < 4294967296 → size_of (call_text call a opened last) ≤ 200
 unfolding call_text adoption_text room bytes is_mark
 call-text-size (AddEdit cells) a opened last s h i = pages-size a opened last s h i
 call-text-size (AddConstraint cells) a opened last s h i = pages-size a opened last s h i
@@ -295,8 +292,8 @@ suggestion-size Noncommuting a b h i =
     let row = min a b ∷ 2 ∷ max a b ∷ [] in
     head-size (bytes "rules=#\n") (1 ∷ []) 102 (constraint_line row ∷ []) (omega arith, tt) refl (omega (arith, size-one (constraint_line row), rule-line-size row (omega arith) (omega arith)))
 
-pair-size : (a b : Row) (kind : ℕ) → pair_fault a b kind ≡ 0 → size_of (suggestion_text (suggested a b kind)) ≤ 162
-unfolding pair_fault suggested
+pair-size : (a b : Row) (kind : ℕ) → pair_fault a b kind ≡ 0 → size_of (suggestion_text (suggested_rules a b kind)) ≤ 162
+unfolding pair_fault suggested_rules
 pair-size a b kind z =
     by (edit_in_range a && (edit_in_range b && ltb kind 2))
     (λ (e : (edit_in_range a && (edit_in_range b && ltb kind 2)) ≡ true).
@@ -305,8 +302,8 @@ pair-size a b kind z =
     suggestion-size (advised kind a b) (name_cell a) (name_cell b) p.0 q.0)
     (λ (e : (edit_in_range a && (edit_in_range b && ltb kind 2)) ≡ false). absurd (let y : ◌≡◌ {A = ℕ} 2 0 = rw e at z in omega arith))
 
-suggested-size : (R : Record) (first second kind : ℕ) → suggestion_fault R first second kind ≡ 0 → size_of (suggestion_text (suggested_in R first second kind)) ≤ 162
-unfolding suggestion_fault suggested_in
+suggested-size : (R : Record) (first second kind : ℕ) → suggestion_fault R first second kind ≡ 0 → size_of (suggestion_text (suggested_rules_in R first second kind)) ≤ 162
+unfolding suggestion_fault suggested_rules_in
 suggested-size R first second kind z =
     pair-size (edit_row (edit_named R.edits first)) (edit_row (edit_named R.edits second)) kind
     (orelse-none (suggest_fault R first second kind) (pair_fault (edit_row (edit_named R.edits first)) (edit_row (edit_named R.edits second)) kind) z).1
@@ -400,7 +397,7 @@ module _ (D : Desk) (B : Bounded D) (line : ℕ) (l : line < 2 ^ 64) where
   vote-size (Bundle edit k) = bundle-size k edit
   vote-size (Suggest w) =
       let R = (ledger_of D).multilog in
-      answer-size (suggestion_fault R w.first w.second w.case) line (suggestion_text (suggested_in R w.first w.second w.case)) (suggest-number-small R w.first w.second w.case) l
+      answer-size (suggestion_fault R w.first w.second w.case) line (suggestion_text (suggested_rules_in R w.first w.second w.case)) (suggest-number-small R w.first w.second w.case) l
       (λ z. omega (arith, suggested-size R w.first w.second w.case z))
   vote-size (Test k) = test-size k
   vote-size (Winner edit) = winner-size line l edit (proposals_of D.lent) D.lent.roll (proposals-fit D B) B.weights

@@ -23,8 +23,7 @@ use Rattle.record_tables.proofs.Further.{further-small}
 use Rattle.record_tables.specs.Table.{edit_rows, constraint_rows, decoded, empty_tables, edit_kind, constraint_kind, names_of, join_fault, record_join_fault, unite}
 use Rattle.pages_turner.specs.Turn.{turned, turn_fault}
 use Rattle.voting.specs.declared.RollRow.{RollRow}
-use Rattle.voting.specs.declared.Election.{Election}
-use Rattle.voting.specs.Tally.{ballots, total, is_silent, greatest, silent, counted, winner}
+use Rattle.voting.specs.Tally.{Election, ballots, total, is_silent, greatest, silent, counted, winner}
 use Rattle.voting.specs.Proposal.{started, proposed}
 use Rattle.voting.proofs.Elections.{weigh-le, greatest-le}
 use Rattle.voting_roll.specs.Roll.{roll_faulty}

@@ -16,14 +16,14 @@ use Rattle.text_forms.specs.Form.{is_mark, spelling, taken}
 use Rattle.text_forms.proofs.Forms.{slots}
 use Rattle.text_lines.specs.Line.{line_limit}
 use Rattle.text_lines.proofs.Signs.{ends-number, ends-run}
-use Rattle.std.specs.Prelude.{Result, Err}
+use Rattle.std.specs.Prelude.{Result, Ok, Err}
 use Rattle.refusals.specs.declared.Refusal.{Refusal}
 use Rattle.refusals.specs.declared.Refusal.TheVariants.{NotInForm}
 use Rattle.log_forms.specs.productions.Productions.{Production, parse}
 use Rattle.log_forms.specs.productions.Words.{starting, words_of}
 use Rattle.log_forms.proofs.productions.Choosing as choosing
 use Rattle.log_commands.specs.Grammar.{grammar, command_read}
-use Rattle.log_commands.specs.Groups.{read_starting}
+use Rattle.log_commands.specs.Groups.{plain_said, read_starting}
 use Rattle.log_commands.specs.declared.Command.{Command}
 
 -- of the forms that start so, those that the letter after it leaves
@@ -48,12 +48,23 @@ others-of : (productions : List (Production (Result Command Refusal))) (s : List
 others-of [] s h e n q = clash h refl
 others-of (production ∷ rest) s h e n q = choosing.other-production Err s production rest h e n q
 
+-- what a form without numbers says
+plain-said-made : (command : Command) (w : Result (List ℕ) Refusal) → plain_said command w ≡ choosing.made Err w (λ n. Ok command)
+plain-said-made command (Ok words) = refl
+plain-said-made command (Err refusal) = refl
+
 module _ (p : String) (s : List ℕ) {x : ℕ} (e : x ≡ choosing.letter_after (bytes p) s) {r : Result Command Refusal} where
   -- the letter leaves one form
   pub arm : (letter : ℕ) → x ≡ letter → choosing.is_one (left_by p letter) ≡ true → {w : Result (List ℕ) Refusal} → w ≡ words_of (taken (choosing.first_form (left_by p letter)) s)
       → r ≡ choosing.made Err w (choosing.first_meaning Err (left_by p letter)) → r ≡ read_starting p s
   unfolding read_starting
   arm letter l h q t = choosing.letter-arm Err (bytes p) s e (starting p grammar) letter l h q t
+
+  pub plain-arm : (letter : ℕ) → x ≡ letter → choosing.is_one (left_by p letter) ≡ true → {command : Command} → choosing.first_meaning Err (left_by p letter) ≡ (λ n. Ok command)
+      → r ≡ plain_said command (words_of (taken (choosing.first_form (left_by p letter)) s)) → r ≡ read_starting p s
+  plain-arm letter l h {command} m q =
+      let w = words_of (taken (choosing.first_form (left_by p letter)) s) in
+      arm letter l h refl (q ∙ plain-said-made command w ∙ ap (choosing.made Err w) (sym m))
 
   -- or some
   pub part : (letter : ℕ) → x ≡ letter → r ≡ parse Err (left_by p letter) s → r ≡ read_starting p s

@@ -187,6 +187,9 @@ module _ (s : List ℕ) where
       (λ (w : starts_with (bytes "lent=") s ≡ true). rw w (mark-missing 35 (32 ∷ f) refl after (no-numeral after (rw w at e))))
       (λ (w : starts_with (bytes "lent=") s ≡ false). rw w))
 
+  pub lent-missing : (r : Refusal) → ◌≡◌ {A = Result Numeral Refusal} (Err r) (Err NotInForm) → None ≡ lent_number s → Err r ≡ lent_line_read s
+  lent-missing r q e = let p : r ≡ NotInForm = cc in rw p (no-lent-number e)
+
   module _ {lent : Numeral} (e : Some lent ≡ lent_number s) where
     begun : starts_with (bytes "lent=") s ≡ true
     unfolding lent_number

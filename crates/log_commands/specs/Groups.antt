@@ -13,6 +13,11 @@ use Rattle.log_forms.specs.productions.Words.{starting}
 use Rattle.log_commands.specs.Grammar.{adding, lending_to, lend_form, grammar}
 use Rattle.log_commands.specs.declared.Command.{Command}
 
+-- a command, where the numbers of its form are read
+abbrev pub plain_said : Command → Result (List ℕ) Refusal → Result Command Refusal
+plain_said command (Ok words) = Ok command
+plain_said command (Err refusal) = Err refusal
+
 -- by the forms that start so
 unfoldable pub read_starting : String → List ℕ → Result Command Refusal
 read_starting beginning s = parse Err (starting beginning grammar) s

@@ -2,11 +2,13 @@
 // that alone is tried.
 #![tactic(auto)]
 
-ghost use Rattle.std.specs.Prelude.{◌≡◌, ◌+◌, ◌≤◌, length, drop};
+ghost use Rattle.std.specs.Prelude.{◌≡◌, [], ◌∷◌, ◌+◌, ◌≤◌, length, drop};
 ghost use Rattle.text_forms.specs.decimal.Decimal.{numeral_size};
+ghost use Rattle.text_forms.specs.Form.{taken};
 ghost use Rattle.text_lines.specs.Line.{line_read, line_limit};
+ghost use Rattle.log_forms.specs.productions.Words.{words_of};
 ghost use Rattle.log_commands.specs.Grammar.{turn_forward, turn_back, edit_cells_of, constraint_cells_of, adding, lending_to, command_read};
-ghost use Rattle.log_commands.specs.Groups.{read_starting, line_adds, lent_number, lent_line_read};
+ghost use Rattle.log_commands.specs.Groups.{plain_said, read_starting, line_adds, lent_number, lent_line_read};
 
 use log_forms::productions;
 use refusals::Refusal;
@@ -14,6 +16,7 @@ use text_forms::decimal;
 use text_forms::decimal::Numeral;
 use text_lines::Line;
 
+// Kept: cells by name, for the grammar's table names them (specs/Grammar.antt).
 // A row of edits.
 #[derive(Clone, Copy)]
 pub struct EditCells {
@@ -38,6 +41,21 @@ impl From<[u32; 5]> for EditCells {
     }
 }
 
+impl From<EditCells> for [u32; 5] {
+    ghost from_gives = { λ cells row. row ≡ cells.name ∷ cells.kind ∷ cells.place ∷ cells.field ∷ cells.value ∷ [] };
+
+    fn from(cells: EditCells) -> [u32; 5] {
+        [
+            cells.name,
+            cells.kind,
+            cells.place,
+            cells.field,
+            cells.value,
+        ]
+    }
+}
+
+// Kept: cells by name, as of a row of edits.
 // A row of constraints.
 #[derive(Clone, Copy)]
 pub struct ConstraintCells {
@@ -58,6 +76,14 @@ impl From<[u32; 3]> for ConstraintCells {
     }
 }
 
+impl From<ConstraintCells> for [u32; 3] {
+    ghost from_gives = { λ cells row. row ≡ cells.left ∷ cells.rule ∷ cells.right ∷ [] };
+
+    fn from(cells: ConstraintCells) -> [u32; 3] {
+        [cells.left, cells.rule, cells.right]
+    }
+}
+
 // A proposal from the record `lent` and the old proposal `old`, into a table of so many edits and rules.
 #[derive(Clone, Copy)]
 pub struct Proposing {
@@ -68,6 +94,7 @@ pub struct Proposing {
     pub keep: bool,
 }
 
+// Kept: the case as the number that a caller gives; another is refused as out of range.
 // Constraints for two edits.
 #[derive(Clone, Copy)]
 pub struct Suggesting {
@@ -135,20 +162,28 @@ pub enum Command {
 fn turn_forward(pages: u32) -> Result<Command, Refusal>
     ensures { result ≡ turn_forward pages }
 {
-    if 2147483647 < pages {
+    let Ok(by) = i32::try_from(pages) else {
         return Err(Refusal::OutOfRange);
-    }
-    Ok(Command::Call(Call::Turn(pages as i32)))
+    };
+    Ok(Command::Call(Call::Turn(by)))
 }
 
 // The least i32 has no opposite among the i32.
 fn turn_back(pages: u32) -> Result<Command, Refusal>
     ensures { result ≡ turn_back pages }
 {
-    if 2147483648 < pages {
+    let Ok(by) = i32::try_from(-i64::from(pages)) else {
         return Err(Refusal::OutOfRange);
-    }
-    Ok(Command::Call(Call::Turn((0 - (pages as i64)) as i32)))
+    };
+    Ok(Command::Call(Call::Turn(by)))
+}
+
+// What a form without numbers says.
+fn read_plain(form: &[u8], bytes: &[u8], command: Command) -> Result<Command, Refusal>
+    ensures { result ≡ plain_said command (words_of (taken form.now bytes.now)) }
+{
+    productions::read_words(form, bytes)?;
+    Ok(command)
 }
 
 // The forms that start so, by the letter after it; so below.
@@ -157,34 +192,13 @@ fn read_ask(bytes: &[u8]) -> Result<Command, Refusal>
 {
     let letter = text_lines::byte_at(bytes, 4);
     match letter {
-        b't' => {
-            productions::read_words(b"ask=text\n", bytes)?;
-            Ok(Command::Ask(Ask::Text))
-        }
-        b'r' => {
-            productions::read_words(b"ask=report\n", bytes)?;
-            Ok(Command::Ask(Ask::Report))
-        }
-        b'h' => {
-            productions::read_words(b"ask=hidden\n", bytes)?;
-            Ok(Command::Ask(Ask::Hidden))
-        }
-        b's' => {
-            productions::read_words(b"ask=schedule\n", bytes)?;
-            Ok(Command::Ask(Ask::Schedule))
-        }
-        b'c' => {
-            productions::read_words(b"ask=catalogue\n", bytes)?;
-            Ok(Command::Ask(Ask::Catalogue))
-        }
-        b'j' => {
-            productions::read_words(b"ask=journal\n", bytes)?;
-            Ok(Command::Ask(Ask::Journal))
-        }
-        b'p' => {
-            productions::read_words(b"ask=page\n", bytes)?;
-            Ok(Command::Ask(Ask::Page))
-        }
+        b't' => read_plain(b"ask=text\n", bytes, Command::Ask(Ask::Text)),
+        b'r' => read_plain(b"ask=report\n", bytes, Command::Ask(Ask::Report)),
+        b'h' => read_plain(b"ask=hidden\n", bytes, Command::Ask(Ask::Hidden)),
+        b's' => read_plain(b"ask=schedule\n", bytes, Command::Ask(Ask::Schedule)),
+        b'c' => read_plain(b"ask=catalogue\n", bytes, Command::Ask(Ask::Catalogue)),
+        b'j' => read_plain(b"ask=journal\n", bytes, Command::Ask(Ask::Journal)),
+        b'p' => read_plain(b"ask=page\n", bytes, Command::Ask(Ask::Page)),
         _ => Err(Refusal::NotInForm),
     }
 }
@@ -242,6 +256,7 @@ fn read_show_or_suggest(bytes: &[u8]) -> Result<Command, Refusal>
     }
 }
 
+// Kept: an arm each, here and below: read_words(..).map(|words| ..) was tried, and each closure's clauses make its proof longer than the question mark does.
 fn read_do(bytes: &[u8]) -> Result<Command, Refusal>
     ensures { result ≡ read_starting "do=" bytes.now }
 {
@@ -296,10 +311,7 @@ fn read_roll(bytes: &[u8]) -> Result<Command, Refusal>
 {
     let letter = text_lines::byte_at(bytes, 5);
     match letter {
-        b'n' => {
-            productions::read_words(b"roll=none\n", bytes)?;
-            Ok(Command::Lend(Lend::NoRoll))
-        }
+        b'n' => read_plain(b"roll=none\n", bytes, Command::Lend(Lend::NoRoll)),
         _ => {
             let words = productions::read_words(b"roll=# weight=#\n", bytes)?;
             Ok(Command::Lend(Lend::RollRow(words[0], words[1])))
@@ -307,15 +319,13 @@ fn read_roll(bytes: &[u8]) -> Result<Command, Refusal>
     }
 }
 
+// Kept: a function of both this and `read_roll` would take both forms and what they mean to say no more.
 fn read_row(bytes: &[u8]) -> Result<Command, Refusal>
     ensures { result ≡ read_starting "row=" bytes.now }
 {
     let letter = text_lines::byte_at(bytes, 4);
     match letter {
-        b'n' => {
-            productions::read_words(b"row=none\n", bytes)?;
-            Ok(Command::Lend(Lend::NoRow))
-        }
+        b'n' => read_plain(b"row=none\n", bytes, Command::Lend(Lend::NoRow)),
         _ => {
             let words = productions::read_words(b"row=#\n", bytes)?;
             Ok(Command::Lend(Lend::RowName(words[0])))
@@ -323,6 +333,7 @@ fn read_row(bytes: &[u8]) -> Result<Command, Refusal>
     }
 }
 
+// Kept: `length bytes.now ≤ line_limit`: as in `text_lines`, for sums of places in the line; a type of short lines would say only that.
 // The record's number ends at `number`.
 fn read_rows(bytes: &[u8], number: usize) -> Result<Command, Refusal>
     requires { (length bytes.now ≤ line_limit) × (number ≡ 5 + numeral_size (drop 5 bytes.now)) }
@@ -386,9 +397,7 @@ fn read_lent_line(bytes: &[u8]) -> Result<Command, Refusal>
     requires { length bytes.now ≤ line_limit }
     ensures { result ≡ lent_line_read bytes.now }
 {
-    let Some(lent) = lent_number(bytes) else {
-        return Err(Refusal::NotInForm);
-    };
+    let lent = lent_number(bytes).ok_or(Refusal::NotInForm)?;
     let at = 5 + lent.size;
     let space = text_lines::byte_at(bytes, at);
     if space != b' ' {
@@ -422,12 +431,8 @@ fn read_lent(bytes: &[u8]) -> Result<Command, Refusal>
                 };
                 Ok(Command::Lend(Lend::EditRow(words[0], cells)))
             }
-            Err(refusal) => {
-                if refusal == Refusal::NotInForm {
-                    return read_lent_line(bytes);
-                }
-                Err(refusal)
-            }
+            Err(Refusal::NotInForm) => read_lent_line(bytes),
+            Err(refusal) => Err(refusal),
         },
         b'l' => match productions::read_words(b"lent=# left=# rule=# right=#\n", bytes) {
             Ok(words) => {
@@ -438,12 +443,8 @@ fn read_lent(bytes: &[u8]) -> Result<Command, Refusal>
                 };
                 Ok(Command::Lend(Lend::ConstraintRow(words[0], cells)))
             }
-            Err(refusal) => {
-                if refusal == Refusal::NotInForm {
-                    return read_lent_line(bytes);
-                }
-                Err(refusal)
-            }
+            Err(Refusal::NotInForm) => read_lent_line(bytes),
+            Err(refusal) => Err(refusal),
         },
         b'r' => read_rows(bytes, number),
         _ => Err(Refusal::NotInForm),

@@ -1,4 +1,4 @@
--- Texts printed one after the other. Assumes nothing.
+-- Texts printed one after the other, into a buffer and by a printer. Assumes nothing.
 use mathlib.Core.Path.{◌≡◌, refl, ap, sym, ◌∙◌}
 use mathlib.Core.Bool.{true, false, cond}
 use mathlib.Core.List.{List, [], ◌∷◌, ◌++◌, append_assoc, append-nil}
@@ -9,63 +9,64 @@ use native.Mathlib.Omega.{arith}
 use borrow.Author.Tests.{le-leb, lt-leb, leb-true, leb-false}
 use lib.Dec.{leb}
 use lib.ListN.{length, get_or, take, drop, length-append, length-drop, take-append-drop}
-use lib.Seq.{take-suc, drop-drop, length-take-le}
+use lib.Seq.{take_all, take-suc, drop-drop, length-take-le}
 use Rattle.lists.proofs.Lists.{le-by}
 use Rattle.text_forms.specs.decimal.Written.{Written}
-use Rattle.text_forms.proofs.decimal.Parts.{part-written, part_to_end}
+use Rattle.text_forms.proofs.decimal.Parts.{part-written}
 use Rattle.text_forms.proofs.Filling.{front_of, back-of}
 use Rattle.text.specs.Text.{joined_lines}
 use Rattle.text_writer.specs.Placed.{fits_at, placed}
-use Rattle.log_forms.specs.Printed.{Texts, Buffer, with_text, with_texts, Printed, texts_from}
+use Rattle.log_forms.specs.Printed.{Texts, Buffer, with_text, with_texts, PrintedInto, Printed, PrintedLines, texts_from}
+use Rattle.log_forms.specs.declared.Printer.{Printer}
+
+-- a printer that has moved on in its buffer
+abbrev pub moved : Printer → List ℕ → ℕ → Printer
+moved p bytes place = record p { out = record p.out { now = bytes }; at = place }
+
+-- a printer that is past the end
+abbrev pub past_end : Printer → Printer
+past_end p = record p { at = length p.out.now + 1 }
 
 -- one text at a place where it fits, and where it does not
-module _ (text before : List ℕ) (at : ℕ) where
-  pub printed-one : {after : List ℕ} {end : ℕ} → after ≡ placed text at before → end ≡ cond (fits_at text at before) (at + length text) (suc (length before))
-      → Printed (text ∷ []) before at after end
+module _ (text : List ℕ) (p : Printer) where
+  printed-one : {bytes : List ℕ} {place : ℕ} → bytes ≡ placed text p.at p.out.now → place ≡ cond (fits_at text p.at p.out.now) (p.at + length text) (suc (length p.out.now))
+      → Printed (text ∷ []) p (moved p bytes place)
   unfolding with_texts with_text
-  printed-one b e = record { buffer = λ i. record { bytes = b i; place = e i } }
+  printed-one b e = record { into = record { buffer = λ i. record { bytes = b i; place = e i } }; line = refl; same_reference = refl }
 
-  pub form-printed-fits : {after : List ℕ} {end : ℕ} → at + length text ≤ length before → end ≡ at + length text
-      → after ≡ take at before ++ (text ++ drop (at + length text) before) → Printed (text ∷ []) before at after end
+  pub form-printed-fits : {bytes : List ℕ} {place : ℕ} → p.at + length text ≤ length p.out.now → place ≡ p.at + length text
+      → bytes ≡ take p.at p.out.now ++ (text ++ drop (p.at + length text) p.out.now) → Printed (text ∷ []) p (moved p bytes place)
   unfolding placed
   form-printed-fits h e b =
-      let q : leb (at + length text) (length before) ≡ true = le-leb (at + length text) (length before) h in
+      let q : leb (p.at + length text) (length p.out.now) ≡ true = le-leb (p.at + length text) (length p.out.now) h in
       printed-one (rw q b) (rw q e)
 
-  pub printed-over : {after : List ℕ} {end : ℕ} → length before < at + length text → end ≡ suc (length before) → after ≡ before → Printed (text ∷ []) before at after end
+  pub printed-over : {bytes : List ℕ} {place : ℕ} → length p.out.now < p.at + length text → place ≡ suc (length p.out.now) → bytes ≡ p.out.now → Printed (text ∷ []) p (moved p bytes place)
   unfolding placed
   printed-over h e b =
-      let q : leb (at + length text) (length before) ≡ false = lt-leb (at + length text) (length before) h in
+      let q : leb (p.at + length text) (length p.out.now) ≡ false = lt-leb (p.at + length text) (length p.out.now) h in
       printed-one (rw q b) (rw q e)
 
-  pub printed-past : length before < at → Printed (text ∷ []) before at before (length before + 1)
+  pub printed-past : length p.out.now < p.at → Printed (text ∷ []) p (past_end p)
   printed-past h = printed-over (omega arith) (omega arith) refl
 
-  module _ (near : at ≤ length before) where
-    pub printed-none : leb (length text) (length before - at) ≡ false → Printed (text ∷ []) before at before (length before + 1)
-    printed-none h = printed-over (omega (arith, leb-false (length text) (length before - at) h)) (omega arith) refl
+  module _ (near : p.at ≤ length p.out.now) where
+    pub printed-none : leb (length text) (length p.out.now - p.at) ≡ false → Printed (text ∷ []) p (past_end p)
+    printed-none h = printed-over (omega (arith, leb-false (length text) (length p.out.now - p.at) h)) (omega arith) refl
 
-    module _ (h : leb (length text) (length before - at) ≡ true) where
-      enough : at + length text ≤ length before
-      enough = omega (arith, leb-true (length text) (length before - at) h)
-
-      pub printed-room : length text ≤ length (take (length before - at) (drop at before))
-      printed-room = rw (part_to_end at before, length-drop) (omega (arith, enough))
-
-      module _ {r : ℕ} {after : List ℕ} (w : Written text (take (length before - at) (drop at before)) r after) where
-        pub printed-at : at + r ≤ length before
-        printed-at = omega (arith, w.0, enough)
-
-        pub printed-there : Printed (text ∷ []) before at (take at before ++ (after ++ drop (length before - at) (drop at before))) (at + r)
-        printed-there = form-printed-fits enough (rw w.0) (part-written at before after text enough w.1)
+    pub printed-there : {r : ℕ} {part : List ℕ} → leb (length text) (length p.out.now - p.at) ≡ true → Written text (take (length p.out.now - p.at) (drop p.at p.out.now)) r part
+        → Printed (text ∷ []) p (moved p (take p.at p.out.now ++ (part ++ drop (length p.out.now - p.at) (drop p.at p.out.now))) (p.at + r))
+    printed-there {r} {part} h w =
+        let n : p.at + length text ≤ length p.out.now = omega (arith, near, leb-true (length text) (length p.out.now - p.at) h) in
+        form-printed-fits n (rw w.0) (part-written p.at p.out.now part text n w.1)
 
 -- the texts of a printing may be said by equal ones
-pub printed-as : (texts : Texts) (before : List ℕ) (at : ℕ) {other : Texts} {after : List ℕ} {end : ℕ} → texts ≡ other → Printed texts before at after end → Printed other before at after end
-printed-as texts before at e p = rw (← e) p
+pub printed-as : {texts other : Texts} {before after : Printer} → texts ≡ other → Printed texts before after → Printed other before after
+printed-as e p = rw (← e) p
 
-pub printed-nothing : (before : List ℕ) (at : ℕ) → Printed [] before at before at
+pub printed-nothing : (p : Printer) → Printed [] p p
 unfolding with_texts
-printed-nothing before at = record { buffer = refl }
+printed-nothing p = record { into = record { buffer = refl }; line = refl; same_reference = refl }
 
 -- some texts after others
 texts-both : (b : Buffer) (s t : Texts) → with_texts b (s ++ t) ≡ with_texts (with_texts b s) t
@@ -73,10 +74,20 @@ unfolding with_texts
 texts-both b [] t = refl
 texts-both b (x ∷ s) t = texts-both (with_text b x) s t
 
-pub printed-both : (s t : Texts) (before : List ℕ) (at : ℕ) {middle after : List ℕ} {place end : ℕ}
-    → Printed s before at middle place → Printed t middle place after end → Printed (s ++ t) before at after end
-printed-both s t before at p q =
+pub into-both : {s t : Texts} {before : List ℕ} {at : ℕ} {middle after : List ℕ} {place end : ℕ}
+    → PrintedInto s before at middle place → PrintedInto t middle place after end → PrintedInto (s ++ t) before at after end
+into-both {s} {t} {before} {at} p q =
     record { buffer = q.buffer ∙ ap (λ (b : Buffer). with_texts b t) p.buffer ∙ sym (texts-both (record { bytes = before; place = at }) s t) }
+
+pub printed-both : {s t : Texts} {before middle after : Printer} → Printed s before middle → Printed t middle after → Printed (s ++ t) before after
+printed-both p q = record { into = into-both p.into q.into; line = q.line ∙ p.line; same_reference = q.same_reference ∙ p.same_reference }
+
+-- the texts of one line after those of the lines before it
+pub lines-first : (p : Printer) → PrintedLines [] p p
+lines-first p = let q = printed-nothing p in record { into = q.into; same_reference = refl }
+
+pub lines-next : {s t : Texts} {before middle after : Printer} {n : ℕ} → PrintedLines s before middle → Printed t (record middle { line = n }) after → PrintedLines (s ++ t) before after
+lines-next p q = record { into = into-both p.into q.into; same_reference = q.same_reference ∙ p.same_reference }
 
 -- the buffer keeps its size
 placed-size : (text : List ℕ) (at : ℕ) (out : List ℕ) → length (placed text at out) ≡ length out
@@ -93,7 +104,7 @@ unfolding with_texts with_text
 texts-size b [] = refl
 texts-size b (x ∷ texts) = texts-size (with_text b x) texts ∙ placed-size x b.place b.bytes
 
-pub printed-length : {texts : Texts} {before : List ℕ} {at : ℕ} {after : List ℕ} {end : ℕ} → Printed texts before at after end → length after ≡ length before
+pub printed-length : {texts : Texts} {before : List ℕ} {at : ℕ} {after : List ℕ} {end : ℕ} → PrintedInto texts before at after end → length after ≡ length before
 printed-length {texts} {before} {at} p = ap (λ (b : Buffer). length b.bytes) p.buffer ∙ texts-size (record { bytes = before; place = at }) texts
 
 -- where all texts fit, they stand there as one
@@ -149,7 +160,7 @@ texts-over b (x ∷ texts) n h =
     let p : (with_text b x).place ≡ suc (length b.bytes) = rw (lt-leb (b.place + length x) (length b.bytes) f) refl in
     texts-over (with_text b x) texts (omega arith) (omega arith) ∙ ap suc s)
 
-module _ {texts : Texts} {before : List ℕ} {at : ℕ} {after : List ℕ} {end : ℕ} (p : Printed texts before at after end) where
+module _ {texts : Texts} {before : List ℕ} {at : ℕ} {after : List ℕ} {end : ℕ} (p : PrintedInto texts before at after end) where
   pub printed-whole : at + length (joined_lines texts) ≤ length before
       → (end ≡ at + length (joined_lines texts)) × (after ≡ take at before ++ (joined_lines texts ++ drop (at + length (joined_lines texts)) before))
   unfolding there
@@ -169,9 +180,25 @@ module _ {A : Type 0} (text : ℕ → A → Texts) where
       let e : suc k + length s ≡ k + suc (length s) = omega arith in
       ap (λ (l : Texts). text k x ++ l) (texts-append (suc k) s t ∙ rw e) ∙ sym (append_assoc (text k x) (texts_from text (suc k) s) (texts_from text (k + suc (length s)) t))
 
-  pub texts-next : (k : ℕ) (a : List A) (i : ℕ) (d : A) → i < length a
+  texts-next : (k : ℕ) (a : List A) (i : ℕ) (d : A) → i < length a
       → texts_from text k (take (i + 1) a) ≡ texts_from text k (take i a) ++ text (k + i) (get_or a i d)
   unfolding texts_from
   texts-next k a i d h =
       let l : length (take i a) ≡ i = length-take-le i a (omega arith) in
       rw (add-one, take-suc a i d h, texts-append k (take i a) (get_or a i d ∷ []), l, append-nil)
+
+  module _ (k : ℕ) (a : List A) where
+    -- the first i elements are printed
+    abbrev pub PrintedTo : ℕ → Printer → Printer → Type 0
+    PrintedTo i before after = Printed (texts_from text k (take i a)) before after
+
+    pub printed-first : (p : Printer) → PrintedTo 0 p p
+    unfolding texts_from
+    printed-first p = printed-nothing p
+
+    pub printed-next : {before middle after : Printer} {i : ℕ} (d : A) (j : ℕ) → j ≡ k + i → i < length a → PrintedTo i before middle
+        → Printed (text j (get_or a i d)) middle after → PrintedTo (i + 1) before after
+    printed-next {i = i} d j e h w p = rw (texts-next k a i d h, ← e) (printed-both w p)
+
+    pub printed-last : {before after : Printer} (i : ℕ) → length a ≤ i → PrintedTo i before after → Printed (texts_from text k a) before after
+    printed-last i h w = rw (take_all i a h) at w

@@ -7,17 +7,26 @@ ghost use Rattle.std.specs.Prelude.{[], ◌∷◌};
 ghost use Rattle.text_forms.specs.Form.{fill};
 ghost use Rattle.log_forms.specs.Printed.{Printed};
 
-// Prints a form with these numbers, where it fits, and answers the place after it; past the end where it does not. Pub for the crates that print
-// answers.
-pub fn print(out: &mut [u8], at: usize, form: &[u8], numbers: &[u64]) -> usize
-    ensures { Printed (fill form.now numbers.now ∷ []) out.old at out.new result }
-{
-    let size = out.len();
-    if size < at {
-        return size + 1;
+// Kept: `at` is past the end after a text that did not fit, as with_text has it; an Option would lose that no later text is written.
+// What is printed: the buffer, the place after what stands in it, past the end where a text did not fit, and the number of the line that is
+// answered.
+#[derive(Drop)]
+pub struct Printer<'a> {
+    pub out: &'a mut [u8],
+    pub at: usize,
+    pub line: usize,
+}
+
+impl Printer<'_> {
+    // Prints a form with these numbers, where it fits; where it does not, the place goes past the end. Pub for the crates that print answers.
+    pub fn print(&mut self, form: &[u8], numbers: &[u64])
+        ensures { Printed (fill form.now numbers.now ∷ []) self.old self.new }
+    {
+        let size = self.out.len();
+        if size < self.at || !text_forms::form_fits(form, numbers, size - self.at) {
+            self.at = size + 1;
+            return;
+        }
+        self.at += text_forms::write_form(&mut self.out[self.at..], form, numbers);
     }
-    if !text_forms::form_fits(form, numbers, size - at) {
-        return size + 1;
-    }
-    at + text_forms::write_form(&mut out[at..], form, numbers)
 }

@@ -21,8 +21,6 @@ fn words_kept(numbers: [u64; 8]) -> Result<[u32; 8], Refusal>
 pub fn read_words(form: &[u8], bytes: &[u8]) -> Result<[u32; 8], Refusal>
     ensures { result ≡ words_of (taken form.now bytes.now) }
 {
-    match text_forms::read_form(form, bytes) {
-        Some(numbers) => words_kept(numbers),
-        None => Err(Refusal::NotInForm),
-    }
+    let numbers = text_forms::read_form(form, bytes).ok_or(Refusal::NotInForm)?;
+    words_kept(numbers)
 }

@@ -1,26 +1,26 @@
 -- What each line that lends leaves. Assumes nothing.
 use mathlib.Core.Path.{◌≡◌, refl, sym, ap, ◌∙◌}
-use mathlib.Core.Bool.{true, false, and-false}
+use mathlib.Core.Bool.{true, false, cond, and-false}
 use mathlib.Core.List.{List, [], ◌∷◌, ◌++◌}
 use Prim.Native.Nat.{ℕ, suc, ◌+◌, ◌≤◌, ◌<◌}
 use native.Mathlib.Omega.{arith}
 use lib.Dec.{leb, ltb}
-use lib.ListN.{length, get_or, set, take, replicate, length-set, length-append}
+use lib.ListN.{length, set, take, length-set, length-append}
 use lib.Seq.{take_all, take-suc-set, take-append-le, take-append_seam, length-take-le}
 use borrow.Author.Tests.{lt-ltb, le-ltb, le-leb, lt-leb}
 use Rattle.record.specs.declared.Record as declared
 use Rattle.record.specs.Record.{Record}
 use Rattle.record.specs.Stored.{stored, padded}
-use Rattle.lists.proofs.Lists.{is-by, le-by}
-use Rattle.lists.proofs.Arrays.{get_or-zeros}
-use Rattle.record_rows.specs.row.Row.{Row}
-use Rattle.record_rows.specs.grounds.Ground.{Rows}
+use Rattle.lists.proofs.Lists.{by, le-by}
 use Rattle.record_tables.specs.Table.{edit_rows, constraint_rows}
-use Rattle.voting.specs.declared.RollRow.{RollRow}
+use Rattle.refusals.specs.declared.Refusal.{Refusal}
+use Rattle.refusals.specs.Numbers.{number}
+use Rattle.refusals.proofs.Numbers.{number-positive}
 use Rattle.log_lent.specs.declared.Lending.{Lending}
-use Rattle.log_lent.specs.Lent.{Lent, nothing_lent, lent_records, edit_places, constraint_places, roll_places, row_places, with, rows_fault, added, with_edit, with_constraint, with_record, record_number, seat_number, with_seat, without_roll, name_number, with_name, without_row}
-use Rattle.log_lent.specs.Kept.{Tables, Listed, Kept}
-use Rattle.log_lent.proofs.Rows.{with-same, with-other, tables-same}
+use Rattle.log_lent.specs.declared.lent_tables.LentTables.{LentTables}
+use Rattle.log_lent.specs.Lent.{Lent, nothing_lent, is_lent, edit_places, constraint_places, roll_places, row_places, with, with_record, record_number, seat_number, with_seat, without_roll, name_number, with_name, without_row}
+use Rattle.log_lent.specs.Kept.{Listed, Kept}
+use Rattle.log_lent.specs.lent_tables.Tables.{Tables}
 
 module _ {A : Type 0} {places : ℕ} {l array : List A} {count : ℕ} (H : Listed places l array count) where
   listed-length : length l ≡ count
@@ -52,21 +52,15 @@ module _ {A : Type 0} (places : ℕ) (l : List A) {array : List A} {count : ℕ}
       (λ m. let e : take places l ≡ l = take_all places l (omega arith) in
       listed_same (listed_more (listed_same H e) h x) (sym (take_all places (l ++ (x ∷ [])) (rw (length-append l (x ∷ [])) (omega arith)))))
 
-pub none_kept : (seats : List RollRow) → length seats ≡ 9 → (edits constraints : Rows) → length edits ≡ 1152 → length constraints ≡ 4617
-    → Kept nothing_lent (record { editcounts = replicate 9 0; constraintcounts = replicate 9 0; roll = seats; rollcount = 0; row = replicate 129 0; rowcount = 0 }) edits constraints
+pub none_kept : {lending : Lending} → Tables edit_places (λ k. []) lending.edits.counts lending.edits.rows → Tables constraint_places (λ k. []) lending.constraints.counts lending.constraints.rows
+    → length lending.roll ≡ roll_places → lending.rollcount ≡ 0 → length lending.row ≡ row_places → lending.rowcount ≡ 0 → Kept nothing_lent lending
 unfolding nothing_lent
-none_kept seats s edits constraints e c = record {
-  edits = record { size = e; nine = refl; few = λ k. zeros k; rows = λ k h. rw (no-count k) refl };
-  constraints = record { size = c; nine = refl; few = λ k. zeros k; rows = λ k h. rw (no-count k) refl };
-  roll = record { rows = sym (take_all 9 [] (omega arith)); size = s; few = omega arith };
-  row = record { rows = refl; size = refl; few = omega arith };
+none_kept S T s m r n = record {
+  edits = S;
+  constraints = T;
+  roll = record { rows = rw m (sym (take_all 9 [] (omega arith))); size = s; few = omega arith };
+  row = record { rows = rw n refl; size = r; few = omega arith };
 }
-  where
-    no-count : (k : ℕ) → ◌≡◌ {A = ℕ} (get_or (replicate 9 0) k 0) 0
-    no-count k = get_or-zeros 9 k
-
-    zeros : {places : ℕ} (k : ℕ) → get_or (replicate 9 0) k 0 ≤ places
-    zeros k = rw (no-count k) (omega arith)
 
 -- the elements of a record as it is stored
 module _ (R : Record) (multilog : declared.Record) (q : multilog ≡ stored R) where
@@ -78,52 +72,33 @@ module _ (R : Record) (multilog : declared.Record) (q : multilog ≡ stored R) w
   unfolding padded
   constraints-held = rw q (take-append_seam R.constraints _)
 
-module _ {L : Lent} {lending : Lending} {edits constraints : Rows} (K : Kept L lending edits constraints) where
-  pub edit-lent : (k : ℕ) (row : Row) {number : ℕ} {counts : List ℕ} {after : Rows}
-      → (number ≡ rows_fault edit_places L.edits k) × Tables edit_places (added edit_places L.edits k row) counts after
-      → (number ≡ rows_fault edit_places L.edits k) × Kept (with_edit L k row) (record { editcounts = counts; constraintcounts = lending.constraintcounts; roll = lending.roll; rollcount = lending.rollcount; row = lending.row; rowcount = lending.rowcount }) after constraints
-  unfolding with_edit
-  edit-lent k row p = (p.0, record { edits = p.1; constraints = K.constraints; roll = K.roll; row = K.row })
-
-  pub constraint-lent : (k : ℕ) (row : Row) {number : ℕ} {counts : List ℕ} {after : Rows}
-      → (number ≡ rows_fault constraint_places L.constraints k) × Tables constraint_places (added constraint_places L.constraints k row) counts after
-      → (number ≡ rows_fault constraint_places L.constraints k) × Kept (with_constraint L k row) (record { editcounts = lending.editcounts; constraintcounts = counts; roll = lending.roll; rollcount = lending.rollcount; row = lending.row; rowcount = lending.rowcount }) edits after
-  unfolding with_constraint
-  constraint-lent k row p = (p.0, record { edits = K.edits; constraints = p.1; roll = K.roll; row = K.row })
-
-  module _ (k : ℕ) (R : Record) where
-    pub no-such-record : lent_records ≤ k → (2 ≡ record_number k) × Kept (with_record L k R) lending edits constraints
+module _ {L : Lent} {lending : Lending} (K : Kept L lending) where
+  module _ (k : ℕ) (R : Record) {edits : LentTables 5 edit_places} (S : Tables edit_places (cond (is_lent k) (with k (edit_rows R) L.edits) L.edits) edits.counts edits.rows) where
+    pub no-such-record : (r : Refusal) → number r ≡ record_number k
+        → (number r ≡ record_number k)
+        × Kept (with_record L k R) (record { edits = edits; constraints = lending.constraints; roll = lending.roll; rollcount = lending.rollcount; row = lending.row; rowcount = lending.rowcount })
     unfolding with_record
-    no-such-record h = let e : ltb k 9 ≡ false = le-ltb k 9 h in rw e (refl, K)
+    no-such-record r n = (
+      n,
+      by (ltb k 9)
+          (λ (e : ltb k 9 ≡ true). absurd (number-positive r (rw e at n)))
+          (λ (e : ltb k 9 ≡ false). rw e (record { edits = rw e at S; constraints = K.constraints; roll = K.roll; row = K.row })),
+    )
 
-    twice : (f : ℕ → Rows) (rows : Rows) (j : ℕ) → j < 9 → with k rows (with k [] f) j ≡ with k rows f j
-    twice f rows j h = is-by j k
-        (λ m. rw (m, with-same k rows (with k [] f), with-same k rows f) refl)
-        (λ m. rw (with-other k j rows (with k [] f) m, with-other k j [] f m, with-other k j rows f m) refl)
-
-    pub record-lent : k < 9 → {editcounts constraintcounts : List ℕ} {editrows constraintrows : Rows}
-        → Tables edit_places (with k (edit_rows R) (with k [] L.edits)) editcounts editrows
-        → Tables constraint_places (with k (constraint_rows R) (with k [] L.constraints)) constraintcounts constraintrows
-        → (0 ≡ record_number k) × Kept (with_record L k R) (record { editcounts = editcounts; constraintcounts = constraintcounts; roll = lending.roll; rollcount = lending.rollcount; row = lending.row; rowcount = lending.rowcount }) editrows constraintrows
+    pub record-lent : {constraints : LentTables 3 constraint_places} → Tables constraint_places (cond (is_lent k) (with k (constraint_rows R) L.constraints) L.constraints) constraints.counts constraints.rows
+        → Kept (with_record L k R) (record { edits = edits; constraints = constraints; roll = lending.roll; rollcount = lending.rollcount; row = lending.row; rowcount = lending.rowcount })
     unfolding with_record
-    record-lent h S T =
-        let e : ltb k 9 ≡ true = lt-ltb k 9 h in
-        rw e (
-          refl,
-          record {
-            edits = tables-same (twice L.edits (edit_rows R)) S;
-            constraints = tables-same (twice L.constraints (constraint_rows R)) T;
-            roll = K.roll;
-            row = K.row;
-          },
-        )
+    record-lent T =
+        by (ltb k 9)
+        (λ (e : ltb k 9 ≡ true). rw e (record { edits = rw e at S; constraints = rw e at T; roll = K.roll; row = K.row }))
+        (λ (e : ltb k 9 ≡ false). rw e (record { edits = rw e at S; constraints = rw e at T; roll = K.roll; row = K.row }))
 
   module _ (bench weight : ℕ) where
-    pub seat-bench : 256 ≤ bench → (2 ≡ seat_number bench weight) × Kept (with_seat L bench weight) lending edits constraints
+    pub seat-bench : 256 ≤ bench → (2 ≡ seat_number bench weight) × Kept (with_seat L bench weight) lending
     unfolding with_seat seat_number
     seat-bench h = let e : ltb bench 256 ≡ false = le-ltb bench 256 h in rw e (refl, K)
 
-    pub seat-weight : 65536 ≤ weight → (2 ≡ seat_number bench weight) × Kept (with_seat L bench weight) lending edits constraints
+    pub seat-weight : 65536 ≤ weight → (2 ≡ seat_number bench weight) × Kept (with_seat L bench weight) lending
     unfolding with_seat seat_number
     seat-weight h = let e : ltb weight 65536 ≡ false = le-ltb weight 65536 h in rw (e, and-false (ltb bench 256)) (refl, K)
 
@@ -132,30 +107,30 @@ module _ {L : Lent} {lending : Lending} {edits constraints : Rows} (K : Kept L l
       unfolding seat_number
       seated = let d : ltb bench 256 ≡ true = lt-ltb bench 256 a in let e : ltb weight 65536 ≡ true = lt-ltb weight 65536 b in rw (d, e) refl
 
-      pub seat-past : roll_places ≤ lending.rollcount → (0 ≡ seat_number bench weight) × Kept (with_seat L bench weight) lending edits constraints
+      pub seat-past : roll_places ≤ lending.rollcount → (0 ≡ seat_number bench weight) × Kept (with_seat L bench weight) lending
       unfolding with_seat
       seat-past h = rw seated (refl, record { edits = K.edits; constraints = K.constraints; roll = first-full roll_places L.roll K.roll (record { bench = bench; weight = weight }) h; row = K.row })
 
       pub seat-lent : lending.rollcount < roll_places → (0 ≡ seat_number bench weight)
-          × Kept (with_seat L bench weight) (record { editcounts = lending.editcounts; constraintcounts = lending.constraintcounts; roll = set lending.roll lending.rollcount (record { bench = bench; weight = weight }); rollcount = lending.rollcount + 1; row = lending.row; rowcount = lending.rowcount }) edits constraints
+          × Kept (with_seat L bench weight) (record { edits = lending.edits; constraints = lending.constraints; roll = set lending.roll lending.rollcount (record { bench = bench; weight = weight }); rollcount = lending.rollcount + 1; row = lending.row; rowcount = lending.rowcount })
       unfolding with_seat
       seat-lent h = rw seated (refl, record { edits = K.edits; constraints = K.constraints; roll = first_more roll_places L.roll K.roll (record { bench = bench; weight = weight }) h; row = K.row })
 
-  pub no-roll-lent : Kept (without_roll L) (record { editcounts = lending.editcounts; constraintcounts = lending.constraintcounts; roll = lending.roll; rollcount = 0; row = lending.row; rowcount = lending.rowcount }) edits constraints
+  pub no-roll-lent : Kept (without_roll L) (record { edits = lending.edits; constraints = lending.constraints; roll = lending.roll; rollcount = 0; row = lending.row; rowcount = lending.rowcount })
   unfolding without_roll
   no-roll-lent = record { edits = K.edits; constraints = K.constraints; roll = listed-none K.roll (take_all 9 [] (omega arith)); row = K.row }
 
-  pub no-row-lent : Kept (without_row L) (record { editcounts = lending.editcounts; constraintcounts = lending.constraintcounts; roll = lending.roll; rollcount = lending.rollcount; row = lending.row; rowcount = 0 }) edits constraints
+  pub no-row-lent : Kept (without_row L) (record { edits = lending.edits; constraints = lending.constraints; roll = lending.roll; rollcount = lending.rollcount; row = lending.row; rowcount = 0 })
   unfolding without_row
   no-row-lent = record { edits = K.edits; constraints = K.constraints; roll = K.roll; row = listed-none K.row refl }
 
   module _ (name : ℕ) where
-    pub row-full : row_places ≤ lending.rowcount → (3 ≡ name_number L) × Kept (with_name L name) lending edits constraints
+    pub row-full : row_places ≤ lending.rowcount → (3 ≡ name_number L) × Kept (with_name L name) lending
     unfolding with_name name_number
     row-full h = let e : leb 129 (length L.row) ≡ true = rw (listed-length K.row) (le-leb 129 lending.rowcount h) in rw e (refl, K)
 
     pub name-lent : lending.rowcount < row_places → (0 ≡ name_number L)
-        × Kept (with_name L name) (record { editcounts = lending.editcounts; constraintcounts = lending.constraintcounts; roll = lending.roll; rollcount = lending.rollcount; row = set lending.row lending.rowcount name; rowcount = lending.rowcount + 1 }) edits constraints
+        × Kept (with_name L name) (record { edits = lending.edits; constraints = lending.constraints; roll = lending.roll; rollcount = lending.rollcount; row = set lending.row lending.rowcount name; rowcount = lending.rowcount + 1 })
     unfolding with_name name_number
     name-lent h =
         let e : leb 129 (length L.row) ≡ false = rw (listed-length K.row) (lt-leb 129 lending.rowcount h) in

@@ -2,3 +2,4 @@ pub mod Lent
 pub mod Kept
 pub mod lent_calls
 pub mod lent_proposals
+pub mod lent_tables

@@ -11,7 +11,6 @@ ghost use Rattle.log_lent.specs.lent_proposals.Made.{lent_proposal_fault, propos
 
 use crate::Lending;
 use record::Record;
-use record_rows::row::{ConstraintRow, EditRow};
 use refusals::Refusal;
 
 // A new proposal, if n edits and m constraints have a place for it.
@@ -28,26 +27,11 @@ fn fitted(new: Record, n: u32, m: u32) -> Result<Record, Refusal>
 }
 
 // The new proposal from record k and the old one, where n edits and m constraints have a place.
-pub fn propose_lent(
-    lending: &Lending,
-    edits: &[EditRow],
-    constraints: &[ConstraintRow],
-    k: u32,
-    old: u32,
-    n: u32,
-    m: u32,
-) -> Result<Record, Refusal>
-    ensures { (L : Lent) → Kept L lending.now edits.now constraints.now → Gives (lent_proposal_fault L k old n m) (stored (proposal_made L k old n m)) result }
+pub fn propose_lent(lending: &Lending, k: u32, old: u32, n: u32, m: u32) -> Result<Record, Refusal>
+    ensures { (L : Lent) → Kept L lending.now → Gives (lent_proposal_fault L k old n m) (stored (proposal_made L k old n m)) result }
 {
     let place = crate::record_place(k)?;
     let oldplace = crate::record_place(old)?;
-    let record = lending.record(edits, constraints, place);
-    let proposal = lending.record(edits, constraints, oldplace);
-    let new = voting_proposals::new_proposal(
-        record.edits,
-        record.constraints,
-        proposal.edits,
-        proposal.constraints,
-    )?;
+    let new = voting_proposals::new_proposal(lending.record(place), lending.record(oldplace))?;
     fitted(new, n, m)
 }

@@ -5,8 +5,7 @@ use mathlib.Core.List.{List, [], ◌∷◌}
 use Prim.Native.Nat.{ℕ}
 use lib.Dec.{eqb}
 use Rattle.lists.proofs.Lists.{by}
-use Rattle.ledger.specs.Ledger.{Ledger, Call, start, fed, judge, step, refusal}
-use Rattle.ledger.specs.declared.Answer.{Answer}
+use Rattle.ledger.specs.Ledger.{CallAnswer, Ledger, Call, start, fed, judge, step, refusal}
 use Rattle.ledger.specs.declared.Bench.{Bench}
 use Rattle.ledger.specs.Bench.{bench_of, outcome, answers_of, told, Undo}
 use Rattle.ledger.proofs.Undone.{undo-of}
@@ -34,7 +33,7 @@ log-bench log = ap bench_of (accepted-only start (log_run log).desk.calls)
 outcomes-told : (L : Ledger) (calls : List Call) → answers_of (outcomes L calls) ≡ told L calls
 unfolding answers_of outcomes told outcome
 outcomes-told L [] = refl
-outcomes-told L (call ∷ rest) = ap (λ (answers : List Answer). (step L call).answer ∷ answers) (outcomes-told (step L call).after rest)
+outcomes-told L (call ∷ rest) = ap (λ (answers : List CallAnswer). (step L call).answer ∷ answers) (outcomes-told (step L call).after rest)
 
 -- THE UNDO RULE OF A RUN: the bench after a log, with the calls that its lines made and what each came to
 pub log-undo : (log : List ℕ) {bench : Bench} → bench ≡ bench_in (log_run log).desk → Undo (log_run log).desk.calls (outcomes start (log_run log).desk.calls) bench

@@ -18,7 +18,7 @@ use Rattle.text_forms.specs.Form.{taken}
 use Rattle.text_lines.specs.Line.{set_shapes, rule_shapes, shapes, fits_word, line_limit}
 use Rattle.log_forms.specs.productions.Productions.{Production, meant, parse}
 use Rattle.ledger.specs.Ledger.{last}
-use Rattle.log_forms.specs.Printed.{Texts, Printed}
+use Rattle.log_forms.specs.Printed.{Texts, PrintedInto}
 use Rattle.log_forms.proofs.Printing.{printed-whole}
 use Rattle.log_bounds.proofs.Sizes.{size_of}
 use Rattle.log_commands.specs.Grammar.{turn_forward, turn_back, command_forms, add_form, lend_form, grammar, command_read}
@@ -136,5 +136,5 @@ lines-bounded r [] B = B
 lines-bounded r (line ∷ ls) B = lines-bounded (run_line r line) ls (line-bounded r.desk B line)
 
 -- texts of at most so many bytes, with room for them
-pub printed-within : (bound : ℕ) {texts : Texts} {before : List ℕ} {at : ℕ} {after : List ℕ} {end : ℕ} → Printed texts before at after end → size_of texts ≤ bound → at + bound ≤ length before → end ≤ at + bound
+pub printed-within : (bound : ℕ) {texts : Texts} {before : List ℕ} {at : ℕ} {after : List ℕ} {end : ℕ} → PrintedInto texts before at after end → size_of texts ≤ bound → at + bound ≤ length before → end ≤ at + bound
 printed-within bound p h l = omega (arith, (printed-whole p (omega arith)).0)

@@ -5,18 +5,21 @@ use Prim.Native.Nat.{ℕ, suc, ◌+◌, ◌-◌, ◌≤◌, ◌<◌}
 use native.Mathlib.Omega.{arith}
 use lib.IntN.{ℤ}
 use lib.ListN.{length, take, drop}
-use Rattle.std.specs.Prelude.{Option, Some, None, is_some, IsSome, Result, Ok, Err}
+use Rattle.std.specs.Prelude.{Option, Some, None, is_some, IsSome, Result, Ok, Err, IsOkAnd, MatchResult}
 use Rattle.refusals.specs.declared.Refusal.{Refusal}
+use Rattle.refusals.specs.Numbers.{number_of}
 use Rattle.lists.proofs.Lists.{is-by, clash}
-use Rattle.record_rows.specs.grounds.Ground.{Rows}
 use Rattle.pages_turner.specs.declared.Turner.{Turner}
 use Rattle.pages_turner.specs.turning.Turning.{turner_fault, after_turn}
 use Rattle.ledger.specs.declared.Bench.{Bench}
-use Rattle.ledger.specs.Ledger.{turn, plain_answer}
+use Rattle.ledger.specs.declared.CallResult.{CallResult}
+use Rattle.ledger.specs.Ledger.{turn, call_told, plain_answer}
 use Rattle.ledger.specs.Bench.{Answers, bench_of}
 use Rattle.bench.specs.Changes.{open_at, turn_reply, Opens}
 use Rattle.bench.proofs.Moves.{open-same, turn-answers}
+use Rattle.log_forms.specs.declared.Printer.{Printer}
 use Rattle.log_forms.specs.Printed.{Printed}
+use Rattle.log_forms.proofs.Printing.{printed-as}
 use Rattle.text_lines.specs.Lines.{first_line}
 use Rattle.text_lines.proofs.Ends.{first_taken}
 use Rattle.log_answers.specs.bench_answers.Asks.{page_text}
@@ -26,7 +29,7 @@ use Rattle.log_commands.specs.declared.Ask.TheVariants.{Text, Report, Hidden, Sc
 use Rattle.log_commands.specs.declared.Command.{Command}
 use Rattle.log_commands.specs.declared.Command.TheVariants.{Lend, Propose, Call, Vote, Ask}
 use Rattle.log_commands.specs.Grammar.{command_read}
-use Rattle.log_lent.specs.declared.Lending.{Lending}
+use Rattle.log_session.specs.declared.Session.{Session}
 use Rattle.log_session.specs.Desk.{Desk, make, ledger_of, bench_in, replied}
 use Rattle.log_session.specs.Requests.{request_of}
 use Rattle.log_session.specs.calls.Lines.{Holds, outcome_text}
@@ -36,7 +39,7 @@ use Rattle.log_run.specs.declared.PageLine.{PageLine}
 use Rattle.log_run.specs.declared.PageLine.TheVariants.{Turn, Question}
 use Rattle.log_run.specs.Branches.{paging_of}
 use Rattle.log_run.specs.Effects.{effect}
-use Rattle.log_run.specs.Running.{Running}
+use Rattle.log_run.specs.Running.{opened, Running}
 use Rattle.log_run.proofs.Performed.{Performed, call-performed, ask-performed}
 use Rattle.log_run.proofs.Running.{running-next}
 
@@ -83,24 +86,30 @@ turn-replied : (D : Desk) (bench : Bench) → bench ≡ bench_in D → {turner :
 unfolding replied Answers ledger_of bench_in
 turn-replied D bench b t pages = ap (λ (v : Turner). turn_reply bench (turner_fault v pages) (after_turn v pages)) (sym t) ∙ turn-answers bench pages D.calls b
 
-module _ (D : Desk) (line : ℕ) (command : Result Command Refusal) {bench : Bench} {lending : Lending} {edits constraints : Rows} (H : Holds D bench lending edits constraints)
-    {turner : Turner} (t : bench.turner ≡ turner) {before after : List ℕ} {at end : ℕ} where
-  pub page-performed : paging_of command ≡ Some Question → Printed (page_text turner.opened turner.last) before at after end
-      → Performed line (open_at bench turner.opened) lending edits constraints before at after end (effect D command)
+-- what a turn of the turner alone answers
+pub plain-told : (turned : Result (Unit {0}) Refusal) (answer : Result CallResult Refusal) (P : Unit {0} → CallResult → Type 0) → ((u : Unit {0}) (r : CallResult) → P u r → call_told (Ok r) ≡ plain_answer 0)
+    → MatchResult turned (λ x. IsOkAnd answer (P x)) (λ e. answer ≡ Err e) → call_told answer ≡ plain_answer (number_of turned)
+plain-told (Ok u) (Ok r) P f h = f u r h
+plain-told (Ok u) (Err refusal) P f h = absurd h
+plain-told (Err refusal) answer P f h = ap call_told h
+
+module _ (D : Desk) (command : Result Command Refusal) {session : Session} (H : Holds D session) {turner : Turner} (t : session.bench.turner ≡ turner) {before after : Printer} where
+  pub page-performed : paging_of command ≡ Some Question → Printed (page_text turner.opened turner.last) before after
+      → Performed (opened session turner.opened) before after (effect D command)
   unfolding ask_text
   page-performed p q =
       let x : page_text turner.opened turner.last ≡ ask_text Page D =
       ap (λ (u : Turner). page_text u.opened u.last) (sym t ∙ ap (λ (b : Bench). b.turner) H.benched) in
-      rw (sym (open-again D H.benched t)) (ask-performed D line Page (paging-line command p) H (rw x at q))
+      rw (sym (open-again D H.benched t)) (ask-performed D Page (paging-line command p) H (printed-as x q))
 
   pub turn-performed : (pages : ℤ) → paging_of command ≡ Some (Turn pages) → {by : ℤ} → by ≡ pages → {call : Calls} → call ≡ TurnPages pages
-      → Printed (outcome_text call (plain_answer (turner_fault turner by)) (after_turn turner by) line) before at after end
-      → Performed line (open_at bench (after_turn turner by).opened) lending edits constraints before at after end (effect D command)
+      → Printed (outcome_text call (plain_answer (turner_fault turner by)) (after_turn turner by) before.line) before after
+      → Performed (opened session (after_turn turner by).opened) before after (effect D command)
   unfolding turn_reply open_at request_of
   turn-performed pages p {by} b {call} k w =
       let o = after_turn turner pages in
-      let l : o ≡ record { opened = o.opened; last = bench.turner.last } = λ i. record { opened = o.opened; last = ap (λ (v : Turner). v.last) (sym t) i } in
-      rw b (call-performed D line (TurnPages pages) (paging-line command p) (turn_reply bench (turner_fault turner pages) o) (turn-replied D bench H.benched t pages) (rw (b, k, l) at w) H)
+      let l : o ≡ record { opened = o.opened; last = session.bench.turner.last } = λ i. record { opened = o.opened; last = ap (λ (v : Turner). v.last) (sym t) i } in
+      rw b (call-performed D (TurnPages pages) (paging-line command p) (turn_reply session.bench (turner_fault turner pages) o) (turn-replied D session.bench H.benched t pages) (rw (b, k, l) at w) H.kept)
 
 -- the line that starts at a place, as it is read
 read_first : (log : List ℕ) (from : ℕ) {end : ℕ} → end ≡ from + length (first_line (drop from log)) → {command : Result Command Refusal} → command ≡ command_read (take (end - from) (drop from log))
@@ -122,35 +131,31 @@ stopped-after log {start} {from} h p e o n =
     (λ m. omega arith)
 
 -- a run of lines whose bench is opened at another page
-module _ (log : List ℕ) (D : Desk) (count : ℕ) (before : List ℕ) (start : ℕ) {from : ℕ} {bench : Bench} {lending : Lending} {edits constraints : Rows} {n : ℕ} {out : List ℕ} {at limit : ℕ}
-    (R : Running log D count before start from bench lending edits constraints n out at limit) where
-  pub running-as : {b : Bench} → bench ≡ b → Running log D count before start from b lending edits constraints n out at limit
+module _ (log : List ℕ) (D : Desk) (before : Printer) {from : ℕ} {session : Session} {now : Printer} {limit : ℕ} (R : Running log D before from session now limit) where
+  pub running-as : {b : Bench} → session.bench ≡ b → Running log D before from (record { bench = b; lending = session.lending }) now limit
   running-as e = rw e at R
 
-  pub running-open : {turner : Turner} → bench.turner ≡ turner → Running log D count before start from (open_at bench turner.opened) lending edits constraints n out at limit
+  pub running-open : {turner : Turner} → session.bench.turner ≡ turner → Running log D before from (opened session turner.opened) now limit
   running-open t = running-as (open-again R.run.desk R.held.benched t)
 
 -- the bench opened where the lines have come to
-pub opened-there : (log : List ℕ) (D : Desk) (count : ℕ) (before : List ℕ) (start : ℕ) {from to : ℕ} {bench b : Bench} {lending : Lending} {edits constraints : Rows} {n m : ℕ} {out after : List ℕ} {at end limit : ℕ} (page : ℕ)
-    → Running log D count before start from bench lending edits constraints n out at limit
-    → Running log D count before start to (open_at bench page) lending edits constraints m after end limit → Opens bench page b
-    → Running log D count before start to b lending edits constraints m after end limit
+pub opened-there : (log : List ℕ) (D : Desk) (before : Printer) {from to : ℕ} {session : Session} {b : Bench} {now after : Printer} {limit : ℕ} (page : ℕ)
+    → Running log D before from session now limit → Running log D before to (opened session page) after limit → Opens session.bench page b
+    → Running log D before to (record { bench = b; lending = session.lending }) after limit
 unfolding Opens open_at bench_in ledger_of bench_of
-opened-there log D count before start {bench = bench} page R S o =
-    running-as log D count before start S (sym (o R.run.desk.calls R.held.benched (within S.run.desk S.held.benched)))
+opened-there log D before {session = session} page R S o =
+    running-as log D before S (sym (o R.run.desk.calls R.held.benched (within S.run.desk S.held.benched)))
   where
-    within : (E : Desk) → open_at bench page ≡ bench_in E → page ≤ bench.turner.last
+    within : (E : Desk) → open_at session.bench page ≡ bench_in E → page ≤ session.bench.turner.last
     within E e = omega (arith, ap (λ (b : Bench). b.turner.opened) e, ap (λ (b : Bench). b.turner.last) e, (ledger-valid E).opened-within)
 
 -- one such line more
-module _ (log : List ℕ) (D : Desk) (count : ℕ) (before : List ℕ) (start : ℕ) {from : ℕ} (bench : Bench) {lending : Lending} {edits constraints : Rows} {n : ℕ} {out : List ℕ} {at limit : ℕ} (held : Turner)
-    (R : Running log D count before start from (open_at bench held.opened) lending edits constraints n out at limit) (l : bench.turner.last ≡ held.last) where
-  pub paged-next : (h : from < length log) → at ≤ limit → {end : ℕ} → end ≡ from + length (first_line (drop from log)) → {m : ℕ} → m ≡ suc n → {command : Result Command Refusal} → command ≡ command_read (take (end - from) (drop from log))
-      → {after : List ℕ} {place : ℕ} (page : ℕ)
-      → ((E : Desk) (b : Bench) (lending : Lending) (edits constraints : Rows) → Holds E b lending edits constraints → b.turner ≡ held
-      → Performed m (open_at b page) lending edits constraints out at after place (effect E command))
-      → Running log D count before start end (open_at bench page) lending edits constraints m after place limit
+module _ (log : List ℕ) (D : Desk) (before : Printer) {from : ℕ} (session : Session) {now : Printer} {limit : ℕ} (held : Turner)
+    (R : Running log D before from (opened session held.opened) now limit) (l : session.bench.turner.last ≡ held.last) where
+  pub paged-next : (h : from < length log) → now.at ≤ limit → {end : ℕ} → end ≡ from + length (first_line (drop from log)) → {n : ℕ} → n ≡ suc now.line → {command : Result Command Refusal} → command ≡ command_read (take (end - from) (drop from log))
+      → {after : Printer} (page : ℕ)
+      → ((E : Desk) (s : Session) → Holds E s → s.bench.turner ≡ held → Performed (opened s page) (record now { line = n }) after (effect E command))
+      → Running log D before end (opened session page) after limit
   unfolding open_at
   paged-next h below e q o page f =
-      running-next log D count before start R h below e q o
-      (λ E G. f E (open_at bench held.opened) lending edits constraints G (λ i. record { opened = held.opened; last = l i }))
+      running-next log D before R h below e q o (λ E G. f E (opened session held.opened) G (λ i. record { opened = held.opened; last = l i }))

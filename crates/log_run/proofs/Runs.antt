@@ -6,11 +6,9 @@ use native.Mathlib.Omega.{arith}
 use lib.ListN.{length}
 use Rattle.ledger.specs.Ledger.{start, fed}
 use Rattle.ledger.specs.Bench.{bench_of}
-use Rattle.ledger.specs.declared.Bench.{Bench}
-use Rattle.record_rows.specs.grounds.Ground.{Rows}
-use Rattle.log_lent.specs.declared.Lending.{Lending}
 use Rattle.log_lent.specs.Lent.{nothing_lent}
 use Rattle.log_lent.specs.Kept.{Kept}
+use Rattle.log_session.specs.declared.Session.{Session}
 use Rattle.log_session.specs.Desk.{empty_desk, ledger_of, bench_in, printed_of}
 use Rattle.log_session.specs.calls.Lines.{Holds}
 use Rattle.log_forms.specs.Printed.{Texts}
@@ -24,7 +22,7 @@ run-count r [] = omega arith
 run-count r (x ∷ l) = let h = run-count (run_line r x) l in omega arith
 
 -- nothing is lent yet on an empty bench
-pub empty_holds : {bench : Bench} {lending : Lending} {edits constraints : Rows} → bench ≡ bench_of start → Kept nothing_lent lending edits constraints → Holds empty_desk bench lending edits constraints
+pub empty_holds : {session : Session} → session.bench ≡ bench_of start → Kept nothing_lent session.lending → Holds empty_desk session
 unfolding empty_desk bench_in ledger_of fed
 empty_holds b k = record { benched = b; kept = k }
 

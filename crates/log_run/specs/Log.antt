@@ -1,9 +1,8 @@
 -- The run of a call log, line by line, and what is printed. Assumes nothing.
 use Rattle.std.specs.Prelude.{cond, List, [], ◌∷◌, ◌++◌, ℕ, suc, eqb}
 use Rattle.text_lines.specs.Lines.{lines}
-use Rattle.ledger.specs.declared.Outcome.{Outcome}
 use Rattle.ledger.specs.Ledger.{Ledger, Call, judge, step}
-use Rattle.ledger.specs.Bench.{outcome}
+use Rattle.ledger.specs.Bench.{Outcome, outcome}
 use Rattle.log_forms.specs.Printed.{Texts}
 use Rattle.log_commands.specs.Grammar.{command_read}
 use Rattle.log_session.specs.Desk.{Desk, empty_desk, printed_of}

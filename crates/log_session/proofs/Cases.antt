@@ -1,26 +1,21 @@
 -- What a line comes to, by its command. Assumes nothing.
-use mathlib.Core.Path.{◌≡◌, refl, ap, ◌∙◌}
+use mathlib.Core.Path.{◌≡◌, ap, ◌∙◌}
 use mathlib.Core.Bool.{true, false}
 use Prim.Native.Nat.{ℕ, ◌<◌}
 use native.Mathlib.Omega.{arith}
 use lib.Dec.{ltb}
 use borrow.Author.Tests.{lt-ltb, le-ltb}
+use Rattle.record.specs.declared.Record as declared
 use Rattle.record.specs.Stored.{stored}
 use Rattle.lists.proofs.Lists.{le-by}
-use Rattle.record_rows.specs.grounds.Ground.{Rows}
 use Rattle.ledger.specs.declared.Bench.{Bench}
-use Rattle.ledger.specs.declared.Outcome.{Outcome}
 use Rattle.ledger.specs.Ledger.{Call, merge, start}
-use Rattle.ledger.specs.Bench.{Answers, bench_of}
+use Rattle.ledger.specs.Bench.{Outcome, Answers, bench_of}
 use Rattle.ledger.proofs.Valid.{Valid, start-valid, fed-valid}
 use Rattle.bench.specs.Changes.{refused_with}
-use Rattle.log_commands.specs.declared.Lend.{Lend}
 use Rattle.log_commands.specs.declared.Call.{Call as Calls}
 use Rattle.log_commands.specs.declared.Call.TheVariants.{Merge}
-use Rattle.log_lent.specs.declared.Lending.{Lending}
-use Rattle.log_lent.specs.Kept.{Kept}
 use Rattle.log_session.specs.Desk.{Desk, outside, make, ledger_of, bench_in, replied}
-use Rattle.log_session.specs.Lends.{lend_effect}
 use Rattle.log_session.specs.Requests.{request_of}
 
 -- the ledger that calls left
@@ -28,18 +23,16 @@ pub ledger-valid : (D : Desk) → Valid (ledger_of D)
 unfolding ledger_of
 ledger-valid D = fed-valid start D.calls start-valid
 
-pub multilog-is : (D : Desk) → (bench_in D).multilog ≡ stored (ledger_of D).multilog
+-- its record, in the bench in memory
+pub multilog-stored : (D : Desk) {multilog : declared.Record} → multilog ≡ (bench_in D).multilog → multilog ≡ stored (ledger_of D).multilog
 unfolding bench_in bench_of
-multilog-is D = refl
+multilog-stored D e = e
 
--- what is lent after a line, of the line that it is
-pub lent-as : (D : Desk) {lend line : Lend} {number : ℕ} {lending : Lending} {edits constraints : Rows} → lend ≡ line
-    → (number ≡ (lend_effect D line).number) × Kept (lend_effect D line).after.lent lending edits constraints
-    → (number ≡ (lend_effect D lend).number) × Kept (lend_effect D lend).after.lent lending edits constraints
-lent-as D e p = rw e p
+pub bench-stored : (D : Desk) {bench : Bench} → bench ≡ bench_in D → bench.multilog ≡ stored (ledger_of D).multilog
+bench-stored D e = multilog-stored D (ap (λ (b : Bench). b.multilog) e)
 
 -- a request, and what the code gives for it
-module _ (D : Desk) (bench : Bench) (r : Outcome) (b : bench ≡ bench_in D) where
+module _ (D : Desk) {bench : Bench} {r : Outcome} (b : bench ≡ bench_in D) where
   reply-outside : r ≡ refused_with bench 2 → r ≡ replied D outside
   unfolding replied
   reply-outside q = q ∙ ap (λ (x : Bench). refused_with x 2) b

@@ -1,12 +1,11 @@
 -- A desk: one bench, and what the lines of a call log have lent. Assumes nothing.
-use Rattle.std.specs.Prelude.{List, [], ◌∷◌, ◌++◌, ℕ}
+use Rattle.std.specs.Prelude.{List, [], ◌∷◌, ◌++◌, ℕ, Result, Ok, Err}
+use Rattle.refusals.specs.declared.Refusal.{Refusal}
 use Rattle.log_forms.specs.Printed.{Texts}
 use Rattle.log_answers.specs.Answers.{answered_text}
-use Rattle.ledger.specs.declared.Answer.{Answer}
 use Rattle.ledger.specs.declared.Bench.{Bench}
-use Rattle.ledger.specs.Ledger.{Ledger, Call, start, fed, step}
-use Rattle.ledger.specs.declared.Outcome.{Outcome}
-use Rattle.ledger.specs.Bench.{bench_of, outcome}
+use Rattle.ledger.specs.Ledger.{CallAnswer, Ledger, Call, start, fed, step}
+use Rattle.ledger.specs.Bench.{Outcome, bench_of, outcome}
 use Rattle.bench.specs.Changes.{refused_with}
 use Rattle.log_lent.specs.Lent.{Lent, nothing_lent}
 
@@ -44,7 +43,7 @@ pub data Request : Type 0 where
   outside : Request
   make : Call → Request
 
-unfoldable pub requested : Desk → (Answer → Ledger → Texts) → Request → Effect
+unfoldable pub requested : Desk → (CallAnswer → Ledger → Texts) → Request → Effect
 requested D text outside = tells D 2 []
 requested D text (make call) =
     let reply = step (ledger_of D) call in
@@ -62,3 +61,8 @@ replied D (make call) = outcome (step (ledger_of D) call)
 -- what is printed of a line: its answer, or its refusal with the line's number
 unfoldable pub printed_of : Effect → ℕ → Texts
 printed_of e line = answered_text e.number e.text line
+
+-- what is printed of a line that is accepted; its refusal follows
+abbrev pub accepted_text : {A : Type 0} → Result A Refusal → Texts → Texts
+accepted_text (Ok x) text = text
+accepted_text (Err refusal) text = []

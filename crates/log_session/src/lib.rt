@@ -6,88 +6,77 @@ pub mod questions;
 pub mod votes;
 pub mod winners;
 
-ghost use Rattle.std.specs.Prelude.{◌≡◌};
+ghost use Rattle.std.specs.Prelude.{◌≡◌, []};
 ghost use Rattle.refusals.specs.Numbers.{number_of};
+ghost use Rattle.ledger.specs.Bench.{told_outcome};
+ghost use Rattle.log_forms.specs.Printed.{Printed};
+ghost use Rattle.log_answers.specs.Answers.{answered_text};
 ghost use Rattle.log_lent.specs.Kept.{Kept};
-ghost use Rattle.log_session.specs.Desk.{Desk, bench_in, replied};
-ghost use Rattle.log_session.specs.Lends.{edit_cells_row, constraint_cells_row, lend_effect};
+ghost use Rattle.log_session.specs.Desk.{Desk, replied};
+ghost use Rattle.log_session.specs.Lends.{lend_effect};
 ghost use Rattle.log_session.specs.Requests.{request_of};
+ghost use Rattle.log_session.specs.calls.Lines.{Holds};
 
 use bench_edits::visibility;
-use ledger::{Bench, Outcome};
-use log_commands::{Call, ConstraintCells, EditCells, Lend};
+use ledger::{Bench, CallResult};
+use log_commands::{Call, Lend};
+use log_forms::Printer;
 use log_lent::{Lending, lent_calls};
-use record_rows::row::{ConstraintRow, EditRow};
 use refusals::Refusal;
 
-// Kept: neither the cells nor the rows are types of this crate, so that no `From` for them can stand here.
-fn edit_row(cells: EditCells) -> EditRow
-    ensures { result ≡ edit_cells_row cells }
-{
-    [
-        cells.name,
-        cells.kind,
-        cells.place,
-        cells.field,
-        cells.value,
-    ]
-}
-
-fn constraint_row(cells: ConstraintCells) -> ConstraintRow
-    ensures { result ≡ constraint_cells_row cells }
-{
-    [cells.left, cells.rule, cells.right]
+// Kept: "Holds D", for the same reason as what is lent: the desk's calls are not to be had from the session.
+// One bench, and what is lent.
+#[derive(Drop)]
+pub struct Session {
+    pub bench: Bench,
+    pub lending: Lending,
 }
 
 // A line that lends.
-pub fn lend_line(
-    lending: &mut Lending,
-    edits: &mut [EditRow],
-    constraints: &mut [ConstraintRow],
-    bench: &Bench,
-    lend: Lend,
-) -> Result<(), Refusal>
-    ensures { (D : Desk) → Kept D.lent lending.old edits.old constraints.old → bench.now ≡ bench_in D
-        → (number_of result ≡ (lend_effect D lend).number) × Kept (lend_effect D lend).after.lent lending.new edits.new constraints.new }
+pub fn lend_line(session: &mut Session, lend: Lend) -> Result<(), Refusal>
+    ensures { (D : Desk) → Holds D session.old → (number_of result ≡ (lend_effect D lend).number) × Holds (lend_effect D lend).after session.new }
 {
     match lend {
-        Lend::EditRow(k, cells) => lending.lend_edit(edits, k, edit_row(cells)),
-        Lend::ConstraintRow(k, cells) => {
-            lending.lend_constraint(constraints, k, constraint_row(cells))
-        }
-        Lend::NoRows(k) => lending.lend_record(edits, constraints, k, record::empty()),
-        Lend::BenchRows(k) => lending.lend_record(edits, constraints, k, bench.multilog),
-        Lend::RollRow(seat, weight) => lending.lend_seat(seat, weight),
+        Lend::EditRow(k, cells) => session.lending.lend_edit(k, cells.into()),
+        Lend::ConstraintRow(k, cells) => session.lending.lend_constraint(k, cells.into()),
+        Lend::NoRows(k) => session.lending.lend_record(k, record::empty()),
+        Lend::BenchRows(k) => session.lending.lend_record(k, session.bench.multilog),
+        Lend::RollRow(seat, weight) => session.lending.lend_seat(seat, weight),
         Lend::NoRoll => {
-            lending.lend_no_roll();
+            session.lending.lend_no_roll();
             Ok(())
         }
-        Lend::RowName(name) => lending.lend_name(name),
+        Lend::RowName(name) => session.lending.lend_name(name),
         Lend::NoRow => {
-            lending.lend_no_row();
+            session.lending.lend_no_row();
             Ok(())
         }
     }
 }
 
-// A call on the bench.
-pub fn make_call(
-    bench: Bench,
-    lending: &Lending,
-    edits: &[EditRow],
-    constraints: &[ConstraintRow],
-    call: Call,
-) -> Outcome
-    ensures { (D : Desk) → bench ≡ bench_in D → Kept D.lent lending.now edits.now constraints.now
-        → result ≡ replied D (request_of D call) }
+// A call on the bench. What is lent stays.
+pub fn make_call(session: &mut Session, call: Call) -> Result<CallResult, Refusal>
+    ensures { (D : Desk) → Holds D session.old
+        → (told_outcome result session.new.bench ≡ replied D (request_of D call)) × Kept D.lent session.new.lending }
 {
+    let bench = &mut session.bench;
+    let lending = &session.lending;
     match call {
-        Call::AddEdit(cells) => bench_edits::add_edit(bench, edit_row(cells)),
-        Call::AddConstraint(cells) => bench_edits::add_constraint(bench, constraint_row(cells)),
-        Call::Merge(k) => lent_calls::merge_lent(bench, lending, edits, constraints, k),
+        Call::AddEdit(cells) => bench_edits::add_edit(bench, cells.into()),
+        Call::AddConstraint(cells) => bench_edits::add_constraint(bench, cells.into()),
+        Call::Merge(k) => lent_calls::merge_lent(bench, lending, k),
         Call::Hide(edit) => visibility::hide(bench, edit),
         Call::Show(edit) => visibility::show(bench, edit),
         Call::Turn(pages) => bench::turn(bench, pages),
-        Call::Adopt(edit) => lent_calls::adopt_lent(bench, lending, edits, constraints, edit),
+        Call::Adopt(edit) => lent_calls::adopt_lent(bench, lending, edit),
+    }
+}
+
+// A refusal, if there is one.
+fn print_refused(printer: &mut Printer<'_>, told: Result<(), Refusal>)
+    ensures { Printed (answered_text (number_of told) [] printer.old.line) printer.old printer.new }
+{
+    if let Err(refusal) = told {
+        log_answers::print_refusal(printer, refusal);
     }
 }

@@ -7,18 +7,20 @@ ghost use Rattle.log_session.specs.questions.Questions.{ask_text};
 use ledger::Bench;
 use log_answers::bench_answers;
 use log_commands::Ask;
+use log_forms::Printer;
 
+// Kept: `bench`, `printer`: as in `log_answers::bench_answers`.
 // What a question prints.
-pub fn print_ask(bench: &Bench, ask: Ask, out: &mut [u8], at: usize) -> usize
-    ensures { (D : Desk) → bench.now ≡ bench_in D → Printed (ask_text ask D) out.old at out.new result }
+pub fn print_ask(printer: &mut Printer<'_>, bench: &Bench, ask: Ask)
+    ensures { (D : Desk) → bench.now ≡ bench_in D → Printed (ask_text ask D) printer.old printer.new }
 {
     match ask {
-        Ask::Text => log_answers::print_record(out, at, bench.multilog),
-        Ask::Report => log_answers::print_report(out, at, bench.multilog),
-        Ask::Hidden => bench_answers::print_hidden(out, at, *bench),
-        Ask::Schedule => bench_answers::print_schedule(out, at, *bench),
-        Ask::Catalogue => bench_answers::print_catalogue(out, at, *bench),
-        Ask::Journal => bench_answers::print_journal(out, at, *bench),
-        Ask::Page => bench_answers::print_page(out, at, bench.turner),
+        Ask::Text => log_answers::print_record(printer, &bench.multilog),
+        Ask::Report => log_answers::print_report(printer, &bench.multilog),
+        Ask::Hidden => bench_answers::print_hidden(printer, bench),
+        Ask::Schedule => bench_answers::print_schedule(printer, bench),
+        Ask::Catalogue => bench_answers::print_catalogue(printer, bench),
+        Ask::Journal => bench_answers::print_journal(printer, bench),
+        Ask::Page => bench_answers::print_page(printer, bench.turner),
     }
 }

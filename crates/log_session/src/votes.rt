@@ -1,35 +1,31 @@
 // The lines of a call log about votes, proposals, suggestions and the test of a row: what each prints.
-ghost use Rattle.std.specs.Prelude.{◌≡◌, Bool, ℕ};
-ghost use Rattle.refusals.specs.Numbers.{Gives};
-ghost use Rattle.suggestions.specs.declared.Suggested.{Suggested};
-ghost use Rattle.text_lines.specs.Line.{rule_form};
-ghost use Rattle.record.specs.Record as theory;
-ghost use Rattle.record.specs.Stored.{stored};
+ghost use Rattle.std.specs.Prelude.{◌≡◌, List, Ok, is_some};
+ghost use Rattle.refusals.specs.Numbers.{number_of};
+ghost use Rattle.voting.specs.declared.RollRow.{RollRow};
+ghost use Rattle.voting.specs.Tally.{election_told};
+ghost use Rattle.voting_bundles.specs.Bundles.{bundle_told};
+ghost use Rattle.voting_roll.specs.Election.{Proposals};
+ghost use Rattle.voting_count.specs.Count.{count_of, count_told};
 ghost use Rattle.log_forms.specs.Printed.{Printed};
 ghost use Rattle.log_lent.specs.Kept.{Kept};
-ghost use Rattle.log_session.specs.Desk.{Desk, bench_in, printed_of};
-ghost use Rattle.log_answers.specs.Answers.{answered_text, record_text};
-ghost use Rattle.log_session.specs.votes.Votes.{election_line, bundle_text, rule_line, suggestion_text, test_line, proposal_effect, vote_effect};
+ghost use Rattle.log_session.specs.Desk.{Desk, bench_in, printed_of, accepted_text};
+ghost use Rattle.log_session.specs.votes.Votes.{election_line, bundle_text, rule_line, suggestion_text, test_line, winner_text, proposal_effect, vote_effect};
 
-use crate::winners;
+use crate::{Session, winners};
 use log_commands::{Proposing, Vote};
-use log_lent::{Lending, lent_calls, lent_proposals};
-use record::Record;
-use record_rows::row::{ConstraintRow, EditRow};
+use log_forms::Printer;
+use log_lent::{lent_calls, lent_proposals};
+use record_rows::row::ConstraintRow;
 use refusals::Refusal;
 use suggestions::Suggested;
-use voting::Election;
-use voting_bundles::BundleAnswer;
+use voting::ElectionResult;
+use voting_bundles::Bundled;
+use voting_count::Counted;
 
-pub fn print_election(election: Election, line: usize, out: &mut [u8], at: usize) -> usize
-    ensures { Printed (answered_text election.number (election_line election) line) out.old at out.new result }
+fn print_election(printer: &mut Printer<'_>, election: ElectionResult)
+    ensures { Printed (election_line (election_told (Ok election))) printer.old printer.new }
 {
-    if election.number != 0 {
-        return log_answers::print_refusal(election.number, line, out, at);
-    }
-    log_forms::print(
-        out,
-        at,
+    printer.print(
         b"won=? greatest=# silent=# total=#\n",
         &[
             u64::from(election.won),
@@ -37,178 +33,135 @@ pub fn print_election(election: Election, line: usize, out: &mut [u8], at: usize
             u64::from(election.silent),
             u64::from(election.total),
         ],
-    )
+    );
 }
 
-fn print_bundle(answer: BundleAnswer, line: usize, out: &mut [u8], at: usize) -> usize
-    ensures { Printed (answered_text answer.number (bundle_text answer) line) out.old at out.new result }
+fn print_bundle(printer: &mut Printer<'_>, small: &Bundled)
+    ensures { Printed (bundle_text (bundle_told (Ok small.now))) printer.old printer.new }
 {
-    if answer.number != 0 {
-        return log_answers::print_refusal(answer.number, line, out, at);
-    }
-    let small = answer.bundle;
-    let head = log_forms::print(
-        out,
-        at,
+    printer.print(
         b"eligible=? edits=# rules=#\n",
         &[
-            u64::from(answer.eligible),
-            small.editcount as u64,
-            small.constraintcount as u64,
+            u64::from(small.eligible),
+            small.bundle.editcount as u64,
+            small.bundle.constraintcount as u64,
         ],
     );
-    log_answers::print_text(out, head, small)
-}
-
-// The form of a constraint's line, by its rule.
-fn rule_form(rule: u32) -> &'static [u8]
-    ensures { result.now ≡ rule_form rule }
-{
-    match rule {
-        0 => b"left=@ rule=notafter right=@\n",
-        1 => b"left=@ rule=enables right=@\n",
-        _ => b"left=@ rule=noncommuting right=@\n",
-    }
+    log_answers::print_text(printer, &small.bundle);
 }
 
 // The line of a suggested constraint.
-fn print_rule(row: ConstraintRow, out: &mut [u8], at: usize) -> usize
-    ensures { Printed (rule_line row) out.old at out.new result }
+fn print_rule(printer: &mut Printer<'_>, row: ConstraintRow)
+    ensures { Printed (rule_line row) printer.old printer.new }
 {
-    let form = rule_form(row[1]);
-    log_forms::print(out, at, form, &[u64::from(row[0]), u64::from(row[2])])
+    let form = text_lines::rule_form(row[1]);
+    printer.print(form, &[u64::from(row[0]), u64::from(row[2])]);
 }
 
-fn print_rules(suggested: Suggested, out: &mut [u8], at: usize) -> usize
-    ensures { Printed (suggestion_text suggested) out.old at out.new result }
+fn print_rules(printer: &mut Printer<'_>, suggested: Suggested)
+    ensures { Printed (suggestion_text suggested) printer.old printer.new }
 {
     match suggested {
-        Suggested::Nothing => log_forms::print(out, at, b"rules=#\n", &[0]),
+        Suggested::Nothing => printer.print(b"rules=#\n", &[0]),
         Suggested::One(row) => {
-            let head = log_forms::print(out, at, b"rules=#\n", &[1]);
-            print_rule(row, out, head)
+            printer.print(b"rules=#\n", &[1]);
+            print_rule(printer, row);
         }
         Suggested::Two(row, next) => {
-            let head = log_forms::print(out, at, b"rules=#\n", &[2]);
-            let middle = print_rule(row, out, head);
-            print_rule(next, out, middle)
+            printer.print(b"rules=#\n", &[2]);
+            print_rule(printer, row);
+            print_rule(printer, next);
         }
     }
 }
 
-fn print_suggestion(
-    answer: Result<Suggested, Refusal>,
-    line: usize,
-    out: &mut [u8],
-    at: usize,
-) -> usize
-    ensures { (number : ℕ) (suggested : Suggested) → Gives number suggested answer
-        → Printed (answered_text number (suggestion_text suggested) line) out.old at out.new result }
+fn print_test(printer: &mut Printer<'_>, sound: bool)
+    ensures { Printed (test_line sound) printer.old printer.new }
 {
-    match answer {
-        Ok(suggested) => print_rules(suggested, out, at),
-        Err(refusal) => log_answers::print_refusal(refusal.number(), line, out, at),
+    printer.print(b"sound=?\n", &[u64::from(sound)]);
+}
+
+// The election's answer; of one that is won the bundle.
+fn print_winner(printer: &mut Printer<'_>, edit: u32, counted: &Counted)
+    ensures { (P : Proposals) (roll : List RollRow) → count_told (Ok counted.now) ≡ count_of edit P roll → counted.now.election.won ≡ is_some counted.now.bundle
+        → Printed (winner_text edit (count_told (Ok counted.now))) printer.old printer.new }
+{
+    print_election(printer, counted.election);
+    if let Some(bundle) = &counted.bundle {
+        winners::print_won(printer, edit, bundle);
     }
 }
 
-fn print_test(answer: Result<bool, Refusal>, line: usize, out: &mut [u8], at: usize) -> usize
-    ensures { (number : ℕ) (sound : Bool) → Gives number sound answer → Printed (answered_text number (test_line sound) line) out.old at out.new result }
+// Prints what an accepted line about votes answers.
+fn answer_vote(printer: &mut Printer<'_>, session: &Session, vote: Vote) -> Result<(), Refusal>
+    ensures { (D : Desk) → Kept D.lent session.now.lending → session.now.bench.multilog ≡ (bench_in D).multilog
+        → (number_of result ≡ (vote_effect D vote).number) × Printed (accepted_text result (vote_effect D vote).text) printer.old printer.new }
 {
-    match answer {
-        Ok(sound) => log_forms::print(out, at, b"sound=?\n", &[u64::from(sound)]),
-        Err(refusal) => log_answers::print_refusal(refusal.number(), line, out, at),
-    }
-}
-
-// What a line about votes prints.
-pub fn print_vote(
-    lending: &Lending,
-    edits: &[EditRow],
-    constraints: &[ConstraintRow],
-    multilog: &Record,
-    vote: Vote,
-    line: usize,
-    out: &mut [u8],
-    at: usize,
-) -> usize
-    ensures { (D : Desk) → Kept D.lent lending.now edits.now constraints.now → multilog.now ≡ (bench_in D).multilog
-        → Printed (printed_of (vote_effect D vote) line) out.old at out.new result }
-{
+    let lending = &session.lending;
     match vote {
-        Vote::Elect(edit) => print_election(
-            lent_calls::elect_lent(lending, edits, constraints, edit),
-            line,
-            out,
-            at,
-        ),
-        Vote::Bundle(edit, k) => print_bundle(
-            lent_calls::bundle_lent(lending, edits, constraints, k, edit),
-            line,
-            out,
-            at,
-        ),
-        Vote::Suggest(asked) => print_suggestion(
-            lent_calls::suggest_named(multilog, asked.first, asked.second, asked.case),
-            line,
-            out,
-            at,
-        ),
-        Vote::Test(k) => print_test(
-            lent_calls::test_lent(lending, edits, constraints, k),
-            line,
-            out,
-            at,
-        ),
-        Vote::Winner(edit) => winners::print_winner(
-            edit,
-            lent_calls::count_lent(lending, edits, constraints, edit),
-            line,
-            out,
-            at,
-        ),
+        Vote::Elect(edit) => print_election(printer, lent_calls::elect_lent(lending, edit)?),
+        Vote::Bundle(edit, k) => print_bundle(printer, &lent_calls::bundle_lent(lending, k, edit)?),
+        Vote::Suggest(asked) => {
+            let multilog = &session.bench.multilog;
+            let suggested = lent_calls::suggest_named(
+                multilog,
+                asked.first,
+                asked.second,
+                asked.case,
+            )?;
+            print_rules(printer, suggested);
+        }
+        Vote::Test(k) => print_test(printer, lent_calls::test_lent(lending, k)?),
+        Vote::Winner(edit) => print_winner(printer, edit, &lent_calls::count_lent(lending, edit)?),
     }
+    Ok(())
 }
 
-// A new proposal, or why there is none.
-fn print_made(made: Result<Record, Refusal>, line: usize, out: &mut [u8], at: usize) -> usize
-    ensures { (number : ℕ) (P : theory.Record) → Gives number (stored P) made
-        → Printed (answered_text number (record_text (stored P)) line) out.old at out.new result }
+// Kept: two calls, as for a proposal: one is lent the session, the other changes it, so that one closure's bound does not serve both.
+// What a line about votes prints.
+pub fn print_vote(printer: &mut Printer<'_>, session: &Session, vote: Vote)
+    ensures { (D : Desk) → Kept D.lent session.now.lending → session.now.bench.multilog ≡ (bench_in D).multilog
+        → Printed (printed_of (vote_effect D vote) printer.old.line) printer.old printer.new }
 {
-    match made {
-        Ok(new) => log_answers::print_record(out, at, new),
-        Err(refusal) => log_answers::print_refusal(refusal.number(), line, out, at),
-    }
+    let told = answer_vote(printer, session, vote);
+    crate::print_refused(printer, told);
 }
 
 // Makes a proposal from what is lent and prints it; kept, it takes the place of the old one.
-pub fn print_proposal(
-    lending: &mut Lending,
-    edits: &mut [EditRow],
-    constraints: &mut [ConstraintRow],
+fn answer_proposal(
+    printer: &mut Printer<'_>,
+    session: &mut Session,
     asked: Proposing,
-    line: usize,
-    out: &mut [u8],
-    at: usize,
-) -> usize
-    ensures { (D : Desk) → Kept D.lent lending.old edits.old constraints.old
-        → Kept (proposal_effect D asked).after.lent lending.new edits.new constraints.new
-        × Printed (printed_of (proposal_effect D asked) line) out.old at out.new result }
+) -> Result<(), Refusal>
+    ensures told { (D : Desk) → Kept D.lent session.old.lending
+        → Kept (proposal_effect D asked).after.lent session.new.lending
+        × (number_of result ≡ (proposal_effect D asked).number)
+        × Printed (accepted_text result (proposal_effect D asked).text) printer.old printer.new }
+    ensures bench { session.new.bench ≡ session.old.bench }
 {
-    let made = lent_proposals::propose_lent(
+    let lending = &mut session.lending;
+    let new = lent_proposals::propose_lent(
         lending,
-        edits,
-        constraints,
         asked.lent,
         asked.old,
         asked.edits,
         asked.rules,
-    );
-    let end = print_made(made, line, out, at);
-    let Ok(new) = made else {
-        return end;
-    };
+    )?;
+    log_answers::print_record(printer, &new);
     if asked.keep {
-        let _kept = lending.lend_record(edits, constraints, asked.old, new);
+        let _kept = lending.lend_record(asked.old, new);
     }
-    end
+    Ok(())
+}
+
+// Kept: two calls, as for a line about votes.
+// What a line that makes a proposal prints.
+pub fn print_proposal(printer: &mut Printer<'_>, session: &mut Session, asked: Proposing)
+    ensures told { (D : Desk) → Kept D.lent session.old.lending
+        → Kept (proposal_effect D asked).after.lent session.new.lending
+        × Printed (printed_of (proposal_effect D asked) printer.old.line) printer.old printer.new }
+    ensures bench { session.new.bench ≡ session.old.bench }
+{
+    let told = answer_proposal(printer, session, asked);
+    crate::print_refused(printer, told);
 }

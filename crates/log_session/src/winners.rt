@@ -1,22 +1,18 @@
 // What the election on an edit has won: whether the edit must stand in the won bundle, or can never, and the bundle.
-ghost use Rattle.std.specs.Prelude.{◌≡◌, List};
+ghost use Rattle.std.specs.Prelude.{◌≡◌};
 ghost use Rattle.lists.specs.Lists.{◌among◌};
 ghost use Rattle.record.specs.Record as theory;
 ghost use Rattle.record.specs.Stored.{stored};
 ghost use Rattle.record.specs.Judgement as theory_judgement;
 ghost use Rattle.graph.specs.indexes.Fit.{Fit};
-ghost use Rattle.voting.specs.declared.RollRow.{RollRow};
-ghost use Rattle.voting_roll.specs.Election.{Proposals};
-ghost use Rattle.voting_count.specs.Count.{count_of};
 ghost use Rattle.log_forms.specs.Printed.{Printed};
-ghost use Rattle.log_answers.specs.Answers.{answered_text};
-ghost use Rattle.log_session.specs.votes.Votes.{won_text, winner_text};
+ghost use Rattle.log_session.specs.votes.Votes.{won_text};
 
-use crate::votes;
 use graph::indexes;
+use log_forms::Printer;
 use record::Record;
-use voting_count::Counted;
 
+// Kept: two answers and no enum: the line prints both, and their clauses are the theory's two tests.
 // Whether an edit must stand, and whether it can never. Neither: it is left open.
 #[derive(Clone, Copy)]
 pub struct Verdict {
@@ -39,14 +35,12 @@ fn verdict_of(multilog: Record, edit: u32) -> Verdict
     }
 }
 
-fn print_won(edit: u32, bundle: Record, out: &mut [u8], at: usize) -> usize
-    ensures { (R : theory.Record) → bundle ≡ stored R → Fit R → edit among theory.names R
-        → Printed (won_text edit bundle) out.old at out.new result }
+// The verdict on the edit, and the bundle.
+pub fn print_won(printer: &mut Printer<'_>, edit: u32, bundle: &Record)
+    ensures { (R : theory.Record) → bundle.now ≡ stored R → Fit R → edit among theory.names R → Printed (won_text edit bundle.now) printer.old printer.new }
 {
-    let said = verdict_of(bundle, edit);
-    let head = log_forms::print(
-        out,
-        at,
+    let said = verdict_of(*bundle, edit);
+    printer.print(
         b"edit=@ must=? never=? edits=# rules=#\n",
         &[
             u64::from(edit),
@@ -56,19 +50,5 @@ fn print_won(edit: u32, bundle: Record, out: &mut [u8], at: usize) -> usize
             bundle.constraintcount as u64,
         ],
     );
-    log_answers::print_text(out, head, bundle)
-}
-
-// The election's answer or its refusal; of one that is won the bundle.
-pub fn print_winner(edit: u32, counted: Counted, line: usize, out: &mut [u8], at: usize) -> usize
-    ensures { (P : Proposals) (roll : List RollRow) → counted ≡ count_of edit P roll
-        → Printed (answered_text counted.election.number (winner_text edit counted) line) out.old at out.new result }
-{
-    let election = counted.election;
-    let bundle = counted.bundle;
-    let head = votes::print_election(election, line, out, at);
-    if !election.won {
-        return head;
-    }
-    print_won(edit, bundle, out, head)
+    log_answers::print_text(printer, bundle);
 }

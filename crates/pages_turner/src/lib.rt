@@ -15,6 +15,7 @@ pub struct Turner {
 }
 
 // The page that a turn opens, if there is one. The journal has a row for each edit of a record, so no later page is ever open.
+// Kept: document 01 has one thin function per turn over a by-value step, and this is the step.
 pub fn turn_step(opened: usize, last: usize, by: i32) -> Option<usize>
     ensures { result ≡ turn_of opened last by }
 {

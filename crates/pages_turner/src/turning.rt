@@ -15,7 +15,7 @@ pub fn turn(turner: &mut Turner, by: i32) -> Result<(), Refusal>
     Ok(())
 }
 
-// A turner by value, lent to the turn: callers of this one have no reference to a struct.
+// A turner by value, lent to the turn. Pub for `bench`, whose own turner moves with its view.
 pub fn turned(turner: Turner, by: i32) -> Result<Turner, Refusal>
     ensures { Gives (turner_fault turner by) (after_turn turner by) result }
 {

@@ -8,6 +8,7 @@ use native.Mathlib.Omega.{arith}
 use lib.ListN.{length, take, get_or, set}
 use lib.Seq.{take-suc, take-suc-set}
 use Rattle.std.specs.Prelude.{Option, Some, None, Result, Ok, Err}
+use Rattle.std.specs.Option.{ok_or}
 use Rattle.refusals.specs.declared.Refusal.{Refusal}
 use Rattle.refusals.specs.Numbers.{Gives}
 use Rattle.record.specs.declared.Record as declared
@@ -93,3 +94,12 @@ module _ (R S : Record) (k : Checked R) where
       let a : es ≡ edit_rows S = g ∙ ap edit_rows held in
       let b : cs ≡ constraint_rows S = h ∙ ap constraint_rows held in
       record-gives q (rw (a, b) at e)
+
+-- an Option that a call gives on as a Result
+pub result-some : {X : Type 0} (o : Option X) (x : X) (r : Refusal) → ◌≡◌ {A = Result X Refusal} (ok_or o r) (Ok x) → o ≡ Some x
+result-some None x r w = cc
+result-some (Some y) x r w = cc
+
+pub result-none : {X : Type 0} (o : Option X) (r q : Refusal) → ◌≡◌ {A = Result X Refusal} (ok_or o r) (Err q) → o ≡ None
+result-none None r q w = cc
+result-none (Some y) r q w = cc

@@ -1,17 +1,18 @@
 // A table of constraints in order that single rows join (document 01, "The record"): an added constraint, and the rows that making a proposal
 // adds, which come in no order of their own. Functions are pub for the crates of this workspace that add and that make proposals.
-ghost use Rattle.std.specs.Prelude.{◌≡◌, not, ◌&&◌, List, Some, ◌≤◌, ◌<◌, ltb, get_or, length};
+ghost use Rattle.std.specs.Prelude.{◌≡◌, not, ◌&&◌, List, Some, ◌≤◌, ltb, get_or, length};
 ghost use Rattle.record.specs.declared.Constraint.{Constraint};
 ghost use Rattle.record.specs.Record as theory;
 ghost use Rattle.record.specs.Stored.{stored, filler_constraint, constraint_limit};
 ghost use Rattle.lists.specs.Keyed.{precedes, Ascending, inserted};
 ghost use Rattle.record_tables.specs.Table.{constraint_key};
-ghost use Rattle.record_joining.specs.insertion.Insertion.{held_table, Place, put_at};
+ghost use Rattle.record_joining.specs.insertion.Insertion.{held_table, Place};
 
 use record::{CONSTRAINTS, Constraint, Record};
 use record_rows::element::Element;
 
 // Rows past the count hold a filler.
+// Kept: the two fields of a record, copied in and out; the library's ArrayVec is no Copy and would be filled row by row.
 #[derive(Clone, Copy)]
 pub struct Constraints {
     pub rows: [Constraint; CONSTRAINTS],
@@ -24,7 +25,7 @@ pub fn table_of(multilog: Record) -> Constraints
 {
     let rows = multilog.constraints;
     Constraints {
-        rows: rows,
+        rows,
         count: multilog.constraintcount,
     }
 }
@@ -33,35 +34,18 @@ pub fn table_of(multilog: Record) -> Constraints
 fn place(rows: &[Constraint], c: Constraint) -> usize
     ensures { (Ascending constraint_key rows.now → Place constraint_key c rows.now result) × (result ≤ length rows.now) }
 {
-    rows.partition_point(|row| Element::below(*row, c))
+    rows.partition_point(|row| row.below(c))
 }
 
 // Whether c stands at its place p.
 fn stands(rows: &[Constraint], p: usize, c: Constraint) -> bool
     ensures { result ≡ (ltb p (length rows.now) && not (precedes (constraint_key c) (constraint_key (get_or rows.now p filler_constraint)))) }
 {
-    if p < rows.len() {
-        return !Element::below(c, rows[p]);
-    }
-    false
-}
-
-fn put_at(
-    rows: [Constraint; CONSTRAINTS],
-    n: usize,
-    p: usize,
-    c: Constraint,
-) -> [Constraint; CONSTRAINTS]
-    requires { (p ≤ n) × (n < constraint_limit) }
-    ensures { result ≡ put_at n p c rows }
-{
-    let mut out = rows;
-    out.copy_within(p..n, p + 1);
-    out[p] = c;
-    out
+    rows.get(p).is_some_and(|row| !c.below(*row))
 }
 
 // The table joined by one row; none, where a row that had no place left has joined it.
+// Kept: an Option in and out: held_table says None of any list that is too long, so that each step's clause is one equation.
 pub fn insert(table: Option<Constraints>, c: Constraint) -> Option<Constraints>
     ensures { (l : List Constraint) → table ≡ held_table l → Ascending constraint_key l → result ≡ held_table (inserted constraint_key c l) }
 {
@@ -74,21 +58,20 @@ pub fn insert(table: Option<Constraints>, c: Constraint) -> Option<Constraints>
     if CONSTRAINTS <= n {
         return None;
     }
-    let rows = table.rows;
-    let more = put_at(rows, n, p, c);
-    Some(Constraints {
-        rows: more,
-        count: n + 1,
-    })
+    let mut rows = table.rows;
+    rows.copy_within(p..n, p + 1);
+    rows[p] = c;
+    Some(Constraints { rows, count: n + 1 })
 }
 
 // The record with the constraints of a table.
 pub fn with_table(multilog: Record, table: Constraints) -> Record
     ensures { (R : theory.Record) (l : List Constraint) → multilog ≡ stored R → Some table ≡ held_table l → result ≡ stored (record { edits = R.edits; constraints = l }) }
 {
-    let rows = table.rows;
-    let mut r = multilog;
-    r.constraints = rows;
-    r.constraintcount = table.count;
-    r
+    let constraints = table.rows;
+    Record {
+        constraints,
+        constraintcount: table.count,
+        ..multilog
+    }
 }

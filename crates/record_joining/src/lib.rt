@@ -1,5 +1,6 @@
 // Rows that join a record (document 01, "The record" and "What is turned away"): a lent record, an add, a merge, a record that joins another.
-// Each call is refused, and then the record that came in stands, or gives the union. A record handed in is one that these calls, or `record::empty`, left.
+// Each call is refused, and then the record that came in stands, or gives the union. A record handed in is one that these calls, or `record::empty`,
+// left.
 #![tactic(auto)]
 
 pub mod insertion;
@@ -13,28 +14,23 @@ ghost use Rattle.refusals.specs.Numbers.{Gives};
 
 use record::{CONSTRAINTS, Constraint, EDITS, Edit, Record};
 use record_rows::element::Element;
-use record_rows::row;
-use record_rows::row::{CONSTRAINT_CELLS, ConstraintRow, EDIT_CELLS, EditRow};
+use record_rows::row::{CONSTRAINT_CELLS, ConstraintRow, EDIT_CELLS, EditRow, LentRecord};
 use refusals::Refusal;
 
 // A lent record by itself.
-pub fn lent(edits: &[EditRow], constraints: &[ConstraintRow]) -> Result<Record, Refusal>
-    ensures { Gives (lent_fault empty_tables edits.now constraints.now) (stored (decoded edits.now constraints.now)) result }
+pub fn lent(lent: LentRecord) -> Result<Record, Refusal>
+    ensures { Gives (lent_fault empty_tables lent.entry.edits.now lent.entry.constraints.now) (stored (decoded lent.entry.edits.now lent.entry.constraints.now)) result }
 {
-    record_refusal::lent_fault(edits, constraints)?;
-    Ok(record_union::decode(edits, constraints))
+    record_refusal::lent_fault(lent)?;
+    Ok(record_union::decode(lent))
 }
 
 // A lent record joins a record.
-pub fn merge(
-    joined: Record,
-    edits: &[EditRow],
-    constraints: &[ConstraintRow],
-) -> Result<Record, Refusal>
-    ensures { (R : theory.Record) → joined ≡ stored R → Checked R → Gives (lent_fault R edits.now constraints.now) (stored (unite R (decoded edits.now constraints.now))) result }
+pub fn merge(joined: Record, lent: LentRecord) -> Result<Record, Refusal>
+    ensures { (R : theory.Record) → joined ≡ stored R → Checked R → Gives (lent_fault R lent.entry.edits.now lent.entry.constraints.now) (stored (unite R (decoded lent.entry.edits.now lent.entry.constraints.now))) result }
 {
-    record_refusal::fault(joined, edits, constraints)?;
-    let joining = record_union::decode(edits, constraints);
+    record_refusal::fault(joined, lent)?;
+    let joining = record_union::decode(lent);
     Ok(record_union::union(joined, joining))
 }
 
@@ -43,7 +39,10 @@ pub fn add_edit(joined: Record, row: EditRow) -> Result<Record, Refusal>
     ensures { (R : theory.Record) → joined ≡ stored R → Checked R → Gives (add_edit_fault R row) (stored (unite R (decoded (row ∷ []) []))) result }
 {
     record_refusal::edit_add_fault(joined, row)?;
-    let joining = record_union::decode(&[row], &[]);
+    let joining = record_union::decode(LentRecord {
+        edits: &[row],
+        constraints: &[],
+    });
     Ok(record_union::union(joined, joining))
 }
 
@@ -53,9 +52,7 @@ pub fn add_constraint(joined: Record, row: ConstraintRow) -> Result<Record, Refu
 {
     record_refusal::constraint_add_fault(joined, row)?;
     let table = insertion::table_of(joined);
-    let Some(more) = insertion::insert(Some(table), row::constraint_of(row)) else {
-        return Err(Refusal::NoPlace);
-    };
+    let more = insertion::insert(Some(table), Constraint::of(&row)).ok_or(Refusal::NoPlace)?;
     Ok(insertion::with_table(joined, more))
 }
 
@@ -81,5 +78,11 @@ pub fn merge_record(joined: Record, joining: Record) -> Result<Record, Refusal>
     let edits = rows_of::<EDIT_CELLS, EDITS, Edit>(own);
     let rules = joining.constraint_slice();
     let constraints = rows_of::<CONSTRAINT_CELLS, CONSTRAINTS, Constraint>(rules);
-    merge(joined, &edits[..own.len()], &constraints[..rules.len()])
+    merge(
+        joined,
+        LentRecord {
+            edits: &edits[..own.len()],
+            constraints: &constraints[..rules.len()],
+        },
+    )
 }

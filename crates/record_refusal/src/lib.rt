@@ -1,5 +1,5 @@
-// The ground of the first faulty row of tables that join a record (document 01, "What is turned away"): one walk through the record's table and the lent
-// rows, both in order. The functions are pub for the crates of this workspace that unite records.
+// The ground of the first faulty row of tables that join a record (document 01, "What is turned away"): one walk through the record's table and the
+// lent rows, both in order. The functions are pub for the crates of this workspace that unite records.
 #![tactic(auto)]
 
 ghost use Rattle.std.specs.Prelude.{◌≡◌, List, map, ℕ, take};
@@ -16,10 +16,11 @@ ghost use Rattle.refusals.specs.Numbers.{number_of};
 use record::{Constraint, Edit, Record};
 use record_rows::element::Element;
 use record_rows::grounds;
-use record_rows::row::{CONSTRAINT_CELLS, ConstraintRow, EDIT_CELLS, EditRow};
+use record_rows::row::{CONSTRAINT_CELLS, ConstraintRow, EDIT_CELLS, EditRow, LentRecord};
 use refusals::Refusal;
 
 // The lowest of 3 and 4 that holds of a row out of order or repeated, while count places are taken.
+// Kept: `above` and `row` are two, as in `record_tables`.
 fn late<const CELLS: usize, T: Element<CELLS>>(
     own: &[T],
     above: &[[u32; CELLS]],
@@ -36,7 +37,8 @@ fn late<const CELLS: usize, T: Element<CELLS>>(
     Ok(())
 }
 
-// What is tested of a row in range beside its place: the tests between 4 and 13 of its kind of table. A trait, for a closure's bound may not name the width.
+// What is tested of a row in range beside its place: the tests between 4 and 13 of its kind of table. A trait, whose number the contract of
+// `table_fault` names.
 trait Further<const CELLS: usize> {
     ghost number: { Self → Row → ℕ };
 
@@ -74,6 +76,7 @@ impl Further<CONSTRAINT_CELLS> for Sides<'_> {
 }
 
 // The ground of the first faulty row of a table that joins one of a record.
+// Kept: a place in the record's table, for the loop's law says what of it was passed.
 fn table_fault<const CELLS: usize, T: Element<CELLS>, F: Further<CELLS>>(
     own: &[T],
     t: &[[u32; CELLS]],
@@ -102,23 +105,19 @@ fn table_fault<const CELLS: usize, T: Element<CELLS>, F: Further<CELLS>>(
 }
 
 // The ground of the first faulty row of a lent record that joins a record; its constraints know only its own edits.
-pub fn fault(
-    joined: Record,
-    edits: &[EditRow],
-    constraints: &[ConstraintRow],
-) -> Result<(), Refusal>
-    ensures { (R : theory.Record) → joined ≡ stored R → Checked R → number_of result ≡ lent_fault R edits.now constraints.now }
+pub fn fault(joined: Record, lent: LentRecord) -> Result<(), Refusal>
+    ensures { (R : theory.Record) → joined ≡ stored R → Checked R → number_of result ≡ lent_fault R lent.entry.edits.now lent.entry.constraints.now }
 {
-    edit_fault(&joined, edits)?;
-    let marks = record_tables::mark_rows(edits);
-    constraint_fault(&joined, constraints, &marks, false)
+    edit_fault(&joined, lent.edits)?;
+    let marks = record_tables::mark_rows(lent.edits);
+    constraint_fault(&joined, lent.constraints, &marks, false)
 }
 
 // The same of a lent record by itself.
-pub fn lent_fault(edits: &[EditRow], constraints: &[ConstraintRow]) -> Result<(), Refusal>
-    ensures { number_of result ≡ lent_fault empty_tables edits.now constraints.now }
+pub fn lent_fault(lent: LentRecord) -> Result<(), Refusal>
+    ensures { number_of result ≡ lent_fault empty_tables lent.entry.edits.now lent.entry.constraints.now }
 {
-    fault(record::empty(), edits, constraints)
+    fault(record::empty(), lent)
 }
 
 // The ground of one edit that is added to a record.

@@ -1,11 +1,11 @@
-// What edits and constraints have in common: a row of numbers, of which the first cells are a key, and a filler for the rows of a table past its count.
-// What is said of tables of any kind is said of an element's type.
+// What edits and constraints have in common: a row of numbers, of which the first cells are a key, and a filler for the rows of a table past its
+// count. What is said of tables of any kind is said of an element's type.
 ghost use Rattle.std.specs.Prelude.{◌≡◌, Bool, List, ℕ, ◌≤◌, length, take};
 ghost use Rattle.lists.specs.Keyed.{precedes};
 ghost use Rattle.record_rows.specs.row.Row.{Row};
 
 use crate::row;
-use record::{Body, CONSTRAINTS, Constraint, EDITS, Edit};
+use record::{Body, CONSTRAINTS, Constraint, EDITS, Edit, Field};
 
 pub trait Element<const CELLS: usize>: Copy {
     // The row of an element, and its first cells, the key.
@@ -37,6 +37,7 @@ pub trait Element<const CELLS: usize>: Copy {
         ensures { result ≡ fits row.now };
 
     // A row in range as an element; of any other the filler.
+    // Kept: total, as edit_of and constraint_of are: its callers have tested the row, and would answer for a refusal that never comes.
     fn of(row: &[u32; CELLS]) -> Self
         ensures { result ≡ element_of row.now };
 
@@ -44,6 +45,7 @@ pub trait Element<const CELLS: usize>: Copy {
         ensures { result ≡ filler };
 
     // Whether the key of this element precedes that of the other.
+    // Kept: the order is of keys, and what is derived is of whole values.
     fn below(self, other: Self) -> bool
         ensures { result ≡ precedes (key_of self) (key_of other) };
 
@@ -79,7 +81,12 @@ impl Element<5> for Edit {
     const PLACES: usize = EDITS;
 
     fn row(self) -> [u32; 5] {
-        row::edit_row(self)
+        let name = u32::from(self.name);
+        match self.body {
+            Body::Insert(place) => [name, 0, u32::from(place), 0, 0],
+            Body::Set(place, field, value) => [name, 1, u32::from(place), field as u32, value],
+            Body::Remove(place) => [name, 2, u32::from(place), 0, 0],
+        }
     }
 
     fn in_range(row: &[u32; 5]) -> bool {
@@ -87,7 +94,23 @@ impl Element<5> for Edit {
     }
 
     fn of(row: &[u32; 5]) -> Edit {
-        row::edit_of(*row)
+        if !row::edit_in_range(*row) {
+            return Edit::filler();
+        }
+        let [name, kind, place, field, value] = *row;
+        let place = place as u8;
+        let body = match (kind, field) {
+            (0, _) => Body::Insert(place),
+            (1, 0) => Body::Set(place, Field::Id, value),
+            (1, 1) => Body::Set(place, Field::Size, value),
+            (1, 2) => Body::Set(place, Field::Erase, value),
+            (1, _) => Body::Set(place, Field::Page, value),
+            _ => Body::Remove(place),
+        };
+        Edit {
+            name: name as u16,
+            body,
+        }
     }
 
     fn filler() -> Edit {
@@ -97,6 +120,7 @@ impl Element<5> for Edit {
         }
     }
 
+    // Kept: by the name alone, where a derived order takes the body too.
     fn below(self, other: Edit) -> bool {
         self.name < other.name
     }
@@ -133,7 +157,11 @@ impl Element<3> for Constraint {
     const PLACES: usize = CONSTRAINTS;
 
     fn row(self) -> [u32; 3] {
-        row::constraint_row(self)
+        [
+            u32::from(self.left),
+            u32::from(self.rule),
+            u32::from(self.right),
+        ]
     }
 
     fn in_range(row: &[u32; 3]) -> bool {
@@ -141,7 +169,15 @@ impl Element<3> for Constraint {
     }
 
     fn of(row: &[u32; 3]) -> Constraint {
-        row::constraint_of(*row)
+        if !row::constraint_in_range(*row) {
+            return Constraint::filler();
+        }
+        let [left, rule, right] = *row;
+        Constraint {
+            left: left as u16,
+            rule: rule as u8,
+            right: right as u16,
+        }
     }
 
     fn filler() -> Constraint {
@@ -152,6 +188,7 @@ impl Element<3> for Constraint {
         }
     }
 
+    // Kept: the derived order, as the trait asks for it.
     fn below(self, other: Constraint) -> bool {
         self < other
     }

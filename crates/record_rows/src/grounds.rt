@@ -1,27 +1,13 @@
-// Grounds for refusing a row (document 01, "What is turned away"), for tables of any kind: the definitions and their laws, and the place of a lent row in
-// a table in order. The functions are pub for the crates of this workspace that walk tables.
+// Grounds for refusing a row (document 01, "What is turned away"), for tables of any kind: the definitions and their laws, and the place of a lent
+// row in a table in order. The functions are pub for the crates of this workspace that walk tables.
 ghost use Rattle.std.specs.Prelude.{◌≡◌, map, ◌≤◌, length, take};
 ghost use Rattle.std.specs.List.{prefix_len};
 ghost use Rattle.lists.specs.Keyed.{precedes};
-ghost use Rattle.record_rows.specs.grounds.Ground.{alike};
 ghost use Rattle.record_rows.specs.grounds.Walk.{as_new, as_known, row_joins};
 
 use crate::element::Element;
+use crate::row;
 use refusals::Refusal;
-
-// Whether the key of the first row precedes that of the other.
-pub fn below<const CELLS: usize, T: Element<CELLS>>(a: &[u32; CELLS], b: &[u32; CELLS]) -> bool
-    ensures { result ≡ precedes (take T.KEY a.now) (take T.KEY b.now) }
-{
-    a[..T::KEY] < b[..T::KEY]
-}
-
-// Whether two rows have the same key.
-pub fn alike<const CELLS: usize, T: Element<CELLS>>(a: &[u32; CELLS], b: &[u32; CELLS]) -> bool
-    ensures { result ≡ alike T.KEY a.now b.now }
-{
-    a[..T::KEY] == b[..T::KEY]
-}
 
 // How many elements of a table in order stand before the row, whose length is ensured for callers that take it from a table.
 pub fn passed<const CELLS: usize, T: Element<CELLS>>(own: &[T], row: &[u32; CELLS]) -> usize
@@ -33,7 +19,7 @@ pub fn passed<const CELLS: usize, T: Element<CELLS>>(own: &[T], row: &[u32; CELL
         .take_while(
             |x| -> bool
                 ensures { result ≡ precedes (take T.KEY (T.row_of x.now.now)) (take T.KEY row.entry.now) }
-            { below::<CELLS, T>(&x.row(), row) },
+            { row::below(&x.row(), row, T::KEY) },
         )
         .count()
 }
@@ -60,6 +46,7 @@ fn as_known(equal: bool) -> Result<bool, Refusal>
 }
 
 // Whether a lent row is new to a table; rest: the table from the row's place on; full: no place is left.
+// Kept: `full` is a question of its own, for what is left of the places is the caller's count and not the table's.
 pub fn joins<const CELLS: usize, T: Element<CELLS>>(
     rest: &[T],
     row: &[u32; CELLS],
@@ -71,7 +58,7 @@ pub fn joins<const CELLS: usize, T: Element<CELLS>>(
         return as_new(full);
     };
     let own = x.row();
-    if below::<CELLS, T>(row, &own) {
+    if row::below(row, &own, T::KEY) {
         return as_new(full);
     }
     as_known(*row == own)

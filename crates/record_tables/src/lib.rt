@@ -1,5 +1,5 @@
-// Tables of edits and of constraints that join a record (document 01, "What is turned away"): their definitions and theorems, and the tests of one row
-// below the rows above it. The functions are pub for the crates of this workspace that walk tables or read rows one after the other.
+// Tables of edits and of constraints that join a record (document 01, "What is turned away"): their definitions and theorems, and the tests of one
+// row below the rows above it. The functions are pub for the crates of this workspace that walk tables or read rows one after the other.
 #![tactic(auto)]
 
 pub mod lookup;
@@ -16,11 +16,12 @@ ghost use Rattle.refusals.specs.Numbers.{number_of};
 
 use record::Edit;
 use record_rows::element::Element;
-use record_rows::grounds;
+use record_rows::row;
 use record_rows::row::{ConstraintRow, EditRow, NAMES};
 use refusals::Refusal;
 
 // Whether a row is above the row before it. Pub for `record_refusal` and `text_reader`, which walk the rows.
+// Kept: `above` and `row` are two here and below, for a row that is read from a text stands in no table yet.
 pub fn follows<const CELLS: usize, T: Element<CELLS>>(
     above: &[[u32; CELLS]],
     row: &[u32; CELLS],
@@ -28,7 +29,7 @@ pub fn follows<const CELLS: usize, T: Element<CELLS>>(
     ensures { Ascending (take T.KEY) above.now → not result ≡ misplaced T.KEY above.now row.now }
 {
     match above {
-        [.., last] => grounds::below::<CELLS, T>(last, row),
+        [.., last] => row::below(last, row, T::KEY),
         [] => true,
     }
 }
@@ -43,7 +44,7 @@ pub fn is_repeated<const CELLS: usize, T: Element<CELLS>>(
     above.iter().any(
         |other| -> bool
             ensures { result ≡ alike T.KEY row.entry.now other.now }
-        { grounds::alike::<CELLS, T>(row, other) },
+        { row::alike(row, other, T::KEY) },
     )
 }
 
@@ -54,6 +55,7 @@ fn marked(marks: &[u8], n: u32) -> bool
 }
 
 // `|` and `&` have no branch, so that the proofs have one path.
+// Kept: the three cells, here and below, which `marked_further` takes apart once; a rule is its number, as in `record::Constraint`.
 fn pair_not_allowed(left: u32, rule: u32, right: u32) -> bool
     ensures { result ≡ pair_not_allowed left rule right }
 {
@@ -63,6 +65,7 @@ fn pair_not_allowed(left: u32, rule: u32, right: u32) -> bool
         | ((rule == 2) & (right < left))
 }
 
+#[tactic(auto, unfolding(crate::specs::Table::decision))]
 fn is_decision(left: u32, rule: u32, right: u32) -> bool
     ensures { result ≡ decision left rule right }
 {
@@ -70,6 +73,7 @@ fn is_decision(left: u32, rule: u32, right: u32) -> bool
 }
 
 // The lowest of 5, 6 and 7 that holds of a row, by the marks of the edits that it knows. Pub for `record_refusal`.
+// Kept: marks are lent as a slice, here and below, since MarksNames determines no list of names that a view could give.
 pub fn marked_further(row: &ConstraintRow, marks: &[u8], adding: bool) -> Result<(), Refusal>
     ensures { number_of result ≡ marked_further marks.now adding row.now }
 {
@@ -95,6 +99,7 @@ pub fn constraint_further(row: ConstraintRow, marks: &[u8], adding: bool) -> Res
     marked_further(&row, marks, adding)
 }
 
+// Kept: tested and then indexed, as in crate catalogue: a proof learns no element that was written through get_mut.
 fn mark(marks: &mut [u8; NAMES], name: usize)
     ensures { (length marks.new ≡ name_limit) × (marks.new ≡ slice_set marks.old name 1) }
 {
@@ -104,7 +109,7 @@ fn mark(marks: &mut [u8; NAMES], name: usize)
 }
 
 // The marks of the names of a table of edits in range.
-// Kept: two loops over `mark`, for a row's name is a cell and an edit's a field, and a closure over rows may not name their width.
+// Kept: two loops of one line; one function of both would take how a row names itself as a closure, with a clause for each.
 pub fn mark_rows(t: &[EditRow]) -> [u8; NAMES]
     ensures { all edit_in_range t.now ≡ true → MarksNames result (names_of t.now) }
 {

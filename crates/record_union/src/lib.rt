@@ -11,7 +11,7 @@ ghost use Rattle.record_union.specs.Union.{Unites, chosen, united_in};
 
 use record::{CONSTRAINTS, Constraint, EDITS, Edit, Record};
 use record_rows::element::Element;
-use record_rows::row::{CONSTRAINT_CELLS, ConstraintRow, EDIT_CELLS, EditRow};
+use record_rows::row::{CONSTRAINT_CELLS, EDIT_CELLS, LentRecord};
 
 // The elements that rows are, and the filler after them.
 fn elements_of<const CELLS: usize, const PLACES: usize, T: Element<CELLS>>(
@@ -27,12 +27,12 @@ fn elements_of<const CELLS: usize, const PLACES: usize, T: Element<CELLS>>(
     elements
 }
 
-// Two tables within the limits as a record.
-pub fn decode(edits: &[EditRow], constraints: &[ConstraintRow]) -> Record
-    ensures { length edits.now ≤ edit_limit → length constraints.now ≤ constraint_limit → result ≡ stored (decoded edits.now constraints.now) }
+// A lent record within the limits as a record.
+pub fn decode(lent: LentRecord) -> Record
+    ensures { length lent.entry.edits.now ≤ edit_limit → length lent.entry.constraints.now ≤ constraint_limit → result ≡ stored (decoded lent.entry.edits.now lent.entry.constraints.now) }
 {
-    let edits = &edits[..edits.len().min(EDITS)];
-    let constraints = &constraints[..constraints.len().min(CONSTRAINTS)];
+    let edits = &lent.edits[..lent.edits.len().min(EDITS)];
+    let constraints = &lent.constraints[..lent.constraints.len().min(CONSTRAINTS)];
     Record {
         edits: elements_of::<EDIT_CELLS, EDITS, Edit>(edits),
         editcount: edits.len(),
@@ -72,6 +72,7 @@ fn choose<const CELLS: usize, T: Element<CELLS>>(own: &[T], joining: &[T]) -> Op
 }
 
 // The union of two tables, as far as it has places, and how many elements it has.
+// Kept: places in both tables, for the loop's law says what of each was taken.
 fn unite<const CELLS: usize, const PLACES: usize, T: Element<CELLS>>(
     own: &[T],
     joining: &[T],
@@ -117,9 +118,9 @@ pub fn union(joined: Record, joining: Record) -> Record
         joining.constraint_slice(),
     );
     Record {
-        edits: edits,
-        editcount: editcount,
-        constraints: constraints,
-        constraintcount: constraintcount,
+        edits,
+        editcount,
+        constraints,
+        constraintcount,
     }
 }

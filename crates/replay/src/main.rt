@@ -12,11 +12,8 @@ const ENAMETOOLONG: i32 = 36;
 const USAGE: &[u8] =
     b"usage: replay < LOG\n  runs the call log on one bench from empty and prints the answers\nusage: replay FILE < LOG\n  the same on the bench that the log kept in FILE makes; lines count on from it\n";
 
-fn run(rt: &(impl Env + Files + Input + Print + Eprint)) -> Result<(), Failed> {
-    let count = stdio::arg_count(rt);
-    if count < 2 {
-        return stdio_log::replay_input(rt);
-    }
+// What the argument asks for. A file's name that is too long cannot be opened.
+fn run_after(rt: &(impl Env + Files + Input + Print + Eprint), count: usize) -> Result<(), Failed> {
     let mut argument = [0u8; 4096];
     let size = rt.arg(1, &mut argument).map_err(|_| {
         stdio::fail(rt, "opening failed", Error::from_raw_os_error(ENAMETOOLONG))
@@ -24,10 +21,15 @@ fn run(rt: &(impl Env + Files + Input + Print + Eprint)) -> Result<(), Failed> {
     if 2 < count || argument[..size].starts_with(b"-") {
         return stdio::print(rt, USAGE);
     }
-    stdio_log::replay_after(rt, &argument[..size])
+    stdio_log::replay_after(rt, &argument[..size]);
+    Ok(())
 }
 
 fn main(rt: HostRuntime) {
+    let count = stdio::arg_count(&rt);
+    if count < 2 {
+        return stdio_log::replay_input(&rt);
+    }
     // The status stays 0 where reading or writing fails: standard error was told.
-    let _ = run(&rt);
+    let _ = run_after(&rt, count);
 }

@@ -6,10 +6,9 @@ const USAGE: &[u8] =
     b"usage: shelf < TEXT\n  prints the report of the text of a record, or its first fault\n";
 
 fn main(rt: HostRuntime) {
-    // The status stays 0 where reading or writing fails: standard error was told.
-    let _ = if 1 < stdio::arg_count(&rt) {
-        stdio::print(&rt, USAGE)
-    } else {
-        stdio::text_input::show_input(&rt)
-    };
+    if stdio::arg_count(&rt) < 2 {
+        return stdio::text_input::show_input(&rt);
+    }
+    // The status stays 0 where writing fails: standard error was told.
+    let _ = stdio::print(&rt, USAGE);
 }

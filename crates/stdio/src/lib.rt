@@ -4,7 +4,7 @@
 
 pub mod text_input;
 
-ghost use Rattle.std.specs.Prelude.{◌≤◌, length, IfOk};
+ghost use Rattle.std.specs.Prelude.{◌≤◌, length, IfOk, MatchResult};
 
 use std::env::FillError;
 use std::io::{Error, Read, Write};
@@ -14,6 +14,12 @@ use std::str;
 // Reading or writing failed, which standard error was told already.
 #[derive(Clone, Copy)]
 pub struct Failed;
+
+// Reading failed after so many bytes, which standard error was told already.
+#[derive(Clone, Copy)]
+pub struct ReadFailed {
+    pub size: usize,
+}
 
 // How many arguments the program was started with, its own name among them.
 pub fn arg_count(rt: &impl Env) -> usize {
@@ -56,14 +62,15 @@ pub fn read_some(rt: &impl Eprint, file: &mut impl Read, buffer: &mut [u8]) -> R
         .map_err(|error| fail(rt, "reading failed", error))
 }
 
-// Reads standard input until the buffer is full or the input ends: how many bytes stand at its start.
-pub fn read_input(rt: &(impl Input + Eprint), buffer: &mut [u8]) -> Result<usize, Failed>
-    ensures { IfOk result (λ size. size ≤ length buffer.new) }
+// Reads standard input until the buffer is full or the input ends: how many bytes stand at its start, also where a read failed.
+pub fn read_input(rt: &(impl Input + Eprint), buffer: &mut [u8]) -> Result<usize, ReadFailed>
+    ensures { MatchResult result (λ size. size ≤ length buffer.new) (λ failed. failed.size ≤ length buffer.new) }
 {
     let mut input = rt.reader();
     let mut size = 0;
+    // Kept: how many reads it takes is not known before; each one moves the place by what it gives.
     while size < buffer.len() {
-        let read = read_some(rt, &mut input, &mut buffer[size..])?;
+        let read = read_some(rt, &mut input, &mut buffer[size..]).map_err(|_| ReadFailed { size })?;
         if read == 0 {
             break;
         }

@@ -3,7 +3,7 @@ ghost use Rattle.std.specs.Prelude.{◌≡◌, List, [], ◌++◌, ℕ, ◌≤�
 ghost use Rattle.text.specs.Text.{read_text};
 ghost use Rattle.text_report.specs.Report.{printed};
 
-use crate::Failed;
+use crate::{Failed, ReadFailed};
 
 // How many bytes of the text are read.
 const INPUT_SIZE: usize = 65536;
@@ -12,8 +12,7 @@ const INPUT_SIZE: usize = 65536;
 const OUTPUT_SIZE: usize = 16384;
 
 // What is printed of a text stands at the start of out.
-fn print_text(text: &[u8], out: &mut [u8]) -> usize
-    requires { OUTPUT_SIZE ≤ length out.old }
+fn print_text(text: &[u8], out: &mut [u8; OUTPUT_SIZE]) -> usize
     ensures { (result ≤ length out.new) × (take result out.new ≡ printed (read_text text.now)) }
 {
     text_report::print_text(text, &mut out[..]).unwrap()
@@ -28,8 +27,7 @@ fn show(rt: &(impl Print + Eprint), text: &[u8]) -> Result<(), Failed> {
 
 // Reads the text on standard input. Of a text that does not fit the first 64,641 bytes decide (crate `text`, first-bytes-decide): whatever
 // follows, and nothing follows where the buffer is not full, what was read is answered as the whole.
-fn read_text(rt: &(impl Input + Eprint), text: &mut [u8]) -> Result<usize, Failed>
-    requires { 64641 ≤ length text.old }
+fn read_text(rt: &(impl Input + Eprint), text: &mut [u8; INPUT_SIZE]) -> Result<usize, ReadFailed>
     ensures { IfOk result (λ size. (size ≤ length text.new)
         × ((rest : List ℕ) → (size < length text.new → rest ≡ [])
         → read_text (take size text.new ++ rest) ≡ read_text (take size text.new))) }
@@ -37,9 +35,11 @@ fn read_text(rt: &(impl Input + Eprint), text: &mut [u8]) -> Result<usize, Faile
     crate::read_input(rt, &mut text[..])
 }
 
-// The same of the text on standard input.
-pub fn show_input(rt: &(impl Input + Print + Eprint)) -> Result<(), Failed> {
+// The same of the text on standard input. Nothing is printed of what a failed read left.
+pub fn show_input(rt: &(impl Input + Print + Eprint)) {
     let mut text = [0u8; INPUT_SIZE];
-    let size = read_text(rt, &mut text)?;
-    show(rt, &text[..size])
+    if let Ok(size) = read_text(rt, &mut text) {
+        // standard error was told of a failure
+        let _ = show(rt, &text[..size]);
+    }
 }

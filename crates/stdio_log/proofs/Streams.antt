@@ -7,36 +7,14 @@ use lib.ListN.{length, take, drop, length-take, length-drop}
 use lib.Seq.{take-add, take_at, take-take}
 use Rattle.text_lines.specs.Lines.{lines}
 use Rattle.stream.specs.Pieces.{last_end, ended, unended, kept_bytes, waiting, Stream, no_input, fed_piece, fed_pieces, stream_lines, input_of}
-use Rattle.stream.proofs.Pieces.{last_within, lines-few, one_piece}
-use Rattle.ledger.specs.Ledger.{start}
-use Rattle.ledger.specs.Bench.{bench_of}
-use Rattle.log_lent.specs.Lent.{nothing_lent}
-use Rattle.log_lent.specs.Kept.{Kept}
+use Rattle.stream.proofs.Pieces.{last_within, one_piece}
 use Rattle.log_session.specs.Desk.{empty_desk}
-use Rattle.log_bounds.specs.Bounded.{Bounded}
-use Rattle.log_bounds.proofs.Bounds.{empty-bounded}
 use Rattle.log_run.specs.Log.{Run, begun, run_lines, log_run}
-use Rattle.log_run.proofs.Fits.{lines-bounded}
-use Rattle.log_run.proofs.Runs.{run-count, run-parts, empty_holds}
+use Rattle.log_run.proofs.Runs.{run-parts}
 use Rattle.log_run.proofs.Kept.{kept_run}
-use Rattle.stdio_log.specs.declared.Memory.{Memory}
-use Rattle.stdio_log.specs.Streaming.{most_lines, Held, Ran, Streaming, Streamed, Continued}
+use Rattle.stdio_log.specs.declared.memory.Memory.{Memory}
+use Rattle.stdio_log.specs.Streaming.{Ran, Streaming, Streamed, Continued}
 use Rattle.stdio_log.proofs.Decided.{pieces-run}
-
-pub ran-few : {R : Run} {memory : Memory} → Ran R memory → (n : ℕ) → memory.count + n ≤ most_lines → R.count + n ≤ most_lines
-ran-few h n k = let c = h.counted in omega arith
-
--- the numbers of the desk still fit after some lines
-held_after : (R : Run) (ls : List (List ℕ)) {memory : Memory} → Bounded R.desk → Ran (run_lines R ls) memory → Held memory
-held_after R ls B h = record { desk = (run_lines R ls).desk; holds = h.held; bounded = lines-bounded R ls B }
-
--- a run that begins with what is in memory
-pub held-ran : {memory : Memory} (H : Held memory) → Ran (begun H.desk memory.count) memory
-held-ran H = record { held = H.holds; counted = refl }
-
--- no more lines are counted than bytes were run
-ran-counted : {R : Run} {memory after : Memory} (s : List ℕ) → Ran R memory → Ran (run_lines R (lines s)) after → after.count ≤ memory.count + length s
-ran-counted {R} s h q = let c = h.counted in let d = q.counted in omega (arith, run-count R (lines s), lines-few s)
 
 -- the first bytes of a chunk, counted
 pub part-few : (s : List ℕ) (n count m : ℕ) → count + n ≤ m → count + length (take n s) ≤ m
@@ -62,26 +40,25 @@ module _ (chunk : List ℕ) (filled : ℕ) {whole : ℕ} (l : filled ≤ length 
   pub record Feeds (memory after : Memory) (rest : ℕ) (later : List ℕ) : Type 0 where
     pub few : rest ≤ 102
     pub waits : take rest later ≡ waiting (take filled chunk)
-    pub runs : (R : Run) → Ran R memory → Ran (run_lines R (lines (ended (take filled chunk)))) after × (after.count + rest ≤ memory.count + filled)
+    pub counted : after.line + rest ≤ memory.line + filled
+    pub runs : (R : Run) → Ran R memory → Ran (run_lines R (lines (ended (take filled chunk)))) after
 
   pub feeds : (memory after : Memory) (rest : ℕ) (later tail : List ℕ) → (rest ≡ length (waiting (take filled chunk))) × (later ≡ waiting (take filled chunk) ++ tail)
-      → ((R : Run) → Ran R memory → Ran (run_lines R (lines (take whole chunk))) after) → Feeds memory after rest later
-  feeds memory after rest later tail p f =
+      → after.line ≤ memory.line + length (take whole chunk) → ((R : Run) → Ran R memory → Ran (run_lines R (lines (take whole chunk))) after) → Feeds memory after rest later
+  feeds memory after rest later tail p few f =
       let s = take filled chunk in
       let z : length s ≡ filled = omega (arith, length-take filled chunk) in
       let m : length (take whole chunk) ≡ whole = omega (arith, length-take whole chunk, whole-filled) in
       record {
         few = omega (arith, p.0, waiting-size s);
         waits = ap (take rest) p.1 ∙ take_at (waiting s) tail rest (sym p.0);
-        runs = λ R h. (rw (← ended-part) (f R h), omega (arith, p.0, ran-counted (take whole chunk) h (f R h), waiting-size s, whole-filled));
+        counted = omega (arith, p.0, few, waiting-size s, whole-filled);
+        runs = λ R h. rw (← ended-part) (f R h);
       }
 
 pub streaming-start : {R : Run} {memory : Memory} → Ran R memory → Streaming R memory []
 unfolding run_lines fed_pieces no_input
 streaming-start h = record { pieces = []; ran = h; waits_are = refl }
-
-pub streaming-held : {R : Run} {memory : Memory} {waits : List ℕ} → Streaming R memory waits → Bounded R.desk → Held memory
-streaming-held {R} S B = held_after R (fed_pieces no_input S.pieces).told B S.ran
 
 module _ {R : Run} {memory : Memory} (chunk : List ℕ) (rest : ℕ) (S : Streaming R memory (take rest chunk)) where
   -- one piece more: what was read after the bytes that wait
@@ -102,19 +79,13 @@ module _ {R : Run} {memory : Memory} (chunk : List ℕ) (rest : ℕ) (S : Stream
       }
 
   -- the last line, without its end
-  pub streaming-end : memory.count + rest ≤ most_lines → (last : Memory) → Ran (run_lines (run_lines R (fed_pieces no_input S.pieces).told) (lines (take rest chunk))) last → Streamed R last × (last.count ≤ most_lines)
+  pub streaming-end : {last : Memory} → Ran (run_lines (run_lines R (fed_pieces no_input S.pieces).told) (lines (take rest chunk))) last → Streamed R last
   unfolding stream_lines
-  streaming-end k last q =
+  streaming-end q =
       let F = fed_pieces no_input S.pieces in
       let l = S.waits_are in
-      let t : Ran (run_lines (run_lines R F.told) (lines F.waits)) last = rw l at q in (
-        record { pieces = S.pieces; ran = rw (← pieces-run R S.pieces, run-parts R F.told (lines F.waits)) t },
-        omega (arith, ran-counted (take rest chunk) S.ran q, length-take rest chunk),
-      )
-
--- what a file leaves in memory, run from what was there
-pub held_kept : {memory : Memory} → Streamed (begun empty_desk 0) memory → Held memory
-held_kept K = held_after (begun empty_desk 0) (lines (input_of K.pieces)) empty-bounded K.ran
+      let t = rw l at q in
+      record { pieces = S.pieces; ran = rw (← pieces-run R S.pieces, run-parts R F.told (lines F.waits)) t }
 
 -- a kept log, and the lines that follow it
 pub continues : {memory last : Memory} (K : Streamed (begun empty_desk 0) memory) → Streamed (run_lines (begun empty_desk 0) (lines (input_of K.pieces))) last → Continued last
@@ -124,10 +95,3 @@ continues K N = record { kept = K.pieces; pieces = N.pieces; ran = N.ran }
 -- A KEPT LOG THAT ENDS ITS LAST LINE and the lines that follow it come to the run of both in one piece
 pub continued-whole : {memory : Memory} (C : Continued memory) → last_end (input_of C.kept) ≡ length (input_of C.kept) → Ran (log_run (input_of C.kept ++ input_of C.pieces)) memory
 continued-whole C h = rw (← kept_run (input_of C.kept) (input_of C.pieces) h) C.ran
-
--- nothing was run yet
-pub ran-nothing : {memory : Memory} → memory.bench ≡ bench_of start → Kept nothing_lent memory.lending memory.edits memory.constraints → memory.count ≡ 0 → Ran (begun empty_desk 0) memory
-ran-nothing b k z = record { held = empty_holds b k; counted = z }
-
-pub held_first : {memory : Memory} → memory.bench ≡ bench_of start → Kept nothing_lent memory.lending memory.edits memory.constraints → Held memory
-held_first b k = record { desk = empty_desk; holds = empty_holds b k; bounded = empty-bounded }

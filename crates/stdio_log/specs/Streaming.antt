@@ -2,26 +2,18 @@
 use Rattle.std.specs.Prelude.{◌≡◌, List, ℕ}
 use Rattle.text_lines.specs.Lines.{lines}
 use Rattle.stream.specs.Pieces.{no_input, fed_pieces, input_of}
-use Rattle.log_session.specs.Desk.{Desk}
-use Rattle.log_bounds.specs.Bounded.{Bounded}
 use Rattle.log_session.specs.calls.Lines.{Holds}
 use Rattle.log_run.specs.Log.{Run, run_lines, log_run}
-use Rattle.stdio_log.specs.declared.Memory.{Memory}
+use Rattle.stdio_log.specs.declared.memory.Memory.{Memory}
 
 -- so many bytes are read at most, and there are no more lines
 abbrev pub most_lines : ℕ
 most_lines = 4611686018427387904
 
--- what is in memory is that of some desk whose numbers fit
-pub record Held (memory : Memory) : Type 0 where
-  pub desk : Desk
-  pub holds : Holds desk memory.bench memory.lending memory.edits memory.constraints
-  pub bounded : Bounded desk
-
 -- what is in memory after a run
 pub record Ran (run : Run) (memory : Memory) : Type 0 where
-  pub held : Holds run.desk memory.bench memory.lending memory.edits memory.constraints
-  pub counted : memory.count ≡ run.count
+  pub held : Holds run.desk memory.session
+  pub counted : memory.line ≡ run.count
 
 -- from a start the lines that have ended were run, and these bytes wait
 pub record Streaming (start : Run) (memory : Memory) (waits : List ℕ) : Type 0 where

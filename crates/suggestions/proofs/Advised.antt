@@ -1,17 +1,22 @@
 -- The laws that the code of suggestions cites, and that it does not matter which of two concurrent edits is named first. Assumes nothing.
 use Prim.Native.Nat.{ℕ, zero, suc, ◌≤◌, ◌<◌, min, max}
-use mathlib.Core.Path.{◌≡◌, refl, sym, ◌∙◌}
+use mathlib.Core.Path.{◌≡◌, refl, sym, ap, ◌∙◌}
 use mathlib.Core.Bool.{Bool, true, false, cond, not, ◌&&◌}
 use mathlib.Core.List.{[], ◌∷◌}
 use native.Mathlib.Omega.{arith}
 use borrow.Author.Tests.{lt-ltb, eq-eqb, ne_eqb, eqb-true, eqb-false}
-use lib.Dec.{eqb}
+use lib.Dec.{eqb, ltb}
+use Rattle.std.specs.Prelude.{Result, Ok, Err}
 use Rattle.lists.proofs.Lists.{by}
+use Rattle.refusals.specs.declared.Refusal.{Refusal}
+use Rattle.refusals.specs.declared.Refusal.TheVariants.{OutOfRange}
+use Rattle.refusals.specs.Numbers.{Gives}
 use Rattle.record.specs.declared.Body.{Body}
 use Rattle.record.specs.declared.Body.TheVariants.{Insert, Set, Remove}
 use Rattle.record.specs.declared.Edit.{Edit}
+use Rattle.record.specs.Record.{place_of}
 use Rattle.record_rows.specs.row.Row.{Row, cell, edit_in_range, edit_of, edit_row, body_cells}
-use Rattle.suggestions.specs.Suggest.{kind_of, field_named, touched_place, after_table, concurrent_table, advice_of, advised, rows_of, given, pair_fault, suggested}
+use Rattle.suggestions.specs.Suggest.{kind_of, field_named, after_table, concurrent_table, advice_of, advised, rows_of, given, pair_fault, suggested_rules, suggested}
 use Rattle.suggestions.specs.declared.Suggested.{Suggested}
 use Rattle.record_rows.proofs.row.Cells.{edit-back}
 use Rattle.suggestions.specs.declared.Advice.{Advice}
@@ -31,11 +36,11 @@ row-kind e = go e.body
     go (Set place field value) = refl
     go (Remove place) = refl
 
-pub row-place : (e : Edit) → cell (edit_row e) 2 ≡ touched_place e.body
+pub row-place : (e : Edit) → cell (edit_row e) 2 ≡ place_of e.body
 unfolding edit_row
 row-place e = go e.body
   where
-    go : (b : Body) → cell (e.name ∷ body_cells b) 2 ≡ touched_place b
+    go : (b : Body) → cell (e.name ∷ body_cells b) 2 ≡ place_of b
     go (Insert place) = refl
     go (Set place field value) = refl
     go (Remove place) = refl
@@ -50,7 +55,7 @@ row-field e = go e.body
     go (Remove place) = refl
 
 abbrev pub apart_and_together : Edit → Edit → Bool
-apart_and_together a b = not (eqb a.name b.name) && eqb (touched_place a.body) (touched_place b.body)
+apart_and_together a b = not (eqb a.name b.name) && eqb (place_of a.body) (place_of b.body)
 
 -- the same of edits as the code has them
 pub advised-edits : (kind : ℕ) (a b : Edit) → advised kind (edit_row a) (edit_row b) ≡ cond (apart_and_together a b) (advice_between kind a.body b.body) Nothing
@@ -105,17 +110,26 @@ both-swapped true false = refl
 both-swapped false true = refl
 both-swapped false false = refl
 
-pub suggested-swapped : (a b : Row) → (suggested a b 1 ≡ suggested b a 1) × (pair_fault a b 1 ≡ pair_fault b a 1)
-unfolding suggested pair_fault
+pub suggested-swapped : (a b : Row) → suggested a b 1 ≡ suggested b a 1
+unfolding suggested suggested_rules
 suggested-swapped a b =
-    (rw (advised-rows-swapped a b (cell a 0) (cell b 0), advised-swapped a b), rw (both-swapped (edit_in_range a) (edit_in_range b)))
+    rw (advised-rows-swapped a b (cell a 0) (cell b 0), advised-swapped a b, both-swapped (edit_in_range a) (edit_in_range b))
 
 -- what is given of two rows in range, by the edits that they are
 pub pair-made : (a b : Row) (kind : ℕ) → edit_in_range a ≡ true → edit_in_range b ≡ true → kind ≤ 1 → {x y : Edit} → x ≡ edit_of a → y ≡ edit_of b
     → {advice : Advice} → advice ≡ advised kind (edit_row x) (edit_row y) → {r : Suggested} → r ≡ given (rows_of advice (cell a 0) (cell b 0))
-    → (0 ≡ pair_fault a b kind) × (r ≡ suggested a b kind)
-unfolding pair_fault suggested
+    → Ok r ≡ suggested a b kind
+unfolding suggested suggested_rules
 pair-made a b kind h k l p q v g =
     let m : kind < 2 = omega arith in
     let w = rw (p, q, edit-back a h, edit-back b k) at v in
-    (rw (h, k, lt-ltb kind 2 m), rw w at g)
+    rw (h, k, lt-ltb kind 2 m) (ap Ok (rw w at g))
+
+-- the answer by its number and its rows
+gives-so : (c : Bool) (x : Suggested) → Gives (cond c 0 2) x (cond c (Ok x) (Err OutOfRange))
+gives-so true x = (refl, refl)
+gives-so false x = (refl, tt)
+
+pub suggested-gives : (a b : Row) (kind : ℕ) → {r : Result Suggested Refusal} → r ≡ suggested a b kind → Gives (pair_fault a b kind) (suggested_rules a b kind) r
+unfolding suggested pair_fault
+suggested-gives a b kind e = rw e (gives-so (edit_in_range a && (edit_in_range b && ltb kind 2)) (suggested_rules a b kind))

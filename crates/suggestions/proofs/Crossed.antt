@@ -4,9 +4,10 @@ use mathlib.Core.Path.{◌≡◌, refl, ◌∙◌}
 use mathlib.Core.Bool.{Bool, true, false, cond}
 use mathlib.Core.Logic.{◌≢◌}
 use lib.Dec.{eqb}
+use Rattle.std.specs.Prelude.{Ok}
 use borrow.Author.Tests.{eq-eqb, ne_eqb}
 use Rattle.record_rows.specs.row.Row.{Row, cell, edit_in_range}
-use Rattle.suggestions.specs.Suggest.{concurrent_table, advice_of, advised, rows_of, given, pair_fault, suggested}
+use Rattle.suggestions.specs.Suggest.{concurrent_table, advice_of, advised, rows_of, given, suggested_rules, suggested}
 use Rattle.suggestions.specs.Crossed.{former_table, removes, crossed}
 use Rattle.suggestions.specs.declared.Advice.TheVariants.{Noncommuting}
 
@@ -25,8 +26,8 @@ just-crossed-moved (suc (suc a)) (suc (suc b)) f = (refl, refl)
 
 -- The request's sentence, of the answer: of two concurrent edits of one place, one of which removes, the one row is that they are noncommuting.
 pub crossed-suggested : (a b : Row) → edit_in_range a ≡ true → edit_in_range b ≡ true → cell a 0 ≢ cell b 0 → cell a 2 ≡ cell b 2 → crossed (cell a 1) (cell b 1) ≡ true
-    → (pair_fault a b 1 ≡ 0) × (suggested a b 1 ≡ given (rows_of Noncommuting (cell a 0) (cell b 0)))
-unfolding pair_fault suggested advised advice_of
+    → suggested a b 1 ≡ Ok (given (rows_of Noncommuting (cell a 0) (cell b 0)))
+unfolding suggested suggested_rules advised advice_of
 crossed-suggested a b h k n e x =
     let moved : concurrent_table (cell a 1) (cell b 1) (eqb (cell a 3) (cell b 3)) ≡ true = (just-crossed-moved (cell a 1) (cell b 1) (eqb (cell a 3) (cell b 3))).0 ∙ rw x in
-    (rw (h, k), rw (ne_eqb (cell a 0) (cell b 0) n, eq-eqb (cell a 2) (cell b 2) e, moved))
+    rw (h, k, ne_eqb (cell a 0) (cell b 0) n, eq-eqb (cell a 2) (cell b 2) e, moved)

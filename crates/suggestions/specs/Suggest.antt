@@ -1,5 +1,7 @@
 -- Document 01, "Suggested constraints" (002, tables 2 and 3), as document 02, A1, changes it. Assumes nothing.
-use Rattle.std.specs.Prelude.{ℕ, zero, suc, min, max, Bool, true, false, cond, not, ◌&&◌, List, [], ◌∷◌, ltb, eqb}
+use Rattle.std.specs.Prelude.{ℕ, zero, suc, min, max, Bool, true, false, cond, not, ◌&&◌, List, [], ◌∷◌, ltb, eqb, Result, Ok, Err}
+use Rattle.refusals.specs.declared.Refusal.{Refusal}
+use Rattle.refusals.specs.declared.Refusal.TheVariants.{OutOfRange}
 use Rattle.record.specs.declared.Body.{Body}
 use Rattle.record.specs.declared.Body.TheVariants.{Insert, Set, Remove}
 use Rattle.record_rows.specs.row.Row.{Row, name_cell, kind_cell, place_cell, field_cell, edit_in_range, field_number}
@@ -9,7 +11,7 @@ use Rattle.suggestions.specs.declared.Suggested.{Suggested}
 use Rattle.suggestions.specs.declared.Suggested.TheVariants as suggests
 use Rattle.suggestions.specs.declared.Suggested.TheVariants.{One, Two}
 
--- of a body the cells of its row: its kind, its field (0 where there is none), and its place
+-- of a body the cells of its row: its kind, and its field (0 where there is none)
 abbrev pub kind_of : Body → ℕ
 kind_of (Insert place) = 0
 kind_of (Set place field value) = 1
@@ -19,11 +21,6 @@ abbrev pub field_named : Body → ℕ
 field_named (Insert place) = 0
 field_named (Set place field value) = field_number field
 field_named (Remove place) = 0
-
-abbrev pub touched_place : Body → ℕ
-touched_place (Insert place) = place
-touched_place (Set place field value) = place
-touched_place (Remove place) = place
 
 -- The rules as tables: kind of A, kind of B (0 insert, 1 set, 2 remove), and whether both name one field.
 -- B after A by one author
@@ -79,5 +76,10 @@ rules_of (Two row next) = row ∷ next ∷ []
 unfoldable pub pair_fault : Row → Row → ℕ → ℕ
 pair_fault a b kind = cond (edit_in_range a && (edit_in_range b && ltb kind 2)) 0 2
 
-unfoldable pub suggested : Row → Row → ℕ → Suggested
-suggested a b kind = given (rows_of (advised kind a b) (name_cell a) (name_cell b))
+-- the rows that are given where nothing is refused
+unfoldable pub suggested_rules : Row → Row → ℕ → Suggested
+suggested_rules a b kind = given (rows_of (advised kind a b) (name_cell a) (name_cell b))
+
+-- the answer
+unfoldable pub suggested : Row → Row → ℕ → Result Suggested Refusal
+suggested a b kind = cond (edit_in_range a && (edit_in_range b && ltb kind 2)) (Ok (suggested_rules a b kind)) (Err OutOfRange)

@@ -2,16 +2,17 @@
 #![tactic(auto)]
 
 ghost use Rattle.std.specs.Prelude.{◌≡◌, eqb};
-ghost use Rattle.refusals.specs.Numbers.{Gives};
 ghost use Rattle.record_rows.specs.row.Row.{edit_row};
-ghost use Rattle.suggestions.specs.Suggest.{after_table, concurrent_table, kind_of, field_named, touched_place, advised, rows_of, given, pair_fault, suggested};
+ghost use Rattle.suggestions.specs.Suggest.{after_table, concurrent_table, kind_of, field_named, advised, rows_of, given, suggested};
 
 use record::{Body, Edit};
+use record_rows::element::Element;
 use record_rows::row;
 use record_rows::row::{ConstraintRow, EditRow};
 use refusals::Refusal;
 
 // What a pair of edits suggests: nothing, A notafter B, that and A enables B, or that they are noncommuting.
+// Kept: no Option: after_table gives nothing as one of its four entries.
 #[derive(Clone, Copy, PartialEq, Eq)]
 pub enum Advice {
     Nothing,
@@ -21,6 +22,7 @@ pub enum Advice {
 }
 
 // The rows of a suggestion, in table order.
+// Kept: no Option, for there are none, one or two, and two Options would have a second row without a first.
 #[derive(Clone, Copy, PartialEq, Eq)]
 pub enum Suggested {
     Nothing,
@@ -62,20 +64,12 @@ fn concurrent(first: Body, second: Body) -> bool
     }
 }
 
-fn place_of(body: Body) -> u8
-    ensures { result ≡ touched_place body }
-{
-    match body {
-        Body::Insert(place) | Body::Set(place, _, _) | Body::Remove(place) => place,
-    }
-}
-
 fn advise(kind: u32, a: Edit, b: Edit) -> Advice
     ensures { result ≡ advised kind (edit_row a) (edit_row b) }
 {
     if a.name == b.name {
         Advice::Nothing
-    } else if place_of(a.body) != place_of(b.body) {
+    } else if a.body.place() != b.body.place() {
         Advice::Nothing
     } else if kind == 0 {
         after(a.body, b.body)
@@ -86,6 +80,7 @@ fn advise(kind: u32, a: Edit, b: Edit) -> Advice
     }
 }
 
+// Kept: rules by their numbers, as in `record::Constraint`.
 fn rows(advice: Advice, a: u32, b: u32) -> Suggested
     ensures { result ≡ given (rows_of advice a b) }
 {
@@ -98,12 +93,13 @@ fn rows(advice: Advice, a: u32, b: u32) -> Suggested
 }
 
 // The rows that the edits a and b suggest. Case 0: b after a by one author; 1: concurrent.
+// Kept: the case as the number that a caller gives; another is refused as out of range.
 pub fn suggest(a: EditRow, b: EditRow, kind: u32) -> Result<Suggested, Refusal>
-    ensures { Gives (pair_fault a b kind) (suggested a b kind) result }
+    ensures { result ≡ suggested a b kind }
 {
     if !row::edit_in_range(a) || !row::edit_in_range(b) || kind > 1 {
         return Err(Refusal::OutOfRange);
     }
-    let advice = advise(kind, row::edit_of(a), row::edit_of(b));
+    let advice = advise(kind, Edit::of(&a), Edit::of(&b));
     Ok(rows(advice, a[0], b[0]))
 }

@@ -9,10 +9,9 @@ use mathlib.Core.Logic.{◌≢◌}
 use mathlib.Core.List.{List, [], ◌∷◌}
 use native.Mathlib.Omega.{arith}
 use borrow.Author.Tests.{eq-eqb, ne_eqb}
-use lib.ListN.{length, take, set}
+use lib.ListN.{length, take}
 use Rattle.text_forms.specs.decimal.Written.{Written}
 use Rattle.text_forms.specs.declared.decimal.Numeral.{Numeral}
-use Rattle.text_forms.proofs.decimal.Laws.{put-bytes}
 use Rattle.text_forms.specs.Spelling.{bytes, Spelling, number_spelling, name_spelling, answer_spelling, starts_with, numeral_of}
 use Rattle.text_forms.specs.Form.{spelling}
 use Rattle.text_forms.proofs.Lawful.{lawful}
@@ -25,22 +24,6 @@ no-is n e = rw (eq-eqb n 0 e)
 pub yes-is : (n : ℕ) → n ≢ 0 → answer_spelling.write n ≡ bytes "yes"
 unfolding answer_spelling
 yes-is n e = rw (ne_eqb n 0 e)
-
-pub no_length : (n : ℕ) → n ≡ 0 → length (answer_spelling.write n) ≡ 2
-unfolding bytes
-no_length n e = rw (no-is n e)
-
-pub yes-length : (n : ℕ) → n ≢ 0 → length (answer_spelling.write n) ≡ 3
-unfolding bytes
-yes-length n e = rw (yes-is n e)
-
-pub no-written : (n : ℕ) (out : List ℕ) → n ≡ 0 → length (answer_spelling.write n) ≤ length out → Written (answer_spelling.write n) out 2 (set (set out 0 110) 1 111)
-unfolding bytes
-no-written n out e h = put-bytes (110 ∷ 111 ∷ []) (answer_spelling.write n) out (no-is n e) h
-
-pub yes-written : (n : ℕ) (out : List ℕ) → n ≢ 0 → length (answer_spelling.write n) ≤ length out → Written (answer_spelling.write n) out 3 (set (set (set out 0 121) 1 101) 2 115)
-unfolding bytes
-yes-written n out e h = put-bytes (121 ∷ 101 ∷ 115 ∷ []) (answer_spelling.write n) out (yes-is n e) h
 
 module _ (s : List ℕ) where
   pub read-yes : starts_with (bytes "yes") s ≡ true → Some (record { size = 3; value = 1 }) ≡ numeral_of answer_spelling s

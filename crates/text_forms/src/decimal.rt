@@ -1,6 +1,6 @@
 // Numbers in decimal without leading zeros, written and read (document 01, "Text"). Public for the crates of forms and lines.
-ghost use Rattle.std.specs.Prelude.{◌≡◌, ◌≤◌, length};
-ghost use Rattle.text_forms.specs.decimal.Decimal.{decimal, digit_run, value_from, numeral_read, saturated};
+ghost use Rattle.std.specs.Prelude.{◌≡◌, ◌≤◌, length, not, position};
+ghost use Rattle.text_forms.specs.decimal.Decimal.{decimal, is_digit, digit_run, value_from, numeral_read, saturated};
 ghost use Rattle.text_forms.specs.decimal.Written.{Written};
 
 // The numeral that a text starts with: how many bytes it takes, at least one, and its value, cut off at 2^32.
@@ -14,13 +14,10 @@ pub struct Numeral {
 pub fn number_length(n: u64) -> usize
     ensures { result ≡ length (decimal n) }
 {
-    let mut rest = n;
-    let mut count = 1;
-    while 10 <= rest {
-        rest /= 10;
-        count += 1;
+    match n.checked_ilog10() {
+        Some(power) => power as usize + 1,
+        None => 1,
     }
-    count
 }
 
 // Writes n to the start of out, its last digit first, and answers how many bytes that took. Pub for `text_forms`, which has seen that it fits.
@@ -37,16 +34,18 @@ pub fn write_number(out: &mut [u8], n: u64) -> usize
     size
 }
 
+// The place of the first byte that is no digit.
+fn digits_end(bytes: &[u8]) -> Option<usize>
+    ensures { result ≡ position (λ byte. not (is_digit byte)) bytes.now }
+{
+    bytes.iter().position(|byte| !byte.is_ascii_digit())
+}
+
 // How many digits a text starts with.
 fn digit_count(bytes: &[u8]) -> usize
     ensures { result ≡ length (digit_run bytes.now) }
 {
-    for (i, byte) in bytes.iter().enumerate() {
-        if !byte.is_ascii_digit() {
-            return i;
-        }
-    }
-    bytes.len()
+    digits_end(bytes).unwrap_or(bytes.len())
 }
 
 // What digits spell, cut off at 2^32: digits after that change nothing.

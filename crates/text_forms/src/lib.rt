@@ -1,5 +1,6 @@
 // Forms (document 01, "Text"): quoted texts in which `#` stands for a number, `@` for an edit's name and `?` for yes or no, read and
 // written. Public for the crates of this workspace that read and write lines; what they lend is long enough, so the writers require it.
+// Kept: a writer is lent the rest of the output and answers its size, as document 01 has it; a struct of both would be split at each word.
 #![tactic(auto)]
 
 pub mod decimal;
@@ -34,28 +35,17 @@ fn read_name(bytes: &[u8]) -> Option<Numeral>
 }
 
 // The spelling of yes and no.
-fn answer_length(n: u64) -> usize
-    ensures { result ≡ length (answer_spelling.write n) }
+fn answer_word(n: u64) -> &'static [u8]
+    ensures { result.now ≡ answer_spelling.write n }
 {
-    if n == 0 {
-        return 2;
-    }
-    3
+    if n == 0 { b"no" } else { b"yes" }
 }
 
 fn write_answer(out: &mut [u8], n: u64) -> usize
     requires { length (answer_spelling.write n) ≤ length out.old }
     ensures { Written (answer_spelling.write n) out.old result out.new }
 {
-    if n == 0 {
-        out[0] = b'n';
-        out[1] = b'o';
-        return 2;
-    }
-    out[0] = b'y';
-    out[1] = b'e';
-    out[2] = b's';
-    3
+    write_word(&mut out[..], answer_word(n))
 }
 
 fn read_answer(bytes: &[u8]) -> Option<Numeral>
@@ -77,16 +67,18 @@ fn is_mark(c: u8) -> bool
     matches!(c, b'#' | b'@' | b'?')
 }
 
+// Kept: a match on the mark's byte: an enum of the three would be made of it only to be matched here, in the writer and the reader.
 fn mark_length(mark: u8, n: u64) -> usize
     ensures { (result ≡ length ((spelling mark).write n)) × (result ≤ 20) }
 {
     match mark {
-        b'?' => answer_length(n),
+        b'?' => answer_word(n).len(),
         b'@' => name_length(n),
         _ => decimal::number_length(n),
     }
 }
 
+// Kept: as the length above.
 fn write_mark(out: &mut [u8], mark: u8, n: u64) -> usize
     requires { length ((spelling mark).write n) ≤ length out.old }
     ensures { Written ((spelling mark).write n) out.old result out.new }
@@ -98,6 +90,7 @@ fn write_mark(out: &mut [u8], mark: u8, n: u64) -> usize
     }
 }
 
+// Kept: as the length above.
 fn read_mark(mark: u8, bytes: &[u8]) -> Option<Numeral>
     ensures { result ≡ numeral_of (spelling mark) bytes.now }
 {
@@ -108,6 +101,7 @@ fn read_mark(mark: u8, bytes: &[u8]) -> Option<Numeral>
     }
 }
 
+// Kept: one call of the library's, named for its clause (get_or .. 0); one for numbers and bytes would be generic and no shorter.
 // A number that is not there is 0.
 fn number_at(numbers: &[u64], k: usize) -> u64
     ensures { result ≡ get_or numbers.now k 0 }
@@ -171,8 +165,8 @@ pub fn write_ended(out: &mut [u8], word: &[u8], n: u64) -> usize
     at + write_word(&mut out[at..], b"\n")
 }
 
-// Writes the form with these numbers to the start of out, and answers how many bytes that took. Pub for `log_forms` and `text_report`, which have seen that it
-// fits.
+// Writes the form with these numbers to the start of out, and answers how many bytes that took. Pub for `log_forms` and
+// `text_report`, which have seen that it fits.
 pub fn write_form(out: &mut [u8], form: &[u8], numbers: &[u64]) -> usize
     requires { length (fill form.now numbers.now) ≤ length out.old }
     ensures { Written (fill form.now numbers.now) out.old result out.new }
@@ -192,6 +186,7 @@ pub fn write_form(out: &mut [u8], form: &[u8], numbers: &[u64]) -> usize
     at
 }
 
+// Kept: tested and then indexed, as in crate catalogue: a proof learns no element that was written through get_mut.
 // In place, since a copy that is read right after a single number was stored waits for it.
 fn store(numbers: &mut [u64; 8], k: usize, n: u64)
     requires { length numbers.old ≡ 8 }

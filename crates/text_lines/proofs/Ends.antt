@@ -7,7 +7,7 @@ use Rattle.std.specs.List.{position, position_or_len}
 use mathlib.Core.Logic.{◌≢◌}
 use mathlib.Core.List.{List, [], ◌∷◌, ◌++◌}
 use native.Mathlib.Omega.{arith}
-use borrow.Author.Tests.{eqb-false, ne_eqb, ltb-true, ltb-false}
+use borrow.Author.Tests.{eqb-true, eqb-false, ne_eqb, ltb-true, ltb-false}
 use lib.Dec.{eqb, ltb}
 use lib.ListN.{length, get_or, take, drop, drop_of_length-le, length-drop}
 use lib.Seq.{drop-cons, drop-drop}
@@ -106,6 +106,13 @@ next-line s from {end} h e =
 pub no_lines : (s : List ℕ) (from : ℕ) → length s ≤ from → lines (drop from s) ≡ []
 unfolding lines
 no_lines s from h = rw (drop_of_length-le s {i = from} h)
+
+-- a walk along the lines: where nothing is left, and the next line
+pub walked-all : (s : List ℕ) → eqb (length s) 0 ≡ true → lines s ≡ []
+walked-all s h = no_lines s 0 (omega (arith, eqb-true (length s) 0 h))
+
+pub walked-line : (s : List ℕ) → eqb (length s) 0 ≡ false → {end : ℕ} → end ≡ 0 + length (first_line s) → NextLine s 0 end
+walked-line s h e = let n : length s ≢ 0 = eqb-false (length s) 0 h in next-line s 0 (omega arith) e
 
 -- A text that ends with its only byte 10 is one line.
 pub ended-line : (inner rest : List ℕ) → mem 10 inner ≡ false → lines ((inner ++ (10 ∷ [])) ++ rest) ≡ (inner ++ (10 ∷ [])) ∷ lines rest

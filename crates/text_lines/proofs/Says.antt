@@ -15,7 +15,8 @@ use Rattle.text_forms.specs.decimal.Decimal.{saturated, numeral_size}
 use Rattle.text_forms.proofs.decimal.RoundTrip.{saturated-same}
 use Rattle.text_forms.specs.Spelling.{bytes, name_spelling, number_spelling}
 use Rattle.text_forms.specs.Form.{is_mark, spelling, taken, filled_of}
-use Rattle.std.specs.Prelude.{Some, None, Result, Ok, Err}
+use Rattle.std.specs.Prelude.{Option as Answer, Some, None, Result, Ok, Err}
+use Rattle.std.specs.Option.{ok_or}
 use Rattle.refusals.specs.declared.Refusal.{Refusal}
 use Rattle.refusals.specs.declared.Refusal.TheVariants.{NotInForm, OutOfRange}
 use Rattle.text_forms.proofs.Forms.{slots, fill-taken}
@@ -346,3 +347,12 @@ module _ (s : List ℕ) {r : Result Line Refusal} where
   pub no_line : {x : ℕ} → x ≡ get_or s 2 0 → x ≢ 105 → x ≢ 102 → r ≡ Err NotInForm → r ≡ read_by shapes s
   unfolding shapes set_shapes rule_shapes edit_form set_form rule_form bytes all all_but ruled_out otherwise is_mark
   no_line {x} l a b = by-none (sign ".." x ∷ []) s (third-sign s x (sym l), tt) (rw (ne_eqb x 105 a, ne_eqb x 102 b) refl)
+
+-- what is there, or refused
+pub there : (o : Answer (List ℕ)) {r : Result (List ℕ) Refusal} {a : List ℕ} → r ≡ ok_or o NotInForm → r ≡ Ok a → Some a ≡ o
+there None e f = let z : ⊥ = cc in absurd z
+there (Some x) e f = cc
+
+pub none-read : (o : Answer (List ℕ)) {r : Result (List ℕ) Refusal} {g : Refusal} → r ≡ ok_or o NotInForm → r ≡ Err g → (None ≡ o) × (NotInForm ≡ g)
+none-read None e f = (refl, cc)
+none-read (Some x) e f = let z : ⊥ = cc in absurd z

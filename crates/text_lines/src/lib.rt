@@ -1,13 +1,16 @@
 // The lines of the exchanged text (document 01, "Text") as rows of numbers. Public for the crates of this workspace that read and write
 // texts; these lend what is long enough, so the writers require it.
+// Kept: kinds, fields and rules by number, as document 01 has field numbers matched in the text.
+// Kept: a writer is lent the rest of the output and answers its size, as document 01 has it; a struct of both would be split at each word.
 #![tactic(auto)]
 
-ghost use Rattle.std.specs.Prelude.{◌≡◌, [], ◌∷◌, ◌++◌, ◌+◌, ◌≤◌, ◌==◌, length, drop, get_or, position};
+ghost use Rattle.std.specs.Prelude.{◌≡◌, [], ◌∷◌, ◌++◌, ◌+◌, ◌≤◌, ◌==◌, length, drop, get_or, position, ⊤};
+ghost use Rattle.std.specs.Iterator.{at_most};
 ghost use Rattle.text_forms.specs.decimal.Decimal.{decimal, numeral_size};
 ghost use Rattle.text_forms.specs.decimal.Written.{Written};
 ghost use Rattle.text_forms.specs.Form.{fill};
 ghost use Rattle.text_lines.specs.Line.{set_form, edit_form, rule_form, field_word, rule_word, edit_line, constraint_line, edit_shape, rule_shape, shapes, word_read, read_as, read_by, line_limit, line_read};
-ghost use Rattle.text_lines.specs.Lines.{first_line};
+ghost use Rattle.text_lines.specs.Lines.{first_line, WalksLines};
 
 use refusals::Refusal;
 use text_forms::decimal;
@@ -44,7 +47,8 @@ fn edit_form(kind: u32, field: u32) -> &'static [u8]
     }
 }
 
-fn rule_form(rule: u32) -> &'static [u8]
+// Pub for the answers of a log.
+pub fn rule_form(rule: u32) -> &'static [u8]
     ensures { result.now ≡ rule_form rule }
 {
     match rule {
@@ -65,9 +69,8 @@ pub fn word(n: u64) -> Result<u32, Refusal>
 fn read_edit_as(kind: u32, field: u32, bytes: &[u8]) -> Result<Line, Refusal>
     ensures { result ≡ read_as (edit_shape kind field) bytes.now }
 {
-    let Some(numbers) = text_forms::read_form(edit_form(kind, field), bytes) else {
-        return Err(Refusal::NotInForm);
-    };
+    let said = text_forms::read_form(edit_form(kind, field), bytes);
+    let numbers = said.ok_or(Refusal::NotInForm)?;
     let name = word(numbers[0])?;
     let place = word(numbers[1])?;
     let value = word(numbers[2])?;
@@ -78,14 +81,13 @@ fn read_edit_as(kind: u32, field: u32, bytes: &[u8]) -> Result<Line, Refusal>
 fn read_rule_as(rule: u32, bytes: &[u8]) -> Result<Line, Refusal>
     ensures { result ≡ read_as (rule_shape rule) bytes.now }
 {
-    let Some(numbers) = text_forms::read_form(rule_form(rule), bytes) else {
-        return Err(Refusal::NotInForm);
-    };
+    let numbers = text_forms::read_form(rule_form(rule), bytes).ok_or(Refusal::NotInForm)?;
     let left = word(numbers[0])?;
     let right = word(numbers[1])?;
     Ok(Line::Constraint([left, rule, right]))
 }
 
+// Kept: one call of the library's under the name of its clause; one function for it and for the numbers of a form would be no shorter.
 // The byte at a place of a text, 0 past its end. Pub for the reader of logs.
 pub fn byte_at(bytes: &[u8], i: usize) -> u8
     ensures { result ≡ get_or bytes.now i 0 }
@@ -106,6 +108,8 @@ pub fn number_end(bytes: &[u8], from: usize) -> usize
     }
 }
 
+// Kept: `length bytes.now ≤ line_limit`: here and in the reader of logs it stands beside facts about letters of the same line, which a type of
+// short lines would not say, so that each contract would keep its `requires`.
 // Set, by the letter after `field=`; the name ends at `name`.
 fn read_set(bytes: &[u8], name: usize) -> Result<Line, Refusal>
     requires { (length bytes.now ≤ line_limit) × (name ≡ 5 + numeral_size (drop 5 bytes.now)) × (get_or bytes.now 2 0 ≡ 105) × (get_or bytes.now (name + 4) 0 ≡ 115) }
@@ -197,17 +201,25 @@ fn pair_length(words: usize, m: u64, n: u64) -> usize
     words + decimal::number_length(m) + decimal::number_length(n)
 }
 
-// How many bytes stand after the name.
-fn field_length(field: u32, place: u64, value: u64) -> usize
-    ensures { (result ≡ length (fill (drop 6 (set_form field)) (place ∷ value ∷ []))) × (result ≤ line_limit + 40) }
-{
-    pair_length(14 + field_word(field).len(), place, value)
+// What a line that sets a field says after the edit's name.
+#[derive(Clone, Copy)]
+struct Setting {
+    field: u32,
+    place: u64,
+    value: u64,
 }
 
-fn set_length(field: u32, name: u64, place: u64, value: u64) -> usize
-    ensures { result ≡ length (fill (set_form field) (name ∷ place ∷ value ∷ [])) }
+// How many bytes stand after the name.
+fn setting_length(set: Setting) -> usize
+    ensures { (result ≡ length (fill (drop 6 (set_form set.field)) (set.place ∷ set.value ∷ []))) × (result ≤ line_limit + 40) }
 {
-    5 + decimal::number_length(name) + field_length(field, place, value)
+    pair_length(14 + field_word(set.field).len(), set.place, set.value)
+}
+
+fn set_length(name: u64, set: Setting) -> usize
+    ensures { result ≡ length (fill (set_form set.field) (name ∷ set.place ∷ set.value ∷ [])) }
+{
+    5 + decimal::number_length(name) + setting_length(set)
 }
 
 // How many bytes an edit's line takes with its end.
@@ -218,7 +230,14 @@ pub fn edit_line_length(row: [u32; 5]) -> usize
     let place = u64::from(row[2]);
     let kind = row[1];
     match kind {
-        1 => set_length(row[3], name, place, u64::from(row[4])),
+        1 => set_length(
+            name,
+            Setting {
+                field: row[3],
+                place,
+                value: u64::from(row[4]),
+            },
+        ),
         _ => pair_length(22, name, place),
     }
 }
@@ -241,25 +260,25 @@ fn write_pair(out: &mut [u8], first: &[u8], m: u64, second: &[u8], n: u64) -> us
 }
 
 // Writes what stands after the name.
-fn write_field(out: &mut [u8], field: u32, place: u64, value: u64) -> usize
-    requires { length (fill (drop 6 (set_form field)) (place ∷ value ∷ [])) ≤ length out.old }
-    ensures { Written (fill (drop 6 (set_form field)) (place ∷ value ∷ [])) out.old result out.new }
+fn write_setting(out: &mut [u8], set: Setting) -> usize
+    requires { length (fill (drop 6 (set_form set.field)) (set.place ∷ set.value ∷ [])) ≤ length out.old }
+    ensures { Written (fill (drop 6 (set_form set.field)) (set.place ∷ set.value ∷ [])) out.old result out.new }
 {
     write_pair(
         &mut out[..],
         b" do=set chip=",
-        place,
-        field_word(field),
-        value,
+        set.place,
+        field_word(set.field),
+        set.value,
     )
 }
 
-fn write_set(out: &mut [u8], field: u32, name: u64, place: u64, value: u64) -> usize
-    requires { length (fill (set_form field) (name ∷ place ∷ value ∷ [])) ≤ length out.old }
-    ensures { Written (fill (set_form field) (name ∷ place ∷ value ∷ [])) out.old result out.new }
+fn write_set(out: &mut [u8], name: u64, set: Setting) -> usize
+    requires { length (fill (set_form set.field) (name ∷ set.place ∷ set.value ∷ [])) ≤ length out.old }
+    ensures { Written (fill (set_form set.field) (name ∷ set.place ∷ set.value ∷ [])) out.old result out.new }
 {
     let at = text_forms::write_worded(&mut out[..], b"edit=", name);
-    at + write_field(&mut out[at..], field, place, value)
+    at + write_setting(&mut out[at..], set)
 }
 
 // Writes an edit's line to the start of out, and answers how many bytes that took. Pub for `text_writer`, which has seen that all fits.
@@ -272,7 +291,15 @@ pub fn write_edit_line(out: &mut [u8], row: [u32; 5]) -> usize
     let kind = row[1];
     match kind {
         0 => write_pair(&mut out[..], b"edit=", name, b" do=insert chip=", place),
-        1 => write_set(&mut out[..], row[3], name, place, u64::from(row[4])),
+        1 => write_set(
+            &mut out[..],
+            name,
+            Setting {
+                field: row[3],
+                place,
+                value: u64::from(row[4]),
+            },
+        ),
         _ => write_pair(&mut out[..], b"edit=", name, b" do=remove chip=", place),
     }
 }
@@ -304,5 +331,39 @@ pub fn line_end(bytes: &[u8], from: usize) -> usize
     match end_place(&bytes[from..]) {
         Some(place) => from + place + 1,
         None => bytes.len(),
+    }
+}
+
+// A walk along the lines of a text, each with its end.
+#[derive(Drop)]
+pub struct Lines<'a> {
+    rest: &'a [u8],
+}
+
+impl<'a> Lines<'a> {
+    // Pub for the crates that read texts line by line.
+    pub fn new(text: &'a [u8]) -> Lines<'a>
+        ensures { result.rest.now ≡ text.now }
+    {
+        Lines { rest: text }
+    }
+}
+
+impl<'a> Iterator for Lines<'a> {
+    type Item = &'a [u8];
+
+    ghost can_next = { λ s. ⊤ };
+
+    ghost next_gives = { λ s r t. WalksLines s.rest.now r t.rest.now };
+
+    ghost remaining = { λ s. at_most (length s.rest.now) };
+
+    fn next(&mut self) -> Option<&'a [u8]> {
+        if self.rest.is_empty() {
+            return None;
+        }
+        let (line, rest) = self.rest.split_at(line_end(self.rest, 0));
+        self.rest = rest;
+        Some(line)
     }
 }

@@ -1,5 +1,5 @@
 -- The laws of the loop over the lines of a text. Assumes nothing.
-use Rattle.std.proofs.Common.{◌≡◌, refl, ap, sym, ◌∙◌, Bool, true, false, List, [], ◌∷◌, ℕ, suc, ◌+◌, ◌-◌, ◌≤◌, ◌<◌, length, take, drop, set, replicate, add-one, arith}
+use Rattle.std.proofs.Common.{◌≡◌, refl, ap, sym, ◌∙◌, Bool, true, false, List, [], ◌∷◌, ℕ, suc, ◌+◌, ◌≤◌, length, take, set, replicate, add-one, arith}
 use Rattle.std.specs.Prelude.{Result, Ok, Err}
 use borrow.Author.Tests.{ne_eqb}
 use lib.ListN.{length-set, length-replicate}
@@ -18,8 +18,7 @@ use Rattle.record_tables.proofs.Marks.{marks-start}
 use Rattle.text_lines.specs.declared.Line.{Line}
 use Rattle.text_lines.specs.declared.Line.TheVariants.{Edit, Constraint}
 use Rattle.text_lines.specs.Line.{line_read}
-use Rattle.text_lines.specs.Lines.{lines, first_line}
-use Rattle.text_lines.proofs.Ends.{NextLine, next-line, no_lines}
+use Rattle.text_lines.specs.Lines.{lines}
 use Rattle.text.specs.Text.{line_fault, edits_with, constraints_with, Answer, Accepted, Refused, read_from, read_rows, judged, read_text}
 use Rattle.text.proofs.RoundTrip.{rows-took}
 use Rattle.graph.specs.indexes.Fit.{Fit}
@@ -29,17 +28,15 @@ use Rattle.text_reader.specs.Reading.{Reads}
 use Rattle.text_reader.specs.Held.{EditsHeld, ConstraintsHeld, LineTaken, edit_count, constraint_count}
 
 -- what is read so far, and what is left
-pub record Upto (text : List ℕ) (edits : Rows) (constraints : Rows) (marks : List ℕ) (n m at : ℕ) : Type 0 where
-  pub inside : at ≤ length text
+pub record Upto (text : List ℕ) (edits : Rows) (constraints : Rows) (marks : List ℕ) (n m : ℕ) (rest : List ℕ) : Type 0 where
   pub edits-held : EditsHeld edits marks n
   pub constraints-held : ConstraintsHeld constraints m
-  pub answer : read_rows text ≡ read_from (n + m) (take n edits) (take m constraints) (lines (drop at text))
+  pub answer : read_rows text ≡ read_from (n + m) (take n edits) (take m constraints) (lines rest)
 
-pub upto-start : (text : List ℕ) → Upto text (replicate edit_limit (replicate 5 0)) (replicate constraint_limit (replicate 3 0)) (set (replicate 2304 0) 0 1) 0 0 0
+pub upto-start : (text : List ℕ) → Upto text (replicate edit_limit (replicate 5 0)) (replicate constraint_limit (replicate 3 0)) (set (replicate 2304 0) 0 1) 0 0 text
 unfolding read_rows
 upto-start text =
     record {
-      inside = omega arith;
       edits-held = record { size = length-replicate {A = List ℕ} edit_limit (replicate 5 0); marksize = length-set {A = ℕ} (replicate 2304 0) 0 1 ∙ length-replicate {A = ℕ} 2304 0; few = omega arith; ascends = tt; marked = marks-start 2304 (omega arith) };
       constraints-held = record { size = length-replicate {A = List ℕ} constraint_limit (replicate 3 0); few = omega arith; ascends = tt };
       answer = refl;
@@ -65,35 +62,32 @@ pub one-line : (said : Line) → edit_count said + constraint_count said ≡ 1
 one-line (Edit row) = refl
 one-line (Constraint row) = refl
 
-module _ (text : List ℕ) {edits constraints : Rows} {marks : List ℕ} {n m at : ℕ} (u : Upto text edits constraints marks n m at) where
-  module _ (h : at < length text) {end : ℕ} (e : end ≡ at + length (first_line (drop at text))) where
-    next : NextLine text at end
-    next = next-line text at h e
-
-    refused-here : {said : Result Line Refusal} → said ≡ line_read (take (end - at) (drop at text)) → (refusal : Refusal) → number refusal ≡ line_fault (take n edits) (take m constraints) said
+module _ (text : List ℕ) {edits constraints : Rows} {marks : List ℕ} {n m : ℕ} {rest : List ℕ} (u : Upto text edits constraints marks n m rest) where
+  -- the next line, and what is left after it
+  module _ (l after : List ℕ) (h : lines rest ≡ l ∷ lines after) where
+    refused-here : {said : Result Line Refusal} → said ≡ line_read l → (refusal : Refusal) → number refusal ≡ line_fault (take n edits) (take m constraints) said
         → Reads (read_rows text) (Err (record { refusal = refusal; line = n + m + 1 }))
     refused-here r refusal f =
-        let p : read_rows text ≡ Refused (number refusal) ((n + m) + 1) = u.answer ∙ ap (read_from (n + m) (take n edits) (take m constraints)) next.lines_are ∙ step-faulty (n + m) (take n edits) (take m constraints) (take (end - at) (drop at text)) (lines (drop end text)) r f (number-positive refusal) in
+        let p : read_rows text ≡ Refused (number refusal) ((n + m) + 1) = u.answer ∙ ap (read_from (n + m) (take n edits) (take m constraints)) h ∙ step-faulty (n + m) (take n edits) (take m constraints) l (lines after) r f (number-positive refusal) in
         rw p (refl, refl)
 
-    pub upto-unread : {refusal : Refusal} → Err refusal ≡ line_read (take (end - at) (drop at text)) → Reads (read_rows text) (Err (record { refusal = refusal; line = n + m + 1 }))
+    pub upto-unread : {refusal : Refusal} → Err refusal ≡ line_read l → Reads (read_rows text) (Err (record { refusal = refusal; line = n + m + 1 }))
     upto-unread {refusal} r = refused-here r refusal (unread-number (take n edits) (take m constraints) refusal)
 
-    module _ {said : Line} (r : Ok said ≡ line_read (take (end - at) (drop at text))) {k : ℕ} {edits' : Rows} {marks' : List ℕ} {constraints' : Rows} (t : LineTaken edits marks constraints n m said k edits' marks' constraints') where
+    module _ {said : Line} (r : Ok said ≡ line_read l) {k : ℕ} {edits' : Rows} {marks' : List ℕ} {constraints' : Rows} (t : LineTaken edits marks constraints n m said k edits' marks' constraints') where
       pub upto-refused : (refusal : Refusal) → number refusal ≡ k → Reads (read_rows text) (Err (record { refusal = refusal; line = n + m + 1 }))
       upto-refused refusal q = refused-here r refusal (q ∙ t.number_is)
 
-      pub upto_next : k ≡ 0 → {i j : ℕ} → i ≡ n + edit_count said → j ≡ m + constraint_count said → Upto text edits' constraints' marks' i j end
+      pub upto_next : k ≡ 0 → {i j : ℕ} → i ≡ n + edit_count said → j ≡ m + constraint_count said → Upto text edits' constraints' marks' i j after
       upto_next z {i} {j} p q =
           let o : edit_count said + constraint_count said ≡ 1 = one-line said in
           let c : suc (n + m) ≡ i + j = omega arith in
           let a : take i edits' ≡ edits_with (Ok said) (take n edits) = rw p (t.edits-are z) in
           let b : take j constraints' ≡ constraints_with (Ok said) (take m constraints) = rw q (t.constraints-are z) in
           record {
-            inside = next.inside;
             edits-held = rw p (t.edits-held z);
             constraints-held = rw q (t.constraints-held z);
-            answer = u.answer ∙ ap (read_from (n + m) (take n edits) (take m constraints)) next.lines_are ∙ step-good (n + m) (take n edits) (take m constraints) (take (end - at) (drop at text)) (lines (drop end text)) r t.number_is z ∙ rw (c, a, b);
+            answer = u.answer ∙ ap (read_from (n + m) (take n edits) (take m constraints)) h ∙ step-good (n + m) (take n edits) (take m constraints) l (lines after) r t.number_is z ∙ rw (c, a, b);
           }
 
   few-edits : length (take n edits) ≤ edit_limit
@@ -102,11 +96,10 @@ module _ (text : List ℕ) {edits constraints : Rows} {marks : List ℕ} {n m at
   few-constraints : length (take m constraints) ≤ constraint_limit
   few-constraints = let w : m ≤ length constraints = omega (arith, u.constraints-held.size, u.constraints-held.few) in rw (length-take-le m constraints w) u.constraints-held.few
 
-  pub upto-end : length text ≤ at → {r : declared.Record} → (length (take n edits) ≤ edit_limit → length (take m constraints) ≤ constraint_limit → r ≡ stored (decoded (take n edits) (take m constraints))) → Reads (read_rows text) (Ok r)
+  pub upto-end : lines rest ≡ [] → {r : declared.Record} → (length (take n edits) ≤ edit_limit → length (take m constraints) ≤ constraint_limit → r ≡ stored (decoded (take n edits) (take m constraints))) → Reads (read_rows text) (Ok r)
   unfolding read_from
   upto-end h {r} f =
-      let e : lines (drop at text) ≡ [] = no_lines text at h in
-      let a : read_rows text ≡ Accepted (decoded (take n edits) (take m constraints)) = u.answer ∙ rw e in
+      let a : read_rows text ≡ Accepted (decoded (take n edits) (take m constraints)) = u.answer ∙ rw h in
       rw a (ap Ok (f few-edits few-constraints))
 
 -- after the rows
@@ -129,6 +122,9 @@ module _ (text : List ℕ) where
 
     pub counts-small : content.editcount + content.constraintcount ≤ 639
     counts-small = accepted (λ R e c. let t = rows-took text R e in rw c (omega (arith, t.checked.editplaces, t.checked.constraintplaces)))
+
+    pub lines-counted : content.editcount + content.constraintcount ≡ length (lines text)
+    lines-counted = accepted (λ R e c. rw c (rows-took text R e).count)
 
     module _ {s : Bool} (f : (R : Record) → content ≡ stored R → Fit R → s ≡ sound R) where
       pub text-sound : s ≡ true → Reads (read_text text) (Ok content)

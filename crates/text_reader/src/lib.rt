@@ -1,20 +1,21 @@
 // A text is read line by line into a record (document 01, "Text").
 #![tactic(auto)]
 
-ghost use Rattle.std.specs.Prelude.{◌≡◌, not, ◌&&◌, List, [], ℕ, leb, length, take};
+ghost use Rattle.std.specs.Prelude.{◌≡◌, not, ◌&&◌, List, [], ℕ, ◌+◌, leb, length, take, IfOk};
 ghost use Rattle.lists.specs.Keyed.{Ascending};
 ghost use Rattle.refusals.specs.Numbers.{number_of};
 ghost use Rattle.record_rows.specs.grounds.Ground.{known, row_fault};
 ghost use Rattle.record_tables.specs.Checked.{MarksNames};
+ghost use Rattle.text_lines.specs.Lines.{lines};
 ghost use Rattle.text.specs.Text.{read_rows, read_text};
 ghost use Rattle.text_reader.specs.Reading.{Reads};
 ghost use Rattle.text_reader.specs.Held.{row_kind, EditsHeld, ConstraintsHeld, EditTaken, ConstraintTaken, LineTaken};
 
 use record::{CONSTRAINTS, Constraint, EDITS, Edit, Record};
 use record_rows::element::Element;
-use record_rows::row::{CONSTRAINT_CELLS, ConstraintRow, EDIT_CELLS, EditRow, NAMES};
+use record_rows::row::{CONSTRAINT_CELLS, ConstraintRow, EDIT_CELLS, EditRow, LentRecord, NAMES};
 use refusals::Refusal;
-use text_lines::Line;
+use text_lines::{Line, Lines};
 
 // Why a text is refused, and the line, counted from 1.
 #[derive(Clone, Copy)]
@@ -23,6 +24,7 @@ pub struct Fault {
     pub line: usize,
 }
 
+// Kept: `above` and `row` are two here and below, as in `record_tables`.
 // Whether a row is new and the rows above it take every place.
 fn no_place<const CELLS: usize, T: Element<CELLS>>(
     above: &[[u32; CELLS]],
@@ -93,6 +95,8 @@ fn take_constraint(
     Ok(())
 }
 
+// Kept: edits, marks, constraints, n and m, here and in the takers above, are the loop's locals: EditsHeld and ConstraintsHeld are facts of
+// its law (Upto), which also says what text is left, so that a struct of them would bring those two facts and leave the third.
 // The fault of a line's row after n edits and m constraints. Without fault it is held.
 fn take_line(
     edits: &mut [EditRow],
@@ -121,11 +125,10 @@ fn read_rows(text: &[u8]) -> Result<Record, Fault>
     marks[0] = 1;
     let mut n = 0;
     let mut m = 0;
-    let mut at = 0;
-    while at < text.len() {
-        let end = text_lines::line_end(text, at);
+    for bytes in Lines::new(text) {
         let line = n + m + 1;
-        let said = match text_lines::read_line(&text[at..end]) {
+        // Kept: two matches: map_err with a closure was tried, and what its clause says of the fault did not close the law of the loop.
+        let said = match text_lines::read_line(bytes) {
             Ok(said) => said,
             Err(refusal) => return Err(Fault { refusal, line }),
         };
@@ -137,14 +140,17 @@ fn read_rows(text: &[u8]) -> Result<Record, Fault>
             Line::Edit(_) => n += 1,
             Line::Constraint(_) => m += 1,
         }
-        at = end;
     }
-    Ok(record_union::decode(&edits[..n], &constraints[..m]))
+    Ok(record_union::decode(LentRecord {
+        edits: &edits[..n],
+        constraints: &constraints[..m],
+    }))
 }
 
-// Reads a text: its rows, and then whether the record is sound; that it is not is told of its last line.
+// Reads a text: its rows, and then whether the record is sound; that it is not is told of its last line. An accepted text has a line for each row.
 pub fn read_text(text: &[u8]) -> Result<Record, Fault>
-    ensures { Reads (read_text text.now) result }
+    ensures reads { Reads (read_text text.now) result }
+    ensures counted { IfOk result (λ content. content.editcount + content.constraintcount ≡ length (lines text.now)) }
 {
     let content = read_rows(text)?;
     if judgement::sound(content) {

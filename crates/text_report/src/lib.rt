@@ -42,6 +42,7 @@ fn report_rows(edits: &[Edit], judged: &Judged) -> [[u64; 5]; EDITS]
     rows
 }
 
+// Kept: beside text_writer's, since a form's room is counted down byte by byte and no length of it is made (form_fit).
 fn line_fit(room: usize, numbers: &[u64]) -> Option<usize>
     ensures { result ≡ room_after room (length (fill report_form numbers.now)) }
 {
@@ -128,6 +129,7 @@ pub fn report_text(text: &[u8], out: &mut [u8]) -> Result<usize, Fault>
     ensures bytes { out.new ≡ reported_out (read_text text.now) out.old }
 {
     let content = text_reader::read_text(text)?;
+    // Kept: line 0 where the text is read and its report does not fit, which is what C reads.
     match report_record(content, &mut out[..]) {
         Ok(size) => Ok(size),
         Err(refusal) => Err(Fault { refusal, line: 0 }),

@@ -10,7 +10,7 @@ ghost use Rattle.text.specs.Text.{joined_lines, text_of};
 ghost use Rattle.text_writer.specs.Placed.{placed, placing};
 
 use record::{Constraint, Edit, Record};
-use record_rows::row;
+use record_rows::element::Element;
 use refusals::Refusal;
 
 // What has a line in a text. Pub for the crates that write other lines.
@@ -34,11 +34,11 @@ impl Lined for Edit {
     ghost line = { edit_text };
 
     fn line_length(self) -> usize {
-        text_lines::edit_line_length(row::edit_row(self))
+        text_lines::edit_line_length(self.row())
     }
 
     fn write_line(self, out: &mut [u8]) -> usize {
-        text_lines::write_edit_line(&mut out[..], row::edit_row(self))
+        text_lines::write_edit_line(&mut out[..], self.row())
     }
 }
 
@@ -48,11 +48,11 @@ impl Lined for Constraint {
     ghost line = { constraint_text };
 
     fn line_length(self) -> usize {
-        text_lines::constraint_line_length(row::constraint_row(self))
+        text_lines::constraint_line_length(self.row())
     }
 
     fn write_line(self, out: &mut [u8]) -> usize {
-        text_lines::write_constraint_line(&mut out[..], row::constraint_row(self))
+        text_lines::write_constraint_line(&mut out[..], self.row())
     }
 }
 

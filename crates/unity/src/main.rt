@@ -11,7 +11,7 @@ fn read_full(file: &mut impl Read, text: &mut [u8]) -> usize
     ensures { result ≤ length text.new }
 {
     let mut done = 0;
-    // Kept: a `while` over what is read, since a read takes what there is, and no iterator says how much.
+    // Kept: as stdio::read_input, a `while`, but a failed read is taken for the end of the input and nothing is told.
     while done < text.len() {
         match file.read(&mut text[done..]) {
             Ok(0) | Err(_) => break,

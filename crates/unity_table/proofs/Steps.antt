@@ -14,8 +14,8 @@ use Rattle.fraction.proofs.Bounds.{fraction-told, fraction-wide}
 use Rattle.unity_table.specs.declared.Weights.{Weights}
 use Rattle.unity_table.specs.declared.Summed.{Summed}
 use Rattle.unity_table.specs.Unity.{total_limit, share_of, out_of_range}
-use Rattle.unity_table.specs.Summed.{WithinTotals, Room, with_sum, with_share}
-use Rattle.unity_table.proofs.Sums.{in-range, share-small}
+use Rattle.unity_table.specs.Summed.{Room, with_sum, with_share}
+use Rattle.unity_table.proofs.Sums.{in-range}
 
 -- the range of a row: a sum that does not fit is past every total
 module _ (a : Weights) where
@@ -35,9 +35,6 @@ module _ (s : Summed) (a : Weights) (m : Room s) (h : out_of_range a ≡ false) 
   share-addable =
       let r = in-range a h in
       record { divisor = m.divisor; positive = lowest-positive a.greatest a.total t; atmost = lowest-atmost a.greatest a.total t (let x = r.together in omega arith) }
-
-  pub share-kept : WithinTotals (share_of a)
-  share-kept = share-small a (in-range a h)
 
   pub group-kept : a.greatest ≤ total_limit
   group-kept = let r = in-range a h in let x = r.together in let y = r.limited in omega arith

@@ -24,7 +24,7 @@ use Rattle.unity_table.specs.declared.Weights.{Weights}
 use Rattle.unity_table.specs.declared.Summed.{Summed}
 use Rattle.unity_table.specs.declared.RowFault.{RowFault}
 use Rattle.unity_table.specs.Unity.{election_limit, total_limit, is_empty, is_won, share_of, shares, out_of_range, too_wide, weights_fault, Fault, deciding_fault, count_by, fault_of}
-use Rattle.unity_table.specs.Summed.{running, summed, Open, WithinTotals, Room, with_empty, with_sum, with_share, SummedTo}
+use Rattle.unity_table.specs.Summed.{running, summed, Open, Room, with_empty, with_sum, with_share, SummedTo}
 use Rattle.unity_table.proofs.Faults.{no_fault, fault_at, running_more, running-keeps}
 
 -- how many pass a test, of one answer more
@@ -78,7 +78,12 @@ in-range a h = record {
   limited = ltb-false total_limit a.total (or-no-r (ltb a.total (a.greatest + a.silent)) (ltb total_limit a.total) h);
 }
 
-pub share-small : (a : Weights) → InRange a → WithinTotals (share_of a)
+-- the numbers of a share, which are at most those of its row
+pub record WithinTotals (f : Fraction) : Type 0 where
+  pub numerator : f.numerator ≤ total_limit
+  pub denominator : f.denominator ≤ total_limit
+
+share-small : (a : Weights) → InRange a → WithinTotals (share_of a)
 unfolding lowest_terms
 share-small a h = record {
   numerator = let d = div-le_self a.greatest (gcd a.greatest a.total) in let t = h.together in let m = h.limited in omega arith;
@@ -219,8 +224,6 @@ module _ (s : Summed) (l : List Weights) (a : Weights) (o : Open s l) where
             won = rw i (filter-length is_won l);
             empty = rw i (filter-length is_empty l);
             divisor = rw i (common-positive (shares l) (shares-positive l));
-            least = rw i k.least;
-            greatest = rw i k.greatest;
           }
 
       -- a row without fault

@@ -7,7 +7,7 @@ use Rattle.unity_table.specs.declared.Weights.{Weights}
 use Rattle.unity_table.specs.declared.Summed.{Summed}
 use Rattle.unity_table.specs.declared.Unity.{Unity}
 use Rattle.unity_table.specs.declared.RowFault.{RowFault}
-use Rattle.unity_table.specs.Unity.{election_limit, total_limit, is_empty, is_won, share_of, shares, weights_fault, Fault, deciding_fault, count_by, unity_of, fault_of, answer_told}
+use Rattle.unity_table.specs.Unity.{election_limit, is_empty, is_won, share_of, shares, weights_fault, Fault, deciding_fault, count_by, unity_of, fault_of, answer_told}
 
 -- no row is taken for the last one
 abbrev pub running_fault : List Weights → Weights → Bool → ℕ
@@ -45,11 +45,6 @@ Means s r = (l : List Weights) → Open s l → r ≡ bounded_fraction (mean (sh
 abbrev pub Ends : Summed → Result Unity RowFault → Type 0
 Ends s r = (l : List Weights) → Open s l → answer_told r ≡ unity_of l
 
--- the numbers of a share, which are at most those of its row
-pub record WithinTotals (f : Fraction) : Type 0 where
-  pub numerator : f.numerator ≤ total_limit
-  pub denominator : f.denominator ≤ total_limit
-
 -- there is a place for one row more
 pub record Room (s : Summed) : Type 0 where
   pub rows : s.rows < election_limit
@@ -57,8 +52,6 @@ pub record Room (s : Summed) : Type 0 where
   pub won : s.won ≤ s.rows
   pub empty : s.empty ≤ s.rows
   pub divisor : 0 < s.sum.denominator
-  pub least : WithinTotals s.least
-  pub greatest : WithinTotals s.greatest
 
 -- one row more, by the step that the code makes
 abbrev pub with_empty : Summed → Summed

@@ -43,6 +43,7 @@ pub struct Unity {
     pub empty: usize,
 }
 
+// Kept: beside text_reader::Fault, since a row of a table has no line.
 // Why a table is refused: the ground of its first faulty row, and that row, from 1.
 #[derive(Clone, Copy)]
 pub struct RowFault {
@@ -50,6 +51,9 @@ pub struct RowFault {
     pub row: usize,
 }
 
+// Kept: no Option: of no share the least and the greatest are 0/1, which is what is answered.
+// Kept: `held.Left`, `held.Room`: a state is what some answers without fault come to, which a step shows only once its row is known to have
+// none; as a ghost field it would have to be shown of states that are still to be tested.
 // The answers so far: how many, the sum of their shares over the least common denominator, and how many shares that are.
 #[derive(Clone, Copy)]
 pub struct Summed {
@@ -107,7 +111,7 @@ fn with_empty(s: Summed) -> Summed
 
 // One election more whose share enters the sum.
 fn with_sum(s: Summed, a: Weights, share: Fraction, sum: Fraction) -> Summed
-    requires { held.Room s × (held.WithinTotals share × (a.greatest ≤ unity.total_limit)) }
+    requires { held.Room s × (a.greatest ≤ unity.total_limit) }
     ensures { result ≡ held.with_sum s a share sum }
 {
     let none = s.entered == 0;

@@ -8,6 +8,7 @@ ghost use Rattle.unity_text.specs.Text.{numbers_in, text_unity, printed_unity};
 ghost use Rattle.unity_text.specs.Said.{said_of};
 
 use refusals::Refusal;
+use text_lines::Lines;
 use unity_table::{RowFault, Unity, Weights};
 
 // What a line says, where it is in form. Numbers past 32 bits are cut off at 2^32, which is out of range all the same.
@@ -26,22 +27,18 @@ fn read_answer(line: &[u8]) -> Option<Weights>
 }
 
 // What the answers of a text come to.
-// Kept: a `while` over places, since lines are what `text_lines::line_end` finds, as in every reader of lines.
 pub fn text_unity(text: &[u8]) -> Result<Unity, RowFault>
     ensures { answer_told result ≡ text_unity text.now }
 {
     let mut summed = unity_table::nothing_summed();
-    let mut at = 0;
-    while at < text.len() {
-        let end = text_lines::line_end(text, at);
-        let Some(answer) = read_answer(&text[at..end]) else {
+    for line in Lines::new(text) {
+        let Some(answer) = read_answer(line) else {
             return Err(RowFault {
                 refusal: Refusal::NotInForm,
                 row: summed.rows + 1,
             });
         };
         summed = unity_table::with_answer(summed, answer)?;
-        at = end;
     }
     unity_table::finished(summed)
 }

@@ -5,3 +5,4 @@ pub mod Bundles
 pub mod Elections
 pub mod Derived
 pub mod Selecting
+pub mod Told

@@ -1,12 +1,14 @@
 -- Document 01, "Proposals and votes": the election. Left out, as the document says: 000's win by plurality. Assumes nothing.
-use Rattle.std.specs.Prelude.{Bool, true, false, ◌&&◌, cond, List, [], ◌∷◌, map, ℕ, ◌+◌, ◌*◌, max, ltb}
+use Rattle.std.specs.Prelude.{Bool, true, false, ◌&&◌, cond, List, [], ◌∷◌, map, ℕ, ◌+◌, ◌*◌, max, ltb, Result, Ok, Err}
 use Rattle.std.proofs.Math.Option.{Option, none, some}
 use Rattle.record.specs.declared.Edit.{Edit}
 use Rattle.record.specs.declared.Constraint.{Constraint}
 use Rattle.record.specs.Record.{Record}
 use Rattle.record_rows.specs.row.Row.{same, edit_row, constraint_row}
+use Rattle.refusals.specs.declared.Refusal.{Refusal}
+use Rattle.refusals.specs.Numbers.{number}
 use Rattle.voting.specs.declared.RollRow.{RollRow}
-use Rattle.voting.specs.declared.Election.{Election}
+use Rattle.voting.specs.declared.ElectionResult.{ElectionResult}
 use Rattle.voting.specs.Bundle.{vote}
 
 -- Votes are equal when edits, bodies and constraints are.
@@ -81,6 +83,19 @@ winner_of l (b ∷ m) = let r = winner_of l m in cond (ltb (total l) (2 * group 
 
 unfoldable pub winner : List Ballot → Option Record
 winner l = winner_of l l
+
+-- The answer of an election in numbers: on refusal every part but the number is 0.
+pub record Election : Type 0 where
+  pub number : ℕ
+  pub won : Bool
+  pub greatest : ℕ
+  pub silent : ℕ
+  pub total : ℕ
+
+-- what a result or a refusal is in numbers
+abbrev pub election_told : Result ElectionResult Refusal → Election
+election_told (Ok r) = record { number = 0; won = r.won; greatest = r.greatest; silent = r.silent; total = r.total }
+election_told (Err refusal) = record { number = number refusal; won = false; greatest = 0; silent = 0; total = 0 }
 
 -- the answer: the greatest group's weight (0 if all are silent), silent weight and total
 abbrev pub counted : List Ballot → Election

@@ -11,10 +11,9 @@ pub struct RollRow {
     pub weight: u16,
 }
 
-// The answer of an election. On refusal every part but the number is 0.
+// What an election comes to, where nothing is refused.
 #[derive(Clone, Copy)]
-pub struct Election {
-    pub number: u32,
+pub struct ElectionResult {
     pub won: bool,
     pub greatest: u32,
     pub silent: u32,
@@ -22,6 +21,7 @@ pub struct Election {
 }
 
 // Writes the elements that pass a test over the first of a table, in their order, and gives their number. What stands after them stays.
+// Kept: a counter: a filter zipped with the table's places would have to count what it wrote as well, for the answer.
 pub fn select<T: Copy, F: Fn(T) -> bool>(from: &[T], test: F, into: &mut [T]) -> usize
     requires callable { F.IsAlwaysCallable test }
     requires places { length from.now ≤ length into.old }

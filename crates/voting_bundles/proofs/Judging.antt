@@ -12,7 +12,7 @@ use borrow.Author.Tests.{ne_eqb, lt-ltb}
 use Rattle.record.specs.declared.Record as declared
 use Rattle.lists.specs.Lists.{all, filter, mem, ◌among◌, ascending}
 use Rattle.record.specs.Record.{Record, name_of, names, written}
-use Rattle.record.specs.Stored.{padded, stored, empty_record}
+use Rattle.record.specs.Stored.{padded, stored}
 use Rattle.record.specs.Judgement.{sound, settled}
 use Rattle.lists.proofs.Lists.{by, cons-by, ascending-tail, ascending-head, mem-head, mem-tail}
 use Rattle.record.proofs.Records.{written-names}
@@ -23,7 +23,7 @@ use Rattle.graph.specs.links.Marks.{marks_of, values_of}
 use Rattle.voting.specs.Bundle.{members, between, bundle, eligible}
 use Rattle.voting.proofs.Bundles.{bundle-extended, bundle-well-formed, filter-names}
 use Rattle.lists.proofs.Front.{filter-length}
-use Rattle.voting_bundles.specs.Bundles.{lent_bundle_fault, bundle_answer}
+use Rattle.voting_bundles.specs.Bundles.{lent_bundle_fault, refused_bundle, bundle_answer}
 use Rattle.record_rows.proofs.grounds.Grounds.{orelse-none}
 use Rattle.graph.specs.indexes.Fit.{Fit}
 
@@ -116,8 +116,6 @@ module _ (es cs : Rows) (e : ℕ) where
   unfolding bundle_answer
   bundle-answered z x b p q = rw (sym z) (λ i. record { number = 0; eligible = p i; bundle = q i })
 
-  pub bundle-refused : (n : ℕ) → n ≡ lent_bundle_fault es cs e → (n ≡ 0 → ⊥) → (b : declared.Record) → b ≡ empty_record → record { number = n; eligible = false; bundle = b } ≡ bundle_answer es cs e
+  pub bundle-refused : (n : ℕ) → n ≡ lent_bundle_fault es cs e → (n ≡ 0 → ⊥) → refused_bundle n ≡ bundle_answer es cs e
   unfolding bundle_answer
-  bundle-refused n q h b p =
-      let z : eqb (lent_bundle_fault es cs e) 0 ≡ false = ne_eqb (lent_bundle_fault es cs e) 0 (λ y. h (q ∙ y)) in
-      rw z (λ i. record { number = q i; eligible = false; bundle = p i })
+  bundle-refused n q h = let z : eqb (lent_bundle_fault es cs e) 0 ≡ false = ne_eqb (lent_bundle_fault es cs e) 0 (λ y. h (q ∙ y)) in rw (z, q)

@@ -7,6 +7,7 @@ ghost use Rattle.voting.specs.Tally.{same_bundle};
 use record::Record;
 
 // Votes are equal when edits, bodies and constraints are.
+// Kept: a derived `==` of records would compare the fillers of their arrays too; of their slices `==` is derived.
 pub fn same_bundle(a: &Record, b: &Record) -> bool
     ensures { (P Q : theory.Record) → a.now ≡ stored P → b.now ≡ stored Q → result ≡ same_bundle P Q }
 {

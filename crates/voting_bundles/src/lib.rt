@@ -14,13 +14,13 @@ ghost use Rattle.graph.specs.indexes.Fit.{Fit};
 ghost use Rattle.voting.specs.Bundle as vote;
 ghost use Rattle.refusals.specs.Numbers.{Gives};
 ghost use Rattle.record_tables.specs.Table.{decoded};
-ghost use Rattle.voting_bundles.specs.Bundles.{lent_bundle_fault, bundle_answer};
+ghost use Rattle.voting_bundles.specs.Bundles.{lent_bundle_fault, bundle_answer, bundle_told};
 
 use bundling::Bundling;
 use graph::links::Marks;
 use record::Record;
 use record_rows::row;
-use record_rows::row::{ConstraintRow, EditRow};
+use record_rows::row::LentRecord;
 use record_tables::lookup;
 use refusals::Refusal;
 
@@ -45,19 +45,18 @@ pub fn all_settled(multilog: Record) -> bool
     every_marked(&judgement::settleds(multilog), multilog.edit_slice().len())
 }
 
-// On refusal every part but the number is 0, and the bundle the empty record.
+// The bundle of an edit, and whether it is eligible.
 #[derive(Clone, Copy)]
-pub struct BundleAnswer {
-    pub number: u32,
+pub struct Bundled {
     pub eligible: bool,
     pub bundle: Record,
 }
 
 // The bundle of an edit in a lent record.
-fn small_of(edits: &[EditRow], constraints: &[ConstraintRow], edit: u32) -> Result<Record, Refusal>
-    ensures { Gives (lent_bundle_fault edits.now constraints.now edit) (stored (vote.bundle (decoded edits.now constraints.now) edit)) result }
+fn small_of(lent: LentRecord, edit: u32) -> Result<Record, Refusal>
+    ensures { Gives (lent_bundle_fault lent.entry.edits.now lent.entry.constraints.now edit) (stored (vote.bundle (decoded lent.entry.edits.now lent.entry.constraints.now) edit)) result }
 {
-    let multilog = record_joining::lent(edits, constraints)?;
+    let multilog = record_joining::lent(lent)?;
     if !row::is_name(edit) {
         return Err(Refusal::OutOfRange);
     }
@@ -72,19 +71,12 @@ fn small_of(edits: &[EditRow], constraints: &[ConstraintRow], edit: u32) -> Resu
 }
 
 // THE BUNDLE of an edit in a lent record, and whether it is eligible.
-pub fn lent_bundle(edits: &[EditRow], constraints: &[ConstraintRow], edit: u32) -> BundleAnswer
-    ensures { result ≡ bundle_answer edits.now constraints.now edit }
+pub fn lent_bundle(lent: LentRecord, edit: u32) -> Result<Bundled, Refusal>
+    ensures { bundle_told result ≡ bundle_answer lent.entry.edits.now lent.entry.constraints.now edit }
 {
-    match small_of(edits, constraints, edit) {
-        Ok(bundle) => BundleAnswer {
-            number: 0,
-            eligible: all_settled(bundle),
-            bundle,
-        },
-        Err(refusal) => BundleAnswer {
-            number: refusal.number(),
-            eligible: false,
-            bundle: record::empty(),
-        },
-    }
+    let bundle = small_of(lent, edit)?;
+    Ok(Bundled {
+        eligible: all_settled(bundle),
+        bundle,
+    })
 }

@@ -1,43 +1,35 @@
 -- The answer of a count by its grounds. Assumes nothing.
 use mathlib.Core.Path.{◌≡◌, refl, sym, ap, ◌∙◌}
 use mathlib.Core.Bool.{Bool, true, false}
-use mathlib.Core.Option.{Option, none, some}
 use native.Mathlib.Omega.{arith}
-use Rattle.std.specs.Prelude.{Option as Given, unwrap_or}
+use Rattle.std.specs.Prelude.{Option as Given, unwrap_or, Ok}
 use mathlib.Core.List.{List}
 use Prim.Native.Nat.{ℕ}
 use lib.Dec.{eqb}
 use borrow.Author.Tests.{ne_eqb}
 use Rattle.record.specs.declared.Record as declared
 use Rattle.lists.specs.Lists.{any, all, mem}
-use Rattle.record.specs.Record.{Record, written}
+use Rattle.record.specs.Record.{written}
 use Rattle.record.specs.Stored.{empty_record}
 use Rattle.record_rows.specs.grounds.Ground.{◌given◌}
 use Rattle.record.specs.Judgement.{sound}
 use Rattle.record_rows.specs.row.Row.{is_name}
 use Rattle.voting.specs.declared.RollRow.{RollRow}
-use Rattle.voting.specs.Tally.{counted, winner}
+use Rattle.voting.specs.Tally.{Ballot, winner, election_told}
 use Rattle.voting_roll.specs.Roll.{roll_faulty}
 use Rattle.voting_tally.specs.declared.Tally.{Tally}
-use Rattle.voting_tally.specs.Groups.{tally_of, winner_stored, held_bundle}
-use Rattle.voting_count.specs.Count.{refused_count, count_of}
-use Rattle.voting_roll.specs.Election.{Proposals, held, proposal_fault, first_given, benches, election_fault, cast, election_of}
+use Rattle.voting_tally.specs.Groups.{result_of, tally_of, winner_stored, held_bundle}
+use Rattle.voting_tally.proofs.Winners.{winner-held}
+use Rattle.voting_count.specs.Count.{refused_count, count_told, count_of}
+use Rattle.voting_roll.specs.Election.{Proposals, held, proposal_fault, first_given, benches, election_fault, cast, refused_election, election_of}
 
-pub answer-held : (tally : Tally) (e : ℕ) (P : Proposals) (rows : List RollRow) → tally ≡ tally_of (cast e P rows) → tally.election ≡ counted (cast e P rows)
+result-held : (tally : Tally) (l : List Ballot) → tally ≡ tally_of l → tally.election ≡ result_of l
 unfolding tally_of
-answer-held tally e P rows q = ap (λ t. t.election) q
-
-pub election-counted : (e : ℕ) (P : Proposals) (rows : List RollRow) → (count_of e P rows).election ≡ election_of e P rows
-unfolding count_of
-election-counted e P rows = refl
+result-held tally l q = ap (λ t. t.election) q
 
 roll-given : (b : Bool) → 0 ≡ 14 given b → b ≡ false
 roll-given true h = absurd (omega (arith, h))
 roll-given false h = refl
-
-won-stored : (v : Option Record) → unwrap_or (held_bundle v) empty_record ≡ winner_stored v
-won-stored none = refl
-won-stored (some B) = refl
 
 module _ (e : ℕ) (P : Proposals) (rows : List RollRow) where
   pub count-rows-refused : (n : ℕ) → n ≡ first_given (proposal_fault P) benches → (n ≡ 0 → ⊥) → n ≡ election_fault e P rows
@@ -72,14 +64,25 @@ module _ (e : ℕ) (P : Proposals) (rows : List RollRow) where
           unfolding election_fault
           count-accepted h = rw (sym z, roll-accepted, n, k, h)
 
-  pub count-answered : 0 ≡ election_fault e P rows → (t : Tally) → t ≡ tally_of (cast e P rows) → (w : Given declared.Record) → w ≡ held_bundle (winner (cast e P rows)) → (d b : declared.Record)
-      → d ≡ empty_record → b ≡ unwrap_or w d → record { election = t.election; bundle = b } ≡ count_of e P rows
-  unfolding count_of election_of
-  count-answered z t q w p d b f g =
-      let x = answer-held t e P rows q in
-      let y : b ≡ winner_stored (winner (cast e P rows)) = g ∙ rw (p, f) (won-stored (winner (cast e P rows))) in
+  pub election-answered : 0 ≡ election_fault e P rows → (t : Tally) → t ≡ tally_of (cast e P rows) → election_told (Ok t.election) ≡ election_of e P rows
+  unfolding election_of
+  election-answered z t q = rw (sym z) (ap (λ r. election_told (Ok r)) (result-held t (cast e P rows) q))
+
+  pub election-faulty : (n : ℕ) → n ≡ election_fault e P rows → (n ≡ 0 → ⊥) → refused_election n ≡ election_of e P rows
+  unfolding election_of
+  election-faulty n q h = let z : eqb (election_fault e P rows) 0 ≡ false = ne_eqb (election_fault e P rows) 0 (λ y. h (q ∙ y)) in rw (z, q)
+
+  pub count-answered : 0 ≡ election_fault e P rows → (t : Tally) → t ≡ tally_of (cast e P rows) → (w : Given declared.Record) → w ≡ held_bundle (winner (cast e P rows))
+      → count_told (Ok (record { election = t.election; bundle = w })) ≡ count_of e P rows
+  unfolding count_of
+  count-answered z t q w p =
+      let x = election-answered z t q in
+      let y : unwrap_or w empty_record ≡ winner_stored (winner (cast e P rows)) = rw p (winner-held (winner (cast e P rows))) in
       rw (sym z) (λ i. record { election = x i; bundle = y i })
 
   pub count-refused : (n : ℕ) → n ≡ election_fault e P rows → (n ≡ 0 → ⊥) → refused_count n ≡ count_of e P rows
-  unfolding count_of election_of
-  count-refused n q h = let z : eqb (election_fault e P rows) 0 ≡ false = ne_eqb (election_fault e P rows) 0 (λ y. h (q ∙ y)) in rw (z, q)
+  unfolding count_of
+  count-refused n q h =
+      let z : eqb (election_fault e P rows) 0 ≡ false = ne_eqb (election_fault e P rows) 0 (λ y. h (q ∙ y)) in
+      let x = election-faulty n q h in
+      rw z (λ i. record { election = x i; bundle = empty_record })

@@ -1,7 +1,7 @@
 // Elections over eight lent proposals and a roll (document 01, "Proposals and votes" and "What is turned away").
 #![tactic(auto)]
 
-ghost use Rattle.std.specs.Prelude.{◌≡◌, false, ◌+◌, ◌<◌, ◌≤◌};
+ghost use Rattle.std.specs.Prelude.{◌≡◌, false, ◌+◌, ◌<◌, ◌≤◌, IfOk};
 ghost use Rattle.std.proofs.Math.Option.{none};
 ghost use Rattle.record.specs.Record as theory;
 ghost use Rattle.lists.specs.Lists.{any, all, mem};
@@ -11,34 +11,35 @@ ghost use Rattle.refusals.specs.Numbers.{number_of, Gives};
 ghost use Rattle.record_tables.specs.Table.{names_of};
 ghost use Rattle.record_tables.specs.Checked.{Checked};
 ghost use Rattle.voting.specs.Bundle as vote;
+ghost use Rattle.voting.specs.Tally.{winner, election_told};
 ghost use Rattle.voting_roll.specs.Roll.{roll_faulty};
-ghost use Rattle.voting_tally.specs.Groups.{cast_of, tally_of};
+ghost use Rattle.voting_tally.specs.Groups.{cast_of, tally_of, held_bundle};
 ghost use Rattle.voting_roll.specs.Election.{held, proposal_fault, first_given, benches, cast, election_fault, election_of};
-ghost use Rattle.voting_count.specs.Count.{lent, Faultless, refused_count, count_of};
+ghost use Rattle.voting_count.specs.Count.{lent, Faultless, count_told, count_of};
 
 use record::Record;
 use record_rows::row;
-use record_rows::row::{ConstraintRow, EditRow};
+use record_rows::row::{EditRow, LentRecord};
 use record_tables::lookup;
 use refusals::Refusal;
-use voting::{Election, RollRow};
+use voting::{ElectionResult, RollRow};
 use voting_tally::{Cast, Tally, Vote};
-
-// The tables of a bench's proposal, as they are lent.
-#[derive(Clone, Copy)]
-pub struct LentRecord<'a> {
-    pub edits: &'a [EditRow],
-    pub constraints: &'a [ConstraintRow],
-}
 
 // The proposals of the eight benches, an empty one for a bench that has none.
 pub type LentProposals<'a> = [LentRecord<'a>; 8];
 
-// The answer of an election and the won bundle, the empty record where there is none.
+// The proposals of the eight benches and the rows of the roll.
+#[derive(Clone, Copy)]
+pub struct Poll<'a> {
+    pub proposals: LentProposals<'a>,
+    pub roll: &'a [RollRow],
+}
+
+// What an election comes to, and the won bundle; none while it is open.
 #[derive(Clone, Copy)]
 pub struct Counted {
-    pub election: Election,
-    pub bundle: Record,
+    pub election: ElectionResult,
+    pub bundle: Option<Record>,
 }
 
 fn silent() -> Cast
@@ -72,7 +73,7 @@ fn proposals_fault(proposals: &LentProposals) -> Result<(), Refusal>
     ensures { number_of result ≡ first_given (proposal_fault (lent proposals.now)) benches }
 {
     for proposal in proposals {
-        record_refusal::lent_fault(proposal.edits, proposal.constraints)?;
+        record_refusal::lent_fault(*proposal)?;
     }
     Ok(())
 }
@@ -82,7 +83,7 @@ fn proposal_at(proposals: &LentProposals, k: usize) -> Record
     requires { k < 8 }
     ensures { proposal_fault (lent proposals.now) (k + 1) ≡ 0 → result ≡ stored (held (lent proposals.now) (k + 1)) }
 {
-    record_union::decode(proposals[k].edits, proposals[k].constraints)
+    record_union::decode(proposals[k])
 }
 
 // Whether a row of a lent table has this name.
@@ -102,6 +103,7 @@ fn is_known(proposals: &LentProposals, name: u16) -> bool
 }
 
 // Whether all eight proposals are sound, those off the roll too.
+// Kept: by bench: a proposal is the theory's where its own bench has no fault, and a closure over the proposals is told no bench.
 fn all_sound(proposals: &LentProposals) -> bool
     ensures { Faultless (lent proposals.now) → result ≡ all (λ k. sound (held (lent proposals.now) k)) benches }
 {
@@ -122,68 +124,51 @@ fn vote_in(name: u16, proposals: &LentProposals, bench: u8) -> Cast
 }
 
 // The tally of the roll's rows, one after the other. Benches off the roll cast no vote.
-fn tally_of(name: u16, proposals: &LentProposals, roll: &[RollRow]) -> Tally
-    ensures { Faultless (lent proposals.now) → roll_faulty roll.now ≡ false → result ≡ tally_of (cast name (lent proposals.now) roll.now) }
+fn tally_of(name: u16, poll: &Poll) -> Tally
+    ensures { Faultless (lent poll.now.proposals) → roll_faulty poll.now.roll.now ≡ false → result ≡ tally_of (cast name (lent poll.now.proposals) poll.now.roll.now) }
 {
     let mut tally = voting_tally::no_votes();
-    for row in roll {
-        let cast = vote_in(name, proposals, row.bench);
-        let more = voting_tally::with_vote(tally, row.weight, cast);
-        tally = more;
+    for row in poll.roll {
+        let cast = vote_in(name, &poll.proposals, row.bench);
+        tally.add_vote(row.weight, &cast);
     }
     tally
 }
 
 // The tally of an election on an edit. The grounds: rows of the proposals by bench, the roll, then the faults of the whole call.
-fn tally_for(edit: u32, proposals: &LentProposals, roll: &[RollRow]) -> Result<Tally, Refusal>
-    ensures { Gives (election_fault edit (lent proposals.now) roll.now) (tally_of (cast edit (lent proposals.now) roll.now)) result }
+fn tally_for(edit: u32, poll: &Poll) -> Result<Tally, Refusal>
+    ensures { Gives (election_fault edit (lent poll.now.proposals) poll.now.roll.now) (tally_of (cast edit (lent poll.now.proposals) poll.now.roll.now)) result }
 {
-    proposals_fault(proposals)?;
-    voting_roll::fault(roll)?;
+    proposals_fault(&poll.proposals)?;
+    voting_roll::fault(poll.roll)?;
     if !row::is_name(edit) {
         return Err(Refusal::OutOfRange);
     }
     let name = edit as u16;
-    if !is_known(proposals, name) {
+    if !is_known(&poll.proposals, name) {
         return Err(Refusal::Unknown);
     }
-    if !all_sound(proposals) {
+    if !all_sound(&poll.proposals) {
         return Err(Refusal::Unsound);
     }
-    Ok(tally_of(name, proposals, roll))
-}
-
-fn refused(number: u32) -> Counted
-    ensures { result ≡ refused_count number }
-{
-    Counted {
-        election: Election {
-            number,
-            won: false,
-            greatest: 0,
-            silent: 0,
-            total: 0,
-        },
-        bundle: record::empty(),
-    }
+    Ok(tally_of(name, poll))
 }
 
 // THE COUNT of an election on an edit.
-pub fn count(edit: u32, proposals: &LentProposals, roll: &[RollRow]) -> Counted
-    ensures { result ≡ count_of edit (lent proposals.now) roll.now }
+pub fn count(edit: u32, poll: &Poll) -> Result<Counted, Refusal>
+    ensures told { count_told result ≡ count_of edit (lent poll.now.proposals) poll.now.roll.now }
+    ensures bundle { IfOk result (λ c. c.bundle ≡ held_bundle (winner (cast edit (lent poll.now.proposals) poll.now.roll.now))) }
 {
-    match tally_for(edit, proposals, roll) {
-        Ok(tally) => Counted {
-            election: tally.election,
-            bundle: voting_tally::won_bundle(&tally).unwrap_or(record::empty()),
-        },
-        Err(refusal) => refused(refusal.number()),
-    }
+    let tally = tally_for(edit, poll)?;
+    Ok(Counted {
+        election: tally.election,
+        bundle: tally.won_bundle(),
+    })
 }
 
 // THE ANSWER of an election on an edit.
-pub fn election(edit: u32, proposals: &LentProposals, roll: &[RollRow]) -> Election
-    ensures { result ≡ election_of edit (lent proposals.now) roll.now }
+pub fn election(edit: u32, poll: &Poll) -> Result<ElectionResult, Refusal>
+    ensures { election_told result ≡ election_of edit (lent poll.now.proposals) poll.now.roll.now }
 {
-    count(edit, proposals, roll).election
+    Ok(tally_for(edit, poll)?.election)
 }

@@ -23,7 +23,7 @@ use judgement_marks::schedules;
 use record::{CONSTRAINTS, Constraint, EDITS, Record};
 use record_joining::insertion;
 use record_joining::insertion::Constraints;
-use voting_drafts::ranking;
+use voting_drafts::{pairs, ranking};
 
 // So many constraints leave a place for a decision on each edit.
 const UNDECIDED: usize = CONSTRAINTS - EDITS;
@@ -39,6 +39,7 @@ fn pages(multilog: Record) -> Marks
 }
 
 // The decision on an edit by its page.
+// Kept: a rule is its number, as in the record, and the theory's decision (decided) has it.
 fn decision(name: u16, page: u8) -> Constraint
     ensures { result ≡ decided name page }
 {
@@ -53,6 +54,7 @@ fn decision(name: u16, page: u8) -> Constraint
 }
 
 // The table joined by the decisions on all edits.
+// Kept: an Option in and out: held_table says None of any list that is too long, so that each step's clause is one equation.
 fn with_decisions(
     table: Option<Constraints>,
     multilog: Record,
@@ -64,13 +66,13 @@ fn with_decisions(
     let mut out = table;
     for (i, edit) in multilog.edit_slice().iter().enumerate() {
         let c = decision(edit.name, pages[i + 1]);
-        let more = insertion::insert(out, c);
-        out = more;
+        out = insertion::insert(out, c);
     }
     out
 }
 
 // The decisions on all edits as the constraints of a record without edits.
+// Kept: the rows are written apart, since the loop's law speaks of them alone; the record gets them with their count.
 fn decisions_of(multilog: Record, pages: &Marks) -> Record
     ensures { (R : theory.Record) (rest index : List ℕ) → multilog ≡ stored R → Fit R → Paged R rest index pages.now
         → result ≡ stored (only_constraints (proposal.decisions (0 ∷ rest) (theory.written R))) }
@@ -106,9 +108,10 @@ pub fn finished(multilog: Record) -> Option<Constraints>
     let index = indexes::index_table(multilog);
     let paged = pages(multilog);
     let table = decided_table(multilog, &paged);
+    let pairs = pairs::unordered_pairs(multilog);
     ranking::with_orders(
         table,
-        multilog,
+        &pairs.rows[..pairs.count],
         |name| paged[index.index_of(usize::from(name))],
     )
 }

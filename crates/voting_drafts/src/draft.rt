@@ -10,7 +10,7 @@ ghost use Rattle.voting.specs.Proposal.{unordered, firsts};
 ghost use Rattle.record_joining.specs.insertion.Insertion.{held_table};
 ghost use Rattle.voting_drafts.specs.draft.Draft.{settled_rank};
 
-use crate::ranking;
+use crate::{pairs, ranking};
 use graph::indexes;
 use graph::indexes::IndexTable;
 use graph::links::Marks;
@@ -33,10 +33,11 @@ pub fn started(both: Record, old: Record) -> Option<Constraints>
 {
     let index = indexes::index_table(old);
     let settled = judgement::settleds(old);
+    let pairs = pairs::unordered_pairs(both);
     let table = insertion::table_of(both);
     ranking::with_orders(
         Some(table),
-        both,
+        &pairs.rows[..pairs.count],
         |name| settled_rank(&index, &settled, name),
     )
 }

@@ -1,17 +1,24 @@
-// The noncommuting pairs of a record with no order between them (document 01, "Proposals and votes", last paragraph). The function is pub for `ranking`.
-ghost use Rattle.std.specs.Prelude.{◌≡◌, not, ◌&&◌, ◌||◌, ℕ, eqb, get_or};
+// The noncommuting pairs of a record with no order between them (document 01, "Proposals and votes", last paragraph). Functions are pub for
+// the crates of this workspace that make proposals.
+ghost use Rattle.std.specs.Prelude.{◌≡◌, not, ◌&&◌, ◌||◌, ℕ, ◌≤◌, eqb, get_or, take};
 ghost use Rattle.lists.specs.Lists.{◌among◌};
 ghost use Rattle.record.specs.Record as theory;
 ghost use Rattle.record.specs.Record.{names, notafter};
+ghost use Rattle.record.specs.Stored.{stored, constraint_limit};
 ghost use Rattle.graph.specs.links.Marks.{place_in};
 ghost use Rattle.graph.specs.links.Resolved.{Resolved};
+ghost use Rattle.graph.specs.indexes.Fit.{Fit};
+ghost use Rattle.voting.specs.Proposal.{unordered};
 
+use graph::indexes;
 use graph::indexes::IndexTable;
 use graph::links::{NOTAFTER, Rows};
-use record::Constraint;
+use record::{CONSTRAINTS, Constraint, Record};
+use record_joining::insertion::Constraints;
 
 // Whether a constraint is a noncommuting pair with no order; an order is a direct row.
-pub fn is_unordered(c: Constraint, index: &IndexTable, rows: &Rows) -> bool
+// Kept: a rule is its number, as in the record, and the theory compares it with 2.
+fn is_unordered(c: Constraint, index: &IndexTable, rows: &Rows) -> bool
     ensures { (R : theory.Record) → Resolved R rows.now
         → ((x : ℕ) → get_or index.now x 0 ≡ place_in (names R) x) → c.left among names R → c.right among names R
         → result ≡ (eqb c.rule 2 && not (notafter R c.left c.right || notafter R c.right c.left)) }
@@ -25,4 +32,23 @@ pub fn is_unordered(c: Constraint, index: &IndexTable, rows: &Rows) -> bool
         return false;
     }
     !rows.leads_to(NOTAFTER, b, a)
+}
+
+// The pairs with no order, in the table's order. Nothing is said of the rows past the count.
+pub fn unordered_pairs(multilog: Record) -> Constraints
+    ensures few { result.count ≤ constraint_limit }
+    ensures pairs { (R : theory.Record) → multilog ≡ stored R → Fit R → take result.count result.rows ≡ unordered R }
+{
+    let index = indexes::index_table(multilog);
+    let graph = indexes::resolved(multilog);
+    let mut rows = multilog.constraints;
+    let count = voting::select(
+        multilog.constraint_slice(),
+        |c| is_unordered(c, &index, &graph.rows),
+        &mut rows,
+    );
+    Constraints {
+        rows,
+        count: count.min(CONSTRAINTS),
+    }
 }

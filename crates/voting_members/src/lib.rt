@@ -19,6 +19,7 @@ use graph::links::{Linking, MARKS, Marks, NOTAFTER, Rows};
 use record::Record;
 
 // The key of the row between two noncommuting edits; for none it is the count of indexes, which no edit has as its own.
+// Kept: the key 128 for no row, so that each constraint links two rows and no more is asked of their places.
 fn rival_key(rows: &Rows, from: usize, to: usize) -> usize
     requires { (from < 128) × (to < 128) }
     ensures { (result ≤ 128) × ((R : theory.Record) → Resolved R rows.now → from < length (theory.names R)
@@ -32,6 +33,7 @@ fn rival_key(rows: &Rows, from: usize, to: usize) -> usize
 }
 
 // "enables 0" gives no row: INIT is no member of a bundle.
+// Kept: the key 128 for no row, as in rival_key.
 fn enabled_key(right: usize) -> usize
     requires { right < 128 }
     ensures { (result ≤ 128) × (result ≡ enabled_key right) }
@@ -39,42 +41,50 @@ fn enabled_key(right: usize) -> usize
     if right == 0 { MARKS } else { right }
 }
 
+// A constraint by the indexes of its edits.
+#[derive(Clone, Copy)]
+struct IndexedConstraint {
+    left: usize,
+    rule: u8,
+    right: usize,
+    ghost low: { (left < 128) × (right < 128) },
+}
+
 // The key of a constraint's row from its left to its right edit.
-fn forward_key(rows: &Rows, a: usize, rule: u8, b: usize) -> usize
-    requires { (a < 128) × (b < 128) }
-    ensures { (result ≤ 128) × ((R : theory.Record) → Resolved R rows.now → a < length (theory.names R)
-        → b < length (theory.names R) → result ≡ forward_key R a rule b) }
+fn forward_key(rows: &Rows, c: IndexedConstraint) -> usize
+    ensures { (result ≤ 128) × ((R : theory.Record) → Resolved R rows.now → c.left < length (theory.names R)
+        → c.right < length (theory.names R) → result ≡ forward_key R c.left c.rule c.right) }
 {
     // Kept: the specification names a constraint's rule by number.
-    match rule {
-        0 => b,
-        1 => enabled_key(b),
-        _ => rival_key(rows, a, b),
+    match c.rule {
+        0 => c.right,
+        1 => enabled_key(c.right),
+        _ => rival_key(rows, c.left, c.right),
     }
 }
 
 // The key of its row from its right to its left edit, which a noncommuting pair alone has.
-fn backward_key(rows: &Rows, a: usize, rule: u8, b: usize) -> usize
-    requires { (a < 128) × (b < 128) }
-    ensures { (result ≤ 128) × ((R : theory.Record) → Resolved R rows.now → a < length (theory.names R)
-        → b < length (theory.names R) → result ≡ backward_key R a rule b) }
+// Kept: the key 128 for no row, as in rival_key.
+fn backward_key(rows: &Rows, c: IndexedConstraint) -> usize
+    ensures { (result ≤ 128) × ((R : theory.Record) → Resolved R rows.now → c.left < length (theory.names R)
+        → c.right < length (theory.names R) → result ≡ backward_key R c.left c.rule c.right) }
 {
-    if rule < 2 {
+    if c.rule < 2 {
         MARKS
     } else {
-        rival_key(rows, b, a)
+        rival_key(rows, c.right, c.left)
     }
 }
 
 // Links both rows of a constraint.
-fn link_both(linking: &mut Linking, a: usize, b: usize, forward: usize, backward: usize)
+fn link_both(linking: &mut Linking, c: IndexedConstraint, forward: usize, backward: usize)
     requires room { linking.old.count + 1 < row_limit }
-    requires keys { (a < 128) × (b < 128) × (forward ≤ 128) × (backward ≤ 128) }
-    ensures cells { linking.new.cells ≡ with_row (with_row linking.old.cells linking.old.count forward a) (linking.old.count + 1) backward b }
+    requires keys { (forward ≤ 128) × (backward ≤ 128) }
+    ensures cells { linking.new.cells ≡ with_row (with_row linking.old.cells linking.old.count forward c.left) (linking.old.count + 1) backward c.right }
     ensures count { linking.new.count ≡ linking.old.count + 2 }
 {
-    linking.link_row(forward, a);
-    linking.link_row(backward, b);
+    linking.link_row(forward, c.left);
+    linking.link_row(backward, c.right);
 }
 
 // The linked rows of what leads to a member; `own` are the record's.
@@ -84,17 +94,20 @@ fn leading_rows(multilog: Record, table: &IndexTable, own: &Rows) -> Rows
 {
     let mut linking = Linking::new();
     for constraint in multilog.constraint_slice() {
-        let a = table.index_of(usize::from(constraint.left));
-        let b = table.index_of(usize::from(constraint.right));
-        let forward = forward_key(own, a, constraint.rule, b);
-        let backward = backward_key(own, a, constraint.rule, b);
-        link_both(&mut linking, a, b, forward, backward);
+        let c = IndexedConstraint {
+            left: table.index_of(usize::from(constraint.left)),
+            rule: constraint.rule,
+            right: table.index_of(usize::from(constraint.right)),
+        };
+        let forward = forward_key(own, c);
+        let backward = backward_key(own, c);
+        link_both(&mut linking, c, forward, backward);
     }
     linking.rows()
 }
 
-// The linked rows of what leads to a member, from the record and the table of its names. They serve every edit of the record. Pub for `voting_bundles` and
-// `voting_proposals::keeping`, which make the table.
+// The linked rows of what leads to a member, from the record and the table of its names. They serve every edit of the record. Pub for
+// `voting_bundles`, which makes the table.
 pub fn member_rows(multilog: Record, table: &IndexTable) -> Rows
     ensures { (R : theory.Record) → multilog ≡ stored R → Fit R → ((x : ℕ) → get_or table.now x 0 ≡ place_in (theory.names R) x) → Leads (leads_in R) R 0 result }
 {
@@ -102,7 +115,8 @@ pub fn member_rows(multilog: Record, table: &IndexTable) -> Rows
     leading_rows(multilog, table, &graph.rows)
 }
 
-// The members of the bundle of an edit that the record knows; the rows are those of what leads to a member. Pub for `voting_bundles`, which has table and rows.
+// The members of the bundle of an edit that the record knows; the rows are those of what leads to a member. Pub for `voting_bundles`, which has
+// table and rows.
 pub fn member_marks(table: &IndexTable, rows: &Rows, edit: u16) -> Marks
     ensures { (R : theory.Record) → Fit R → ((x : ℕ) → get_or table.now x 0 ≡ place_in (theory.names R) x)
         → Leads (leads_in R) R 0 rows.now → edit among theory.written R → result ≡ marks_of R (λ y. mem y (members R edit)) }

@@ -8,8 +8,7 @@ use Rattle.record.specs.Record.{Record}
 use Rattle.record.specs.Sound.{SoundRecord, Must, Never}
 use Rattle.record_tables.specs.Table.{empty_tables}
 use Rattle.voting.specs.declared.RollRow.{RollRow}
-use Rattle.voting.specs.declared.Election.{Election}
-use Rattle.voting.specs.Tally.{Ballot, ballots, total, group, counted}
+use Rattle.voting.specs.Tally.{Ballot, ballots, total, group, Election, counted}
 use Rattle.voting_mergeability.specs.Mergeability.{EachSound, EachOneBody, Sending, HeldElection, EachChosen, won_by, won_in, unite_all, Mergeable}
 
 abbrev insert : ℕ → ℕ → Edit

@@ -7,6 +7,7 @@ use native.Mathlib.Omega.{arith}
 use borrow.Author.Tests.{ne_eqb, lt-ltb, le-ltb}
 use lib.Dec.{eqb, ltb}
 use lib.ListN.{length, take}
+use Rattle.std.specs.Prelude.{Ok, Err}
 use Rattle.record.specs.declared.Record as declared
 use Rattle.record.specs.Record.{Record, written}
 use Rattle.lists.specs.Lists.{◌within◌}
@@ -21,7 +22,10 @@ use Rattle.record_tables.proofs.Tables.{stored_back}
 use Rattle.record_tables.proofs.Unions.{joining-extends}
 use Rattle.record_tables.proofs.Records.{lent-checked, joined-checked, joining-checked, joining-editplaces, joining-constraintplaces}
 use Rattle.voting.specs.Proposal.{joined_constraints, started, finished, proposed, keeps}
-use Rattle.voting_proposals.specs.declared.Proposed.{Proposed}
+use Rattle.refusals.specs.declared.Refusal.{Refusal}
+use Rattle.refusals.specs.declared.Refusal.TheVariants.{NoRoom}
+use Rattle.refusals.specs.Numbers.{number}
+use Rattle.refusals.proofs.Numbers.{number-positive}
 use Rattle.voting_proposals.specs.Propose.{draft_fault, unkept, too_short, LentToPropose, record_m, proposal_q, propose_fault, new_proposal, over, Makes, new_fault}
 use Rattle.voting_proposals.proofs.Drafts.{drafted-checked}
 
@@ -103,14 +107,14 @@ module _ (t : LentToPropose) where
       further (lent_fault empty_tables t.edits t.constraints) (lent_fault (record_m t) t.oldedits t.oldconstraints) (draft_fault (record_m t) (proposal_q t)) (11 given unkept (record_m t) (proposal_q t)) short
 
   -- refused: nothing is written
-  refused-is : (n : ℕ) → propose_fault t ≡ n → (n ≡ 0 → ⊥) → {r : Proposed} → r ≡ record { number = n; editcount = 0; constraintcount = 0 } → Makes t r t.newedits t.newconstraints
+  refused-is : (r : Refusal) → number r ≡ propose_fault t → Makes t (Err r) t.newedits t.newconstraints
   unfolding new_proposal
-  refused-is n e z f =
-      let b : eqb (propose_fault t) 0 ≡ false = ap (λ (m : ℕ). eqb m 0) e ∙ ne_eqb n 0 z in
-      record { answers = f ∙ rw (b, e); editrows = rw b; constraintrows = rw b }
+  refused-is r e =
+      let b : eqb (propose_fault t) 0 ≡ false = ne_eqb (propose_fault t) 0 (λ q. number-positive r (e ∙ q)) in
+      record { answers = (e, tt); editrows = rw b; constraintrows = rw b }
 
-  pub tables-refused : (n : ℕ) → n ≡ fault → (n ≡ 0 → ⊥) → {r : Proposed} → r ≡ record { number = n; editcount = 0; constraintcount = 0 } → Makes t r t.newedits t.newconstraints
-  tables-refused n e z f = refused-is n (fault-is ∙ orelse-first fault short (λ q. z (e ∙ q)) ∙ sym e) z f
+  pub tables-refused : (r : Refusal) → number r ≡ fault → Makes t (Err r) t.newedits t.newconstraints
+  tables-refused r e = refused-is r (e ∙ sym (fault-is ∙ orelse-first fault short (λ q. number-positive r (e ∙ q))))
 
   module _ (made : declared.Record) (none-new : 0 ≡ fault) (new-held : made ≡ stored new) where
     pub made-edits : take made.editcount made.edits ≡ new.edits
@@ -121,21 +125,21 @@ module _ (t : LentToPropose) where
 
     module _ (n m : ℕ) (en : n ≡ length new.edits) (em : m ≡ length new.constraints) where
       -- 12: exactly enough is enough
-      pub few-edits : length t.newedits < n → {r : Proposed} → r ≡ record { number = 12; editcount = 0; constraintcount = 0 } → Makes t r t.newedits t.newconstraints
+      pub few-edits : length t.newedits < n → Makes t (Err NoRoom) t.newedits t.newconstraints
       unfolding too_short
-      few-edits h f =
+      few-edits h =
           let l : ltb (length t.newedits) (length new.edits) ≡ true = lt-ltb (length t.newedits) (length new.edits) (omega (arith, en)) in
-          refused-is 12 (fault-is ∙ orelse-second fault short (sym none-new) ∙ rw l) (λ q. omega arith) f
+          refused-is NoRoom (sym (fault-is ∙ orelse-second fault short (sym none-new) ∙ rw l))
 
       module _ (h : n ≤ length t.newedits) where
         enough : ltb (length t.newedits) (length new.edits) ≡ false
         enough = le-ltb (length t.newedits) (length new.edits) (omega (arith, en))
 
-        pub few-constraints : length t.newconstraints < m → {r : Proposed} → r ≡ record { number = 12; editcount = 0; constraintcount = 0 } → Makes t r t.newedits t.newconstraints
+        pub few-constraints : length t.newconstraints < m → Makes t (Err NoRoom) t.newedits t.newconstraints
         unfolding too_short
-        few-constraints i f =
+        few-constraints i =
             let l : ltb (length t.newconstraints) (length new.constraints) ≡ true = lt-ltb (length t.newconstraints) (length new.constraints) (omega (arith, em)) in
-            refused-is 12 (fault-is ∙ orelse-second fault short (sym none-new) ∙ rw (enough, l)) (λ q. omega arith) f
+            refused-is NoRoom (sym (fault-is ∙ orelse-second fault short (sym none-new) ∙ rw (enough, l)))
 
         module _ (i : m ≤ length t.newconstraints) where
           pub proposal-accepted : propose_fault t ≡ 0
@@ -149,13 +153,12 @@ module _ (t : LentToPropose) where
           given-new = rw proposal-accepted
 
           pub written_is : {es cs : Rows} → es ≡ over (map edit_row new.edits) t.newedits → cs ≡ over (map constraint_row new.constraints) t.newconstraints
-              → Makes t (record { number = 0; editcount = n; constraintcount = m }) es cs
+              → Makes t (Ok (record { editcount = n; constraintcount = m })) es cs
           written_is f g =
               let x : n ≡ length (new_proposal t).edits = en ∙ ap (λ (R : Record). length R.edits) (sym given-new) in
               let y : m ≡ length (new_proposal t).constraints = em ∙ ap (λ (R : Record). length R.constraints) (sym given-new) in
-              let a : 0 ≡ propose_fault t = sym proposal-accepted in
               record {
-                answers = λ j. record { number = a j; editcount = x j; constraintcount = y j };
+                answers = (sym proposal-accepted, λ j. record { editcount = x j; constraintcount = y j });
                 editrows = f ∙ ap (λ (R : Record). over (edit_rows R) t.newedits) (sym given-new);
                 constraintrows = g ∙ ap (λ (R : Record). over (constraint_rows R) t.newconstraints) (sym given-new);
               }

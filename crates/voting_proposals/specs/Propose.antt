@@ -1,9 +1,11 @@
 -- Document 01, "Proposals and votes", last paragraph, and "What is turned away": making a proposal from a lent record M and the bench's old proposal
 -- Q, and what is answered and written. Assumes nothing.
-use Rattle.std.specs.Prelude.{◌≡◌, Bool, not, ◌||◌, cond, ◌++◌, ℕ, eqb, ltb, length, drop}
+use Rattle.std.specs.Prelude.{◌≡◌, Bool, not, ◌||◌, cond, ◌++◌, ℕ, eqb, ltb, length, drop, Result}
 use Rattle.record.specs.Record.{Record}
 use Rattle.record.specs.Judgement.{sound}
 use Rattle.record_rows.specs.grounds.Ground.{Rows, ◌given◌, ◌orelse◌}
+use Rattle.refusals.specs.declared.Refusal.{Refusal}
+use Rattle.refusals.specs.Numbers.{Gives}
 use Rattle.record_tables.specs.Table.{edit_rows, constraint_rows, decoded, empty_tables, lent_fault}
 use Rattle.voting.specs.Proposal.{started, proposed, keeps}
 use Rattle.voting_proposals.specs.declared.Proposed.{Proposed}
@@ -57,9 +59,9 @@ propose_fault t =
 unfoldable pub new_proposal : LentToPropose → Record
 new_proposal t = cond (eqb (propose_fault t) 0) (proposed (record_m t) (proposal_q t)) empty_tables
 
--- THE ANSWER: the number, and how many rows of each table are written; 0 and 0 where it is refused
+-- THE ANSWER where it is not refused: how many rows of each table are written
 abbrev pub proposed_of : LentToPropose → Proposed
-proposed_of t = record { number = propose_fault t; editcount = length (new_proposal t).edits; constraintcount = length (new_proposal t).constraints }
+proposed_of t = record { editcount = length (new_proposal t).edits; constraintcount = length (new_proposal t).constraints }
 
 -- rows written over the first of a table; what stands after them stays
 abbrev pub over : Rows → Rows → Rows
@@ -72,8 +74,8 @@ abbrev pub constraints_after : LentToPropose → Rows
 constraints_after t = over (constraint_rows (new_proposal t)) t.newconstraints
 
 -- What making a proposal promises: the answer, and the whole content of both tables afterwards.
-pub record Makes (t : LentToPropose) (answer : Proposed) (edits constraints : Rows) : Type 0 where
-  pub answers : answer ≡ proposed_of t
+pub record Makes (t : LentToPropose) (answer : Result Proposed Refusal) (edits constraints : Rows) : Type 0 where
+  pub answers : Gives (propose_fault t) (proposed_of t) answer
   pub editrows : edits ≡ edits_after t
   pub constraintrows : constraints ≡ constraints_after t
 

@@ -26,6 +26,7 @@ fn is_kept(before: Record, after: Record) -> bool
 }
 
 // Each edit of the old proposal with an eligible bundle has the same in the new one, still eligible. The new one knows the edits of the old.
+// Kept: bundles are told of edits that both proposals know, which the edit's place in the old one gives; a closure is told no place.
 pub fn keeps(old: Record, new: Record) -> bool
     ensures { (Q P : theory.Record) → old ≡ stored Q → Fit Q → new ≡ stored P → Fit P → theory.written Q within theory.written P → result ≡ proposal.keeps Q P }
 {

@@ -16,14 +16,13 @@ ghost use Rattle.voting_proposals.specs.Propose.{draft_fault, unkept, new_fault,
 use record::Record;
 use record_joining::insertion;
 use record_rows::element::Element;
-use record_rows::row::{ConstraintRow, EditRow};
+use record_rows::row::{ConstraintRow, EditRow, LentRecord};
 use refusals::Refusal;
 use voting_drafts::draft;
 
-// number: 0, or that of the refusal; how many rows of each table are written.
+// How many rows of each table are written.
 #[derive(Clone, Copy)]
 pub struct Proposed {
-    pub number: u32,
     pub editcount: usize,
     pub constraintcount: usize,
 }
@@ -35,16 +34,12 @@ fn drafted(both: Record, old: Record) -> Result<Record, Refusal>
     if !judgement::sound(old) {
         return Err(Refusal::Unsound);
     }
-    let Some(first) = draft::started(both, old) else {
-        return Err(Refusal::NoPlace);
-    };
+    let first = draft::started(both, old).ok_or(Refusal::NoPlace)?;
     let started = insertion::with_table(both, first);
     if !judgement::sound(started) {
         return Err(Refusal::Unsound);
     }
-    let Some(last) = voting_decisions::finished(started) else {
-        return Err(Refusal::NoPlace);
-    };
+    let last = voting_decisions::finished(started).ok_or(Refusal::NoPlace)?;
     Ok(insertion::with_table(started, last))
 }
 
@@ -61,31 +56,17 @@ fn made(both: Record, old: Record) -> Result<Record, Refusal>
 }
 
 // The new proposal of four lent tables, before an output is looked at. Pub for the crates of this workspace that make proposals without lent outputs.
-pub fn new_proposal(
-    edits: &[EditRow],
-    constraints: &[ConstraintRow],
-    oldedits: &[EditRow],
-    oldconstraints: &[ConstraintRow],
-) -> Result<Record, Refusal>
-    ensures { Gives (new_fault edits.now constraints.now oldedits.now oldconstraints.now) (stored (proposed (decoded edits.now constraints.now) (decoded oldedits.now oldconstraints.now))) result }
+pub fn new_proposal(lent: LentRecord, old: LentRecord) -> Result<Record, Refusal>
+    ensures { Gives (new_fault lent.entry.edits.now lent.entry.constraints.now old.entry.edits.now old.entry.constraints.now)
+        (stored (proposed (decoded lent.entry.edits.now lent.entry.constraints.now) (decoded old.entry.edits.now old.entry.constraints.now))) result }
 {
-    let multilog = record_joining::lent(edits, constraints)?;
-    let both = record_joining::merge(multilog, oldedits, oldconstraints)?;
-    let old = record_union::decode(oldedits, oldconstraints);
-    made(both, old)
-}
-
-fn refused(number: u32) -> Proposed
-    ensures { result ≡ record { number = number; editcount = 0; constraintcount = 0 } }
-{
-    Proposed {
-        number,
-        editcount: 0,
-        constraintcount: 0,
-    }
+    let multilog = record_joining::lent(lent)?;
+    let both = record_joining::merge(multilog, old)?;
+    made(both, record_union::decode(old))
 }
 
 // The rows of edits or of constraints, written over the first of a table.
+// Kept: beside record_joining's rows, which are a whole table of their own: here a lent table is written, and its rest stays.
 fn write_rows<const CELLS: usize, T: Element<CELLS>>(elements: &[T], table: &mut [[u32; CELLS]])
     requires { length elements.now ≤ length table.old }
     ensures { table.new ≡ over (map T.row_of elements.now) table.old }
@@ -98,39 +79,30 @@ fn write_rows<const CELLS: usize, T: Element<CELLS>>(elements: &[T], table: &mut
 // Makes a proposal from a record and the bench's old proposal, and writes it over the first rows of two tables. Nothing is written before it is known
 // that nothing is refused.
 pub fn propose(
-    edits: &[EditRow],
-    constraints: &[ConstraintRow],
-    oldedits: &[EditRow],
-    oldconstraints: &[ConstraintRow],
+    lent: LentRecord,
+    old: LentRecord,
     newedits: &mut [EditRow],
     newconstraints: &mut [ConstraintRow],
-) -> Proposed
+) -> Result<Proposed, Refusal>
     ensures { Makes (record {
-      edits = edits.now;
-      constraints = constraints.now;
-      oldedits = oldedits.now;
-      oldconstraints = oldconstraints.now;
+      edits = lent.entry.edits.now;
+      constraints = lent.entry.constraints.now;
+      oldedits = old.entry.edits.now;
+      oldconstraints = old.entry.constraints.now;
       newedits = newedits.old;
       newconstraints = newconstraints.old;
     }) result newedits.new newconstraints.new }
 {
-    let new = match new_proposal(edits, constraints, oldedits, oldconstraints) {
-        Ok(new) => new,
-        Err(refusal) => return refused(refusal.number()),
-    };
+    let new = new_proposal(lent, old)?;
     let n = new.edit_slice().len();
     let m = new.constraint_slice().len();
-    if newedits.len() < n {
-        return refused(12);
-    }
-    if newconstraints.len() < m {
-        return refused(12);
+    if newedits.len() < n || newconstraints.len() < m {
+        return Err(Refusal::NoRoom);
     }
     write_rows(new.edit_slice(), newedits);
     write_rows(new.constraint_slice(), newconstraints);
-    Proposed {
-        number: 0,
+    Ok(Proposed {
         editcount: n,
         constraintcount: m,
-    }
+    })
 }

@@ -7,8 +7,7 @@ use Rattle.record_rows.specs.row.Row.{is_name}
 use Rattle.record_rows.specs.grounds.Ground.{Rows, ◌given◌, ◌orelse◌}
 use Rattle.record_tables.specs.Table.{empty_tables, decoded, lent_fault}
 use Rattle.voting.specs.declared.RollRow.{RollRow}
-use Rattle.voting.specs.declared.Election.{Election}
-use Rattle.voting.specs.Tally.{Ballot, ballots}
+use Rattle.voting.specs.Tally.{Ballot, ballots, Election}
 pub use Rattle.voting.specs.Tally.{counted}
 use Rattle.voting_roll.specs.Roll.{roll_faulty}
 

@@ -25,10 +25,11 @@ fn has_bench(rows: &[RollRow], bench: u8) -> bool
 fn is_faulty(rows: &[RollRow], row: RollRow) -> bool
     ensures { result ≡ row_faulty rows.now row (length rows.now) }
 {
-    row.bench < 1 || 8 < row.bench || SEATS <= rows.len() || has_bench(rows, row.bench)
+    !(1..=8).contains(&row.bench) || SEATS <= rows.len() || has_bench(rows, row.bench)
 }
 
 // THE FAULT of a roll: a bench that is not 1 to 8 or that stands twice, or a ninth row. Every fault is 14.
+#[tactic(auto, unfolding(crate::specs::Roll::roll_faulty, lists::specs::Lists::all, lists::specs::Lists::distinct))]
 pub fn fault(rows: &[RollRow]) -> Result<(), Refusal>
     ensures { number_of result ≡ 14 given roll_faulty rows.now }
 {

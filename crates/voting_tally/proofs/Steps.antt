@@ -18,14 +18,14 @@ use Rattle.record.specs.Stored.{padded, stored, empty_record}
 use Rattle.lists.proofs.Lists.{by, clash, and_l, and_r, or-no-l, or-no-r, get_or-mapped}
 use Rattle.lists.proofs.Arrays.{get_or-any}
 use Rattle.record.proofs.Padded.{length-padded, take-padded, padded-more, get_or-padded, padded-past}
-use Rattle.voting.specs.declared.Election.{Election}
-use Rattle.voting.specs.Tally.{Ballot, same_bundle, total, weigh, is_silent, votes_for, greatest_of, greatest, silent, won, counted}
+use Rattle.voting.specs.declared.ElectionResult.{ElectionResult}
+use Rattle.voting.specs.Tally.{Ballot, same_bundle, total, weigh, is_silent, votes_for, greatest_of, greatest, silent, won}
 use Rattle.voting.proofs.Elections.{same-bundle, same-is, weigh-le}
 use Rattle.voting_tally.specs.declared.Vote.TheVariants.{Silent, Bundle}
 use Rattle.voting_tally.specs.declared.Cast.{Cast}
 use Rattle.voting_tally.specs.declared.Group.{Group}
 use Rattle.voting_tally.specs.declared.Tally.{Tally}
-use Rattle.voting_tally.specs.Groups.{bundles_after, bundles, group_in, filler_group, tally_of, place, election_by, cast_of}
+use Rattle.voting_tally.specs.Groups.{bundles_after, bundles, group_in, filler_group, tally_of, place, result_of, result_by, cast_of}
 use Rattle.voting_tally.proofs.Counts.{more_ballots, bundles-more, bundles-length, distinct_bundles, same-turned, bundles-apart, total-more, weigh-more, unknown-weightless, greatest-more}
 
 place-unknown : (C : Record) (s : List Record) → any (same_bundle C) s ≡ false → place C s ≡ length s
@@ -130,7 +130,7 @@ bundle-place bundle groups r l s C g p h =
 
 -- THE TALLY with one vote more
 module _ (tally : Tally) (l : List Ballot) (w : ℕ) (e : tally ≡ tally_of l) where
-  election-is : tally.election ≡ counted l
+  election-is : tally.election ≡ result_of l
   unfolding tally_of
   election-is = ap (λ t. t.election) e
 
@@ -155,7 +155,7 @@ module _ (tally : Tally) (l : List Ballot) (w : ℕ) (e : tally ≡ tally_of l) 
       rw (groups-are, tally-count-is, ← length-map (bundles l) (group_in l), take-padded 8 filler_group (length m) m (omega arith)) (take-length m)
 
   pub silent-step : (s t : ℕ) → s ≡ tally.election.silent + w → t ≡ tally.election.total + w
-      → record { groups = tally.groups; count = tally.count; election = election_by tally.election.greatest s t } ≡ tally_of (more_ballots l w none)
+      → record { groups = tally.groups; count = tally.count; election = result_by tally.election.greatest s t } ≡ tally_of (more_ballots l w none)
   unfolding tally_of silent won
   silent-step s t ps pt =
       let es : s ≡ silent (more_ballots l w none) = ps ∙ (ap (λ x. x.silent + w) election-is ∙ sym (weigh-more is_silent l w none)) in
@@ -165,7 +165,7 @@ module _ (tally : Tally) (l : List Ballot) (w : ℕ) (e : tally ≡ tally_of l) 
       let ec : tally.count ≡ length (bundles (more_ballots l w none)) = tally-count-is ∙ ap length (sym b) in
       let ep : tally.groups ≡ padded 8 filler_group (map (group_in (more_ballots l w none)) (bundles (more_ballots l w none))) =
       groups-are ∙ rw (b, groups-silent l w (bundles l)) in
-      λ i. record { groups = ep i; count = ec i; election = election_by (eg i) (es i) (et i) }
+      λ i. record { groups = ep i; count = ec i; election = result_by (eg i) (es i) (et i) }
 
   module _ (C : Record) (h : length l < 8) where
     pub tally-room : tally.count < 8
@@ -198,7 +198,7 @@ module _ (tally : Tally) (l : List Ballot) (w : ℕ) (e : tally ≡ tally_of l) 
 
     pub bundle-step : (d : Group) (x : declared.Record) (i m c g t : ℕ) → x ≡ stored C → i ≡ place C (bundles l) → m ≡ (get_or tally.groups i d).weight + w → c ≡ max tally.count (i + 1)
         → g ≡ max tally.election.greatest m → t ≡ tally.election.total + w
-        → record { groups = set tally.groups i (record { bundle = x; weight = m }); count = c; election = election_by g tally.election.silent t } ≡ tally_of (more_ballots l w (some C))
+        → record { groups = set tally.groups i (record { bundle = x; weight = m }); count = c; election = result_by g tally.election.silent t } ≡ tally_of (more_ballots l w (some C))
     unfolding tally_of silent won
     bundle-step d x i m c g t px pi pm pc pg pt =
         let l' = more_ballots l w (some C) in
@@ -210,10 +210,10 @@ module _ (tally : Tally) (l : List Ballot) (w : ℕ) (e : tally ≡ tally_of l) 
         let x' : record { bundle = x; weight = m } ≡ group_in l' C = λ j. record { bundle = px j; weight = em j } in
         let ep : set tally.groups i (record { bundle = x; weight = m }) ≡ padded 8 filler_group (map (group_in l') (bundles l')) =
         rw (groups-are, pi, x') (groups-more l w C (omega (arith, bundles-length l))) in
-        λ j. record { groups = ep j; count = ec j; election = election_by (eg j) (es j) (et j) }
+        λ j. record { groups = ep j; count = ec j; election = result_by (eg j) (es j) (et j) }
 
 -- before the first vote
-pub no-votes-is : {r : declared.Record} {x : Election} → r ≡ empty_record → x ≡ election_by 0 0 0
+pub no-votes-is : {r : declared.Record} {x : ElectionResult} → r ≡ empty_record → x ≡ result_by 0 0 0
     → record { groups = replicate 8 (record { bundle = r; weight = 0 }); count = 0; election = x } ≡ tally_of []
 unfolding tally_of bundles_after padded won greatest greatest_of silent weigh total
 no-votes-is p q = λ i. record { groups = replicate 8 (record { bundle = p i; weight = 0 }); count = 0; election = q i }

@@ -7,20 +7,26 @@ use Prim.Native.Nat.{ℕ, ◌*◌, ◌≤◌, ◌<◌}
 use native.Mathlib.Omega.{arith}
 use lib.Dec.{ltb}
 use lib.ListN.{length, take, get_or, length-map, get_or-map}
-use Rattle.std.specs.Prelude.{Option as Found, Some, None, MatchOption, option_map}
+use Rattle.std.specs.Prelude.{Option as Found, Some, None, MatchOption, option_map, unwrap_or}
 use denote.Ref.{Bor}
 use Rattle.std.specs.List.{AllWithin, HoldsAt}
 use borrow.Author.Tests.{ltb-true, lt-ltb}
 use Rattle.lists.specs.Lists.{any}
 use Rattle.record.specs.Record.{Record}
+use Rattle.record.specs.Stored.{empty_record}
 use Rattle.lists.proofs.Lists.{by, clash}
 use Rattle.voting.specs.Tally.{Ballot, same_bundle, total, weigh, votes_for, group, greatest_of, greatest, wins, won, winner}
 use Rattle.voting.proofs.Elections.{same-is, one-winner, winner-wins, open_is}
 use Rattle.voting_tally.specs.declared.Group.{Group}
 use Rattle.voting_tally.specs.declared.Tally.{Tally}
-use Rattle.voting_tally.specs.Groups.{bundles, group_in, tally_of, place, held_bundle}
+use Rattle.voting_tally.specs.Groups.{bundles, group_in, tally_of, place, winner_stored, held_bundle}
 use Rattle.voting_tally.proofs.Counts.{unknown-weightless}
 use Rattle.voting_tally.proofs.Steps.{none_yet, place_found, place-stands, total-is, groups-taken}
+
+-- a winner as it is stored, by how it is given
+pub winner-held : (v : Option Record) → unwrap_or (held_bundle v) empty_record ≡ winner_stored v
+winner-held none = refl
+winner-held (some B) = refl
 
 -- a group with weight is no heavier than the greatest
 under-greatest {ℓ} : {P : Type ℓ} (B : Record) (k m : List Ballot) → (weigh (votes_for B) m ≡ 0 → P) → (weigh (votes_for B) k ≤ greatest_of k m → P) → P

@@ -1,12 +1,12 @@
--- Document 01, "Proposals and votes": what a tally holds after each vote, the election's answer and the groups of equal bundles so far. Assumes nothing.
+-- Document 01, "Proposals and votes": what a tally holds after each vote, what the election comes to and the groups of equal bundles so far. Assumes nothing.
 use Rattle.std.specs.Prelude.{cond, List, [], ◌∷◌, ◌++◌, map, ℕ, suc, ◌*◌, ltb, length, Option as Given, Some, None}
 use Rattle.std.proofs.Math.Option.{Option, none, some}
 use Rattle.record.specs.declared.Record as declared
 use Rattle.lists.specs.Lists.{any}
 use Rattle.record.specs.Record.{Record}
 use Rattle.record.specs.Stored.{padded, empty_record, stored}
-use Rattle.voting.specs.declared.Election.{Election}
-use Rattle.voting.specs.Tally.{Ballot, same_bundle, weigh, votes_for, counted}
+use Rattle.voting.specs.declared.ElectionResult.{ElectionResult}
+use Rattle.voting.specs.Tally.{Ballot, same_bundle, total, weigh, votes_for, greatest, silent, won}
 use Rattle.voting_tally.specs.declared.Vote.TheVariants.{Silent, Bundle}
 use Rattle.voting_tally.specs.declared.Cast.{Cast}
 use Rattle.voting_tally.specs.declared.Group.{Group}
@@ -37,9 +37,13 @@ group_in l B = record { bundle = stored B; weight = weigh (votes_for B) l }
 abbrev pub filler_group : Group
 filler_group = record { bundle = empty_record; weight = 0 }
 
--- THE TALLY of the ballots: their groups, and the election's answer on them
+-- what the election comes to on the ballots
+abbrev pub result_of : List Ballot → ElectionResult
+result_of l = record { won = won l; greatest = greatest l; silent = silent l; total = total l }
+
+-- THE TALLY of the ballots: their groups, and what the election comes to on them
 unfoldable pub tally_of : List Ballot → Tally
-tally_of l = record { groups = padded 8 filler_group (map (group_in l) (bundles l)); count = length (bundles l); election = counted l }
+tally_of l = record { groups = padded 8 filler_group (map (group_in l) (bundles l)); count = length (bundles l); election = result_of l }
 
 -- the place of a bundle among others, their number where it is none of them
 unfoldable pub place : Record → List Record → ℕ
@@ -56,6 +60,6 @@ abbrev pub held_bundle : Option Record → Given declared.Record
 held_bundle none = None
 held_bundle (some B) = Some (stored B)
 
--- the answer from its three weights
-abbrev pub election_by : ℕ → ℕ → ℕ → Election
-election_by greatest silent total = record { number = 0; won = ltb total (2 * greatest); greatest = greatest; silent = silent; total = total }
+-- the same from its three weights
+abbrev pub result_by : ℕ → ℕ → ℕ → ElectionResult
+result_by greatest silent total = record { won = ltb total (2 * greatest); greatest = greatest; silent = silent; total = total }

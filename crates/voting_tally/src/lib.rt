@@ -7,13 +7,13 @@ ghost use Rattle.std.proofs.Math.Option.{Option, none, some};
 ghost use Rattle.record.specs.Record as theory;
 ghost use Rattle.record.specs.Stored.{stored};
 ghost use Rattle.voting.specs.Tally.{Ballot, total, winner};
-ghost use Rattle.voting_tally.specs.Groups.{place, group_in, cast_of, tally_of, election_by, held_bundle};
+ghost use Rattle.voting_tally.specs.Groups.{place, group_in, cast_of, tally_of, result_by, held_bundle};
 
 use record::Record;
-use voting::Election;
+use voting::ElectionResult;
 use voting_bundles::equality;
 
-// Kept: the specification's form of a vote, silent or a bundle, with the bundle's record beside it, in Cast.
+// Kept: document 01 has the tally take the vote apart by let .. else, silent weight in the else branch, bundle beside the enum.
 #[derive(Clone, Copy)]
 pub enum Vote {
     Silent,
@@ -34,20 +34,12 @@ pub struct Group {
 }
 
 // The groups in the order of their first votes, and the answer so far. Groups past the count hold a filler.
+// Kept: an array with its count, which the specification names (tally_of); a tally is Copy, which the library's ArrayVec is not.
 #[derive(Clone, Copy)]
 pub struct Tally {
     pub groups: [Group; 8],
     pub count: usize,
-    pub election: Election,
-}
-
-impl Tally {
-    // Its groups, without the filler.
-    pub fn group_slice(&self) -> &[Group]
-        ensures { result.now ≡ take self.now.count self.now.groups }
-    {
-        &self.groups[..self.count.min(8)]
-    }
+    pub election: ElectionResult,
 }
 
 // Won when 2 × the group's weight > the whole roll's weight.
@@ -57,11 +49,10 @@ fn is_won(weight: u32, whole: u32) -> bool
     u64::from(whole) < 2 * u64::from(weight)
 }
 
-fn answer(greatest: u32, silent: u32, total: u32) -> Election
-    ensures { result ≡ election_by greatest silent total }
+fn answer(greatest: u32, silent: u32, total: u32) -> ElectionResult
+    ensures { result ≡ result_by greatest silent total }
 {
-    Election {
-        number: 0,
+    ElectionResult {
         won: is_won(greatest, total),
         greatest,
         silent,
@@ -95,68 +86,73 @@ fn place_of(groups: &[Group], bundle: &Record) -> Option<usize>
         .position(|group| equality::same_bundle(bundle, &group.bundle))
 }
 
-fn with_silent(tally: Tally, weight: u16) -> Tally
-    ensures { (l : List Ballot) → tally ≡ tally_of l → total l ≤ 524280 → result ≡ tally_of (l ++ (record { weight = weight; vote = none } ∷ [])) }
-{
-    let e = tally.election;
-    let weight = u32::from(weight);
-    Tally {
-        election: answer(
+impl Tally {
+    // Its groups, without the filler.
+    pub fn group_slice(&self) -> &[Group]
+        ensures { result.now ≡ take self.now.count self.now.groups }
+    {
+        &self.groups[..self.count.min(8)]
+    }
+
+    fn add_silent(&mut self, weight: u16)
+        ensures { (l : List Ballot) → self.old ≡ tally_of l → total l ≤ 524280 → self.new ≡ tally_of (l ++ (record { weight = weight; vote = none } ∷ [])) }
+    {
+        let e = self.election;
+        let weight = u32::from(weight);
+        self.election = answer(
             e.greatest,
             e.silent.saturating_add(weight),
             e.total.saturating_add(weight),
-        ),
-        ..tally
+        );
     }
-}
 
-fn with_bundle(tally: Tally, weight: u16, bundle: Record) -> Tally
-    ensures { (l : List Ballot) (C : theory.Record) → tally ≡ tally_of l → length l < 8 → total l ≤ 524280 → bundle ≡ stored C
-        → result ≡ tally_of (l ++ (record { weight = weight; vote = some C } ∷ [])) }
-{
-    let n = tally.count;
-    if 8 <= n {
-        return tally;
+    fn add_bundle(&mut self, weight: u16, bundle: &Record)
+        ensures { (l : List Ballot) (C : theory.Record) → self.old ≡ tally_of l → length l < 8 → total l ≤ 524280 → bundle.now ≡ stored C
+            → self.new ≡ tally_of (l ++ (record { weight = weight; vote = some C } ∷ [])) }
+    {
+        let n = self.count;
+        if 8 <= n {
+            return;
+        }
+        let e = self.election;
+        let weight = u32::from(weight);
+        let i = place_of(self.group_slice(), bundle).unwrap_or(n);
+        let weight_so_far = self.groups[i].weight;
+        let more = weight_so_far.saturating_add(weight);
+        self.groups[i] = Group {
+            bundle: *bundle,
+            weight: more,
+        };
+        self.count = n.max(i + 1);
+        self.election = answer(
+            e.greatest.max(more),
+            e.silent,
+            e.total.saturating_add(weight),
+        );
     }
-    let e = tally.election;
-    let weight = u32::from(weight);
-    let i = place_of(tally.group_slice(), &bundle).unwrap_or(n);
-    let weight_so_far = tally.groups[i].weight;
-    let more = weight_so_far.saturating_add(weight);
-    let mut r = tally;
-    r.groups[i] = Group {
-        bundle,
-        weight: more,
-    };
-    r.count = n.max(i + 1);
-    r.election = answer(
-        e.greatest.max(more),
-        e.silent,
-        e.total.saturating_add(weight),
-    );
-    r
-}
 
-// THE TALLY with one vote more.
-pub fn with_vote(tally: Tally, weight: u16, cast: Cast) -> Tally
-    ensures { (weight ≤ 65535) × ((l : List Ballot) (v : Option theory.Record) → tally ≡ tally_of l → length l < 8 → total l ≤ 524280 → cast ≡ cast_of v
-        → result ≡ tally_of (l ++ (record { weight = weight; vote = v } ∷ []))) }
-{
-    let vote = cast.vote;
-    let Vote::Bundle = vote else {
-        return with_silent(tally, weight);
-    };
-    with_bundle(tally, weight, cast.bundle)
-}
+    // THE TALLY with one vote more.
+    pub fn add_vote(&mut self, weight: u16, cast: &Cast)
+        ensures { (weight ≤ 65535) × ((l : List Ballot) (v : Option theory.Record) → self.old ≡ tally_of l → length l < 8 → total l ≤ 524280 → cast.now ≡ cast_of v
+            → self.new ≡ tally_of (l ++ (record { weight = weight; vote = v } ∷ []))) }
+    {
+        let vote = cast.vote;
+        let Vote::Bundle = vote else {
+            self.add_silent(weight);
+            return;
+        };
+        self.add_bundle(weight, &cast.bundle);
+    }
 
-// The won bundle; none while the election is open.
-pub fn won_bundle(tally: &Tally) -> Option<Record>
-    ensures { (l : List Ballot) → tally.now ≡ tally_of l → result ≡ held_bundle (winner l) }
-{
-    let whole = tally.election.total;
-    let winner = tally
-        .group_slice()
-        .iter()
-        .find(|group| is_won(group.weight, whole));
-    winner.map(|group| group.bundle)
+    // The won bundle; none while the election is open.
+    pub fn won_bundle(&self) -> Option<Record>
+        ensures { (l : List Ballot) → self.now ≡ tally_of l → result ≡ held_bundle (winner l) }
+    {
+        let whole = self.election.total;
+        let winner = self
+            .group_slice()
+            .iter()
+            .find(|group| is_won(group.weight, whole));
+        winner.map(|group| group.bundle)
+    }
 }

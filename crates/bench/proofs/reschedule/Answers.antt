@@ -1,6 +1,8 @@
+use Rattle.std.specs.Prelude.{Ok}
+use Rattle.voting.specs.Tally.{election_told}
 use Rattle.bench.proofs.Moves.{change-from}
 use Rattle.bench.proofs.reschedule.Goals as goal
 
 pub returns : goal.returns
 returns c =
-    rw c.answered.ensures (change-from c.args.bench c.args.multilog c.args.hidden c.args.schedule c.args.election c.change-moved.result c.change-moved.ensures.opens)
+    change-from c.args.bench.now c.args.multilog c.args.hidden c.args.schedule (election_told (Ok c.args.election)) c.change-moved.result c.change-moved.ensures.opens

@@ -17,7 +17,7 @@ use Rattle.record_rows.proofs.grounds.Grounds.{orelse-first, orelse-second, orel
 use Rattle.graph.specs.links.Marks.{marks_of}
 use Rattle.graph.proofs.links.Names.{get_or-place}
 use Rattle.graph.proofs.links.Marks.{marks-at}
-use Rattle.voting.specs.declared.Election.{Election}
+use Rattle.voting.specs.Tally.{Election}
 use Rattle.std.specs.Prelude.{Option, Some, None, Result, Err}
 use Rattle.std.specs.Option.{ok_or}
 use Rattle.refusals.specs.declared.Refusal.{Refusal}
@@ -26,12 +26,11 @@ use Rattle.refusals.specs.Numbers.{number}
 use Rattle.bench.specs.hidden.Marks.{index_in}
 use Rattle.bench.proofs.hidden.Named.{mark_set}
 use Rattle.ledger.specs.declared.Bench.{Bench}
-use Rattle.ledger.specs.declared.Outcome.{Outcome}
-use Rattle.ledger.specs.Ledger.{Ledger, Call, start, judge, no_election, change, shown, act, fed}
-use Rattle.ledger.specs.Bench.{bench_of, outcome}
+use Rattle.ledger.specs.Ledger.{Ledger, Call, start, judge, no_election, change, shown, act, step, fed}
+use Rattle.ledger.specs.Bench.{Outcome, bench_of, outcome}
 use Rattle.ledger.proofs.Valid.{Valid, shown-within}
 use Rattle.bench.specs.Changes.{Changes}
-use Rattle.bench.proofs.Moves.{bench-record, bench-hidden}
+use Rattle.bench.proofs.Moves.{accepted-is, bench-record, bench-hidden}
 use Rattle.bench_edits.specs.visibility.Named.{name_fault, mark_call}
 
 -- the mark of an edit against the mark that a call gives it
@@ -173,17 +172,15 @@ module _ (L : Ledger) (v : Valid L) (bench : Bench) (e : bench ≡ bench_of L) (
 
     -- the change
     pub mark_made : (get_or bench.hidden i 0 ≡ m → ⊥) → (hides ≡ true → get_or musts i 0 ≡ 1 → ⊥)
-        → (0 ≡ judge L (mark_call hides x)) × ((calls : List Call) → L ≡ fed start calls → (E : Election) → E ≡ no_election → (r : Outcome)
-        → Changes bench bench.multilog (set bench.hidden i m) E r → r ≡ outcome (act L (mark_call hides x)))
+        → (calls : List Call) → L ≡ fed start calls → (E : Election) → E ≡ no_election → (r : Outcome)
+        → Changes bench bench.multilog (set bench.hidden i m) E r → r ≡ outcome (step L (mark_call hides x))
     unfolding Changes
-    mark_made q r = (
-      sym (judged ∙ rw (free q r)),
-      λ calls l E o r k.
-          let after = hidden_after hides x L.hidden in
-          let w = after-within hides x L.hidden (written L.multilog) known v.hidden-written in
-          let s : set bench.hidden i m ≡ marks_of L.multilog (λ y. mem y after) =
-          (λ j. set (bench-hidden L bench e j) (place j) m)
-          ∙ mark_set L.multilog (λ y. mem y L.hidden) (λ y. mem y after) x m v.checked known (λ y. after-other hides x y L.hidden) (c ∙ ap (λ (b : Bool). cond b 1 0) (sym (after_same hides x L.hidden))) in
-          rw (← l) at (k calls L.multilog after (e ∙ ap bench_of l) (bench-record L bench e) w s v.checked v.sound-now (rw (← l) (λ y j. refl)))
-          ∙ (ap (λ (E : Election). outcome (change L L.multilog after E)) o ∙ ap outcome (sym (mark-act L x hides))),
-    )
+    mark_made q f calls l E o r k =
+        let after = hidden_after hides x L.hidden in
+        let w = after-within hides x L.hidden (written L.multilog) known v.hidden-written in
+        let s : set bench.hidden i m ≡ marks_of L.multilog (λ y. mem y after) =
+        (λ j. set (bench-hidden L bench e j) (place j) m)
+        ∙ mark_set L.multilog (λ y. mem y L.hidden) (λ y. mem y after) x m v.checked known (λ y. after-other hides x y L.hidden) (c ∙ ap (λ (b : Bool). cond b 1 0) (sym (after_same hides x L.hidden))) in
+        accepted-is L (mark_call hides x) r (judged ∙ rw (free q f))
+        (rw (← l) at (k calls L.multilog after (e ∙ ap bench_of l) (bench-record L bench e) w s v.checked v.sound-now (rw (← l) (λ y j. refl)))
+        ∙ (ap (λ (E : Election). outcome (change L L.multilog after E)) o ∙ ap outcome (sym (mark-act L x hides))))

@@ -12,7 +12,7 @@ pub loop-page-preserved : goal.loop-page-preserved
 loop-page-preserved c =
     let g : length c.args.schedule.edits ≡ rows = search (rules, length-mapped) in
     let w = c.loop-page.invariant.within in
-    undo-more cells rows c.args.schedule.edits _ _ _ _ _ _ _ _ _ _ c.loop-page.invariant c.loop-page-test.true (omega arith) c.place_of.ensures c.put.ensures c.absent_entry.ensures
+    undo-more cells rows c.args.schedule.edits _ _ _ _ _ _ _ _ _ _ c.loop-page.invariant c.loop-page-test.true (omega arith) c.place.ensures c.put.ensures c.absent_entry.ensures
 
 pub returns : goal.returns
 returns c =

@@ -7,6 +7,7 @@ use Prim.Native.Nat.{ℕ, zero, suc, ◌+◌, ◌-◌, ◌≤◌, ◌<◌}
 use native.Mathlib.Omega.{arith}
 use lib.ListN.{length, get_or, set, replicate, length-append, length-replicate, get_or-append, length-map}
 use lib.Seq.{ext_get_or, set_out, get_or-set_same, get_or-set_other}
+use Rattle.std.proofs.lemmas.List.{get_or_append_left, get_or-append_right}
 use Rattle.lists.specs.Lists.{mem, ◌among◌}
 use Rattle.record.specs.Record.{Record, names}
 use Rattle.record.specs.Stored.{padded}
@@ -133,12 +134,13 @@ pub none-marked : (R : Record) → length (names R) ≤ 128 → replicate 128 0 
 unfolding marks_of mem
 none-marked R few = values-are R _ (replicate 128 0) few refl (λ y h. zeros-get 128 y) (λ y h. zeros-get 128 y)
 
--- what a loop that marks all keeps
-pub all-step : (R : Record) (x : ℕ) (r : List ℕ) → x < length r → x < length (names R) → Filled R (λ y. cond (mem y (names R)) 1 0) x r
-    → Filled R (λ y. cond (mem y (names R)) 1 0) (x + 1) (set r x 1)
-all-step R x r l h = filled-step R (λ y. cond (mem y (names R)) 1 0) x r 1 l (rw (get_or-among (names R) x h))
-
-pub all_end : (R : Record) (x : ℕ) (r : List ℕ) → length r ≡ 128 → length (names R) ≤ 128 → x ≡ length (names R) → Filled R (λ y. cond (mem y (names R)) 1 0) x r
-    → r ≡ marks_of R (λ y. mem y (names R))
+-- ones for all, and zeros after them
+pub all-filled : (R : Record) (n : ℕ) (ones : List ℕ) → length (names R) ≤ 128 → n ≡ length (names R) → length ones ≡ n → ((y : ℕ) → y < n → get_or ones y 0 ≡ 1)
+    → ones ++ replicate (128 - n) 0 ≡ marks_of R (λ y. mem y (names R))
 unfolding marks_of
-all_end R x r size few = filled-end R (λ y. cond (mem y (names R)) 1 0) x r few size
+all-filled R n ones few e size one =
+    let zeros : List ℕ = replicate (128 - n) 0 in
+    values-are R (λ y. cond (mem y (names R)) 1 0) (ones ++ zeros) few
+    (rw (length-append, size, length-replicate {A = ℕ} (128 - n) 0) (omega (arith, e)))
+    (λ y h. rw (get_or_append_left ones zeros 0 y (omega (arith, e, size)), get_or-among (names R) y h) (one y (omega (arith, e))))
+    (λ y h. get_or-append_right ones zeros n y 0 size (omega (arith, e)) ∙ zeros-get (128 - n) (y - n))

@@ -5,7 +5,7 @@ use Rattle.record.specs.Schedule.{schedule}
 use Rattle.judgement.proofs.edits_of.Goals as goal
 
 pub loop-q-init : goal.loop-q-init
-loop-q-init c = (omega arith, omega arith, refl, λ R h e f g. listing_start R (schedule R h) _ c.filler-edit.ensures)
+loop-q-init c = (omega arith, omega arith, refl, λ R h e f g. listing_start R (schedule R h) _ c.filler-edits.ensures)
 
 pub returns-then-index-eq0 : goal.returns-then-index-eq0
 returns-then-index-eq0 c R h e f g =

@@ -16,14 +16,14 @@ returns-then-mustmarks-x-eq1 c =
 
 pub returns-then-nevermarks-a-eq1 : goal.returns-then-nevermarks-a-eq1
 returns-then-nevermarks-a-eq1 c =
-    let a = c.need_below-a in
+    let a = c.need_before-a in
     λ R g f q l e u v. let k = a.ensures.3 R g (omega arith) in
     sym (never-need g.formed _ _ (get_or-among (names R) a.result k.0) k.1
     (bit-yes _ _ (v a.result (a.ensures.2 (unmarked-above R (must R) _ c.args.x e (must-init R) c.if-mustmarks-x-eq1.false))) c.if-nevermarks-a-eq1.true))
 
 pub returns : goal.returns
 returns c =
-    let a = c.need_below-a in
+    let a = c.need_before-a in
     λ R g f q l e u v. let k = a.ensures.3 R g (omega arith) in
     let i = two-known g.formed _ (get_or-among (names R) a.result k.0) in
     let o = c.needs_marks-old.ensures R g k.0 e in

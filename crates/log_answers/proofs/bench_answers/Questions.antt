@@ -14,6 +14,7 @@ use Rattle.catalogue.specs.declared.Entry.{Entry}
 use Rattle.catalogue.specs.Entries.{place_of, absent_entry}
 use Rattle.catalogue.specs.Chips as chips
 use Rattle.log_forms.specs.Printed.{Texts, Printed, texts_from}
+use Rattle.log_forms.specs.declared.Printer.{Printer}
 use Rattle.log_forms.proofs.Printing.{printed-nothing, printed-both}
 use Rattle.log_answers.specs.Answers.{answer_line}
 use Rattle.log_answers.specs.declared.bench_answers.Owner.{Owner}
@@ -21,11 +22,11 @@ use Rattle.log_answers.specs.declared.bench_answers.Owner.TheVariants.{Chip, Pag
 use Rattle.log_answers.specs.bench_answers.Asks.{hides, hidden_line, hidden_text, page_line, schedule_text, cell_form, cells_text, is_present, entry_text, catalogue_text, row_text, row_at, journal_text}
 
 -- texts that a test lets through
-module _ (test : Bool) (texts : Texts) (before : List ℕ) (at : ℕ) where
-  pub printed-not : test ≡ false → Printed (cond test texts []) before at before at
-  printed-not e = rw e (printed-nothing before at)
+module _ (test : Bool) (texts : Texts) {before : Printer} where
+  pub printed-not : test ≡ false → Printed (cond test texts []) before before
+  printed-not e = rw e (printed-nothing before)
 
-  pub printed-so : {after : List ℕ} {end : ℕ} → test ≡ true → Printed texts before at after end → Printed (cond test texts []) before at after end
+  pub printed-so : {after : Printer} → test ≡ true → Printed texts before after → Printed (cond test texts []) before after
   printed-so e p = rw e p
 
 pub not_hidden : (mark : ℕ) → mark ≢ 1 → hides mark ≡ false
@@ -35,21 +36,21 @@ pub is_hidden : (mark : ℕ) → mark ≡ 1 → hides mark ≡ true
 is_hidden mark h = eq-eqb mark 1 h
 
 -- a head, and a line for each edit
-module _ (edits : List Edit) (before : List ℕ) (at : ℕ) {middle after : List ℕ} {place end : ℕ} where
-  pub hidden-printed : (marks : List ℕ) {k : ℕ} → k ≡ length (filter hides (take (length edits) (drop 1 marks))) → Printed (answer_line "hidden=#\n" (k ∷ [])) before at middle place
-      → Printed (texts_from (hidden_line marks) 1 edits) middle place after end → Printed (hidden_text edits marks) before at after end
+module _ (edits : List Edit) {before middle after : Printer} where
+  pub hidden-printed : (marks : List ℕ) {k : ℕ} → k ≡ length (filter hides (take (length edits) (drop 1 marks))) → Printed (answer_line "hidden=#\n" (k ∷ [])) before middle
+      → Printed (texts_from (hidden_line marks) 1 edits) middle after → Printed (hidden_text edits marks) before after
   unfolding hidden_text
-  hidden-printed marks {k} c p q = rw (← c) (printed-both (answer_line "hidden=#\n" (k ∷ [])) (texts_from (hidden_line marks) 1 edits) before at p q)
+  hidden-printed marks {k} c p q = rw (← c) (printed-both p q)
 
-  pub schedule-printed : Printed (answer_line "last=#\n" (length edits ∷ [])) before at middle place → Printed (texts_from page_line 1 edits) middle place after end
-      → Printed (schedule_text edits) before at after end
+  pub schedule-printed : Printed (answer_line "last=#\n" (length edits ∷ [])) before middle → Printed (texts_from page_line 1 edits) middle after
+      → Printed (schedule_text edits) before after
   unfolding schedule_text
-  schedule-printed p q = printed-both (answer_line "last=#\n" (length edits ∷ [])) (texts_from page_line 1 edits) before at p q
+  schedule-printed p q = printed-both p q
 
-  pub journal-printed : (rows : List Entry) → Printed (answer_line "open=#\n" (length edits ∷ [])) before at middle place → Printed (texts_from (row_at rows) 1 edits) middle place after end
-      → Printed (journal_text edits rows) before at after end
+  pub journal-printed : (rows : List Entry) → Printed (answer_line "open=#\n" (length edits ∷ [])) before middle → Printed (texts_from (row_at rows) 1 edits) middle after
+      → Printed (journal_text edits rows) before after
   unfolding journal_text
-  journal-printed rows p q = printed-both (answer_line "open=#\n" (length edits ∷ [])) (texts_from (row_at rows) 1 edits) before at p q
+  journal-printed rows p q = printed-both p q
 
 -- the line of a cell, by its field and by whose it is; any field above is the last
 pub last-form : (owner : Owner) (field : ℕ) → (field ≡ 0 → ⊥) → (field ≡ 1 → ⊥) → (field ≡ 2 → ⊥) → cell_form owner 3 ≡ cell_form owner field
@@ -61,26 +62,26 @@ last-form Chip (suc (suc (suc n))) a b c = refl
 last-form Page (suc (suc (suc n))) a b c = refl
 
 -- an entry, all entries, a row
-module _ (before : List ℕ) (at : ℕ) {middle after : List ℕ} {place end : ℕ} where
-  pub entry-printed : (chip : ℕ) (entry : Entry) → entry.present ≡ true → Printed (answer_line "chip=#\n" (chip ∷ [])) before at middle place
-      → Printed (cells_text Chip chip entry.cells) middle place after end → Printed (entry_text chip entry) before at after end
+module _ {before middle after : Printer} where
+  pub entry-printed : (chip : ℕ) (entry : Entry) → entry.present ≡ true → Printed (answer_line "chip=#\n" (chip ∷ [])) before middle
+      → Printed (cells_text Chip chip entry.cells) middle after → Printed (entry_text chip entry) before after
   unfolding entry_text
-  entry-printed chip entry e p q = rw e (printed-both (answer_line "chip=#\n" (chip ∷ [])) (cells_text Chip chip entry.cells) before at p q)
+  entry-printed chip entry e p q = rw e (printed-both p q)
 
-  pub catalogue-printed : (entries : List Entry) {k : ℕ} → k ≡ length (filter is_present entries) → Printed (answer_line "chips=#\n" (k ∷ [])) before at middle place
-      → Printed (texts_from entry_text 0 entries) middle place after end → Printed (catalogue_text entries) before at after end
+  pub catalogue-printed : (entries : List Entry) {k : ℕ} → k ≡ length (filter is_present entries) → Printed (answer_line "chips=#\n" (k ∷ [])) before middle
+      → Printed (texts_from entry_text 0 entries) middle after → Printed (catalogue_text entries) before after
   unfolding catalogue_text
-  catalogue-printed entries {k} c p q = rw (← c) (printed-both (answer_line "chips=#\n" (k ∷ [])) (texts_from entry_text 0 entries) before at p q)
+  catalogue-printed entries {k} c p q = rw (← c) (printed-both p q)
 
   pub row-printed : (page : ℕ) (e : Edit) (row : Entry) {chip present : ℕ} → chip ≡ place_of e.body → present ≡ cond row.present 1 0
-      → Printed (answer_line "page=# chip=# present=?\n" (page ∷ chip ∷ present ∷ [])) before at middle place → Printed (cells_text Page page row.cells) middle place after end
-      → Printed (row_text page e row) before at after end
+      → Printed (answer_line "page=# chip=# present=?\n" (page ∷ chip ∷ present ∷ [])) before middle → Printed (cells_text Page page row.cells) middle after
+      → Printed (row_text page e row) before after
   unfolding row_text
-  row-printed page e row {chip} {present} c f p q = rw (← c, ← f) (printed-both (answer_line "page=# chip=# present=?\n" (page ∷ chip ∷ present ∷ [])) (cells_text Page page row.cells) before at p q)
+  row-printed page e row {chip} {present} c f p q = rw (← c, ← f) (printed-both p q)
 
-pub entry_absent : (before : List ℕ) (at chip : ℕ) (entry : Entry) → entry.present ≡ false → Printed (entry_text chip entry) before at before at
+pub entry_absent : (before : Printer) (chip : ℕ) (entry : Entry) → entry.present ≡ false → Printed (entry_text chip entry) before before
 unfolding entry_text
-entry_absent before at chip entry e = rw e (printed-nothing before at)
+entry_absent before chip entry e = rw e (printed-nothing before)
 
 -- the row of a page
 pub row_before : (rows : List Entry) (i : ℕ) (e : Edit) (d : Entry) → i < length rows → row_text (i + 1) e (get_or rows i d) ≡ row_at rows (i + 1) e

@@ -7,4 +7,4 @@ use Rattle.log_answers.proofs.print_record.Goals as goal
 
 pub returns : goal.returns
 unfolding record_text counts_form bytes
-returns c = printed-both _ _ _ _ c.print-head.ensures c.print_text.ensures
+returns c = printed-both c.print.ensures c.print_text.ensures

@@ -4,16 +4,16 @@ use Rattle.log_forms.proofs.Printing.{printed-past}
 use Rattle.log_answers.proofs.Placing.{part-printed, part-refused, part-inside}
 use Rattle.log_answers.proofs.print_report.Goals as goal
 
-pub returns-then-size-at : goal.returns-then-size-at
-returns-then-size-at c = λ R e k. let s = c.args in printed-past (report_of R) s.out.now s.at c.if-size-at.true
+pub returns-then-size-printer : goal.returns-then-size-printer
+returns-then-size-printer c = λ R e k. let s = c.args in printed-past (report_of R) s.printer.now c.if-size-printer.true
 
 pub returns-in_default : goal.returns-in_default
 returns-in_default c =
-    λ R e k. let s = c.args in let w = c.report_record.ensures R e k in part-refused (report_of R) s.out.now s.at c.if-size-at.false w.0 w.1 c.in_default.is
+    λ R e k. let s = c.args in let w = c.report_record.ensures R e k in part-refused (report_of R) s.printer.now c.if-size-printer.false w.0 w.1 c.in_default.is
 
-pub returns-then-size-at-2 : goal.returns-then-size-at-2
-returns-then-size-at-2 c =
-    λ R e k. let s = c.args in let w = c.report_record.ensures R e k in part-inside (report_of R) s.out.now s.at c.if-size-at.false w.0 w.1 c.in-Ok.is c.if-size-at-2.true
+pub returns-then-size-printer-2 : goal.returns-then-size-printer-2
+returns-then-size-printer-2 c =
+    λ R e k. let s = c.args in let w = c.report_record.ensures R e k in part-inside (report_of R) s.printer.now c.if-size-printer.false w.0 w.1 c.in-Ok.is c.if-size-printer-2.true
 
 pub returns : goal.returns
-returns c = λ R e k. let s = c.args in let w = c.report_record.ensures R e k in part-printed (report_of R) s.out.now s.at c.if-size-at.false w.0 w.1 c.in-Ok.is
+returns c = λ R e k. let s = c.args in let w = c.report_record.ensures R e k in part-printed (report_of R) s.printer.now c.if-size-printer.false w.0 w.1 c.in-Ok.is

@@ -1,7 +1,7 @@
 -- `read_lent` meets its contract. Assumes nothing.
 use Rattle.std.proofs.Common.{◌≡◌, Err, rules}
 use Rattle.refusals.specs.declared.Refusal.TheVariants.{NotInForm}
-use mathlib.Core.Path.{refl, ap}
+use mathlib.Core.Path.{refl, ap, sym, ◌∙◌}
 use native.Mathlib.Omega.{arith}
 use Rattle.lists.specs.Lists.{filter, mem}
 use Rattle.text_forms.specs.Spelling.{bytes, starts_with, number_spelling}
@@ -37,26 +37,26 @@ pub returns-in-Ok-read_words : goal.returns-in-Ok-read_words
 unfolding command_forms grammar shapes set_shapes rule_shapes set_form edit_form rule_form read_starting starting parse filter mem bytes starts_with is_mark spelling number_spelling slots letter_other letter_among ruled_out otherwise line-ends
 returns-in-Ok-read_words c = first "lent=# " c.args.bytes.now (lent-letter c.args.bytes.now c.number_end-number.ensures.0 c.byte_at-letter.ensures) 108 c.in-108.is refl c.in-Ok-read_words.ensures (λ z. let y : ⊥ = cc in y) refl
 
-pub returns-then-eq : goal.returns-then-eq
+pub returns-in-Err-NotInForm : goal.returns-in-Err-NotInForm
 unfolding command_forms grammar shapes set_shapes rule_shapes set_form edit_form rule_form read_starting starting parse filter mem bytes starts_with is_mark spelling number_spelling slots letter_other letter_among ruled_out otherwise line-ends
-returns-then-eq c =
-    let e : c.in-Err.refusal ≡ NotInForm = search rules in
-    second "lent=# " c.args.bytes.now (lent-letter c.args.bytes.now c.number_end-number.ensures.0 c.byte_at-letter.ensures) 101 c.in-101.is refl c.in-Err.ensures (ap Err e) (lent-kept c.args.bytes.now (lent-letter c.args.bytes.now c.number_end-number.ensures.0 c.byte_at-letter.ensures) 101 c.in-101.is c.read_lent_line.ensures)
+returns-in-Err-NotInForm c =
+    let letter = (lent-letter c.args.bytes.now c.number_end-number.ensures.0 c.byte_at-letter.ensures) in
+    second "lent=# " c.args.bytes.now letter 101 c.in-101.is refl c.read_words.ensures (c.in-Err-NotInForm.is ∙ ap Err c.in-Err-NotInForm.field-0-is) (lent-kept c.args.bytes.now letter 101 c.in-101.is c.read_lent_line.ensures)
 
-pub returns-else-eq : goal.returns-else-eq
+pub returns-in-Err : goal.returns-in-Err
 unfolding command_forms grammar shapes set_shapes rule_shapes set_form edit_form rule_form read_starting starting parse filter mem bytes starts_with is_mark spelling number_spelling slots letter_other letter_among ruled_out otherwise line-ends
-returns-else-eq c =
+returns-in-Err c =
     let e : c.in-Err.refusal ≡ NotInForm → ⊥ = search rules in
-    first "lent=# " c.args.bytes.now (lent-letter c.args.bytes.now c.number_end-number.ensures.0 c.byte_at-letter.ensures) 101 c.in-101.is refl c.in-Err.ensures (refused-other e) refl
+    first "lent=# " c.args.bytes.now (lent-letter c.args.bytes.now c.number_end-number.ensures.0 c.byte_at-letter.ensures) 101 c.in-101.is refl (sym c.in-Err.is ∙ c.read_words.ensures) (refused-other e) refl
 
-pub returns-then-eq-2 : goal.returns-then-eq-2
+pub returns-in-Err-NotInForm-read_words : goal.returns-in-Err-NotInForm-read_words
 unfolding command_forms grammar shapes set_shapes rule_shapes set_form edit_form rule_form read_starting starting parse filter mem bytes starts_with is_mark spelling number_spelling slots letter_other letter_among ruled_out otherwise line-ends
-returns-then-eq-2 c =
-    let e : c.in-Err-read_words.refusal ≡ NotInForm = search rules in
-    second "lent=# " c.args.bytes.now (lent-letter c.args.bytes.now c.number_end-number.ensures.0 c.byte_at-letter.ensures) 108 c.in-108.is refl c.in-Err-read_words.ensures (ap Err e) (lent-kept c.args.bytes.now (lent-letter c.args.bytes.now c.number_end-number.ensures.0 c.byte_at-letter.ensures) 108 c.in-108.is c.read_lent_line-then-eq-2.ensures)
+returns-in-Err-NotInForm-read_words c =
+    let letter = (lent-letter c.args.bytes.now c.number_end-number.ensures.0 c.byte_at-letter.ensures) in
+    second "lent=# " c.args.bytes.now letter 108 c.in-108.is refl c.read_words-in-108.ensures (c.in-Err-NotInForm-read_words.is ∙ ap Err c.in-Err-NotInForm-read_words.field-0-is) (lent-kept c.args.bytes.now letter 108 c.in-108.is c.read_lent_line-in-Err-NotInForm-read_words.ensures)
 
-pub returns-else-eq-2 : goal.returns-else-eq-2
+pub returns-in-Err-read_words : goal.returns-in-Err-read_words
 unfolding command_forms grammar shapes set_shapes rule_shapes set_form edit_form rule_form read_starting starting parse filter mem bytes starts_with is_mark spelling number_spelling slots letter_other letter_among ruled_out otherwise line-ends
-returns-else-eq-2 c =
+returns-in-Err-read_words c =
     let e : c.in-Err-read_words.refusal ≡ NotInForm → ⊥ = search rules in
-    first "lent=# " c.args.bytes.now (lent-letter c.args.bytes.now c.number_end-number.ensures.0 c.byte_at-letter.ensures) 108 c.in-108.is refl c.in-Err-read_words.ensures (refused-other e) refl
+    first "lent=# " c.args.bytes.now (lent-letter c.args.bytes.now c.number_end-number.ensures.0 c.byte_at-letter.ensures) 108 c.in-108.is refl (sym c.in-Err-read_words.is ∙ c.read_words-in-108.ensures) (refused-other e) refl

@@ -12,23 +12,17 @@ use Rattle.log_forms.specs.productions.Words.{starting}
 use Rattle.log_forms.proofs.productions.Choosing.{letter_other, letter_among}
 use Rattle.log_commands.specs.Grammar.{command_forms, grammar}
 use Rattle.log_commands.specs.Groups.{read_starting}
-use Rattle.log_commands.proofs.Arms.{arm, last}
+use Rattle.log_commands.proofs.Arms.{plain-arm, last}
 use Rattle.log_commands.proofs.read_roll.Goals as goal
 
-pub returns-in_err-read_words-in-110 : goal.returns-in_err-read_words-in-110
+pub returns-in-110 : goal.returns-in-110
 unfolding command_forms grammar shapes set_shapes rule_shapes set_form edit_form rule_form read_starting starting parse filter mem bytes starts_with is_mark spelling number_spelling slots letter_other letter_among ruled_out otherwise line-ends
-returns-in_err-read_words-in-110 c =
-    let p = err_from_is_err_and c.from_residual.result c.from_residual.ensures.1 in
-    rw (p.1, p.2) (arm "roll=" c.args.bytes.now c.byte_at-letter.ensures 110 c.in-110.is refl c.in_err-read_words-in-110.ensures refl)
-
-pub returns-in_ok-read_words-in-110 : goal.returns-in_ok-read_words-in-110
-unfolding command_forms grammar shapes set_shapes rule_shapes set_form edit_form rule_form read_starting starting parse filter mem bytes starts_with is_mark spelling number_spelling slots letter_other letter_among ruled_out otherwise line-ends
-returns-in_ok-read_words-in-110 c = arm "roll=" c.args.bytes.now c.byte_at-letter.ensures 110 c.in-110.is refl c.in_ok-read_words-in-110.ensures refl
+returns-in-110 c = plain-arm "roll=" c.args.bytes.now c.byte_at-letter.ensures 110 c.in-110.is refl refl c.read_plain.ensures
 
 pub returns-in_err-words-in_default : goal.returns-in_err-words-in_default
 unfolding command_forms grammar shapes set_shapes rule_shapes set_form edit_form rule_form read_starting starting parse filter mem bytes starts_with is_mark spelling number_spelling slots letter_other letter_among ruled_out otherwise line-ends
 returns-in_err-words-in_default c =
-    let p = err_from_is_err_and c.from_residual-in_err-words-in_default.result c.from_residual-in_err-words-in_default.ensures.1 in
+    let p = err_from_is_err_and c.from_residual.result c.from_residual.ensures.1 in
     rw (p.1, p.2) (last "roll=" c.args.bytes.now c.byte_at-letter.ensures (bytes "n") c.in_default.in_default-own.rest refl c.in_err-words-in_default.ensures refl)
 
 pub returns-in_ok-words-in_default : goal.returns-in_ok-words-in_default

@@ -1,15 +1,9 @@
 -- `turn_back` meets its contract. Assumes nothing.
-use Rattle.log_commands.proofs.Numbers.{back-far, back-wide, back-narrow, back-near}
+use Rattle.log_commands.proofs.Numbers.{back-far, back-near, opposite}
 use Rattle.log_commands.proofs.turn_back.Goals as goal
 
-pub returns-then-pages-gt2147483648 : goal.returns-then-pages-gt2147483648
-returns-then-pages-gt2147483648 c = back-far c.args.pages c.if-pages-gt2147483648.true
-
-pub overflow_sub-result : goal.overflow_sub-result
-overflow_sub-result c = back-wide c.args.pages c.if-pages-gt2147483648.false
-
-pub overflow_cast-result-2 : goal.overflow_cast-result-2
-overflow_cast-result-2 c = back-narrow c.args.pages c.if-pages-gt2147483648.false
+pub returns-in_default : goal.returns-in_default
+returns-in_default c = back-far c.args.pages (opposite c.args.pages c.ranges.pages.fits c.from.ensures) c.in_default.ensures
 
 pub returns : goal.returns
-returns c = back-near c.args.pages c.if-pages-gt2147483648.false
+returns c = back-near c.args.pages (opposite c.args.pages c.ranges.pages.fits c.from.ensures) c.in-Ok.ensures

@@ -2,8 +2,8 @@
 use Rattle.log_commands.proofs.Numbers.{forward-far, forward-near}
 use Rattle.log_commands.proofs.turn_forward.Goals as goal
 
-pub returns-then-pages-gt2147483647 : goal.returns-then-pages-gt2147483647
-returns-then-pages-gt2147483647 c = forward-far c.args.pages c.if-pages-gt2147483647.true
+pub returns-in_default : goal.returns-in_default
+returns-in_default c = forward-far c.args.pages c.in_default.ensures
 
 pub returns : goal.returns
-returns c = forward-near c.args.pages c.if-pages-gt2147483647.false
+returns c = forward-near c.args.pages c.in-Ok.ensures

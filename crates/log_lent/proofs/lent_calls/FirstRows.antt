@@ -17,9 +17,8 @@ use Rattle.voting_roll.specs.Roll.{roll_bench, is_bench, roll_faulty}
 use Rattle.voting_roll.specs.Election.{Proposals, first_given, proposal_fault, benches, election_fault, cast, refused_election, election_of}
 use Rattle.voting_count.specs.Count.{refused_count, count_of}
 use Rattle.ledger.specs.declared.Bench.{Bench}
-use Rattle.ledger.specs.declared.Outcome.{Outcome}
 use Rattle.ledger.specs.Ledger.{Ledger, adopt, start, fed, bundle_fault, judge, refusal, step}
-use Rattle.ledger.specs.Bench.{outcome, Answers}
+use Rattle.ledger.specs.Bench.{Outcome, outcome, Answers}
 use Rattle.ledger.proofs.Undone.{step-refused}
 use Rattle.log_lent.specs.Lent.{roll_places}
 

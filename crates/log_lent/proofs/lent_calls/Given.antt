@@ -1,19 +1,18 @@
 -- Calls with what is lent, where it is kept. Assumes nothing.
-use mathlib.Core.Path.{◌≡◌, refl, ◌∙◌}
+use mathlib.Core.Path.{◌≡◌, refl, ap, ◌∙◌}
 use mathlib.Core.Bool.{Bool, true, false}
 use mathlib.Core.List.{List}
 use Prim.Native.Nat.{ℕ, ◌≤◌, ◌<◌}
 use lib.Dec.{ltb}
 use lib.ListN.{take}
 use borrow.Author.Tests.{lt-ltb, le-ltb}
-use Rattle.record.specs.Stored.{empty_record}
 use Rattle.record_rows.specs.grounds.Ground.{Rows}
 use Rattle.voting.specs.declared.RollRow.{RollRow}
-use Rattle.voting_roll.specs.Election.{Proposals}
-use Rattle.voting_count.specs.declared.Counted.{Counted}
-use Rattle.voting_count.specs.Count.{count_of}
-use Rattle.voting_bundles.specs.declared.BundleAnswer.{BundleAnswer}
-use Rattle.voting_bundles.specs.Bundles.{bundle_answer}
+use Rattle.voting.specs.Tally.{Election}
+use Rattle.voting_roll.specs.Election.{Proposals, election_of}
+use Rattle.voting_count.specs.Count.{Count, count_of}
+use Rattle.voting_bundles.specs.declared.Bundled.{Bundled}
+use Rattle.voting_bundles.specs.Bundles.{BundleAnswer, bundle_told, bundle_answer}
 use Rattle.std.specs.Prelude.{Result, Ok, Err, IsErr}
 use Rattle.lists.proofs.Lists.{clash}
 use Rattle.refusals.specs.declared.Refusal.{Refusal}
@@ -22,9 +21,10 @@ use Rattle.record.specs.Judgement.{sound_row}
 use Rattle.record_tables.specs.Table.{decoded}
 use Rattle.judgement.specs.lent_record.Lent.{record_fault}
 use Rattle.ledger.specs.declared.Bench.{Bench}
-use Rattle.ledger.specs.declared.Outcome.{Outcome}
+use Rattle.ledger.specs.declared.CallResult.{CallResult}
 use Rattle.ledger.specs.Ledger.{merge, adopt}
-use Rattle.ledger.specs.Bench.{Answers}
+use Rattle.ledger.specs.Bench.{Outcome, Answers, told_outcome}
+use Rattle.bench.specs.Changes.{refused_with}
 use Rattle.log_lent.specs.Lent.{Lent, roll_places}
 use Rattle.log_lent.specs.lent_calls.Calls.{proposals_of, bundle_in, lent_row_fault, row_sound}
 use Rattle.log_lent.proofs.lent_calls.FirstRows.{first_counted, first-adopted}
@@ -34,21 +34,30 @@ pub err-given : {A : Type 0} (r : Result A Refusal) (x : A) {n : ℕ} → IsErr 
 err-given (Ok y) x e q = clash e refl
 err-given (Err s) x e q = (q, tt)
 
+pub merge-refused : (bench : Bench) (r : Result CallResult Refusal) {n : ℕ} → IsErr r → number_of r ≡ n → told_outcome r bench ≡ refused_with bench n
+merge-refused bench (Ok y) e q = clash e refl
+merge-refused bench (Err s) e q = rw q refl
+
 pub merge-given : (bench : Bench) {E C : Rows} (r : Outcome) → Answers bench (merge E C) r → {F D : Rows} → E ≡ F → C ≡ D → Answers bench (merge F D) r
 merge-given bench r a e f = rw (e, f) at a
 
 module _ (L : Lent) where
   module _ (x : ℕ) {P : Proposals} {seats : List RollRow} (e : P ≡ proposals_of L) (g : seats ≡ take roll_places L.roll) where
-    pub count-given : {r : Counted} → r ≡ count_of x P seats → r ≡ count_of x (proposals_of L) L.roll
+    pub count-given : {r : Count} → r ≡ count_of x P seats → r ≡ count_of x (proposals_of L) L.roll
     count-given q = (rw (e, g) at q) ∙ first_counted x (proposals_of L) L.roll
+
+    pub election-given : {r : Election} → r ≡ election_of x P seats → r ≡ election_of x (proposals_of L) L.roll
+    unfolding count_of
+    election-given q = (rw (e, g) at q) ∙ ap (λ (c : Count). c.election) (first_counted x (proposals_of L) L.roll)
 
     pub adoption-given : (bench : Bench) (r : Outcome) → Answers bench (adopt x P seats) r → Answers bench (adopt x (proposals_of L) L.roll) r
     adoption-given bench r a = first-adopted x (proposals_of L) L.roll bench r (rw (e, g) at a)
 
   module _ (k : ℕ) where
-    pub bundle-elsewhere : (x : ℕ) → 9 ≤ k → {R : _} → R ≡ empty_record → record { number = 2; eligible = false; bundle = R } ≡ bundle_in L k x
+    pub bundle-elsewhere : (x : ℕ) → 9 ≤ k → (r : Result Bundled Refusal) → IsErr r → number_of r ≡ 2 → bundle_told r ≡ bundle_in L k x
     unfolding bundle_in
-    bundle-elsewhere x h q = let e : ltb k 9 ≡ false = le-ltb k 9 h in rw (e, q) refl
+    bundle-elsewhere x h (Ok y) e q = clash e refl
+    bundle-elsewhere x h (Err s) e q = let d : ltb k 9 ≡ false = le-ltb k 9 h in rw (d, q) refl
 
     pub bundle-given : {r : BundleAnswer} {E C : Rows} (x : ℕ) → k < 9 → r ≡ bundle_answer E C x → E ≡ L.edits k → C ≡ L.constraints k → r ≡ bundle_in L k x
     unfolding bundle_in

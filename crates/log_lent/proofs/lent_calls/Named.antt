@@ -2,60 +2,80 @@
 use mathlib.Core.Path.{◌≡◌, refl, sym, ap, ◌∙◌}
 use mathlib.Core.Bool.{true, false}
 use mathlib.Core.List.{List, [], ◌∷◌, map}
-use Prim.Native.Nat.{ℕ, ◌-◌, ◌≤◌, ◌<◌}
+use Prim.Native.Nat.{ℕ, ◌≤◌, ◌<◌}
 use native.Mathlib.Omega.{arith}
 use lib.Dec.{eqb, ltb}
-use lib.ListN.{length, get_or, replicate, length-map, get_or-append}
+use lib.ListN.{length, get_or, length-map}
 use borrow.Author.Tests.{lt-ltb, le-ltb}
 use Rattle.record.specs.declared.Edit.{Edit}
-use Rattle.record.specs.declared.Record as declared
 use Rattle.lists.specs.Lists.{mem, index_of, ◌among◌}
 use Rattle.record.specs.Record.{Record, name_of, written}
-use Rattle.record.specs.Stored.{stored, padded, filler_edit, edit_named}
+use Rattle.record.specs.Stored.{filler_edit, edit_named}
 use Rattle.lists.proofs.Lists.{by, clash, mem_index}
+use Rattle.lists.proofs.Arrays.{get_or-any}
 use Rattle.record_rows.specs.row.Row.{Row, is_name, edit_row}
-use Rattle.std.specs.Prelude.{Option, Some, None, is_some, Result}
+use Rattle.std.specs.Prelude.{Option, Some, None, is_some, unwrap_or, ok_or, Result, Err}
 use Rattle.refusals.specs.declared.Refusal.{Refusal}
-use Rattle.refusals.specs.Numbers.{Gives}
-use Rattle.record_tables.specs.Checked.{Checked, known_place}
+use Rattle.refusals.specs.declared.Refusal.TheVariants.{Unknown}
+use Rattle.refusals.specs.Numbers.{number, number_of, Gives}
+use Rattle.refusals.proofs.Numbers.{number-positive}
+use Rattle.record_tables.specs.Checked.{known_place}
 use Rattle.suggestions.specs.declared.Suggested.{Suggested}
-use Rattle.suggestions.specs.Suggest.{pair_fault, suggested}
-use Rattle.log_lent.specs.lent_calls.Calls.{suggest_fault, suggestion_fault, suggested_in}
-
-abbrev place_or : ℕ → Option ℕ → ℕ
-place_or n None = n
-place_or n (Some place) = place
+use Rattle.suggestions.specs.Suggest.{pair_fault, suggested_rules}
+use Rattle.log_lent.specs.lent_calls.Calls.{suggest_fault, suggestion_fault, suggested_rules_in}
+use Rattle.log_lent.specs.lent_calls.Named.{row_known}
 
 pub at_named : (l : List Edit) (x : ℕ) → x among map name_of l → get_or l (index_of x (map name_of l)) filler_edit ≡ edit_named l x
 unfolding index_of mem edit_named
 at_named [] x m = absurd (let z : ◌≡◌ {A = ℕ} 0 1 = cc in omega arith)
 at_named (e ∷ l) x m = by (eqb x e.name) (λ (q : eqb x e.name ≡ true). rw q refl) (λ (q : eqb x e.name ≡ false). rw q (at_named l x (rw q at m)))
 
-module _ (R : Record) (multilog : declared.Record) (q : multilog ≡ stored R) (v : Checked R) (x : ℕ) (m : x among written R) {place : ℕ} (p : place ≡ index_of x (written R)) where
-  below : place < length R.edits
-  unfolding written
-  below = let a : index_of x (written R) < length (map name_of R.edits) = mem_index x (written R) m in let b : length (map name_of R.edits) ≡ length R.edits = length-map R.edits name_of in omega arith
+-- the row of the edit of a name, by the place that the record has for it
+module _ (R : Record) (x : ℕ) {o : Option ℕ} (e : o ≡ known_place x (written R)) where
+  pub unknown-row : o ≡ None → {r : Option Row} → r ≡ None → r ≡ row_known R x
+  unfolding row_known
+  unknown-row n h = by (mem x (written R)) (λ (m : mem x (written R) ≡ true). clash (ap is_some (rw m at e)) (ap is_some n)) (λ (m : mem x (written R) ≡ false). rw m h)
 
-  pub named-row : {row : Row} → row ≡ edit_row (get_or multilog.edits place filler_edit) → row ≡ edit_row (edit_named R.edits x)
-  unfolding written padded
-  named-row e =
-      e ∙ ap edit_row (ap (λ (r : declared.Record). get_or r.edits place filler_edit) q
-      ∙ get_or-append R.edits (replicate (127 - length R.edits) filler_edit) filler_edit place below
-      ∙ ap (λ (i : ℕ). get_or R.edits i filler_edit) p ∙ at_named R.edits x m)
+  module _ {place : ℕ} (p : o ≡ Some place) {edits : List Edit} (held : edits ≡ R.edits) where
+    known : mem x (written R) ≡ true
+    known = by (mem x (written R)) (λ m. m) (λ (m : mem x (written R) ≡ false). clash (ap is_some p) (ap is_some (rw m at e)))
 
-  pub not_named {ℓ} : {P : Type ℓ} → 127 ≤ place → P
-  not_named h = let b = below in let c = v.editplaces in absurd (omega arith)
+    place-is : place ≡ index_of x (written R)
+    place-is = ap (λ (q : Option ℕ). unwrap_or q 0) (sym p ∙ (rw known at e))
 
--- the place of a name that the record knows
-module _ (x : ℕ) (l : List ℕ) (m : x among l) {o : Option ℕ} (e : o ≡ known_place x l) where
-  found : o ≡ Some (index_of x l)
-  found = rw m at e
+    within : place < length R.edits
+    unfolding written
+    within = let a : index_of x (written R) < length (map name_of R.edits) = mem_index x (written R) known in let b : length (map name_of R.edits) ≡ length R.edits = length-map R.edits name_of in omega (arith, place-is)
 
-  pub found-place : {place : ℕ} → o ≡ Some place → place ≡ index_of x l
-  found-place q = ap (place_or 0) (sym q ∙ found)
+    pub not-beyond {ℓ} : {P : Type ℓ} → false ≡ ltb place (length edits) → P
+    not-beyond f = clash (lt-ltb place (length edits) (rw held within)) (sym f)
 
-  pub not_found {ℓ} : {P : Type ℓ} → o ≡ None → P
-  not_found q = absurd (let z : is_some o ≡ true = ap is_some found in let y : is_some o ≡ false = ap is_some q in clash z y)
+    pub known-row : {edit : Edit} {row : Row} → edit ≡ get_or edits place edit → row ≡ edit_row edit → Some row ≡ row_known R x
+    unfolding row_known written
+    known-row {edit} {row} g r =
+        let a : edit ≡ get_or R.edits place edit = rw held at g in
+        let b = get_or-any R.edits place edit filler_edit within in
+        let c = ap (λ (i : ℕ). get_or R.edits i filler_edit) place-is in
+        rw known (ap Some (r ∙ ap edit_row (a ∙ b ∙ c ∙ at_named R.edits x known)))
+
+-- what the row of the edit of a name tells
+module _ (R : Record) (x : ℕ) where
+  pub none-known : row_known R x ≡ None → mem x (written R) ≡ false
+  unfolding row_known
+  none-known n = by (mem x (written R)) (λ (m : mem x (written R) ≡ true). clash refl (ap is_some (rw m at n))) (λ m. m)
+
+  pub some-known : {row : Row} → row_known R x ≡ Some row → mem x (written R) ≡ true
+  unfolding row_known
+  some-known s = by (mem x (written R)) (λ m. m) (λ (m : mem x (written R) ≡ false). clash refl (sym (ap is_some (rw m at s))))
+
+  pub named-row-is : {row : Row} → row_known R x ≡ Some row → row ≡ edit_row (edit_named R.edits x)
+  unfolding row_known
+  named-row-is {row} s = let m = some-known s in sym (ap (λ (q : Option Row). unwrap_or q []) (rw m at s))
+
+-- a name that the record does not know is refused with 5
+pub refused-unknown : (o : Option Row) (r : Refusal) → ◌≡◌ {A = Result Row Refusal} (Err r) (ok_or o Unknown) → (number r ≡ 5) × (o ≡ None)
+refused-unknown None r e = (ap number_of e, refl)
+refused-unknown (Some row) r e = absurd (number-positive r (ap number_of e))
 
 module _ (R : Record) (first second kind : ℕ) where
   pub first-unnamed : is_name first ≡ false → 2 ≡ suggestion_fault R first second kind
@@ -85,7 +105,7 @@ module _ (R : Record) (first second kind : ℕ) where
           unfolding suggestion_fault suggest_fault
           second-unknown e = rw (a, b, fine, c, e) refl
 
-          pub both-named : mem second (written R) ≡ true → {x y : Row} (r : Result Suggested Refusal) → Gives (pair_fault x y kind) (suggested x y kind) r
-              → x ≡ edit_row (edit_named R.edits first) → y ≡ edit_row (edit_named R.edits second) → Gives (suggestion_fault R first second kind) (suggested_in R first second kind) r
-          unfolding suggestion_fault suggest_fault suggested_in
+          pub both-named : mem second (written R) ≡ true → {x y : Row} (r : Result Suggested Refusal) → Gives (pair_fault x y kind) (suggested_rules x y kind) r
+              → x ≡ edit_row (edit_named R.edits first) → y ≡ edit_row (edit_named R.edits second) → Gives (suggestion_fault R first second kind) (suggested_rules_in R first second kind) r
+          unfolding suggestion_fault suggest_fault suggested_rules_in
           both-named d r q e f = rw (a, b, fine, c, d) (rw (e, f) at q)

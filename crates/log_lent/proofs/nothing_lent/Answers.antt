@@ -4,4 +4,4 @@ use Rattle.log_lent.proofs.Settings.{none_kept}
 use Rattle.log_lent.proofs.nothing_lent.Goals as goal
 
 pub returns : goal.returns
-returns c = none_kept _ refl
+returns c = none_kept c.new.ensures c.new-2.ensures refl refl refl refl

@@ -7,13 +7,12 @@ use Rattle.record_rows.specs.row.Row.{is_name, edit_row}
 use Rattle.record_rows.specs.grounds.Ground.{◌given◌, ◌orelse◌}
 use Rattle.voting_roll.specs.Election.{Proposals, benches}
 use Rattle.voting_count.specs.Count.{lent_proposals}
-use Rattle.voting_bundles.specs.declared.BundleAnswer.{BundleAnswer}
-use Rattle.voting_bundles.specs.Bundles.{bundle_answer, refused_bundle}
+use Rattle.voting_bundles.specs.Bundles.{BundleAnswer, bundle_answer, refused_bundle}
 use Rattle.record.specs.Judgement.{sound_row}
 use Rattle.record_tables.specs.Table.{decoded}
 use Rattle.judgement.specs.lent_record.Lent.{record_fault}
 use Rattle.suggestions.specs.declared.Suggested.{Suggested}
-use Rattle.suggestions.specs.Suggest.{pair_fault, suggested}
+use Rattle.suggestions.specs.Suggest.{pair_fault, suggested_rules}
 use Rattle.log_lent.specs.Lent.{Lent, is_lent}
 
 -- the eight proposals are records 1 to 8
@@ -36,9 +35,9 @@ unfoldable pub suggest_fault : Record → ℕ → ℕ → ℕ → ℕ
 suggest_fault R first second kind =
     2 given not (is_name first && (is_name second && ltb kind 2)) orelse 5 given not (mem first (written R) && mem second (written R))
 
--- the number of the refusal, and what is suggested
+-- the number of the refusal, and the rows that are suggested
 unfoldable pub suggestion_fault : Record → ℕ → ℕ → ℕ → ℕ
 suggestion_fault R first second kind = suggest_fault R first second kind orelse pair_fault (edit_row (edit_named R.edits first)) (edit_row (edit_named R.edits second)) kind
 
-unfoldable pub suggested_in : Record → ℕ → ℕ → ℕ → Suggested
-suggested_in R first second kind = suggested (edit_row (edit_named R.edits first)) (edit_row (edit_named R.edits second)) kind
+unfoldable pub suggested_rules_in : Record → ℕ → ℕ → ℕ → Suggested
+suggested_rules_in R first second kind = suggested_rules (edit_row (edit_named R.edits first)) (edit_row (edit_named R.edits second)) kind

@@ -1,7 +1,6 @@
 -- A proposal made from what is lent: what is printed, and what is lent then. Assumes nothing.
-use mathlib.Core.Path.{◌≡◌, sym, ◌∙◌}
+use mathlib.Core.Path.{◌≡◌, refl, sym, ◌∙◌}
 use mathlib.Core.Bool.{true, false, ◌&&◌, and-false}
-use mathlib.Core.List.{List}
 use Prim.Native.Nat.{ℕ}
 use native.Mathlib.Omega.{arith}
 use lib.Dec.{eqb, ltb}
@@ -9,9 +8,9 @@ use borrow.Author.Tests.{eq-eqb, ne_eqb}
 use Rattle.refusals.specs.declared.Refusal.{Refusal}
 use Rattle.refusals.specs.Numbers.{number}
 use Rattle.refusals.proofs.Numbers.{number-positive}
+use Rattle.record.specs.declared.Record as declared
 use Rattle.record.specs.Stored.{stored}
 use Rattle.lists.proofs.Lists.{by}
-use Rattle.record_rows.specs.grounds.Ground.{Rows}
 use Rattle.record_rows.proofs.grounds.Grounds.{orelse-none}
 use Rattle.record_tables.specs.Table.{empty_tables, lent_fault}
 use Rattle.record_tables.specs.Checked.{Checked}
@@ -19,15 +18,19 @@ use Rattle.record_tables.proofs.Records.{joined-checked, lent-checked}
 use Rattle.voting_proposals.specs.Propose as proposal
 use Rattle.voting_proposals.specs.Propose.{record_m, proposal_q, draft_fault, propose_fault, new_proposal}
 use Rattle.voting_proposals.proofs.Drafts.{drafted-checked}
+use Rattle.log_forms.specs.declared.Printer.{Printer}
 use Rattle.log_forms.specs.Printed.{Printed}
 use Rattle.log_commands.specs.declared.Proposing.{Proposing}
 use Rattle.log_lent.specs.declared.Lending.{Lending}
 use Rattle.log_lent.specs.Lent.{Lent, is_lent, with_record}
 use Rattle.log_lent.specs.Kept.{Kept}
 use Rattle.log_lent.specs.lent_proposals.Made.{tables_of, lent_proposal_fault, proposal_made}
-use Rattle.log_session.specs.Desk.{Desk, printed_of}
-use Rattle.log_answers.specs.Answers.{answered_text, record_text}
+use Rattle.log_session.specs.declared.Session.{Session}
+use Rattle.log_session.specs.Desk.{Desk, bench_in}
+use Rattle.log_session.specs.calls.Lines.{Holds}
+use Rattle.log_answers.specs.Answers.{record_text}
 use Rattle.log_session.specs.votes.Votes.{proposal_effect}
+use Rattle.log_session.proofs.calls.Telling.{same-calls}
 
 -- a new proposal is within the limits
 pub proposal-checked : (t : proposal.LentToPropose) → propose_fault t ≡ 0 → Checked (new_proposal t)
@@ -47,28 +50,32 @@ made-checked L k old n m z =
     (λ (e : (ltb k 9 && ltb old 9) ≡ false). absurd (let w : ◌≡◌ {A = ℕ} 2 0 = rw e at z in omega arith))
 
 module _ (D : Desk) (w : Proposing) where
-  pub proposal-printed : (line : ℕ) (before : List ℕ) (at : ℕ) {after : List ℕ} {end : ℕ}
-      → Printed (answered_text (lent_proposal_fault D.lent w.lent w.old w.edits w.rules) (record_text (stored (proposal_made D.lent w.lent w.old w.edits w.rules))) line) before at after end
-      → Printed (printed_of (proposal_effect D w) line) before at after end
-  unfolding proposal_effect printed_of
-  proposal-printed line before at p = p
+  -- the calls on the bench stay
+  pub proposal-held : {session : Session} → session.bench ≡ bench_in D → Kept (proposal_effect D w).after.lent session.lending → Holds (proposal_effect D w).after session
+  unfolding proposal_effect
+  proposal-held b k = record { benched = b ∙ same-calls D (proposal_effect D w).after refl; kept = k }
 
-  module _ {lending : Lending} {edits constraints : Rows} where
-    pub refused-lent : (r : Refusal) → number r ≡ lent_proposal_fault D.lent w.lent w.old w.edits w.rules → Kept D.lent lending edits constraints → Kept (proposal_effect D w).after.lent lending edits constraints
+  module _ {lending : Lending} where
+    pub refused-lent : (r : Refusal) → number r ≡ lent_proposal_fault D.lent w.lent w.old w.edits w.rules → Kept D.lent lending → Kept (proposal_effect D w).after.lent lending
     unfolding proposal_effect
     refused-lent r q K =
         let n = lent_proposal_fault D.lent w.lent w.old w.edits w.rules in
         let e : eqb n 0 ≡ false = ne_eqb n 0 (λ z. number-positive r (q ∙ z)) in
         rw e K
 
-    pub unkept-lent : w.keep ≡ false → Kept D.lent lending edits constraints → Kept (proposal_effect D w).after.lent lending edits constraints
+    pub unkept-lent : w.keep ≡ false → Kept D.lent lending → Kept (proposal_effect D w).after.lent lending
     unfolding proposal_effect
     unkept-lent e K = rw (e, and-false) K
 
     pub kept-lent : 0 ≡ lent_proposal_fault D.lent w.lent w.old w.edits w.rules → w.keep ≡ true
-        → Kept (with_record D.lent w.old (proposal_made D.lent w.lent w.old w.edits w.rules)) lending edits constraints → Kept (proposal_effect D w).after.lent lending edits constraints
+        → Kept (with_record D.lent w.old (proposal_made D.lent w.lent w.old w.edits w.rules)) lending → Kept (proposal_effect D w).after.lent lending
     unfolding proposal_effect
     kept-lent z k K =
         let n = lent_proposal_fault D.lent w.lent w.old w.edits w.rules in
         let e : eqb n 0 ≡ true = eq-eqb n 0 (sym z) in
         rw (e, k) K
+
+  pub made-printed : {new : declared.Record} → new ≡ stored (proposal_made D.lent w.lent w.old w.edits w.rules) → {before after : Printer} → Printed (record_text new) before after
+      → Printed (proposal_effect D w).text before after
+  unfolding proposal_effect
+  made-printed q p = rw q at p

@@ -1,20 +1,21 @@
 -- What an election has won: a bundle of a checked proposal, which has the edit; and its text. Assumes nothing.
-use mathlib.Core.Path.{◌≡◌, refl, ap, ◌∙◌}
+use mathlib.Core.Path.{◌≡◌, refl, sym, ap, ◌∙◌}
 use mathlib.Core.Bool.{Bool, true, false, not, ◌&&◌, cond}
 use mathlib.Core.Logic.{inl, inr}
 use mathlib.Core.List.{List, [], ◌∷◌, ◌++◌, append-nil}
+use Rattle.std.specs.Prelude.{Option as Given, Some, Ok, unwrap_or}
 use mathlib.Core.Option.{Option, none, some}
 use Prim.Native.Nat.{ℕ, ◌+◌, ◌*◌, ◌-◌, ◌≤◌, ◌<◌}
 use native.Mathlib.Omega.{arith}
 use lib.Dec.{eqb, ltb}
 use lib.ListN.{get_or}
-use borrow.Author.Tests.{eq-eqb, eqb-true, not-false}
+use borrow.Author.Tests.{eqb-true, not-false}
 use Rattle.lists.specs.Lists.{Has, any, all, mem, index_of, ◌among◌}
 use Rattle.lists.proofs.Lists.{by, clash, and_l, and_r, or-by, or-no-l, mem_index, all_in}
 use Rattle.lists.proofs.Logic.{all-has, has-get_or}
 use Rattle.record.specs.declared.Record as declared
 use Rattle.record.specs.Record.{Record, names, written, WellFormed}
-use Rattle.record.specs.Stored.{stored, record_of}
+use Rattle.record.specs.Stored.{stored, record_of, empty_record}
 use Rattle.record.specs.Judgement.{sound, must, never, serialised, settled}
 use Rattle.record.proofs.Records.{written-names}
 use Rattle.record.proofs.Judged.{sound-no-both}
@@ -37,12 +38,13 @@ use Rattle.voting_bundles.proofs.Judging.{bundle-fit}
 use Rattle.voting_roll.specs.Roll.{is_bench, roll_faulty}
 use Rattle.voting_roll.specs.Election.{Proposals, held, proposal_fault, first_given, benches, election_fault, cast, election_of}
 use Rattle.voting_count.specs.declared.Counted.{Counted}
-use Rattle.voting_count.specs.Count.{Faultless, count_of}
+use Rattle.voting_count.specs.Count.{Faultless, Count, count_told, count_of}
 use Rattle.voting_count.proofs.Benches.{bench-at}
 use Rattle.voting_count.proofs.Proposals.{held-checked, bench-faultless, proposal-bench-low}
+use Rattle.log_forms.specs.declared.Printer.{Printer}
 use Rattle.log_forms.specs.Printed.{Texts, Printed}
 use Rattle.log_forms.proofs.Printing.{printed-both}
-use Rattle.log_answers.specs.Answers.{answer_line, answered_text, stored_text, bit}
+use Rattle.log_answers.specs.Answers.{answer_line, stored_text, bit}
 use Rattle.log_session.specs.declared.winners.Verdict.{Verdict}
 use Rattle.log_session.specs.votes.Votes.{election_line, won_text, winner_text}
 
@@ -137,8 +139,7 @@ module _ (e : ℕ) (P : Proposals) (roll : List RollRow) (z : election_fault e P
       (λ row m B q. let i = all-has is_bench roll faultless.1 row m in vote-judgeable (held P row.bench) (held-fit row i) (held-sound row i) e B q)
 
 -- the count of an election that is won, and what is known of its choice
-pub record WonBundle (Q : Record → Type 0) (c : Counted) : Type 0 where
-  pub accepted : c.election.number ≡ 0
+pub record WonBundle (Q : Record → Type 0) (c : Count) : Type 0 where
   pub choice : Record
   pub holds : c.bundle ≡ stored choice
   pub known : Q choice
@@ -154,10 +155,7 @@ won-bundle Q e P roll f h =
     go : eqb (election_fault e P roll) 0 ≡ true → (end : Option Record) → winner (cast e P roll) ≡ end → won (cast e P roll) ≡ true → WonBundle Q (count_of e P roll)
     go z none p w = clash w (open_is (cast e P roll) p)
     go z (some B) p w =
-        rw (z, p) (record { accepted = refl; choice = B; holds = refl; known = f (eqb-true (election_fault e P roll) 0 z) B p })
-
-pub won-by : (e : ℕ) (P : Proposals) (roll : List RollRow) (c : Counted) → c ≡ count_of e P roll → c.election.won ≡ true → WonBundle (Judgeable e) c
-won-by e P roll c q h = rw q (won-bundle (Judgeable e) e P roll (winner-judgeable e P roll) (rw q at h))
+        rw (z, p) (record { choice = B; holds = refl; known = f (eqb-true (election_fault e P roll) 0 z) B p })
 
 -- a settled edit of a sound record must stand or can never, and not both
 decided-one : (R : Record) → WellFormed R → sound R ≡ true → (e : ℕ) → settled R e ≡ true → never R e ≡ not (must R e)
@@ -195,6 +193,18 @@ verdict-is R e i {index} p {ms} {ns} q r =
     let y = ap (λ (n : ℕ). eqb n 1) (marked-at R (never R) ns e index r p i) ∙ one-where (never R e) in
     λ k. record { must = x k; never = y k }
 
+-- the bundle that is given of a counted election that is won
+module _ (e : ℕ) (P : Proposals) (roll : List RollRow) (c : Counted) (q : count_told (Ok c) ≡ count_of e P roll) (w : c.election.won ≡ true) where
+  won-given : WonBundle (Judgeable e) (count_told (Ok c))
+  won-given =
+      let h : (count_of e P roll).election.won ≡ true = ap (λ (n : Count). n.election.won) (sym q) ∙ w in
+      rw q (won-bundle (Judgeable e) e P roll (winner-judgeable e P roll) h)
+
+  pub given-won : {b : declared.Record} → c.bundle ≡ Some b → WonBundle (Judgeable e) (count_told (Ok (record { election = c.election; bundle = Some b })))
+  given-won g =
+      let k = won-given in
+      record { choice = k.choice; holds = ap (λ (x : Given declared.Record). unwrap_or x empty_record) (sym g) ∙ k.holds; known = k.known }
+
 -- what follows the election's answer, where there is anything
 followed : (w : Bool) (head tail : Texts) → w ≡ true → head ++ cond w tail [] ≡ head ++ tail
 followed w head tail e = rw e refl
@@ -202,28 +212,21 @@ followed w head tail e = rw e refl
 alone : (w : Bool) (head tail : Texts) → w ≡ false → head ++ cond w tail [] ≡ head
 alone w head tail e = rw e (append-nil head)
 
-module _ (edit : ℕ) (before : List ℕ) (at : ℕ) {middle : List ℕ} {place : ℕ} where
+module _ (edit : ℕ) {before middle : Printer} where
   pub won-printed : (R : Record) (b : declared.Record) → b ≡ stored R → {v : Verdict} → v ≡ record { must = must R edit; never = never R edit }
-      → Printed (answer_line "edit=@ must=? never=? edits=# rules=#\n" (edit ∷ bit v.must ∷ bit v.never ∷ b.editcount ∷ b.constraintcount ∷ [])) before at middle place
-      → {after : List ℕ} {end : ℕ} → Printed (stored_text b ∷ []) middle place after end → Printed (won_text edit b) before at after end
+      → Printed (answer_line "edit=@ must=? never=? edits=# rules=#\n" (edit ∷ bit v.must ∷ bit v.never ∷ b.editcount ∷ b.constraintcount ∷ [])) before middle
+      → {after : Printer} → Printed (stored_text b ∷ []) middle after → Printed (won_text edit b) before after
   unfolding won_text
   won-printed R b q {v} s p r =
       let back : record_of b ≡ R = ap record_of q ∙ stored_back R in
-      let head = answer_line "edit=@ must=? never=? edits=# rules=#\n" (edit ∷ cond (must (record_of b) edit) 1 0 ∷ cond (never (record_of b) edit) 1 0 ∷ b.editcount ∷ b.constraintcount ∷ []) in
-      let h : Printed head before at middle place = rw back (rw s at p) in
-      printed-both head (stored_text b ∷ []) before at h r
+      rw back (printed-both (rw s at p) r)
 
-  module _ (c : Counted) (line : ℕ) (p : Printed (answered_text c.election.number (election_line c.election) line) before at middle place) where
-    pub open-printed : c.election.won ≡ false → Printed (answered_text c.election.number (winner_text edit c) line) before at middle place
+  module _ (c : Count) (p : Printed (election_line c.election) before middle) where
+    pub open-printed : c.election.won ≡ false → Printed (winner_text edit c) before middle
     unfolding winner_text
     open-printed w = rw (alone c.election.won (election_line c.election) (won_text edit c.bundle) w) p
 
-    pub winner-printed : c.election.number ≡ 0 → c.election.won ≡ true → {after : List ℕ} {end : ℕ} → Printed (won_text edit c.bundle) middle place after end
-        → Printed (answered_text c.election.number (winner_text edit c) line) before at after end
+    pub winner-printed : c.election.won ≡ true → {b : declared.Record} → c.bundle ≡ b → {after : Printer} → Printed (won_text edit b) middle after
+        → Printed (winner_text edit c) before after
     unfolding winner_text
-    winner-printed z w r =
-        let head = election_line c.election in
-        let tail = won_text edit c.bundle in
-        let e : eqb c.election.number 0 ≡ true = eq-eqb c.election.number 0 z in
-        let h : Printed head before at middle place = rw e at p in
-        rw (e, followed c.election.won head tail w) (printed-both head tail before at h r)
+    winner-printed w e r = rw (followed c.election.won (election_line c.election) (won_text edit c.bundle) w, e) (printed-both p r)

@@ -4,11 +4,10 @@ use Rattle.record.specs.declared.Record as declared
 use Rattle.record.specs.Stored.{stored, record_of}
 use Rattle.record.specs.Judgement.{must, never}
 use Rattle.record_rows.specs.row.Row.{Row}
-use Rattle.voting.specs.declared.Election.{Election}
+use Rattle.voting.specs.Tally.{Election}
 use Rattle.voting_roll.specs.Election.{election_of}
-use Rattle.voting_count.specs.declared.Counted.{Counted}
-use Rattle.voting_count.specs.Count.{count_of}
-use Rattle.voting_bundles.specs.declared.BundleAnswer.{BundleAnswer}
+use Rattle.voting_count.specs.Count.{Count, count_of}
+use Rattle.voting_bundles.specs.Bundles.{BundleAnswer}
 use Rattle.suggestions.specs.declared.Suggested.{Suggested}
 use Rattle.suggestions.specs.Suggest.{rules_of}
 use Rattle.text_lines.specs.Line.{constraint_line}
@@ -18,7 +17,7 @@ use Rattle.log_commands.specs.declared.Proposing.{Proposing}
 use Rattle.log_commands.specs.declared.Vote.{Vote}
 use Rattle.log_commands.specs.declared.Vote.TheVariants.{Elect, Bundle, Suggest, Test, Winner}
 use Rattle.log_lent.specs.Lent.{with_record}
-use Rattle.log_lent.specs.lent_calls.Calls.{proposals_of, bundle_in, lent_row_fault, row_sound, suggestion_fault, suggested_in}
+use Rattle.log_lent.specs.lent_calls.Calls.{proposals_of, bundle_in, lent_row_fault, row_sound, suggestion_fault, suggested_rules_in}
 use Rattle.log_lent.specs.lent_proposals.Made.{lent_proposal_fault, proposal_made}
 use Rattle.log_session.specs.Desk.{Desk, Effect, ledger_of, tells}
 
@@ -58,7 +57,7 @@ won_text edit b =
     ++ (stored_text b ∷ [])
 
 -- an open election has nothing more to tell
-unfoldable pub winner_text : ℕ → Counted → Texts
+unfoldable pub winner_text : ℕ → Count → Texts
 winner_text edit c = election_line c.election ++ cond c.election.won (won_text edit c.bundle) []
 
 -- THE EFFECT of a line about votes
@@ -67,6 +66,6 @@ vote_effect D (Elect edit) = let E = election_of edit (proposals_of D.lent) D.le
 vote_effect D (Bundle edit k) = let b = bundle_in D.lent k edit in tells D b.number (bundle_text b)
 vote_effect D (Suggest w) =
     let R = (ledger_of D).multilog in
-    tells D (suggestion_fault R w.first w.second w.case) (suggestion_text (suggested_in R w.first w.second w.case))
+    tells D (suggestion_fault R w.first w.second w.case) (suggestion_text (suggested_rules_in R w.first w.second w.case))
 vote_effect D (Test k) = tells D (lent_row_fault D.lent k) (test_line (row_sound D.lent k))
 vote_effect D (Winner edit) = let c = count_of edit (proposals_of D.lent) D.lent.roll in tells D c.election.number (winner_text edit c)

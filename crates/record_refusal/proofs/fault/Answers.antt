@@ -10,9 +10,9 @@ pub returns-in_err-edit_fault : goal.returns-in_err-edit_fault
 returns-in_err-edit_fault c = λ R e k.
     let s = c.args in
     let f : number_of c.from_residual.result ≡ number c.in_err-edit_fault.field-0.0 = search rules in
-    f ∙ lent-first s.joined R e k s.edits.now c.in_err-edit_fault.ensures s.constraints.now (number-positive _)
+    f ∙ lent-first s.joined R e k s.lent.edits.now c.in_err-edit_fault.ensures s.lent.constraints.now (number-positive _)
 
 pub returns : goal.returns
 returns c = λ R e k.
     let s = c.args in
-    lent-second s.joined R e k s.edits.now c.in_ok-edit_fault.ensures s.constraints.now refl c.mark_rows-marks.result c.mark_rows-marks.ensures c.constraint_fault.ensures
+    lent-second s.joined R e k s.lent.edits.now c.in_ok-edit_fault.ensures s.lent.constraints.now refl c.mark_rows-marks.result c.mark_rows-marks.ensures c.constraint_fault.ensures

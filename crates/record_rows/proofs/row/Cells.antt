@@ -100,8 +100,8 @@ edit-decoded row p q f = let e : edit_in_range row ≡ true = sym p ∙ q in rw 
 pub body_kept : (kind place field value : ℕ) → (kind ≡ 0 → ⊥) → (kind ≡ 1 → ⊥) → Remove place ≡ body_of kind place field value
 body_kept kind place field value a b = past2 (λ n. Remove place ≡ body_of n place field value) (λ m. refl) kind a b
 
-pub body-set-is : (kind place field value : ℕ) {f : Field} → kind ≡ 1 → f ≡ field_of field → Set place f value ≡ body_of kind place field value
-body-set-is kind place field value e g = rw (e, g)
+pub body-page : (kind place field value : ℕ) → kind ≡ 1 → (field ≡ 0 → ⊥) → (field ≡ 1 → ⊥) → (field ≡ 2 → ⊥) → Set place Page value ≡ body_of kind place field value
+body-page kind place field value e a b c = rw e (past3 (λ n. Set place Page value ≡ Set place (field_of n) value) (λ m. refl) field a b c)
 
 -- a side, and a constraint in range
 side-small : (n : ℕ) → is_side n ≡ true → n < 2304

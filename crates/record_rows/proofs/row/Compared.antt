@@ -59,11 +59,7 @@ slice-less [] (y ∷ b) h = absurd (omega (arith, h))
 slice-less (x ∷ a) [] h = absurd (omega (arith, h))
 slice-less (x ∷ a) (y ∷ b) h = let more = slice-less a b (omega (arith, h)) in grind (arith, nat_tests)
 
--- the first k cells of two rows, compared by a count that is k
-pub cells-less : (a b : List ℕ) {m n k w : ℕ} {r : Bool} → m ≡ k → n ≡ k → length a ≡ w → length b ≡ w → k ≤ w
-    → r ≡ is_some_and is_lt (slice_partial_cmp (λ x y. Some (nat_cmp x y)) (take m a) (take n b)) → r ≡ precedes (take k a) (take k b)
-cells-less a b {m} {n} {k} {w} e f p q h s =
-    rw (e, f) at s ∙ slice-less (take k a) (take k b) (length-take-le k a (omega arith) ∙ sym (length-take-le k b (omega arith)))
-
-pub cells-same : (a b : List ℕ) {m n k : ℕ} {r : Bool} → m ≡ k → n ≡ k → r ≡ pointwise eqb (take m a) (take n b) → r ≡ same (take k a) (take k b)
-cells-same a b {k = k} e f s = rw (e, f) at s ∙ slice-same (take k a) (take k b)
+-- the first k cells of two rows
+pub cells-less : (a b : List ℕ) (k : ℕ) → k ≤ length a → k ≤ length b
+    → {r : Bool} → r ≡ is_some_and is_lt (slice_partial_cmp (λ x y. Some (nat_cmp x y)) (take k a) (take k b)) → r ≡ precedes (take k a) (take k b)
+cells-less a b k p q s = s ∙ slice-less (take k a) (take k b) (length-take-le k a p ∙ sym (length-take-le k b q))

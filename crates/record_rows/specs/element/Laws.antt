@@ -1,4 +1,4 @@
--- What every element of a table keeps, proved of edits and of constraints. Assumes nothing.
+-- Inner: what every element of a table keeps, proved of edits and of constraints. Assumes nothing.
 use Prim.Native.Nat.{zero-le, suc-le-suc}
 use Rattle.std.specs.Prelude.{◌≡◌, refl, [], ◌∷◌, ◌≤◌, length, take}
 use Rattle.record.specs.declared.Body.{Body}

@@ -5,8 +5,8 @@ use Rattle.stdio_log.proofs.read_all.Given as goal
 
 abbrev pub invariant-loop-chunk : goal.invariant-loop-chunk
 invariant-loop-chunk g l =
-    (l.rest ≤ 102) × (l.left ≤ most_lines)
-    × ((R : Run) → Ran R l.initial.memory → Streaming R l.memory (take l.rest l.chunk) × (l.memory.count + l.rest + l.left ≤ most_lines))
+    (l.rest ≤ 102) × (l.left ≤ most_lines) × (l.memory.line + l.rest + l.left ≤ most_lines)
+    × ((R : Run) → Ran R l.initial.memory → Streaming R l.memory (take l.rest l.chunk))
 
 abbrev pub decreases-loop-chunk : goal.decreases-loop-chunk
 decreases-loop-chunk g l = l.left

@@ -6,8 +6,8 @@ use Rattle.suggestions.proofs.advise.Goals as goal
 pub returns-then-a-b : goal.returns-then-a-b
 returns-then-a-b c = let s = c.args in let e = advised-edits s.kind s.a s.b in grind (arith, common_steps)
 
-pub returns-then-place_of : goal.returns-then-place_of
-returns-then-place_of c = let s = c.args in let e = advised-edits s.kind s.a s.b in grind (arith, common_steps)
+pub returns-then-place : goal.returns-then-place
+returns-then-place c = let s = c.args in let e = advised-edits s.kind s.a s.b in grind (arith, common_steps)
 
 pub returns-then-kind-eq0 : goal.returns-then-kind-eq0
 returns-then-kind-eq0 c = let s = c.args in let e = advised-edits s.kind s.a s.b in grind (arith, common_steps)

@@ -1,19 +1,21 @@
 -- Laws of digits and of the decimal text, as the code meets them. Assumes nothing.
 use Prim.Native.Nat.{ℕ, zero, suc, ◌+◌, ◌*◌, ◌-◌, ◌/◌, ◌%◌, ◌≤◌, ◌<◌, ◌^◌, min}
 use mathlib.Core.Path.{◌≡◌, refl, ap, sym, ◌∙◌}
-use mathlib.Core.Bool.{Bool, true, false, cond}
+use mathlib.Core.Bool.{Bool, true, false, cond, not}
 use mathlib.Core.Logic.{◌⊎◌, inl, inr, ⊎_elim}
 use mathlib.Core.List.{List, [], ◌∷◌, ◌++◌}
-use Rattle.std.specs.Prelude.{Some, None}
-use native.Mathlib.Nat.{pow-suc, not-suc-le-zero, le_of_suc-le-suc, add-suc, suc-add, add-zero}
+use Rattle.std.specs.Prelude.{Option, Some, None}
+use Rattle.std.specs.List.{position, position_or_len}
+use Rattle.std.specs.Option.{unwrap_or}
+use native.Mathlib.Nat.{pow-suc, not-suc-le-zero, le_of_suc-le-suc}
 use native.Mathlib.Numerals.{add-one}
 use native.Mathlib.Omega.{arith}
-use borrow.Author.Tests.{lt-ltb, le-ltb, eq-eqb, ne_eqb}
-use lib.ListN.{length, get_or, take, drop, set, length-append, length-take, length-set, drop_of_length-le}
+use borrow.Author.Tests.{lt-ltb, le-ltb, ltb-false, eq-eqb, ne_eqb}
+use lib.Dec.{ltb}
+use lib.ListN.{length, get_or, take, drop, set, length-append, length-take, length-set}
 use lib.Seq.{drop-cons, drop-set-lt, get_or_at, get_or-set_same, get_or-take, length-take-le, lt-length-set, take_at, take-suc, take-take}
-use Rattle.lists.proofs.Lists.{le-by}
-use Rattle.text_forms.specs.decimal.Decimal.{digits_in, decimal, digit_run, value_from, is_numeral, numeral_size, numeral_value, saturated, numeral_read}
-use Rattle.text_forms.specs.decimal.Written.{Written}
+use Rattle.lists.proofs.Lists.{by, le-by}
+use Rattle.text_forms.specs.decimal.Decimal.{digits_in, decimal, is_digit, digit_run, value_from, is_numeral, numeral_size, numeral_value, saturated, numeral_read}
 
 pub lt-or-le : (a b : ℕ) → (a < b) ⊎ (b ≤ a)
 lt-or-le a b = le-by b a inr inl
@@ -80,23 +82,6 @@ module _ (n : ℕ) (before : List ℕ) {rest : ℕ} {out : List ℕ} where
             written = rw (drop-cons (set out j (48 + rest % 10)) j 0 (lt-length-set out j (48 + rest % 10) o), get_or-set_same out j (48 + rest % 10) 0 o, drop-set-lt (suc j) out j (48 + rest % 10) (omega arith), w.written, drop-cons (decimal n) j 0 l, d.0);
           }
 
--- bytes written one by one, from a place on
-abbrev pub puts : ℕ → List ℕ → List ℕ → List ℕ
-puts i [] out = out
-puts i (a ∷ text) out = puts (suc i) text (set out i a)
-
-puts-later : (i : ℕ) (text : List ℕ) (x : ℕ) (out : List ℕ) → puts (suc i) text (x ∷ out) ≡ x ∷ puts i text out
-puts-later i [] x out = refl
-puts-later i (a ∷ text) x out = puts-later (suc i) text x (set out i a)
-
-puts-is : (text out : List ℕ) → length text ≤ length out → puts 0 text out ≡ text ++ drop (length text) out
-puts-is [] out h = refl
-puts-is (a ∷ text) [] h = absurd (omega arith)
-puts-is (a ∷ text) (x ∷ out) h = puts-later 0 text a out ∙ ap (λ (l : List ℕ). a ∷ l) (puts-is text out (omega arith))
-
-pub put-bytes : (bytes text out : List ℕ) → text ≡ bytes → length text ≤ length out → Written text out (length bytes) (puts 0 bytes out)
-put-bytes bytes text out e h = rw e (refl, puts-is bytes out (rw e at h))
-
 -- a digit, or none
 pub digit-or-not : (c : ℕ) → ((48 ≤ c) × (c < 58)) ⊎ ((c < 48) ⊎ (58 ≤ c))
 digit-or-not c = ⊎_elim (λ l. inr (inl l)) (λ l. ⊎_elim (λ m. inl (l, m)) (λ m. inr (inr m)) (lt-or-le c 58)) (lt-or-le c 48)
@@ -110,17 +95,25 @@ unfolding digit_run
 run-off c cs (inl l) = rw (lt-ltb c 48 l)
 run-off c cs (inr h) = let l : 48 ≤ c = omega arith in rw (le-ltb c 48 l, le-ltb c 58 h)
 
--- what s starts with from i on
-module _ (s : List ℕ) (i : ℕ) where
-  pub run_more : i < length s → 48 ≤ get_or s i 0 → get_or s i 0 < 58 → i + length (digit_run (drop i s)) ≡ i + 1 + length (digit_run (drop (i + 1) s))
-  run_more h l m = rw (drop-cons s i 0 h, run_on (get_or s i 0) (drop (suc i) s) l m, add-one, add-suc, suc-add)
+-- the place of the first byte that is no digit
+abbrev others : ℕ → Bool
+others byte = not (is_digit byte)
 
-  pub run-here : i < length s → (get_or s i 0 < 48) ⊎ (58 ≤ get_or s i 0) → i + length (digit_run (drop i s)) ≡ i
-  run-here h l = rw (drop-cons s i 0 h, run-off (get_or s i 0) (drop (suc i) s) l, add-zero)
+run-place : (s : List ℕ) → (position_or_len others s ≡ length (digit_run s)) × (length (digit_run s) ≤ length s)
+unfolding digit_run
+run-place [] = (refl, omega arith)
+run-place (c ∷ s) =
+    let q = run-place s in
+    by (is_digit c)
+    (λ (e : is_digit c ≡ true). rw e (omega (arith, q.0), omega (arith, q.1)))
+    (λ (e : is_digit c ≡ false). rw e (refl, omega arith))
 
-  pub run_end : length s ≤ i → i + length (digit_run (drop i s)) ≡ i
-  unfolding digit_run
-  run_end h = rw (drop_of_length-le s {i = i} h, add-zero)
+pub run-length : (s : List ℕ) {place : Option ℕ} → place ≡ position others s → unwrap_or place (length s) ≡ length (digit_run s)
+run-length s e =
+    let q = run-place s in
+    by (ltb (position_or_len others s) (length s))
+    (λ (h : ltb (position_or_len others s) (length s) ≡ true). rw (e, h) q.0)
+    (λ (h : ltb (position_or_len others s) (length s) ≡ false). rw (e, h) (let l = ltb-false (position_or_len others s) (length s) h in omega (arith, q.0, q.1)))
 
 run_none : length (digit_run []) ≡ 0
 unfolding digit_run
@@ -243,6 +236,20 @@ decimal-digits (suc k) n h =
   where
     div-lt : (n m : ℕ) → n < m * 10 → n / 10 < m
     div-lt n m h = omega arith
+
+ten-power : (k : ℕ) → 1 ≤ 10 ^ k
+ten-power zero = omega arith
+ten-power (suc k) = let p : 10 ^ suc k ≡ 10 ^ k * 10 = pow-suc 10 k in omega (arith, ten-power k)
+
+-- and just so many, by the greatest power of ten that is no larger
+pub decimal-power : (k n : ℕ) → 10 ^ k ≤ n → n < 10 * 10 ^ k → length (decimal n) ≡ k + 1
+decimal-power zero n g h = rw (decimal-small n (omega arith)) refl
+decimal-power (suc k) n g h =
+    let p : 10 ^ suc k ≡ 10 ^ k * 10 = pow-suc 10 k in
+    let large : 10 ≤ n = omega (arith, ten-power k) in
+    let half : 10 ^ k ≤ n / 10 = omega arith in
+    let less : n / 10 < 10 * 10 ^ k = omega arith in
+    omega (arith, length-large n large, decimal-power k (n / 10) half less)
 
 -- a number of 32 bits has at most ten
 pub decimal-ten : (n : ℕ) → n < 4294967296 → length (decimal n) ≤ 10

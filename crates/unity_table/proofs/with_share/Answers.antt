@@ -1,5 +1,5 @@
 -- `with_share` meets its contract. Assumes nothing.
-use Rattle.unity_table.proofs.Steps.{share-addable, share-kept, group-kept, share-wide, share-fits}
+use Rattle.unity_table.proofs.Steps.{share-addable, group-kept, share-wide, share-fits}
 use Rattle.unity_table.proofs.with_share.Goals as goal
 
 pub plus-requires : goal.plus-requires
@@ -11,7 +11,7 @@ returns-in_err-sum c =
     rw c.from_residual.ensures (share-wide c.args.s c.args.a c.requires.0 c.requires.1.0 c.requires.1.1 e)
 
 pub with_sum-requires : goal.with_sum-requires
-with_sum-requires c = (c.requires.0, (rw c.share_of-share.ensures (share-kept c.args.s c.args.a c.requires.0 c.requires.1.0 c.requires.1.1), group-kept c.args.s c.args.a c.requires.0 c.requires.1.0 c.requires.1.1))
+with_sum-requires c = (c.requires.0, group-kept c.args.s c.args.a c.requires.0 c.requires.1.0 c.requires.1.1)
 
 pub returns : goal.returns
 returns c =

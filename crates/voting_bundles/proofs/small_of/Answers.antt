@@ -15,19 +15,19 @@ pub returns-in_err-multilog : goal.returns-in_err-multilog
 returns-in_err-multilog c =
     let p = err_from_is_err_and c.from_residual.result c.from_residual.ensures.1 in
     let r = c.in_err-multilog.field-0.0 in
-    rw (p.1, p.2) (bundle-rows-refused c.args.edits.now c.args.constraints.now c.args.edit (number r) c.in_err-multilog.ensures.0 (number-positive r), tt)
+    rw (p.1, p.2) (bundle-rows-refused c.args.lent.edits.now c.args.lent.constraints.now c.args.edit (number r) c.in_err-multilog.ensures.0 (number-positive r), tt)
 
 pub returns-then-not-is_name : goal.returns-then-not-is_name
 returns-then-not-is_name c =
-    (bundle-name-refused c.args.edits.now c.args.constraints.now c.args.edit c.in_ok-multilog.ensures.0 (sym c.is_name.ensures ∙ c.if-not-is_name.true), tt)
+    (bundle-name-refused c.args.lent.edits.now c.args.lent.constraints.now c.args.edit c.in_ok-multilog.ensures.0 (sym c.is_name.ensures ∙ c.if-not-is_name.true), tt)
 
 pub overflow_cast-name : goal.overflow_cast-name
 overflow_cast-name c = omega (arith, name-small c.args.edit (sym c.is_name.ensures ∙ c.if-not-is_name.false))
 
 pub returns-then-not-knows : goal.returns-then-not-knows
 returns-then-not-knows c =
-    let es = c.args.edits.now in
-    let cs = c.args.constraints.now in
+    let es = c.args.lent.edits.now in
+    let cs = c.args.lent.constraints.now in
     let R = decoded es cs in
     let p = c.in_ok-multilog.ensures in
     let nm = sym c.is_name.ensures ∙ c.if-not-is_name.false in
@@ -35,8 +35,8 @@ returns-then-not-knows c =
 
 pub returns-then-not-sound : goal.returns-then-not-sound
 returns-then-not-sound c =
-    let es = c.args.edits.now in
-    let cs = c.args.constraints.now in
+    let es = c.args.lent.edits.now in
+    let cs = c.args.lent.constraints.now in
     let R = decoded es cs in
     let p = c.in_ok-multilog.ensures in
     let k = lent-checked es cs (sym p.0) in
@@ -46,8 +46,8 @@ returns-then-not-sound c =
 
 pub returns : goal.returns
 returns c =
-    let es = c.args.edits.now in
-    let cs = c.args.constraints.now in
+    let es = c.args.lent.edits.now in
+    let cs = c.args.lent.constraints.now in
     let R = decoded es cs in
     let p = c.in_ok-multilog.ensures in
     let k = lent-checked es cs (sym p.0) in

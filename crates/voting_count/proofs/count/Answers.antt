@@ -1,5 +1,5 @@
 -- `count` meets its contract. Assumes nothing.
-use mathlib.Core.Path.{◌∙◌}
+use Rattle.std.proofs.lemmas.Result.{err_from_is_err_and}
 use Rattle.refusals.specs.Numbers.{number}
 use Rattle.refusals.proofs.Numbers.{number-positive}
 use Rattle.voting_count.specs.Count.{lent}
@@ -7,15 +7,18 @@ use Rattle.voting_count.proofs.Answers.{count-answered, count-refused}
 use Rattle.voting_roll.specs.Election.{cast}
 use Rattle.voting_count.proofs.count.Goals as goal
 
-pub returns-in-Ok : goal.returns-in-Ok
-returns-in-Ok c =
-    let x = c.args.edit in
-    let P = lent c.args.proposals.now in
-    let rows = c.args.roll.now in
-    let p = c.in-Ok.ensures in
-    count-answered x P rows p.0 c.in-Ok.tally p.1 c.won_bundle.result (c.won_bundle.ensures (cast x P rows) p.1) c.empty.result c.unwrap_or.result c.empty.ensures c.unwrap_or.ensures
+pub returns-in_err-tally-clause-told : goal.returns-in_err-tally-clause-told
+returns-in_err-tally-clause-told c =
+    let p = err_from_is_err_and c.from_residual.result c.from_residual.ensures.1 in
+    let r = c.in_err-tally.field-0.0 in
+    rw (p.1, p.2) (count-refused c.args.edit (lent c.args.poll.now.proposals) c.args.poll.now.roll.now (number r) c.in_err-tally.ensures.0 (number-positive r))
 
-pub returns-in-Err : goal.returns-in-Err
-returns-in-Err c =
-    let r = c.in-Err.refusal in
-    c.refused.ensures ∙ rw c.number.ensures (count-refused c.args.edit (lent c.args.proposals.now) c.args.roll.now (number r) c.in-Err.ensures.0 (number-positive r))
+pub returns-clause-told : goal.returns-clause-told
+returns-clause-told c =
+    let P = lent c.args.poll.now.proposals in
+    let rows = c.args.poll.now.roll.now in
+    let p = c.in_ok-tally.ensures in
+    count-answered c.args.edit P rows p.0 _ p.1 c.won_bundle.result (c.won_bundle.ensures (cast c.args.edit P rows) p.1)
+
+pub returns-clause-bundle : goal.returns-clause-bundle
+returns-clause-bundle c = c.won_bundle.ensures (cast c.args.edit (lent c.args.poll.now.proposals) c.args.poll.now.roll.now) c.in_ok-tally.ensures.1

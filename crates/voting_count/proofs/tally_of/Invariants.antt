@@ -6,4 +6,4 @@ use Rattle.voting_count.proofs.Rolled.{RollCounting}
 use Rattle.voting_count.proofs.tally_of.Given as goal
 
 abbrev pub invariant-loop-row : goal.invariant-loop-row
-invariant-loop-row l = Faultless (lent l.proposals) → (f : roll_faulty l.roll ≡ false) → RollCounting l.roll f l.name (lent l.proposals) l.row-index l.tally
+invariant-loop-row l = Faultless (lent l.poll.proposals) → (f : roll_faulty l.poll.roll.now ≡ false) → RollCounting l.poll.roll.now f l.name (lent l.poll.proposals) l.row-index l.tally

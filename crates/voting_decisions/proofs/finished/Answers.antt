@@ -12,7 +12,7 @@ use Rattle.graph.specs.links.Marks.{values_of, place_in}
 use Rattle.record_joining.specs.insertion.Insertion.{held_table}
 use Rattle.graph.proofs.indexes.Fit.{checked-fit}
 use Rattle.voting_decisions.specs.Decisions.{Paged}
-use Rattle.voting_drafts.specs.ranking.Ranking.{rank_of}
+use Rattle.voting_drafts.specs.ranking.Ranking.{flat_map, rank_of, pair_order}
 use Rattle.voting_decisions.proofs.Paging.{orders-by-page, scheduled-rest, finished-is}
 use borrow.Author.Rules.{rules}
 use borrow.Author.Tests.{tests}
@@ -27,6 +27,7 @@ returns c =
     let paged = c.pages-paged.result in
     let g : Paged R w.0 index paged = record { formed = i.formed; indexed = c.index_table-index.ensures R e i; paged = c.pages-paged.ensures R e i ∙ ap (λ (row : List ℕ). values_of R (place_in row)) w.1 } in
     let d = united constraint_key R.constraints (decisions (0 ∷ w.0) (written R)) in
-    c.with_orders.ensures R d (rank_of index paged) e i (λ x r p. search (rules, tests)) (c.decided_table-table.ensures R w.0 _ e k g)
+    c.with_orders.ensures d (rank_of index paged) (λ x r p. search (rules, tests)) (c.decided_table-table.ensures R w.0 _ e k g)
     (ascending-united constraint_key R.constraints (decisions (0 ∷ w.0) (written R)) k.constraintorder)
-    ∙ ap (λ (l : List Constraint). held_table (united constraint_key d l)) (orders-by-page R w.0 _ _ g i.paired) ∙ ap held_table (finished-is R w.0 w.1)
+    ∙ ap (λ (l : List Constraint). held_table (united constraint_key d l))
+    (ap (flat_map (pair_order (rank_of index paged))) (c.unordered_pairs-pairs.ensures.pairs R e i) ∙ orders-by-page R w.0 _ _ g i.paired) ∙ ap held_table (finished-is R w.0 w.1)

@@ -21,7 +21,7 @@ loop-i-preserved c = λ R rest index t q g e a.
     let items = c.edit_slice-edit-items.result.now in
     let s : items ≡ R.edits = c.edit_slice-edit-items.ensures ∙ held-edits c.args.multilog R q in
     decisions-next R rest index c.args.pages.now g items s c.loop-i.i filler_edit c.loop-i-test.true t c.decision-c.ensures
-    (c.insert-more.ensures _ (c.loop-i.invariant R rest index t q g e a) (joins-order (decision_row (0 ∷ rest)) t (written R) c.loop-i.i a))
+    (c.insert-out.ensures _ (c.loop-i.invariant R rest index t q g e a) (joins-order (decision_row (0 ∷ rest)) t (written R) c.loop-i.i a))
 
 pub returns : goal.returns
 unfolding decisions

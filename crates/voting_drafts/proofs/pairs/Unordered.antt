@@ -1,26 +1,35 @@
 -- The test of a pair by its indexes, and the pairs of a stored record. Assumes nothing.
 use mathlib.Core.Path.{◌≡◌, ap, ◌∙◌}
 use mathlib.Core.Bool.{Bool, true, false, not, ◌&&◌, ◌||◌}
-use mathlib.Core.List.{List}
-use Prim.Native.Nat.{ℕ, ◌<◌}
+use mathlib.Core.List.{List, ◌++◌}
+use Prim.Native.Nat.{ℕ, min, ◌≤◌, ◌<◌}
 use native.Mathlib.Omega.{arith}
 use borrow.Author.Tests.{eq-eqb, ne_eqb}
 use lib.Dec.{eqb}
 use lib.ListN.{length, take, get_or}
+use lib.Seq.{take_at}
 use Rattle.record.specs.declared.Constraint.{Constraint}
 use Rattle.record.specs.declared.Record as declared
-use Rattle.lists.specs.Lists.{◌among◌, index_of, Has}
+use Rattle.lists.specs.Lists.{◌among◌, index_of, filter, Has}
 use Rattle.record.specs.Record.{Record, names, notafter, WellFormed}
-use Rattle.record.specs.Stored.{stored}
+use Rattle.record.specs.Stored.{stored, constraint_limit}
 use Rattle.lists.proofs.Lists.{mem_index}
+use Rattle.lists.proofs.Front.{filter-length}
 use Rattle.graph.proofs.indexes.Resolving as resolving
 use Rattle.graph.specs.links.Marks.{name_at, place_in}
 use Rattle.graph.proofs.links.Names.{get_or-place, place-known}
 use Rattle.record_tables.proofs.Tables.{held}
+use Rattle.graph.specs.links.Resolved.{Resolved}
+use Rattle.voting.specs.Proposal.{unordered}
 use Rattle.voting.proofs.Joined.{in-has}
 
 abbrev pub is_unordered : Record → Constraint → Bool
 is_unordered R c = eqb c.rule 2 && not (notafter R c.left c.right || notafter R c.right c.left)
+
+-- what the test tells of a constraint
+abbrev pub TellsUnordered : List ℕ → List ℕ → Constraint → Bool → Type 0
+TellsUnordered index rows c b =
+    (R : Record) → Resolved R rows → ((x : ℕ) → get_or index x 0 ≡ place_in (names R) x) → c.left among names R → c.right among names R → b ≡ is_unordered R c
 
 -- the index of a known name
 module _ (R : Record) (table : List ℕ) (f : (x : ℕ) → get_or table x 0 ≡ place_in (names R) x) (x : ℕ) (h : x among names R) {i : ℕ} (e : i ≡ get_or table x 0) where
@@ -59,3 +68,13 @@ order-read R x y a b e f g = rw (f, g) at e
 -- the constraints of a stored record
 pub held-constraints : (r : declared.Record) (R : Record) → r ≡ stored R → take r.constraintcount r.constraints ≡ R.constraints
 held-constraints r R e = ap (λ (x : Record). x.constraints) (held r R e)
+
+-- the constraints of a record that pass the test, at the beginning of an array
+pub pairs-selected : (R : Record) (l rows rest : List Constraint) (n m : ℕ) → length R.constraints ≤ constraint_limit → l ≡ R.constraints
+    → (n ≡ length (filter (is_unordered R) l)) × (rows ≡ filter (is_unordered R) l ++ rest) → m ≡ min n constraint_limit → take m rows ≡ unordered R
+unfolding unordered
+pairs-selected R l rows rest n m few e s k =
+    let f : filter (is_unordered R) l ≡ filter (is_unordered R) R.constraints = ap (filter (is_unordered R)) e in
+    let h = filter-length (is_unordered R) R.constraints in
+    let q : length (filter (is_unordered R) l) ≡ m = omega (arith, s.0, k, ap length f) in
+    rw s.1 (take_at (filter (is_unordered R) l) rest m q) ∙ f

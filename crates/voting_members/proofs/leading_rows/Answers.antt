@@ -14,14 +14,14 @@ pub link_both-requires : goal.link_both-requires
 link_both-requires c =
     let l = c.loop-constraint in record {
       room = omega (arith, c.loop-constraint-test.true, l.invariant.0, l.invariant.1);
-      keys = (c.index_of-a.ensures.low, c.index_of-b.ensures.low, c.forward_key-forward.ensures.0, c.backward_key-backward.ensures.0);
+      keys = (c.forward_key-forward.ensures.0, c.backward_key-backward.ensures.0);
     }
 
 pub loop-constraint-preserved : goal.loop-constraint-preserved
 loop-constraint-preserved c =
     let l = c.loop-constraint in
-    let a = c.index_of-a in
-    let b = c.index_of-b in
+    let a = c.index_of in
+    let b = c.index_of-in-loop-constraint in
     let f = c.forward_key-forward in
     let g = c.backward_key-backward in (
       omega (arith, c.link_both.ensures.count, l.invariant.0),

@@ -1,13 +1,6 @@
 -- `fault` meets its contract. Assumes nothing.
-use mathlib.Core.Path.{refl}
-use Rattle.lists.specs.Lists.{all, distinct}
-use Rattle.voting_roll.specs.Roll.{roll_faulty}
 use Rattle.voting_roll.proofs.Rolls.{rows-fault, rows-faultless}
 use Rattle.voting_roll.proofs.fault.Goals as goal
-
-pub loop-i-init : goal.loop-i-init
-unfolding roll_faulty all distinct
-loop-i-init c = refl
 
 pub returns-then-is_faulty : goal.returns-then-is_faulty
 returns-then-is_faulty c = rows-fault c.args.rows.now c.loop-i.i c.loop-i-test.true c.loop-i.invariant _ _ c.is_faulty.ensures c.if-is_faulty.true

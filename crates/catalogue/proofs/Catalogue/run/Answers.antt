@@ -5,16 +5,16 @@ use Rattle.catalogue.proofs.Catalogue.run.Goals as goal
 
 pub returns-then-place-lt-PLACES-clause-kept : goal.returns-then-place-lt-PLACES-clause-kept
 returns-then-place-lt-PLACES-clause-kept c =
-    touched-within cells c.args.self.now.entries c.args.edit _ (c.from-place.ensures ∙ c.place_of.ensures) _ (omega arith)
+    touched-within cells c.args.self.now.entries c.args.edit _ (c.from-place.ensures ∙ c.place.ensures) _ (omega arith)
 
 pub returns-then-place-lt-PLACES-clause-ran : goal.returns-then-place-lt-PLACES-clause-ran
 returns-then-place-lt-PLACES-clause-ran c =
-    ran-within cells c.args.self.now.entries c.args.edit _ (c.from-place.ensures ∙ c.place_of.ensures) _ _ (omega arith) c.run_entry.ensures
+    ran-within cells c.args.self.now.entries c.args.edit _ (c.from-place.ensures ∙ c.place.ensures) _ _ (omega arith) c.run_entry.ensures
 
 pub returns-else-place-lt-PLACES-clause-kept : goal.returns-else-place-lt-PLACES-clause-kept
 returns-else-place-lt-PLACES-clause-kept c =
-    c.absent_entry.ensures ∙ touched-past cells c.args.self.now.entries c.args.edit _ (c.from-place.ensures ∙ c.place_of.ensures) (omega arith)
+    c.absent_entry.ensures ∙ touched-past cells c.args.self.now.entries c.args.edit _ (c.from-place.ensures ∙ c.place.ensures) (omega arith)
 
 pub returns-else-place-lt-PLACES-clause-ran : goal.returns-else-place-lt-PLACES-clause-ran
 returns-else-place-lt-PLACES-clause-ran c =
-    ran-past cells c.args.self.now.entries c.args.edit _ (c.from-place.ensures ∙ c.place_of.ensures) (omega arith)
+    ran-past cells c.args.self.now.entries c.args.edit _ (c.from-place.ensures ∙ c.place.ensures) (omega arith)

@@ -11,7 +11,7 @@ loop-j-init c =
 pub loop-j-preserved : goal.loop-j-preserved
 loop-j-preserved c =
     let l = c.loop-j in
-    (search rules, noter-step c.args.rows.now c.args.b c.requires c.args.lefts.now c.args.rights.now l.lefts l.rights l.j _ _ (omega arith) (omega arith) (omega arith) l.invariant.0 c.next_row-j.ensures c.row_left.ensures l.invariant.1)
+    (search rules, noter-step c.args.rows.now c.args.b c.requires c.args.lefts.now c.args.rights.now l.lefts l.rights l.j _ _ (omega arith) (omega arith) (omega arith) l.invariant.0 c.row-row.ensures.next c.row-row.ensures.left l.invariant.1)
 
 pub returns : goal.returns
 returns c =

@@ -1,12 +1,11 @@
 -- `schedules::ordered_row` meets its contract. Assumes nothing.
 use Prim.Native.Nat.{◌<◌}
-use mathlib.Core.Path.{refl, ◌∙◌}
+use mathlib.Core.Path.{◌≡◌, refl, ◌∙◌}
 use lib.ListN.{length, length-set}
 use Rattle.std.proofs.Common.{arith, rules}
 use Rattle.judgement_marks.proofs.schedules.Ordering.{ordering-start, ordering-step, ordering-stop, ordering-end, held_below}
 use Rattle.graph.proofs.links.Marks.{zeros-get, set_below}
 use Rattle.record.specs.Record.{names}
-use Rattle.judgement_marks.proofs.schedules.ordered_row.Goals.{else-loop-count-test, then-loop-count-test+in_default}
 use Rattle.judgement_marks.proofs.schedules.ordered_row.Goals as goal
 
 pub loop-count-init : goal.loop-count-init
@@ -41,12 +40,14 @@ loop-count-preserved c =
           ),
     )
 
+pub returns-in_default : goal.returns-in_default
+returns-in_default c R t g f q sub e =
+    let l = c.loop-count in
+    let i = l.invariant.5 R t g f q sub e in
+    ordering-stop R t sub g.notafters.apart g.notafters.few c.args.graph.now.count q _ l.waits (c.in_default.ensures.is R _ g q i.0.marks i.1).0 i.0
+
 pub returns : goal.returns
 returns c R t g f q sub e =
     let l = c.loop-count in
-    let i = l.invariant.5 R t g f q sub e in
-    elim c.loop-count-test.branch [
-      | else-loop-count-test w ↦ ordering-end R t sub g.notafters.apart g.notafters.few c.args.graph.now.count q _ l.waits w.loop-count-test.false i.0
-      | then-loop-count-test+in_default w ↦
-          ordering-stop R t sub g.notafters.apart g.notafters.few c.args.graph.now.count q _ l.waits (w.in_default.ensures.is R _ g q i.0.marks i.1).0 i.0
-    ]
+    let all : l.count ≡ c.args.graph.now.count = omega arith in
+    ordering-end R t sub g.notafters.apart g.notafters.few c.args.graph.now.count q _ l.waits (omega arith) (rw all at (l.invariant.5 R t g f q sub e).0)

@@ -17,6 +17,3 @@ invariant-loop-count l =
     (l.count ≤ l.graph.count) × (length l.indexes ≡ 128) × (length l.waits ≡ 128) × ((q : ℕ) → get_or l.indexes q 0 < 128) × (l.from ≤ l.graph.count)
     × ((R : Record) (t : List ℕ) → Resolved R l.graph.rows → Reversed R l.reversed → l.graph.count ≡ length (names R) → t within names R → l.initial.waits ≡ marks_of R (λ y. mem y t)
     → Ordering R t l.indexes l.waits l.count (l.graph.count - l.count) × ((y : ℕ) → y < l.from → free R (waiting t (map (name_at R) (take l.count l.indexes))) (name_at R y) ≡ false))
-
-abbrev pub decreases-loop-count : goal.decreases-loop-count
-decreases-loop-count l = l.graph.count - l.count

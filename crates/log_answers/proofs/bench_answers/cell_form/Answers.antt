@@ -1,38 +1,13 @@
 -- `bench_answers::cell_form` meets its contract. Assumes nothing.
-use mathlib.Core.Path.{refl}
 use Rattle.text_forms.specs.Spelling.{bytes}
 use Rattle.log_answers.specs.bench_answers.Asks.{cell_form}
 use Rattle.log_answers.specs.declared.bench_answers.Owner.TheVariants.{Chip, Page}
 use Rattle.log_answers.proofs.bench_answers.Questions.{last-form}
 use Rattle.log_answers.proofs.bench_answers.cell_form.Goals as goal
 
-pub returns-in-Chip-eq0 : goal.returns-in-Chip-eq0
-unfolding cell_form bytes
-returns-in-Chip-eq0 c = rw (c.in-Chip-eq0.is-0, c.in-Chip-eq0.is-1) refl
-
-pub returns-in-Chip-eq1 : goal.returns-in-Chip-eq1
-unfolding cell_form bytes
-returns-in-Chip-eq1 c = rw (c.in-Chip-eq1.is-0, c.in-Chip-eq1.is-1) refl
-
-pub returns-in-Chip-eq2 : goal.returns-in-Chip-eq2
-unfolding cell_form bytes
-returns-in-Chip-eq2 c = rw (c.in-Chip-eq2.is-0, c.in-Chip-eq2.is-1) refl
-
 pub returns-in-Chip-default : goal.returns-in-Chip-default
 unfolding cell_form bytes
 returns-in-Chip-default c = let e = c.in-Chip-default.is-1 in rw c.in-Chip-default.is-0 (last-form Chip _ e.0.0.1 e.0.1 e.1)
-
-pub returns-in-Page-eq0 : goal.returns-in-Page-eq0
-unfolding cell_form bytes
-returns-in-Page-eq0 c = rw (c.in-Page-eq0.is-0, c.in-Page-eq0.is-1) refl
-
-pub returns-in-Page-eq1 : goal.returns-in-Page-eq1
-unfolding cell_form bytes
-returns-in-Page-eq1 c = rw (c.in-Page-eq1.is-0, c.in-Page-eq1.is-1) refl
-
-pub returns-in-Page-eq2 : goal.returns-in-Page-eq2
-unfolding cell_form bytes
-returns-in-Page-eq2 c = rw (c.in-Page-eq2.is-0, c.in-Page-eq2.is-1) refl
 
 pub returns-in-Page-default : goal.returns-in-Page-default
 unfolding cell_form bytes

@@ -3,7 +3,7 @@ use mathlib.Core.Path.{◌≡◌, sym, ◌∙◌}
 use borrow.Author.Rules.{rules}
 use Rattle.std.specs.List.{count_by}
 use Rattle.log_answers.specs.bench_answers.Asks.{hides}
-use Rattle.log_answers.proofs.bench_answers.Loops.{filter-counted}
+use Rattle.log_answers.proofs.bench_answers.Counting.{filter-counted}
 use Rattle.log_answers.proofs.bench_answers.count_hidden.Goals as goal
 
 pub returns : goal.returns

@@ -5,4 +5,4 @@ use Rattle.log_answers.proofs.bench_answers.print_catalogue.Goals as goal
 
 pub returns : goal.returns
 unfolding bytes
-returns c = let s = c.args in catalogue-printed s.out.now s.at s.bench.view.catalogue.entries c.count_present-count.ensures c.print-place.ensures c.print_entries.ensures
+returns c = let s = c.args in catalogue-printed s.bench.now.view.catalogue.entries c.count_present.ensures c.print.ensures c.print_entries.ensures

@@ -12,5 +12,5 @@ pub returns : goal.returns
 unfolding bytes
 returns c =
     let s = c.args in
-    let k : c.count_hidden-count.result ≡ length (filter hides (take (length c.edit_slice-edits.result.now) (drop 1 s.bench.hidden))) = search rules in
-    rw (← c.edit_slice-edits.ensures) (hidden-printed c.edit_slice-edits.result.now s.out.now s.at s.bench.hidden k c.print-place.ensures c.print_hidden_edits.ensures)
+    let k : c.count_hidden-count.result ≡ length (filter hides (take (length c.edit_slice-edits.result.now) (drop 1 s.bench.now.hidden))) = search rules in
+    rw (← c.edit_slice-edits.ensures) (hidden-printed c.edit_slice-edits.result.now s.bench.now.hidden k c.print.ensures c.print_hidden_edits.ensures)

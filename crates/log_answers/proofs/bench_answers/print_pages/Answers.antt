@@ -3,17 +3,17 @@ use native.Mathlib.Omega.{arith}
 use Prim.Native.Nat.{◌+◌}
 use Rattle.text_forms.specs.Spelling.{bytes}
 use Rattle.log_answers.specs.bench_answers.Asks.{page_line}
-use Rattle.log_answers.proofs.bench_answers.Loops.{printed-first, printed-next, printed-last}
+use Rattle.log_forms.proofs.Printing.{printed-first, printed-next, printed-last}
 use Rattle.log_answers.proofs.bench_answers.print_pages.Goals as goal
 
 pub loop-i-init : goal.loop-i-init
-loop-i-init c = let s = c.args in printed-first page_line 1 s.edits.now s.out.now s.at
+loop-i-init c = let s = c.args in printed-first page_line 1 s.edits.now s.printer.now
 
 pub loop-i-preserved : goal.loop-i-preserved
 unfolding bytes
 loop-i-preserved c =
     let s = c.args in
-    printed-next page_line 1 s.edits.now s.out.now s.at _ (c.loop-i.i + 1) (omega arith) c.loop-i-test.true c.loop-i.invariant (rw c.from.ensures at c.print-place.ensures)
+    printed-next page_line 1 s.edits.now _ (c.loop-i.i + 1) (omega arith) c.loop-i-test.true c.loop-i.invariant (rw c.from.ensures at c.print.ensures)
 
 pub returns : goal.returns
-returns c = let s = c.args in printed-last page_line 1 s.edits.now s.out.now s.at c.loop-i.i (omega arith) c.loop-i.invariant
+returns c = let s = c.args in printed-last page_line 1 s.edits.now c.loop-i.i (omega arith) c.loop-i.invariant

@@ -7,4 +7,4 @@ use Rattle.log_answers.proofs.bench_answers.print_row.Goals as goal
 
 pub returns : goal.returns
 unfolding bytes
-returns c = let s = c.args in row-printed s.out.now s.at s.page s.edit s.row c.place_of-chip.ensures (c.from-present.ensures ∙ byte-bit s.row.present) c.print-place.ensures c.print_cells.ensures
+returns c = let s = c.args in row-printed s.page s.edit.now s.row.now c.place-chip.ensures (c.from.ensures ∙ byte-bit s.row.now.present) c.print.ensures c.print_cells.ensures

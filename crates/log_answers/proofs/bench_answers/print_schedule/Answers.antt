@@ -7,4 +7,4 @@ pub returns : goal.returns
 unfolding bytes
 returns c =
     let s = c.args in
-    rw (← c.edit_slice-edits.ensures) (schedule-printed c.edit_slice-edits.result.now s.out.now s.at c.print-place.ensures c.print_pages.ensures)
+    rw (← c.edit_slice-edits.ensures) (schedule-printed c.edit_slice-edits.result.now c.print.ensures c.print_pages.ensures)

@@ -1,6 +1,7 @@
 -- `Lending::lend_edit` meets its contract. Assumes nothing.
-use Rattle.log_lent.proofs.Settings.{edit-lent}
+use Rattle.log_lent.specs.Lent.{with_edit}
 use Rattle.log_lent.proofs.Lending.lend_edit.Goals as goal
 
 pub returns : goal.returns
-returns c = λ L constraints K. edit-lent K _ _ (c.add_row.ensures _ K.edits)
+unfolding with_edit
+returns c = λ L K. let p = c.add.ensures _ K.edits in (p.0, record { edits = p.1; constraints = K.constraints; roll = K.roll; row = K.row })

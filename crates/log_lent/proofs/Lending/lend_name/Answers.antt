@@ -3,7 +3,7 @@ use Rattle.log_lent.proofs.Settings.{row-full, name-lent}
 use Rattle.log_lent.proofs.Lending.lend_name.Goals as goal
 
 pub returns-then-n-ge-ROW_PLACES : goal.returns-then-n-ge-ROW_PLACES
-returns-then-n-ge-ROW_PLACES c = λ L edits constraints K. row-full K _ c.if-n-ge-ROW_PLACES.true
+returns-then-n-ge-ROW_PLACES c = λ L K. row-full K _ c.if-n-ge-ROW_PLACES.true
 
 pub returns : goal.returns
-returns c = λ L edits constraints K. name-lent K _ c.if-n-ge-ROW_PLACES.false
+returns c = λ L K. name-lent K _ c.if-n-ge-ROW_PLACES.false

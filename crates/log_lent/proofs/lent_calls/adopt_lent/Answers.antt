@@ -3,4 +3,4 @@ use Rattle.log_lent.proofs.lent_calls.Given.{adoption-given}
 use Rattle.log_lent.proofs.lent_calls.adopt_lent.Goals as goal
 
 pub returns : goal.returns
-returns c = λ L K. adoption-given L _ (c.proposals-proposals.ensures L K) (c.seats.ensures L _ _ K) _ _ c.adopt.ensures
+returns c = λ L K. adoption-given L _ (c.poll.ensures.proposals L K) (c.poll.ensures.roll L K) _ _ c.adopt.ensures

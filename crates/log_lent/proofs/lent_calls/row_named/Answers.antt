@@ -1,12 +1,14 @@
 -- `lent_calls::row_named` meets its contract. Assumes nothing.
-use Rattle.log_lent.proofs.lent_calls.Named.{named-row, not_named, found-place, not_found}
+use mathlib.Core.Path.{◌∙◌}
+use Rattle.log_lent.proofs.Settings.{edits-held}
+use Rattle.log_lent.proofs.lent_calls.Named.{unknown-row, not-beyond, known-row}
 use Rattle.log_lent.proofs.lent_calls.row_named.Goals as goal
 
-pub returns-in_default : goal.returns-in_default
-returns-in_default c = λ R q v m. not_found _ _ m (c.place_of.ensures R q v) c.in_default.is
+pub returns-in_err-place : goal.returns-in_err-place
+returns-in_err-place c = λ R q v. unknown-row R _ (c.place_of.ensures R q v) c.in_err-place.was c.from_residual.ensures
 
-pub returns-then-place-lt-EDITS : goal.returns-then-place-lt-EDITS
-returns-then-place-lt-EDITS c = λ R q v m. named-row R _ q v _ m (found-place _ _ m (c.place_of.ensures R q v) c.in-Some.is) c.edit_row.ensures
+pub returns-in_err-edit : goal.returns-in_err-edit
+returns-in_err-edit c = λ R q v. not-beyond R _ (c.place_of.ensures R q v) c.in_ok-place.was (c.edit_slice.ensures ∙ edits-held R _ q) c.in_err-edit.ensures.lookup.0
 
 pub returns : goal.returns
-returns c = λ R q v m. not_named R _ q v _ m (found-place _ _ m (c.place_of.ensures R q v) c.in-Some.is) c.if-place-lt-EDITS.false
+returns c = λ R q v. known-row R _ (c.place_of.ensures R q v) c.in_ok-place.was (c.edit_slice.ensures ∙ edits-held R _ q) c.in_ok-edit.ensures.lookup.1 c.row.ensures

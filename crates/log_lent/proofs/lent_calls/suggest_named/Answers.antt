@@ -1,34 +1,55 @@
 -- `lent_calls::suggest_named` meets its contract. Assumes nothing.
-use mathlib.Core.Path.{sym, ◌∙◌}
+use mathlib.Core.Path.{◌≡◌, sym, ◌∙◌}
 use native.Mathlib.Omega.{arith}
-use Rattle.log_lent.proofs.lent_calls.Named.{first-unnamed, second-unnamed, no-case, first-unknown, second-unknown, both-named}
+use borrow.Author.Rules.{rules}
+use Rattle.refusals.specs.Numbers.{number, number_of}
 use Rattle.record_rows.proofs.row.Cells.{name-small}
+use Rattle.suggestions.proofs.Advised.{suggested-gives}
+use Rattle.log_lent.proofs.lent_calls.Given.{err-given}
+use Rattle.log_lent.proofs.lent_calls.Named.{none-known, some-known, named-row-is, refused-unknown, first-unnamed, second-unnamed, no-case, first-unknown, second-unknown, both-named}
 use Rattle.log_lent.proofs.lent_calls.suggest_named.Goals as goal
+use Rattle.log_lent.proofs.lent_calls.suggest_named.Goals.{then-not-is_name-via-then-not-is_name, then-not-is_name-via-else-not-is_name+then-not-is_name-2, then-not-is_name-via-else-not-is_name+else-not-is_name-2+then-kind-gt1}
 
 pub returns-then-not-is_name : goal.returns-then-not-is_name
-returns-then-not-is_name c = λ R q v. (first-unnamed R _ _ _ (sym c.is_name.ensures ∙ c.if-not-is_name.true), tt)
+returns-then-not-is_name c =
+    λ R q v.
+    let a = sym c.is_name.ensures in
+    elim c.then-not-is_name.branch [
+      | then-not-is_name-via-then-not-is_name w ↦ (first-unnamed R _ _ _ (a ∙ w.if-not-is_name.true), tt)
+      | then-not-is_name-via-else-not-is_name+then-not-is_name-2 w ↦ (second-unnamed R _ _ _ (a ∙ w.if-not-is_name.false) (sym w.is_name-else-not-is_name.ensures ∙ w.if-not-is_name-2.true), tt)
+      | then-not-is_name-via-else-not-is_name+else-not-is_name-2+then-kind-gt1 w ↦ (no-case R _ _ _ (a ∙ w.if-not-is_name.false) (sym w.is_name-else-not-is_name.ensures ∙ w.if-not-is_name-2.false) w.if-kind-gt1.true, tt)
+    ]
 
-pub returns-then-not-is_name-2 : goal.returns-then-not-is_name-2
-returns-then-not-is_name-2 c = λ R q v. (second-unnamed R _ _ _ (sym c.is_name.ensures ∙ c.if-not-is_name.false) (sym c.is_name-2.ensures ∙ c.if-not-is_name-2.true), tt)
+pub overflow_cast-first : goal.overflow_cast-first
+overflow_cast-first c = omega (arith, name-small _ (sym c.is_name.ensures ∙ c.if-not-is_name.false))
 
-pub returns-then-kind-gt1 : goal.returns-then-kind-gt1
-returns-then-kind-gt1 c = λ R q v. (no-case R _ _ _ (sym c.is_name.ensures ∙ c.if-not-is_name.false) (sym c.is_name-2.ensures ∙ c.if-not-is_name-2.false) c.if-kind-gt1.true, tt)
+pub returns-in_err-a : goal.returns-in_err-a
+returns-in_err-a c =
+    λ R q v.
+    let a = sym c.is_name.ensures ∙ c.if-not-is_name.false in
+    let b = sym c.is_name-else-not-is_name.ensures ∙ c.if-not-is_name-2.false in
+    let u = refused-unknown _ _ c.in_err-a.ensures.value in
+    let n : number_of c.from_residual.result ≡ number c.in_err-a.field-0.0 = search rules in
+    err-given _ _ c.from_residual.ensures.0 (n ∙ u.0 ∙ first-unknown R _ _ _ a b c.if-kind-gt1.false (none-known R _ (sym (c.row_named.ensures R q v) ∙ u.1)))
 
-pub overflow_cast-a : goal.overflow_cast-a
-overflow_cast-a c = omega (arith, name-small _ (sym c.is_name.ensures ∙ c.if-not-is_name.false))
+pub overflow_cast-second : goal.overflow_cast-second
+overflow_cast-second c = omega (arith, name-small _ (sym c.is_name-else-not-is_name.ensures ∙ c.if-not-is_name-2.false))
 
-pub overflow_cast-b : goal.overflow_cast-b
-overflow_cast-b c = omega (arith, name-small _ (sym c.is_name-2.ensures ∙ c.if-not-is_name-2.false))
-
-pub returns-then-not-knows : goal.returns-then-not-knows
-returns-then-not-knows c = λ R q v. (first-unknown R _ _ _ (sym c.is_name.ensures ∙ c.if-not-is_name.false) (sym c.is_name-2.ensures ∙ c.if-not-is_name-2.false) c.if-kind-gt1.false (sym (c.knows.ensures R q v) ∙ c.if-not-knows.true), tt)
-
-pub returns-then-not-knows-2 : goal.returns-then-not-knows-2
-returns-then-not-knows-2 c = λ R q v. (second-unknown R _ _ _ (sym c.is_name.ensures ∙ c.if-not-is_name.false) (sym c.is_name-2.ensures ∙ c.if-not-is_name-2.false) c.if-kind-gt1.false (sym (c.knows.ensures R q v) ∙ c.if-not-knows.false) (sym (c.knows-2.ensures R q v) ∙ c.if-not-knows-2.true), tt)
+pub returns-in_err-b : goal.returns-in_err-b
+returns-in_err-b c =
+    λ R q v.
+    let a = sym c.is_name.ensures ∙ c.if-not-is_name.false in
+    let b = sym c.is_name-else-not-is_name.ensures ∙ c.if-not-is_name-2.false in
+    let x = sym (c.row_named.ensures R q v) ∙ c.in_ok-a.ensures.ok_part in
+    let u = refused-unknown _ _ c.in_err-b.ensures.value in
+    let n : number_of c.from_residual-in_err-b.result ≡ number c.in_err-b.field-0.0 = search rules in
+    err-given _ _ c.from_residual-in_err-b.ensures.0 (n ∙ u.0 ∙ second-unknown R _ _ _ a b c.if-kind-gt1.false (some-known R _ x) (none-known R _ (sym (c.row_named-2.ensures R q v) ∙ u.1)))
 
 pub returns : goal.returns
 returns c =
     λ R q v.
-    let f = sym (c.knows.ensures R q v) ∙ c.if-not-knows.false in
-    let g = sym (c.knows-2.ensures R q v) ∙ c.if-not-knows-2.false in
-    both-named R _ _ _ (sym c.is_name.ensures ∙ c.if-not-is_name.false) (sym c.is_name-2.ensures ∙ c.if-not-is_name-2.false) c.if-kind-gt1.false f g _ c.suggest.ensures (c.row_named-x.ensures R q v f) (c.row_named-y.ensures R q v g)
+    let a = sym c.is_name.ensures ∙ c.if-not-is_name.false in
+    let b = sym c.is_name-else-not-is_name.ensures ∙ c.if-not-is_name-2.false in
+    let x = sym (c.row_named.ensures R q v) ∙ c.in_ok-a.ensures.ok_part in
+    let y = sym (c.row_named-2.ensures R q v) ∙ c.in_ok-b.ensures.ok_part in
+    both-named R _ _ _ a b c.if-kind-gt1.false (some-known R _ x) (some-known R _ y) _ (suggested-gives _ _ _ c.suggest.ensures) (named-row-is R _ x) (named-row-is R _ y)

@@ -1,7 +1,6 @@
 -- `lent_calls::test_lent` meets its contract. Assumes nothing.
 use mathlib.Core.Path.{◌≡◌, ap, ◌∙◌}
 use native.Mathlib.Omega.{arith}
-use native.Mathlib.Nat.{min-eq_left}
 use borrow.Author.Rules.{rules}
 use Rattle.refusals.specs.Numbers.{number_of}
 use Rattle.log_lent.proofs.lent_calls.Given.{err-given, row-elsewhere, row-given}
@@ -17,6 +16,5 @@ pub returns : goal.returns
 returns c =
     λ L K.
     let q = c.in_ok-place.ensures in
-    let r = c.record-record.ensures L K (omega (arith, q.0, q.1)) in
-    let m : c.min.result ≡ c.args.lending.now.rowcount = c.min.ensures ∙ min-eq_left K.row.few in
-    row-given L _ _ q.1 c.test_row.ensures (r.0 ∙ ap L.edits q.0) (r.1 ∙ ap L.constraints q.0) (rw m K.row.rows)
+    let r = c.record.ensures L K (omega (arith, q.0, q.1)) in
+    row-given L _ _ q.1 c.test_row.ensures (r.0 ∙ ap L.edits q.0) (r.1 ∙ ap L.constraints q.0) (c.row.ensures L K)

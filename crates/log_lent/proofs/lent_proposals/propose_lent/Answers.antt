@@ -24,8 +24,8 @@ returns-in_err-new c =
     λ L K.
     let q = c.in_ok-place.ensures in
     let r = c.in_ok-oldplace.ensures in
-    let e = c.record-record.ensures L K (omega (arith, q.0, q.1)) in
-    let f = c.record-proposal.ensures L K (omega (arith, r.0, r.1)) in
+    let e = c.record.ensures L K (omega (arith, q.0, q.1)) in
+    let f = c.record-2.ensures L K (omega (arith, r.0, r.1)) in
     let g = c.in_err-new.ensures in
     let n : number_of c.from_residual-in_err-new.result ≡ number c.in_err-new.field-0.0 = search rules in
     err-given _ _ c.from_residual-in_err-new.ensures.0
@@ -36,7 +36,7 @@ returns c =
     λ L K.
     let q = c.in_ok-place.ensures in
     let r = c.in_ok-oldplace.ensures in
-    let e = c.record-record.ensures L K (omega (arith, q.0, q.1)) in
-    let f = c.record-proposal.ensures L K (omega (arith, r.0, r.1)) in
+    let e = c.record.ensures L K (omega (arith, q.0, q.1)) in
+    let f = c.record-2.ensures L K (omega (arith, r.0, r.1)) in
     let g = c.in_ok-new.ensures in
     proposal-given L _ _ _ _ q.1 r.1 (e.0 ∙ ap L.edits q.0) (e.1 ∙ ap L.constraints q.0) (f.0 ∙ ap L.edits r.0) (f.1 ∙ ap L.constraints r.0) g.0 _ (c.fitted.ensures _ g.1)

@@ -1,9 +1,8 @@
 -- `questions::print_ask` meets its contract. Assumes nothing.
-use mathlib.Core.Path.{refl, ap, ◌∙◌}
-use Rattle.ledger.specs.declared.Bench.{Bench}
+use mathlib.Core.Path.{refl, ap}
 use Rattle.log_session.specs.Desk.{ledger_of}
 use Rattle.log_session.specs.questions.Questions.{text_in, hidden_in, schedule_in, catalogue_in, journal_in, page_in, ask_text}
-use Rattle.log_session.proofs.Cases.{ledger-valid, multilog-is}
+use Rattle.log_session.proofs.Cases.{ledger-valid, bench-stored}
 use Rattle.log_session.proofs.questions.Answered.{asked}
 use Rattle.log_session.proofs.questions.print_ask.Goals as goal
 
@@ -13,7 +12,7 @@ returns-in-Text c = λ D e. asked D c.in-Text.is (ap text_in e) c.print_record.e
 
 pub returns-in-Report : goal.returns-in-Report
 unfolding ask_text
-returns-in-Report c = λ D e. asked D c.in-Report.is refl (c.print_report.ensures (ledger_of D).multilog (ap (λ (x : Bench). x.multilog) e ∙ multilog-is D) (ledger-valid D).checked)
+returns-in-Report c = λ D e. asked D c.in-Report.is refl (c.print_report.ensures (ledger_of D).multilog (bench-stored D e) (ledger-valid D).checked)
 
 pub returns-in-Hidden : goal.returns-in-Hidden
 unfolding ask_text

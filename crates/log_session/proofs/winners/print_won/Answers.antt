@@ -10,5 +10,5 @@ returns c =
     let s = c.args in
     let v = c.verdict_of-said in
     λ R q f i.
-    won-printed s.edit s.out.now s.at R s.bundle q (v.ensures R q f i)
-    (rw (c.from.ensures, c.from-2.ensures, c.from-3.ensures, byte-bit v.result.must, byte-bit v.result.never) at c.print-head.ensures) c.print_text.ensures
+    won-printed s.edit R s.bundle.now q (v.ensures R q f i)
+    (rw (c.from.ensures, c.from-2.ensures, c.from-3.ensures, byte-bit v.result.must, byte-bit v.result.never) at c.print.ensures) c.print_text.ensures

@@ -7,8 +7,8 @@ returns-in_default g c = joins-end g.T.Element.KEY c.args.row.now c.args.full g.
 
 pub returns-then-below : goal.returns-then-below
 returns-then-below g c =
-    joins-fresh g.T.Element.KEY c.args.row.now c.args.full g.T.Element.row_of c.args.rest.now c.in-len1-up.len_at_least c.x-item.is c.row-own.ensures c.below.ensures c.if-below.true c.as_new-then-below.ensures
+    joins-fresh g.T.Element.KEY c.args.row.now c.args.full g.T.Element.row_of c.args.rest.now c.in-len1-up.len_at_least c.x-item.is c.row-own.ensures (rw c.KEY.ensures at c.below.ensures) c.if-below.true c.as_new-then-below.ensures
 
 pub returns : goal.returns
 returns g c =
-    joins-known g.T.Element.KEY c.args.row.now c.args.full g.T.Element.row_of c.args.rest.now c.in-len1-up.len_at_least c.x-item.is c.row-own.ensures c.below.ensures c.if-below.false c.eq.ensures c.as_known.ensures
+    joins-known g.T.Element.KEY c.args.row.now c.args.full g.T.Element.row_of c.args.rest.now c.in-len1-up.len_at_least c.x-item.is c.row-own.ensures (rw c.KEY.ensures at c.below.ensures) c.if-below.false c.eq.ensures c.as_known.ensures

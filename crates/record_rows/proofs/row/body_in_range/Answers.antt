@@ -1,4 +1,5 @@
 -- `row::body_in_range` meets its contract. Assumes nothing.
+use borrow.Author.Rules.{rules}
 use Rattle.record_rows.proofs.row.Cells.{body-insert, body-set, body-remove, body-other}
 use Rattle.record_rows.proofs.row.body_in_range.Goals as goal
 
@@ -12,4 +13,4 @@ pub returns-in-2 : goal.returns-in-2
 returns-in-2 c = body-remove c.args.kind c.args.field c.args.value c.in-2.is c.unused-in-2.ensures
 
 pub returns-in_default : goal.returns-in_default
-returns-in_default c = body-other c.args.kind c.args.field c.args.value c.in_default.in_default-own.rest.0.0.1 c.in_default.in_default-own.rest.0.1 c.in_default.in_default-own.rest.1
+returns-in_default c = body-other c.args.kind c.args.field c.args.value (search rules) (search rules) (search rules)

@@ -1,5 +1,6 @@
 -- `print_text` meets its contract. Assumes nothing.
 use mathlib.Core.Path.{refl, sym, ◌∙◌}
+use borrow.Author.Rules.{rules}
 use Rattle.text.specs.Text.{read_text}
 use Rattle.text_writer.proofs.Placing.{placed-inside, start-enough}
 use Rattle.text_report.specs.Report.{printed}
@@ -10,7 +11,7 @@ use Rattle.stdio.proofs.text_input.print_text.Goals as goal
 pub unwrap-requires : goal.unwrap-requires
 unwrap-requires c =
     let text = c.args.text.now in
-    rw (c.print_text.ensures.answer, start-enough (printed (read_text text)) c.args.out.now 16384 (printed-size text) c.requires) refl
+    rw (c.print_text.ensures.answer, start-enough (printed (read_text text)) c.args.out.now 16384 (printed-size text) (search rules)) refl
 
 pub returns : goal.returns
 returns c =

@@ -1,15 +1,14 @@
 -- `links::Graph::all_marks` meets its contract. Assumes nothing.
-use Rattle.std.proofs.Common.{arith, refl, ◌∙◌, length-set}
-use Rattle.graph.proofs.links.Marks.{filled-start, all-step, all_end}
+use Rattle.std.proofs.Common.{ℕ, arith, rules, length, get_or, ◌≡◌, ◌<◌}
+use Rattle.std.proofs.lemmas.List.{drop-replicate, places}
+use Rattle.graph.proofs.links.Marks.{all-filled}
 use Rattle.graph.proofs.links.Graph.all_marks.Goals as goal
 
-pub loop-x-init : goal.loop-x-init
-loop-x-init c = (refl, λ R q. filled-start R _)
-
-pub loop-x-preserved : goal.loop-x-preserved
-loop-x-preserved c =
-    let l = c.loop-x in
-    (length-set l.marks l.x 1 ∙ l.invariant.0, λ R q. all-step R l.x l.marks (omega (arith, l.invariant.0)) (omega (arith, q)) (l.invariant.1 R q))
-
 pub returns : goal.returns
-returns c R q = let l = c.loop-x in all_end R l.x l.marks l.invariant.0 (omega (arith, q)) (omega (arith, q)) (l.invariant.1 R q)
+returns c R q =
+    let n = c.args.self.now.count in
+    let few = c.args.self.now.few in
+    let ones = c.fill.new.self in
+    let size : length ones ≡ n = search rules in
+    let one : (y : ℕ) → y < n → get_or ones y 0 ≡ 1 = search (rules, places) in
+    rw (drop-replicate {X = ℕ} n 128 0) (all-filled R n ones (omega (arith, q, few)) q size one)

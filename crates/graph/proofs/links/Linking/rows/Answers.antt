@@ -2,5 +2,5 @@
 use Rattle.graph.proofs.links.Links.{growing-safe}
 use Rattle.graph.proofs.links.Linking.rows.Goals as goal
 
-pub invariant_of-result : goal.invariant_of-result
-invariant_of-result c = growing-safe _ _ c.requires c.args.self.growing
+pub from_cells-requires : goal.from_cells-requires
+from_cells-requires c = growing-safe _ _ c.requires c.args.self.growing

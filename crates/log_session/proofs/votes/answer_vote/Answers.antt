@@ -1,0 +1,83 @@
+-- `votes::answer_vote` meets its contract. Assumes nothing.
+use mathlib.Core.Path.{ap}
+use Rattle.voting.specs.Tally.{Election}
+use Rattle.voting_count.specs.Count.{Count}
+use Rattle.voting_bundles.specs.Bundles.{BundleAnswer}
+use Rattle.log_session.specs.votes.Votes.{election_line, bundle_text, suggestion_text, test_line, winner_text, vote_effect}
+use Rattle.log_session.proofs.Cases.{multilog-stored, ledger-valid}
+use Rattle.log_session.proofs.votes.Voting.{vote-accepted, vote-refused}
+use Rattle.log_session.proofs.votes.answer_vote.Goals as goal
+
+pub returns-in_err-elect_lent-in-Elect : goal.returns-in_err-elect_lent-in-Elect
+unfolding vote_effect
+returns-in_err-elect_lent-in-Elect c =
+    λ D K m.
+    let e = c.in_err-elect_lent-in-Elect.ensures D.lent K in
+    vote-refused D c.in-Elect.is c.from_residual.result _ c.args.printer.now c.from_residual.ensures (ap (λ (E : Election). E.number) e)
+
+pub returns-in_ok-elect_lent-in-Elect : goal.returns-in_ok-elect_lent-in-Elect
+unfolding vote_effect
+returns-in_ok-elect_lent-in-Elect c =
+    λ D K m.
+    let e = c.in_ok-elect_lent-in-Elect.ensures D.lent K in
+    vote-accepted D c.in-Elect.is (ap (λ (E : Election). E.number) e) (ap election_line e) c.print_election.ensures
+
+pub returns-in_err-bundle_lent-in-Bundle : goal.returns-in_err-bundle_lent-in-Bundle
+unfolding vote_effect
+returns-in_err-bundle_lent-in-Bundle c =
+    λ D K m.
+    let e = c.in_err-bundle_lent-in-Bundle.ensures D.lent K in
+    let r = c.from_residual-in_err-bundle_lent-in-Bundle in
+    vote-refused D c.in-Bundle.is r.result _ c.args.printer.now r.ensures (ap (λ (b : BundleAnswer). b.number) e)
+
+pub returns-in_ok-bundle_lent-in-Bundle : goal.returns-in_ok-bundle_lent-in-Bundle
+unfolding vote_effect
+returns-in_ok-bundle_lent-in-Bundle c =
+    λ D K m.
+    let e = c.in_ok-bundle_lent-in-Bundle.ensures D.lent K in
+    vote-accepted D c.in-Bundle.is (ap (λ (b : BundleAnswer). b.number) e) (ap bundle_text e) c.print_bundle.ensures
+
+pub returns-in_err-suggested-in-Suggest : goal.returns-in_err-suggested-in-Suggest
+unfolding vote_effect
+returns-in_err-suggested-in-Suggest c =
+    λ D K m.
+    let g = c.in_err-suggested-in-Suggest.ensures _ (multilog-stored D m) (ledger-valid D).checked in
+    let r = c.from_residual-in_err-suggested-in-Suggest in
+    vote-refused D c.in-Suggest.is r.result _ c.args.printer.now r.ensures g.0
+
+pub returns-in_ok-suggested-in-Suggest : goal.returns-in_ok-suggested-in-Suggest
+unfolding vote_effect
+returns-in_ok-suggested-in-Suggest c =
+    λ D K m.
+    let g = c.in_ok-suggested-in-Suggest.ensures _ (multilog-stored D m) (ledger-valid D).checked in
+    vote-accepted D c.in-Suggest.is g.0 (ap suggestion_text g.1) c.print_rules.ensures
+
+pub returns-in_err-test_lent-in-Test : goal.returns-in_err-test_lent-in-Test
+unfolding vote_effect
+returns-in_err-test_lent-in-Test c =
+    λ D K m.
+    let r = c.from_residual-in_err-test_lent-in-Test in
+    vote-refused D c.in-Test.is r.result _ c.args.printer.now r.ensures (c.in_err-test_lent-in-Test.ensures D.lent K).0
+
+pub returns-in_ok-test_lent-in-Test : goal.returns-in_ok-test_lent-in-Test
+unfolding vote_effect
+returns-in_ok-test_lent-in-Test c =
+    λ D K m.
+    let g = c.in_ok-test_lent-in-Test.ensures D.lent K in
+    vote-accepted D c.in-Test.is g.0 (ap test_line g.1) c.print_test.ensures
+
+pub returns-in_err-count_lent-in-Winner : goal.returns-in_err-count_lent-in-Winner
+unfolding vote_effect
+returns-in_err-count_lent-in-Winner c =
+    λ D K m.
+    let e = c.in_err-count_lent-in-Winner.ensures.told D.lent K in
+    let r = c.from_residual-in_err-count_lent-in-Winner in
+    vote-refused D c.in-Winner.is r.result _ c.args.printer.now r.ensures (ap (λ (n : Count). n.election.number) e)
+
+pub returns-in_ok-count_lent-in-Winner : goal.returns-in_ok-count_lent-in-Winner
+unfolding vote_effect
+returns-in_ok-count_lent-in-Winner c =
+    λ D K m.
+    let e = c.in_ok-count_lent-in-Winner.ensures.told D.lent K in
+    vote-accepted D c.in-Winner.is (ap (λ (n : Count). n.election.number) e) (ap (winner_text c.in-Winner.edit) e)
+    (c.print_winner.ensures _ _ e c.in_ok-count_lent-in-Winner.ensures.bundle)

@@ -1,0 +1,20 @@
+-- `votes::print_winner` meets its contract. Assumes nothing.
+use mathlib.Core.Path.{◌≡◌, ap}
+use mathlib.Core.Bool.{true}
+use Rattle.std.specs.Prelude.{Option as Given, unwrap_or}
+use Rattle.record.specs.declared.Record as declared
+use Rattle.record.specs.Stored.{empty_record}
+use Rattle.log_session.proofs.winners.Won.{given-won, open-printed, winner-printed}
+use Rattle.log_session.proofs.votes.print_winner.Goals as goal
+
+pub returns-in-Some : goal.returns-in-Some
+returns-in-Some c =
+    λ P roll q h.
+    let counted = c.args.counted.now in
+    let w : counted.election.won ≡ true = rw c.in-Some.is at h in
+    let b = given-won c.args.edit P roll counted q w c.in-Some.is in
+    winner-printed c.args.edit _ c.print_election.ensures w (ap (λ (x : Given declared.Record). unwrap_or x empty_record) c.in-Some.is)
+    (c.print_won.ensures b.choice b.holds b.known.fit b.known.known)
+
+pub returns-in_default : goal.returns-in_default
+returns-in_default c = λ P roll q h. open-printed c.args.edit _ c.print_election.ensures (rw c.in_default.is at h)

@@ -1,0 +1,7 @@
+-- `Element::row` of a constraint meets its contract. Assumes nothing.
+use Rattle.record_rows.specs.row.Row.{constraint_row}
+use Rattle.record_rows.proofs.element.ConstraintElement3.row.Goals as goal
+
+pub returns : goal.returns
+unfolding constraint_row
+returns c = rw (c.from.ensures, c.from-2.ensures, c.from-3.ensures)

@@ -1,7 +1,0 @@
--- `row::constraint_row` meets its contract. Assumes nothing.
-use Rattle.record_rows.specs.row.Row.{constraint_row}
-use Rattle.record_rows.proofs.row.constraint_row.Goals as goal
-
-pub returns : goal.returns
-unfolding constraint_row
-returns c = rw (c.from.ensures, c.from-2.ensures, c.from-3.ensures)
