@@ -32,7 +32,7 @@ const MOST: usize = 4611686018427387904;
 // The system's number of the error that bytes are no text.
 const EILSEQ: i32 = 84;
 
-// Kept: a `while`, since a run moves the place past several lines; and that the closure may always be called, which a clause alone can say.
+// Kept: a `while`, since a run moves the place past several lines; `callable` is a clause, for one memory is run with two closures (`continued`).
 // Runs lines and tells their answers.
 fn run_lines<T: Fn(&[u8]) -> Result<(), Failed>>(
     memory: &mut Memory,
@@ -59,7 +59,7 @@ fn run_lines<T: Fn(&[u8]) -> Result<(), Failed>>(
     Ok(())
 }
 
-// Kept: the closure's fact, as above.
+// Kept: `callable`, as above.
 // The whole lines of the first bytes of a chunk are run, and what waits moves to the front; how many bytes it has.
 fn feed<T: Fn(&[u8]) -> Result<(), Failed>>(
     memory: &mut Memory,
@@ -92,7 +92,7 @@ fn read_piece(
     stdio::read_some(rt, file, &mut chunk[rest..])
 }
 
-// Kept: a `while`, since how many reads it takes is not known before; the closure's fact, as above.
+// Kept: a `while`, since how many reads it takes is not known before; `callable`, as above.
 // A file, piece by piece: how many bytes of it are left at the front of the chunk, a last line without its end.
 fn read_all<T: Fn(&[u8]) -> Result<(), Failed>>(
     rt: &impl Eprint,
@@ -120,7 +120,7 @@ fn read_all<T: Fn(&[u8]) -> Result<(), Failed>>(
     Ok(rest)
 }
 
-// Kept: the closure's fact, as above.
+// Kept: `callable`, as above.
 // A whole file, its last line without an end too.
 fn replayed<T: Fn(&[u8]) -> Result<(), Failed>>(
     rt: &impl Eprint,
