@@ -7,8 +7,7 @@ use native.Mathlib.Numerals.{add-one}
 use native.Mathlib.Omega.{arith}
 use lib.ListN.{length, take, get_or, set}
 use lib.Seq.{take-suc, take-suc-set}
-use Rattle.std.specs.Prelude.{Option, Some, None, Result, Ok, Err}
-use Rattle.std.specs.Option.{ok_or}
+use Rattle.std.specs.Prelude.{Result, Ok, Err}
 use Rattle.refusals.specs.declared.Refusal.{Refusal}
 use Rattle.refusals.specs.Numbers.{Gives}
 use Rattle.record.specs.declared.Record as declared
@@ -24,7 +23,7 @@ use Rattle.record_tables.proofs.Records.{empty-checked, joining-edits, joining-c
 use Rattle.record_tables.proofs.Tables.{stored_back}
 use Rattle.record_union.specs.Union.{Unites}
 use Rattle.record_joining.specs.declared.insertion.Constraints.{Constraints}
-use Rattle.record_joining.specs.insertion.Insertion.{held_table}
+use Rattle.record_joining.specs.insertion.Insertion.{table_of}
 use Rattle.record_joining.proofs.insertion.Tables.{too-long}
 
 -- what the union of two records gives
@@ -45,9 +44,9 @@ module _ (R : Record) (known : List ℕ) (adding : Bool) (es cs : Rows) (k : Che
       )
 
 -- one constraint that joins a record's table
-module _ (R : Record) (row : Row) (k : Checked R) (e : 0 ≡ add_constraint_fault R row) {joined : declared.Record} (f : joined ≡ stored R) {table : Constraints} {more : Option Constraints} {c : Constraint} (o : c ≡ constraint_of row)
-    (t : (S : Record) → joined ≡ stored S → length S.constraints ≤ 512 → Some table ≡ held_table S.constraints)
-    (i : (l : List Constraint) → Some table ≡ held_table l → Ascending constraint_key l → more ≡ held_table (inserted constraint_key c l)) where
+module _ (R : Record) (row : Row) (k : Checked R) (e : 0 ≡ add_constraint_fault R row) {joined : declared.Record} (f : joined ≡ stored R) {table : Constraints} {more : Result Constraints Refusal} {c : Constraint} (o : c ≡ constraint_of row)
+    (t : (S : Record) → joined ≡ stored S → length S.constraints ≤ 512 → Ok table ≡ table_of S.constraints)
+    (i : (l : List Constraint) → Ok table ≡ table_of l → Ascending constraint_key l → more ≡ table_of (inserted constraint_key c l)) where
   abbrev list : List Constraint
   list = inserted constraint_key (constraint_of row) R.constraints
 
@@ -55,15 +54,15 @@ module _ (R : Record) (row : Row) (k : Checked R) (e : 0 ≡ add_constraint_faul
   unfolding united
   list-places = joined-constraintplaces R (written R) true [] (row ∷ []) k (sym e)
 
-  more-is : more ≡ held_table list
-  more-is = i R.constraints (t R f k.constraintplaces) k.constraintorder ∙ ap (λ (d : Constraint). held_table (inserted constraint_key d R.constraints)) o
+  more-is : more ≡ table_of list
+  more-is = i R.constraints (t R f k.constraintplaces) k.constraintorder ∙ ap (λ (d : Constraint). table_of (inserted constraint_key d R.constraints)) o
 
-  pub inserted-is : {w : Constraints} {q : declared.Record} → more ≡ Some w → ((S : Record) (l : List Constraint) → joined ≡ stored S → Some w ≡ held_table l → q ≡ stored (record { edits = S.edits; constraints = l }))
+  pub inserted-is : {w : Constraints} {q : declared.Record} → more ≡ Ok w → ((S : Record) (l : List Constraint) → joined ≡ stored S → Ok w ≡ table_of l → q ≡ stored (record { edits = S.edits; constraints = l }))
       → (0 ≡ add_constraint_fault R row) × (q ≡ stored (unite R (decoded [] (row ∷ []))))
   unfolding united unite
   inserted-is g w = (e, w R list f (sym g ∙ more-is))
 
-  pub inserted-not : more ≡ None → ⊥
+  pub inserted-not : {r : Refusal} → more ≡ Err r → ⊥
   inserted-not g = let n : 512 < length list = too-long list (sym g ∙ more-is) in omega (arith, n, list-places)
 
 -- a lent record by itself
@@ -94,12 +93,3 @@ module _ (R S : Record) (k : Checked R) where
       let a : es ≡ edit_rows S = g ∙ ap edit_rows held in
       let b : cs ≡ constraint_rows S = h ∙ ap constraint_rows held in
       record-gives q (rw (a, b) at e)
-
--- an Option that a call gives on as a Result
-pub result-some : {X : Type 0} (o : Option X) (x : X) (r : Refusal) → ◌≡◌ {A = Result X Refusal} (ok_or o r) (Ok x) → o ≡ Some x
-result-some None x r w = cc
-result-some (Some y) x r w = cc
-
-pub result-none : {X : Type 0} (o : Option X) (r q : Refusal) → ◌≡◌ {A = Result X Refusal} (ok_or o r) (Err q) → o ≡ None
-result-none None r q w = cc
-result-none (Some y) r q w = cc

@@ -12,6 +12,7 @@ ghost use Rattle.record_tables.specs.Table.{decoded, empty_tables, lent_fault, a
 ghost use Rattle.record_tables.specs.Checked.{Checked};
 ghost use Rattle.refusals.specs.Numbers.{Gives};
 
+use insertion::Constraints;
 use record::{CONSTRAINTS, Constraint, EDITS, Edit, Record};
 use record_rows::element::Element;
 use record_rows::row::{CONSTRAINT_CELLS, ConstraintRow, EDIT_CELLS, EditRow, LentRecord};
@@ -51,9 +52,8 @@ pub fn add_constraint(joined: Record, row: ConstraintRow) -> Result<Record, Refu
     ensures { (R : theory.Record) → joined ≡ stored R → Checked R → Gives (add_constraint_fault R row) (stored (unite R (decoded [] (row ∷ [])))) result }
 {
     record_refusal::constraint_add_fault(joined, row)?;
-    let table = insertion::table_of(joined);
-    let more = insertion::insert(Some(table), Constraint::of(&row)).ok_or(Refusal::NoPlace)?;
-    Ok(insertion::with_table(joined, more))
+    let more = Constraints::of(joined).insert(Constraint::of(&row))?;
+    Ok(more.in_record(joined))
 }
 
 // The rows of a table, those past its count empty.

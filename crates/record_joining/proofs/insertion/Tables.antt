@@ -1,8 +1,10 @@
 -- A table that a row joins, as it is held. Assumes nothing.
 use mathlib.Core.Path.{◌≡◌, ap, sym, ◌∙◌}
 use mathlib.Core.Bool.{Bool, true, false, not, ◌&&◌}
-use mathlib.Core.List.{List, [], ◌∷◌, ◌++◌, append_assoc}
-use Rattle.std.specs.Prelude.{Option, Some, None}
+use mathlib.Core.List.{List, ◌∷◌, ◌++◌, append_assoc}
+use Rattle.std.specs.Prelude.{Result, Ok, Err}
+use Rattle.refusals.specs.declared.Refusal.{Refusal}
+use Rattle.refusals.specs.declared.Refusal.TheVariants.{NoPlace}
 use Prim.Native.Nat.{ℕ, suc, min, ◌+◌, ◌-◌, ◌≤◌, ◌<◌}
 use native.Mathlib.Omega.{arith}
 use borrow.Author.Tests.{ltb-true, ltb-false, lt-ltb, le-ltb, not-true, not-false}
@@ -18,43 +20,42 @@ use Rattle.lists.specs.Keyed.{precedes, inserted, united}
 use Rattle.lists.proofs.Union.{length-grown}
 use Rattle.record_tables.specs.Table.{constraint_key}
 use Rattle.record_joining.specs.declared.insertion.Constraints.{Constraints}
-use Rattle.record_joining.specs.insertion.Insertion.{held_table, Place, put_at}
+use Rattle.record_joining.specs.insertion.Insertion.{table_of, Place, put_at}
 use Rattle.record_joining.proofs.insertion.Places.{inserted-behind, inserted-there, inserted-here}
 
--- what is held of a table that has places
+-- the table of a list that has places
 abbrev held : List Constraint → Constraints
 held l = record { rows = padded 512 filler_constraint l; count = length l }
 
-pub table-held : (l : List Constraint) → length l ≤ 512 → held_table l ≡ Some (held l)
-unfolding held_table
+pub table-held : (l : List Constraint) → length l ≤ 512 → table_of l ≡ Ok (held l)
+unfolding table_of
 table-held l h = rw (le-ltb 512 (length l) h)
 
-pub table-full : (l : List Constraint) → 512 < length l → held_table l ≡ None
-unfolding held_table
+pub table-full : (l : List Constraint) → 512 < length l → table_of l ≡ Err NoPlace
+unfolding table_of
 table-full l h = rw (lt-ltb 512 (length l) h)
 
-abbrev has-table : Option Constraints → ℕ
-has-table None = 0
-has-table (Some t) = 1
+abbrev has-table : Result Constraints Refusal → ℕ
+has-table (Err r) = 0
+has-table (Ok t) = 1
 
-abbrev table-or : Option Constraints → Constraints → Constraints
-table-or None d = d
-table-or (Some t) d = t
+abbrev table-or : Result Constraints Refusal → Constraints → Constraints
+table-or (Err r) d = d
+table-or (Ok t) d = t
 
-inserted-grows : (c : Constraint) (l : List Constraint) → length l ≤ length (inserted constraint_key c l)
-unfolding united
-inserted-grows c l = length-grown constraint_key l (c ∷ [])
-
--- none is held of a table that is too long
-pub too-long : (l : List Constraint) → None ≡ held_table l → 512 < length l
+-- a list without places is too long
+pub too-long : (l : List Constraint) {r : Refusal} → Err r ≡ table_of l → 512 < length l
 too-long l e =
     by (ltb 512 (length l)) (λ f. ltb-true 512 (length l) f)
     (λ f. let n : ◌≡◌ {A = ℕ} 0 1 = ap has-table (e ∙ table-held l (ltb-false 512 (length l) f)) in absurd (omega (arith, n)))
 
-pub stays-full : (l : List Constraint) (c : Constraint) → None ≡ held_table l → None ≡ held_table (inserted constraint_key c l)
-stays-full l c e = sym (table-full (inserted constraint_key c l) (omega (arith, too-long l e, inserted-grows c l)))
+-- and stays without them, whatever joins it
+pub stays-full : (l more : List Constraint) {r : Refusal} → Err r ≡ table_of l → Err r ≡ table_of (united constraint_key l more)
+stays-full l more e =
+    let h = too-long l e in
+    e ∙ table-full l h ∙ sym (table-full (united constraint_key l more) (omega (arith, h, length-grown constraint_key l more)))
 
-module _ (table : Constraints) (l : List Constraint) (e : Some table ≡ held_table l) where
+module _ (table : Constraints) (l : List Constraint) (e : Ok table ≡ table_of l) where
   pub few : length l ≤ 512
   few =
       by (ltb 512 (length l))
@@ -62,7 +63,7 @@ module _ (table : Constraints) (l : List Constraint) (e : Some table ≡ held_ta
       (λ f. ltb-false 512 (length l) f)
 
   pub is_held : table ≡ held l
-  is_held = ap (λ (o : Option Constraints). table-or o table) (e ∙ table-held l few)
+  is_held = ap (λ (o : Result Constraints Refusal). table-or o table) (e ∙ table-held l few)
 
   count_is : table.count ≡ length l
   count_is = ap (λ (t : Constraints). t.count) is_held
@@ -91,7 +92,7 @@ module _ (table : Constraints) (l : List Constraint) (e : Some table ≡ held_ta
 
       module _ {found : Bool} (g : found ≡ (ltb p (length l) && not (precedes (constraint_key c) (constraint_key (get_or l p filler_constraint))))) where
         -- a row that stands stays as it is
-        pub known_is : found ≡ true → Some table ≡ held_table (inserted constraint_key c l)
+        pub known_is : found ≡ true → Ok table ≡ table_of (inserted constraint_key c l)
         known_is t =
             let b = sym g ∙ t in
             let h : p < length l = ltb-true p (length l) (and_l (ltb p (length l)) _ b) in
@@ -99,7 +100,7 @@ module _ (table : Constraints) (l : List Constraint) (e : Some table ≡ held_ta
             rw row_is at (not-true (precedes (constraint_key c) (constraint_key (get_or l p filler_constraint))) (and_r (ltb p (length l)) _ b)) in
             let w : 0 < length (drop p l) = let i = length-drop p l in omega arith in
             let z : inserted constraint_key c l ≡ l = behind ∙ ap (λ (t : List Constraint). take p l ++ t) (inserted-there constraint_key c (drop p l) w at_place.above filler_constraint u) ∙ take-append-drop p l in
-            e ∙ ap held_table (sym z)
+            e ∙ ap table_of (sym z)
 
         module _ (t : found ≡ false) where
           new_row : 0 < length (drop p l) → precedes (constraint_key c) (constraint_key (get_or (drop p l) 0 filler_constraint)) ≡ true
@@ -119,7 +120,7 @@ module _ (table : Constraints) (l : List Constraint) (e : Some table ≡ held_ta
               ap length made ∙ length-append (take p l) (c ∷ drop p l) ∙ (let b = length-drop p l in omega arith)
 
           -- a new row without a place
-          pub overflows : 512 ≤ n → None ≡ held_table (inserted constraint_key c l)
+          pub overflows : 512 ≤ n → Err NoPlace ≡ table_of (inserted constraint_key c l)
           overflows h = sym (table-full (inserted constraint_key c l) (let a = more in let b = held-count-is in omega arith))
 
           -- a new row in its place
@@ -141,19 +142,19 @@ module _ (table : Constraints) (l : List Constraint) (e : Some table ≡ held_ta
               rw (held-count-is, rows_are, u, v, w, x, y, append_assoc)
 
           pub joins : n < 512 → {out : List Constraint} → out ≡ put_at n p c table.rows
-              → Some (record { rows = out; count = n + 1 }) ≡ held_table (inserted constraint_key c l)
+              → Ok (record { rows = out; count = n + 1 }) ≡ table_of (inserted constraint_key c l)
           joins h z =
               let a : length (inserted constraint_key c l) ≤ 512 = let i = more in let b = held-count-is in omega arith in
               let r = z ∙ put h ∙ ap (padded 512 filler_constraint) (sym made) in
               let b : n + 1 ≡ length (inserted constraint_key c l) = let i = more in let b = held-count-is in omega arith in
-              let w : Some (record { rows = _; count = n + 1 }) ≡ Some (held (inserted constraint_key c l)) = λ i. Some (record { rows = r i; count = b i }) in
+              let w : Ok (record { rows = _; count = n + 1 }) ≡ Ok (held (inserted constraint_key c l)) = λ i. Ok (record { rows = r i; count = b i }) in
               w ∙ sym (table-held (inserted constraint_key c l) a)
 
 -- the table of a record
-pub of-record : (r : declared.Record) (R : Record) → r ≡ stored R → length R.constraints ≤ 512 → Some (record { rows = r.constraints; count = r.constraintcount }) ≡ held_table R.constraints
+pub of-record : (r : declared.Record) (R : Record) → r ≡ stored R → length R.constraints ≤ 512 → Ok (record { rows = r.constraints; count = r.constraintcount }) ≡ table_of R.constraints
 of-record r R e h = rw e (sym (table-held R.constraints h))
 
 -- a record with the constraints of a table
-pub with-table-is : (r : declared.Record) (R : Record) (table : Constraints) (l : List Constraint) → r ≡ stored R → Some table ≡ held_table l
+pub with-table-is : (r : declared.Record) (R : Record) (table : Constraints) (l : List Constraint) → r ≡ stored R → Ok table ≡ table_of l
     → record { edits = r.edits; editcount = r.editcount; constraints = table.rows; constraintcount = table.count } ≡ stored (record { edits = R.edits; constraints = l })
 with-table-is r R table l e f = rw (e, is_held table l f)

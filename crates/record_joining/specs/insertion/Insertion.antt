@@ -1,14 +1,16 @@
 -- Inner: document 01, "What is turned away", number 3: a record's table of constraints that rows join one by one, until one has no place left. Assumes nothing.
-use Rattle.std.specs.Prelude.{true, false, cond, List, ◌∷◌, ◌++◌, ◌≡◌, Option, Some, None, ℕ, ◌+◌, ◌-◌, ◌≤◌, ltb, length, take, drop}
+use Rattle.std.specs.Prelude.{true, false, cond, List, ◌∷◌, ◌++◌, ◌≡◌, Result, Ok, Err, ℕ, ◌+◌, ◌-◌, ◌≤◌, ltb, length, take, drop}
+use Rattle.refusals.specs.declared.Refusal.{Refusal}
+use Rattle.refusals.specs.declared.Refusal.TheVariants.{NoPlace}
 use Rattle.record.specs.declared.Constraint.{Constraint}
 use Rattle.record.specs.Stored.{padded, filler_constraint, constraint_limit}
 use Rattle.lists.specs.Keyed.{precedes}
 use Rattle.lists.specs.Lists.{Has}
 use Rattle.record_joining.specs.declared.insertion.Constraints.{Constraints}
 
--- how a table is held; once it would have more than 512 rows, it is not
-unfoldable pub held_table : List Constraint → Option Constraints
-held_table l = cond (ltb constraint_limit (length l)) None (Some (record { rows = padded constraint_limit filler_constraint l; count = length l }))
+-- the table of a list; one of more than 512 rows has no place for them
+unfoldable pub table_of : List Constraint → Result Constraints Refusal
+table_of l = cond (ltb constraint_limit (length l)) (Err NoPlace) (Ok (record { rows = padded constraint_limit filler_constraint l; count = length l }))
 
 -- p elements of the table, and no more, precede x
 pub record Place {A : Type 0} (key : A → List ℕ) (x : A) (l : List A) (p : ℕ) : Type 0 where

@@ -1,6 +1,6 @@
--- `insertion::table_of` meets its contract. Assumes nothing.
+-- `insertion::Constraints::of` meets its contract. Assumes nothing.
 use Rattle.record_joining.proofs.insertion.Tables.{of-record}
-use Rattle.record_joining.proofs.insertion.table_of.Goals as goal
+use Rattle.record_joining.proofs.insertion.Constraints.of.Goals as goal
 
 pub returns : goal.returns
 returns c = λ R e h. of-record c.args.multilog R e h
