@@ -4,10 +4,11 @@ ghost use Rattle.std.specs.Prelude.{◌≡◌, ℕ, ◌+◌, ◌*◌, ◌<◌, �
 ghost use Rattle.record.specs.Record as theory;
 ghost use Rattle.record.specs.Stored.{stored};
 ghost use Rattle.record_rows.specs.row.Row.{name_limit};
-ghost use Rattle.graph.specs.links.Marks.{mark_limit, place_in};
+ghost use Rattle.graph.specs.links.Marks.{mark_limit};
 ghost use Rattle.graph.specs.links.Links.{key_limit};
 ghost use Rattle.graph.specs.links.Resolved.{Resolved};
 ghost use Rattle.graph.specs.indexes.Fit.{Fit};
+ghost use Rattle.graph.specs.indexes.Indexed.{Indexed};
 
 use crate::links::{ENABLES, Graph, Linking, NONCOMMUTING, Rows};
 use record::Record;
@@ -93,7 +94,7 @@ impl IndexTable {
 }
 
 pub fn index_table(multilog: Record) -> IndexTable
-    ensures { (R : theory.Record) → multilog ≡ stored R → Fit R → (x : ℕ) → get_or result x 0 ≡ place_in (theory.names R) x }
+    ensures { (R : theory.Record) → multilog ≡ stored R → Fit R → Indexed R result }
 {
     let mut table = IndexTable {
         indexes: [0; NAMES],
@@ -119,7 +120,7 @@ fn key_of(rule: u8, right: usize) -> usize
 }
 
 fn rows_of(multilog: Record, table: &IndexTable) -> Rows
-    ensures { (R : theory.Record) → multilog ≡ stored R → Fit R → ((x : ℕ) → get_or table.now x 0 ≡ place_in (theory.names R) x) → Resolved R result }
+    ensures { (R : theory.Record) → multilog ≡ stored R → Fit R → Indexed R table.now → Resolved R result }
 {
     let mut linking = Linking::new();
     for constraint in multilog.constraint_slice() {

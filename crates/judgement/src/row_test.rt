@@ -7,7 +7,8 @@ ghost use Rattle.record.specs.Stored.{stored};
 ghost use Rattle.record.specs.Judgement.{fits, sound_row};
 ghost use Rattle.graph.specs.links.Marks.{mark_limit};
 ghost use Rattle.graph.specs.indexes.Fit.{Fit};
-ghost use Rattle.judgement.specs.row_test.Seats.{Indexed, Seated, known_apart};
+ghost use Rattle.graph.specs.indexes.Indexed.{Indexed};
+ghost use Rattle.judgement.specs.row_test.Seats.{Seated, known_apart};
 
 use graph::indexes;
 use graph::indexes::IndexTable;

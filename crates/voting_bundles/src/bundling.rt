@@ -1,10 +1,11 @@
 // A record with what its bundles are made from, once for many edits.
-ghost use Rattle.std.specs.Prelude.{◌≡◌, List, ℕ, get_or};
+ghost use Rattle.std.specs.Prelude.{◌≡◌, List, ℕ};
 ghost use Rattle.record.specs.Record as theory;
 ghost use Rattle.lists.specs.Lists.{mem, ◌among◌};
 ghost use Rattle.record.specs.Stored.{stored};
-ghost use Rattle.graph.specs.links.Marks.{marks_of, place_in};
+ghost use Rattle.graph.specs.links.Marks.{marks_of};
 ghost use Rattle.graph.specs.indexes.Fit.{Fit};
+ghost use Rattle.graph.specs.indexes.Indexed.{Indexed};
 ghost use Rattle.voting.specs.Bundle.{between, bundle};
 
 use graph::indexes;
@@ -15,7 +16,7 @@ use std::marker::Model;
 
 // Whether an edit that the record knows is a member, by the marks of the members.
 fn is_member(table: &IndexTable, marks: &Marks, name: u16) -> bool
-    ensures { (R : theory.Record) (m : List ℕ) → ((x : ℕ) → get_or table.now x 0 ≡ place_in (theory.names R) x) → marks.now ≡ marks_of R (λ y. mem y m)
+    ensures { (R : theory.Record) (m : List ℕ) → Indexed R table.now → marks.now ≡ marks_of R (λ y. mem y m)
         → name among theory.names R → result ≡ mem name m }
 {
     marks[table.index_of(usize::from(name))] == 1
@@ -23,7 +24,7 @@ fn is_member(table: &IndexTable, marks: &Marks, name: u16) -> bool
 
 // Whether the ends of a constraint are members, or a member and 0.
 fn is_between(table: &IndexTable, marks: &Marks, constraint: Constraint) -> bool
-    ensures { (R : theory.Record) (m : List ℕ) → ((x : ℕ) → get_or table.now x 0 ≡ place_in (theory.names R) x) → marks.now ≡ marks_of R (λ y. mem y m)
+    ensures { (R : theory.Record) (m : List ℕ) → Indexed R table.now → marks.now ≡ marks_of R (λ y. mem y m)
         → constraint.left among theory.names R → constraint.right among theory.names R → result ≡ between m constraint.left constraint.right }
 {
     if !is_member(table, marks, constraint.left) {
@@ -42,13 +43,13 @@ pub struct Bundling {
 
 // Clauses see the record.
 impl Model for Bundling {
-    ghost use Rattle.std.specs.Prelude.{◌≡◌, ℕ, length, get_or};
+    ghost use Rattle.std.specs.Prelude.{◌≡◌, length};
     ghost use Rattle.record.specs.declared.Record as declared;
     ghost use Rattle.record.specs.Record as theory;
     ghost use Rattle.record.specs.Stored.{stored, edit_limit, constraint_limit};
-    ghost use Rattle.graph.specs.links.Marks.{place_in};
     ghost use Rattle.graph.specs.links.Links.{Leads};
     ghost use Rattle.graph.specs.indexes.Fit.{Fit};
+    ghost use Rattle.graph.specs.indexes.Indexed.{Indexed};
     ghost use Rattle.voting_members.specs.Rows.{leads_in};
 
     ghost Value = { declared.Record };
@@ -56,7 +57,7 @@ impl Model for Bundling {
     ghost view = { λ b. b.multilog };
 
     ghost invariant = { λ b. (length b.multilog.edits ≡ edit_limit) × (length b.multilog.constraints ≡ constraint_limit)
-        × ((R : theory.Record) → b.multilog ≡ stored R → Fit R → ((x : ℕ) → get_or b.table x 0 ≡ place_in (theory.names R) x) × Leads (leads_in R) R 0 b.rows) };
+        × ((R : theory.Record) → b.multilog ≡ stored R → Fit R → Indexed R b.table × Leads (leads_in R) R 0 b.rows) };
 }
 
 impl Bundling {

@@ -2,14 +2,15 @@
 // are pub for the crates that make bundles; they are safe for any record.
 #![tactic(auto)]
 
-ghost use Rattle.std.specs.Prelude.{◌≡◌, ℕ, ◌+◌, ◌<◌, ◌≤◌, length, get_or};
+ghost use Rattle.std.specs.Prelude.{◌≡◌, ℕ, ◌+◌, ◌<◌, ◌≤◌, length};
 ghost use Rattle.record.specs.Record as theory;
 ghost use Rattle.lists.specs.Lists.{mem, ◌among◌};
 ghost use Rattle.record.specs.Stored.{stored};
-ghost use Rattle.graph.specs.links.Marks.{marks_of, place_in};
+ghost use Rattle.graph.specs.links.Marks.{marks_of};
 ghost use Rattle.graph.specs.links.Links.{row_limit, with_row, Leads};
 ghost use Rattle.graph.specs.links.Resolved.{Resolved};
 ghost use Rattle.graph.specs.indexes.Fit.{Fit};
+ghost use Rattle.graph.specs.indexes.Indexed.{Indexed};
 ghost use Rattle.voting.specs.Bundle.{members};
 ghost use Rattle.voting_members.specs.Rows.{rival_key, enabled_key, forward_key, backward_key, leads_in};
 
@@ -89,7 +90,7 @@ fn link_both(linking: &mut Linking, c: IndexedConstraint, forward: usize, backwa
 
 // The linked rows of what leads to a member; `own` are the record's.
 fn leading_rows(multilog: Record, table: &IndexTable, own: &Rows) -> Rows
-    ensures { (R : theory.Record) → multilog ≡ stored R → Fit R → ((x : ℕ) → get_or table.now x 0 ≡ place_in (theory.names R) x)
+    ensures { (R : theory.Record) → multilog ≡ stored R → Fit R → Indexed R table.now
         → Resolved R own.now → Leads (leads_in R) R 0 result }
 {
     let mut linking = Linking::new();
@@ -109,7 +110,7 @@ fn leading_rows(multilog: Record, table: &IndexTable, own: &Rows) -> Rows
 // The linked rows of what leads to a member, from the record and the table of its names. They serve every edit of the record. Pub for
 // `voting_bundles`, which makes the table.
 pub fn member_rows(multilog: Record, table: &IndexTable) -> Rows
-    ensures { (R : theory.Record) → multilog ≡ stored R → Fit R → ((x : ℕ) → get_or table.now x 0 ≡ place_in (theory.names R) x) → Leads (leads_in R) R 0 result }
+    ensures { (R : theory.Record) → multilog ≡ stored R → Fit R → Indexed R table.now → Leads (leads_in R) R 0 result }
 {
     let graph = indexes::resolved(multilog);
     leading_rows(multilog, table, &graph.rows)
@@ -118,7 +119,7 @@ pub fn member_rows(multilog: Record, table: &IndexTable) -> Rows
 // The members of the bundle of an edit that the record knows; the rows are those of what leads to a member. Pub for `voting_bundles`, which has
 // table and rows.
 pub fn member_marks(table: &IndexTable, rows: &Rows, edit: u16) -> Marks
-    ensures { (R : theory.Record) → Fit R → ((x : ℕ) → get_or table.now x 0 ≡ place_in (theory.names R) x)
+    ensures { (R : theory.Record) → Fit R → Indexed R table.now
         → Leads (leads_in R) R 0 rows.now → edit among theory.written R → result ≡ marks_of R (λ y. mem y (members R edit)) }
 {
     let x = table.index_of(usize::from(edit));

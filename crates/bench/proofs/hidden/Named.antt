@@ -14,7 +14,8 @@ use Rattle.record.specs.Record.{Record, name_of, names, written}
 use Rattle.lists.proofs.Lists.{by, clash, is-by, mem_index}
 use Rattle.lists.proofs.Arrays.{get_or-zeros}
 use Rattle.record.proofs.Records.{written-names}
-use Rattle.graph.specs.links.Marks.{name_at, place_in, marks_of}
+use Rattle.graph.specs.links.Marks.{name_at, marks_of}
+use Rattle.graph.specs.indexes.Indexed.{Indexed}
 use Rattle.graph.proofs.links.Names.{get_or-among, get_or-place, place-known, place-unknown, place_same, ascending-distinct}
 use Rattle.graph.proofs.links.Marks.{values-are, marks-size, marks-at, marks-past}
 use Rattle.record_tables.specs.Checked.{Checked}
@@ -24,11 +25,11 @@ use Rattle.bench.proofs.hidden.Index.{length-written, held-few, name-is}
 
 module _ (R : Record) (test : ℕ → Bool) where
   -- the marks of the first i edits, by index
-  pub record Indexed (marks : List ℕ) (i : ℕ) : Type 0 where
+  pub record MarkedTo (marks : List ℕ) (i : ℕ) : Type 0 where
     pub passed : (y : ℕ) → y ≤ i → get_or marks y 0 ≡ cond (test (name_at R y)) 1 0
     pub left : (y : ℕ) → i < y → get_or marks y 0 ≡ 0
 
-  pub indexed-none : test 0 ≡ false → Indexed (replicate 128 0) 0
+  pub indexed-none : test 0 ≡ false → MarkedTo (replicate 128 0) 0
   unfolding names
   indexed-none z = record {
     passed = λ y l. let q : y ≡ 0 = omega arith in rw (q, z);
@@ -37,7 +38,7 @@ module _ (R : Record) (test : ℕ → Bool) where
 
   module _ (h : Checked R) where
     pub indexed-next : (mark : ℕ → ℕ) (marks : List ℕ) (i v : ℕ) (d : Edit) → i < length R.edits → length marks ≡ 128 → v ≡ mark (get_or R.edits i d).name
-        → ((x : ℕ) → x among written R → mark x ≡ cond (test x) 1 0) → Indexed marks i → Indexed (set marks (i + 1) v) (i + 1)
+        → ((x : ℕ) → x among written R → mark x ≡ cond (test x) 1 0) → MarkedTo marks i → MarkedTo (set marks (i + 1) v) (i + 1)
     unfolding names
     indexed-next mark marks i v d l size p f k =
         let w : i < length (written R) = omega (arith, length-written R h) in
@@ -50,7 +51,7 @@ module _ (R : Record) (test : ℕ → Bool) where
           left = λ y m. let e : y ≢ i + 1 = λ z. omega arith in rw (get_or-set_other marks (i + 1) y v 0 e) (k.left y (omega arith));
         }
 
-    pub indexed-end : (marks : List ℕ) (i : ℕ) → i ≡ length R.edits → length marks ≡ 128 → Indexed marks i → marks ≡ marks_of R test
+    pub indexed-end : (marks : List ℕ) (i : ℕ) → i ≡ length R.edits → length marks ≡ 128 → MarkedTo marks i → marks ≡ marks_of R test
     unfolding marks_of names
     indexed-end marks i e size k =
         let n = length-written R h in
@@ -62,7 +63,7 @@ module _ (R : Record) (h : List ℕ) (k : Checked R) (w : h within written R) wh
   pub init-shown : mem 0 h ≡ false
   init-shown = by (mem 0 h) (λ e. clash (w 0 e) (checked-unwritten R k)) (λ e. e)
 
-  pub mark-carried : (index hidden : List ℕ) → ((x : ℕ) → get_or index x 0 ≡ place_in (names R) x) → hidden ≡ marks_of R (λ x. mem x h) → (x : ℕ) → mark_named index hidden x ≡ cond (mem x h) 1 0
+  pub mark-carried : (index hidden : List ℕ) → Indexed R index → hidden ≡ marks_of R (λ x. mem x h) → (x : ℕ) → mark_named index hidden x ≡ cond (mem x h) 1 0
   unfolding names
   mark-carried index hidden f e x =
       ap (λ (l : List ℕ). get_or l (get_or index x 0) 0) e

@@ -19,6 +19,7 @@ use Rattle.graph.proofs.links.Names.{get_or-place, ascending-distinct, place-kno
 use Rattle.graph.proofs.links.Links.{Linking, linking-step, linking-end}
 use Rattle.graph.specs.links.Resolved.{Resolved}
 use Rattle.graph.specs.indexes.Fit.{Fit}
+use Rattle.graph.specs.indexes.Indexed.{Indexed}
 use Rattle.graph.proofs.indexes.Tables.{names-few}
 
 -- the key of a constraint, and of all
@@ -120,7 +121,7 @@ module _ (R : Record) (f : Fit R) (rows : List ℕ) (j : ℕ) (q : j ≡ length 
 
 -- one turn of the loop that links the constraints: the row's key and its left index as the table gives them
 module _ (R : Record) (f : Fit R) (table rows : List ℕ) (l : List Constraint) (j : ℕ) (d : Constraint) (key right left : ℕ)
-    (t : (x : ℕ) → get_or table x 0 ≡ place_in (names R) x) (e : l ≡ R.constraints) (h : j < length l) (u : right ≡ get_or table (get_or l j d).right 0)
+    (t : Indexed R table) (e : l ≡ R.constraints) (h : j < length l) (u : right ≡ get_or table (get_or l j d).right 0)
     (v : left ≡ get_or table (get_or l j d).left 0) (k : (get_or l j d).rule < 3 → key ≡ (get_or l j d).rule * 128 + right) where
   within : j < length R.constraints
   within = omega (arith, ap length e)

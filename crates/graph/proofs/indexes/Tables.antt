@@ -19,6 +19,7 @@ use Rattle.graph.specs.links.Marks.{name_at, place_in}
 use Rattle.graph.proofs.links.Names.{get_or-among, place-snoc, later-not, ascending-distinct}
 use Rattle.graph.proofs.links.Marks.{zeros-get}
 use Rattle.graph.specs.indexes.Fit.{Fit}
+use Rattle.graph.specs.indexes.Indexed.{Indexed}
 
 pub length-names : (R : Record) → length (names R) ≡ suc (length R.edits)
 unfolding names written
@@ -62,7 +63,7 @@ indexing-step R f table k name size h e g x =
     (λ q. rw (q, get_or-set_same table name k 0 l, eq-eqb name (name_at R k) e))
     (λ q. rw (get_or-set_other table name x k 0 q, ne_eqb x (name_at R k) (λ z. q (z ∙ sym e))) (g x)))
 
-pub indexing-end : (R : Record) (table : List ℕ) (k : ℕ) → length (names R) ≤ k → Indexing R table k → (x : ℕ) → get_or table x 0 ≡ place_in (names R) x
+pub indexing-end : (R : Record) (table : List ℕ) (k : ℕ) → length (names R) ≤ k → Indexing R table k → Indexed R table
 indexing-end R table k h g x = g x ∙ ap (λ l. place_in l x) (take_all k (names R) h)
 
 pub stored-edits : (r : declared.Record) (R : Record) (l : List Edit) → r ≡ stored R → l ≡ take r.editcount r.edits → l ≡ R.edits

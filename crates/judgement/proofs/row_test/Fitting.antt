@@ -16,8 +16,9 @@ use Rattle.record.specs.Judgement.{fits, starts_with_init, sound_row}
 use Rattle.lists.proofs.Lists.{is-by, same_by, position-none, position_some, position_at}
 use Rattle.graph.proofs.links.Names.{place-known}
 use Rattle.graph.specs.indexes.Fit.{Fit}
+use Rattle.graph.specs.indexes.Indexed.{Indexed}
 use Rattle.graph.proofs.indexes.Resolving.{has-at, left-known, right-known}
-use Rattle.judgement.specs.row_test.Seats.{Indexed, Seated, known_apart}
+use Rattle.judgement.specs.row_test.Seats.{Seated, known_apart}
 
 module _ (row : List ℕ) (x y a b : ℕ) (p : a ≡ position_of x row) (q : b ≡ position_of y row) where
   absent : a ≡ 0 → mem x row ≡ false

@@ -18,8 +18,9 @@ use Rattle.graph.specs.links.Marks.{name_at}
 use Rattle.graph.proofs.links.Names.{get_or-among, get_or-place, place-get_or, later-not, ascending-distinct, place-known, place-unknown}
 use Rattle.graph.proofs.links.Marks.{zeros-get}
 use Rattle.graph.specs.indexes.Fit.{Fit}
+use Rattle.graph.specs.indexes.Indexed.{Indexed}
 use Rattle.graph.proofs.indexes.Tables.{names-few}
-use Rattle.judgement.specs.row_test.Seats.{Indexed, Seated, known_apart}
+use Rattle.judgement.specs.row_test.Seats.{Seated, known_apart}
 
 init-place : (R : Record) → index_of 0 (names R) ≡ 0
 unfolding names index_of

@@ -2,11 +2,6 @@
 use Rattle.std.specs.Prelude.{◌≡◌, Bool, ◌&&◌, List, ℕ, get_or}
 use Rattle.lists.specs.Lists.{all, mem, index_of, position_of, distinct, ◌among◌}
 use Rattle.record.specs.Record.{Record, names}
-use Rattle.graph.specs.links.Marks.{place_in}
-
--- the table has the index of each name
-abbrev pub Indexed : Record → List ℕ → Type 0
-Indexed R table = (x : ℕ) → get_or table x 0 ≡ place_in (names R) x
 
 -- the seats of the record's edits: their positions in the row
 abbrev pub Seated : Record → List ℕ → List ℕ → Type 0

@@ -15,10 +15,11 @@ use Rattle.record.specs.Record.{Record, name_of, names, written, has}
 use Rattle.record.specs.Stored.{padded, stored, edit_limit, constraint_limit, filler_edit, filler_constraint}
 use Rattle.lists.proofs.Lists.{mem_index, mem-head, mem-tail}
 use Rattle.record.proofs.Records.{has-head, has-tail}
-use Rattle.graph.specs.links.Marks.{marks_of, place_in}
+use Rattle.graph.specs.links.Marks.{marks_of}
 use Rattle.graph.proofs.links.Names.{get_or-place, place-known}
 use Rattle.graph.proofs.links.Marks.{marks-at}
 use Rattle.graph.specs.indexes.Fit.{Fit}
+use Rattle.graph.specs.indexes.Indexed.{Indexed}
 use Rattle.graph.proofs.indexes.Resolving.{left-known, right-known}
 use Rattle.voting.specs.Bundle.{members, between, bundle}
 use Rattle.voting_bundles.proofs.equality.Equal.{edits-kept, constraints-kept}
@@ -28,7 +29,7 @@ bit_is true = refl
 bit_is false = refl
 
 -- the mark of an edit, at its index
-pub mark_of : (R : Record) (m table marks : List ℕ) → ((x : ℕ) → get_or table x 0 ≡ place_in (names R) x) → marks ≡ marks_of R (λ y. mem y m)
+pub mark_of : (R : Record) (m table marks : List ℕ) → Indexed R table → marks ≡ marks_of R (λ y. mem y m)
     → (x i : ℕ) → x among names R → i ≡ get_or table x 0 → eqb (get_or marks i 0) 1 ≡ mem x m
 mark_of R m table marks t e x i k q =
     let p : i ≡ index_of x (names R) = q ∙ (t x ∙ place-known x (names R) k) in
@@ -37,11 +38,11 @@ mark_of R m table marks t e x i k q =
 -- what `is_member` and `is_between` say of an edit and of a constraint
 abbrev pub TellsMember : List ℕ → List ℕ → ℕ → Bool → Type 0
 TellsMember table marks name b =
-    (R : Record) (m : List ℕ) → ((x : ℕ) → get_or table x 0 ≡ place_in (names R) x) → marks ≡ marks_of R (λ y. mem y m) → name among names R → b ≡ mem name m
+    (R : Record) (m : List ℕ) → Indexed R table → marks ≡ marks_of R (λ y. mem y m) → name among names R → b ≡ mem name m
 
 abbrev pub TellsBetween : List ℕ → List ℕ → Constraint → Bool → Type 0
 TellsBetween table marks c b =
-    (R : Record) (m : List ℕ) → ((x : ℕ) → get_or table x 0 ≡ place_in (names R) x) → marks ≡ marks_of R (λ y. mem y m)
+    (R : Record) (m : List ℕ) → Indexed R table → marks ≡ marks_of R (λ y. mem y m)
     → c.left among names R → c.right among names R → b ≡ between m c.left c.right
 
 -- what a record knows of its own rows

@@ -1,14 +1,14 @@
-use Rattle.std.proofs.Common.{ℕ, ◌≡◌, ◌*◌, ◌≤◌, length, get_or}
+use Rattle.std.proofs.Common.{ℕ, ◌≡◌, ◌*◌, ◌≤◌, length}
 use Rattle.record.specs.Stored.{stored}
-use Rattle.record.specs.Record.{Record, names}
-use Rattle.graph.specs.links.Marks.{place_in}
+use Rattle.record.specs.Record.{Record}
 use Rattle.graph.specs.links.Resolved.{Resolved}
 use Rattle.voting_members.proofs.Rowing.{Rowing}
 use Rattle.graph.specs.indexes.Fit.{Fit}
+use Rattle.graph.specs.indexes.Indexed.{Indexed}
 use Rattle.voting_members.proofs.leading_rows.Given as goal
 
 abbrev pub invariant-loop-constraint : goal.invariant-loop-constraint
 invariant-loop-constraint l =
     (l.linking.count ≡ 2 * l.constraint-index) × (length l.constraint-items ≤ 512)
-    × ((R : Record) → l.fn.multilog ≡ stored R → Fit R → ((x : ℕ) → get_or l.table x 0 ≡ place_in (names R) x) → Resolved R l.own
+    × ((R : Record) → l.fn.multilog ≡ stored R → Fit R → Indexed R l.table → Resolved R l.own
     → Rowing R l.linking.cells l.constraint-index)

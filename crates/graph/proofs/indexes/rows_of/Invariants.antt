@@ -1,14 +1,14 @@
-use Rattle.std.proofs.Common.{ℕ, ◌≡◌, ◌≤◌, length, get_or}
+use Rattle.std.proofs.Common.{ℕ, ◌≡◌, ◌≤◌, length}
 use Rattle.graph.specs.indexes.Fit.{Fit}
+use Rattle.graph.specs.indexes.Indexed.{Indexed}
 use Rattle.graph.proofs.indexes.Resolving.{keys_of, lefts_of}
-use Rattle.graph.specs.links.Marks.{place_in}
 use Rattle.graph.proofs.links.Links.{Linking}
-use Rattle.record.specs.Record.{Record, names}
+use Rattle.record.specs.Record.{Record}
 use Rattle.record.specs.Stored.{stored}
 use Rattle.graph.proofs.indexes.rows_of.Given as goal
 
 abbrev pub invariant-loop-constraint : goal.invariant-loop-constraint
 invariant-loop-constraint l =
     (l.linking.count ≡ l.constraint-index) × (length l.constraint-items ≤ 512)
-    × ((R : Record) → l.fn.multilog ≡ stored R → Fit R → ((x : ℕ) → get_or l.table x 0 ≡ place_in (names R) x)
+    × ((R : Record) → l.fn.multilog ≡ stored R → Fit R → Indexed R l.table
     → Linking (keys_of R) (lefts_of R) l.linking.cells l.constraint-index)

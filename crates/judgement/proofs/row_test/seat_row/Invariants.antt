@@ -1,5 +1,5 @@
 use Rattle.std.proofs.Common.{◌≡◌, length}
-use Rattle.judgement.specs.row_test.Seats.{Indexed}
+use Rattle.graph.specs.indexes.Indexed.{Indexed}
 use Rattle.judgement.proofs.row_test.Seating.{Seating}
 use Rattle.graph.specs.indexes.Fit.{Fit}
 use Rattle.record.specs.Record.{Record}
