@@ -3,3 +3,4 @@
 
 pub mod indexes;
 pub mod links;
+mod reversed_row;

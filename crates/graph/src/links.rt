@@ -8,9 +8,11 @@ ghost use Rattle.record.specs.Schedule.{ring};
 ghost use Rattle.graph.specs.links.Marks.{mark_limit, name_at, marks_of};
 ghost use Rattle.graph.specs.links.Links.{notafter_base, noncommuting_base, key_limit, row_limit, rows_length, left_at, with_row, Safe, Growing, FirstRow, NextRow, LeftEnd, Walks, LinkedByKey, NoRow, SomeRow, Leads};
 ghost use Rattle.graph.specs.links.Reach.{Marked};
-ghost use Rattle.graph.specs.links.Reversed.{Noting, Reversed};
+ghost use Rattle.graph.specs.links.Reversed.{LinksReversed, Noting, Reversed};
 ghost use Rattle.graph.specs.links.Search.{Visited, VisitedNew};
 
+use crate::reversed_row::ReversedRow;
+use record::{CONSTRAINTS, EDITS};
 use std::marker::Model;
 
 // Kept: `x < mark_limit`, `key < key_limit`: a type of indexes with that invariant was tried; each access to marks and each turn of a loop over
@@ -19,27 +21,27 @@ use std::marker::Model;
 // Kept: `base ≤ noncommuting_base`: any base is taken; an enum of the three rules would ask more, and would not name the relation of a
 // bundle's members, which stands above 0.
 
-// Marks of the edits of a record, one to each index.
-pub const MARKS: usize = 128;
-
-// Linked rows in one array: the head of each key, then the link and then the left end of each row. The specs of `links` have the same numbers.
-pub const ROWS: usize = 2432;
+// Marks of the edits of a record and of INIT, one to each index.
+pub const MARKS: usize = EDITS + 1;
 
 // Kept: numbers and no truth values: document 01 names "an array of 128 marks", and pages of edits stand in one too.
 pub type Marks = [u8; MARKS];
 
-const ROW_LIMIT: usize = 1024;
-
-const LINKS_START: usize = 384;
-
-const LEFTS_START: usize = 1408;
-
-// The keys of a record's rows: the right index, above the base of the rule.
+// The keys of a record's rows: the right index, above the base of the rule. The specs of `links` have the same numbers.
 pub const NOTAFTER: usize = 0;
 
-pub const ENABLES: usize = 128;
+pub const ENABLES: usize = MARKS;
 
-pub const NONCOMMUTING: usize = 256;
+pub const NONCOMMUTING: usize = 2 * MARKS;
+
+// Linked rows in one array: the head of each key, then the link and then the left end of each row, of which a constraint has at most two.
+const ROW_LIMIT: usize = 2 * CONSTRAINTS;
+
+const LINKS_START: usize = 3 * MARKS;
+
+const LEFTS_START: usize = LINKS_START + ROW_LIMIT;
+
+pub const ROWS: usize = LEFTS_START + ROW_LIMIT;
 
 // Links row j, counted from 0, before all others of its key. Any array is taken, and any place in it.
 #[tactic(auto, unfolding(crate::specs::links::Links::head_at, crate::specs::links::Links::with_row))]
@@ -191,12 +193,7 @@ impl Rows {
         ensures { (leads : ℕ → ℕ → Bool) (R : Record) → Leads leads R base self.now
             → a < length (names R) → b < length (names R) → result ≡ leads (name_at R a) (name_at R b) }
     {
-        for left in self.lefts(base + b) {
-            if left == a {
-                return true;
-            }
-        }
-        false
+        self.lefts(base + b).any(|left| left == a)
     }
 
     // Whether some row of the key has a left with this mark. Pub for `judgement_marks` and `judgement_marks::schedules`.
@@ -205,12 +202,7 @@ impl Rows {
         ensures some { result ≡ true → SomeRow self.now key (λ y. get_or marks.now y 0 ≡ mark) }
         ensures none { result ≡ false → NoRow self.now key (λ y. get_or marks.now y 0 ≡ mark) }
     {
-        for left in self.lefts(key) {
-            if marks[left] == mark {
-                return true;
-            }
-        }
-        false
+        self.lefts(key).any(|left| marks[left] == mark)
     }
 }
 
@@ -291,34 +283,31 @@ fn visit_new(rows: &Rows, old: &Marks, states: &mut Marks, x: usize) -> bool
     visit(rows, states, x)
 }
 
-// Notes the left and the right edit of each row of notafter to the edit at b.
-fn reverse_rows(rows: &Rows, lefts: &mut [u8; ROW_LIMIT], rights: &mut [u8; ROW_LIMIT], b: usize)
+// Notes each row of notafter to the edit at b, reversed.
+fn reverse_rows(rows: &Rows, reversed: &mut [ReversedRow; ROW_LIMIT], b: usize)
     requires { b < mark_limit }
-    ensures { Noting rows.now b lefts.old rights.old lefts.new rights.new }
+    ensures { Noting rows.now b reversed.old reversed.new }
 {
     let mut j = rows.first_row(b);
     // Kept: what is noted of a row stands at the row's number, which a walk over left ends does not give.
     while j != 0 {
         let row = rows.row(j);
-        lefts[j - 1] = row.left as u8;
-        rights[j - 1] = b as u8;
+        reversed[j - 1] = ReversedRow {
+            from: row.left as u8,
+            to: b as u8,
+        };
         j = row.next;
     }
 }
 
-// The rows of these keys and left ends.
-// Kept: two arrays of one length: LinkedByKey speaks of the list of keys alone, which an array of pairs would have to give as a map.
-fn linked_rows(keys: &[u8], lefts: &[u8]) -> Rows
-    requires size { length keys.now ≤ row_limit }
-    requires same { length lefts.now ≡ length keys.now }
-    requires keys { (i : ℕ) → i < length keys.now → get_or keys.now i 0 < key_limit }
-    requires lefts { (i : ℕ) → i < length keys.now → get_or lefts.now i 0 < mark_limit }
-    ensures linked { LinkedByKey keys.now result }
-    ensures lefts { (i : ℕ) → i < length keys.now → left_at result i ≡ get_or lefts.now i 0 }
+// The reversed rows, linked.
+fn linked_rows(reversed: &[ReversedRow]) -> Rows
+    requires { length reversed.now ≤ row_limit }
+    ensures { LinksReversed reversed.now result }
 {
     let mut linking = Linking::new();
-    for j in 0..keys.len() {
-        linking.link_row(usize::from(keys[j]), usize::from(lefts[j]));
+    for row in reversed {
+        linking.link_row(usize::from(row.from), usize::from(row.to));
     }
     linking.rows()
 }
@@ -364,19 +353,17 @@ impl Graph {
         marks
     }
 
-    // The reversed graph of notafter: rows by their left edits, with the right ones. A row that is none has the key 255, which is no edit's. Pub for
-    // `judgement_marks` and `judgement_marks::schedules`.
-    // Kept: the key 255 for no row: a row of notafter is noted at its own number, and those of other rules leave gaps between.
+    // The reversed graph of notafter: rows by their left edits, with the right ones. Pub for `judgement_marks` and `judgement_marks::schedules`.
     pub fn reversed(&self) -> Rows
         ensures { (R : Record) → Leads (notafter R) R notafter_base self.now.rows → self.now.count ≡ length (names R) → Reversed R result }
     {
-        let mut lefts = [255; ROW_LIMIT];
-        let mut rights = [0; ROW_LIMIT];
+        let none = ReversedRow { from: 255, to: 0 };
+        let mut reversed = [none; ROW_LIMIT];
         let mut count = 0;
         for b in 0..self.count {
-            reverse_rows(&self.rows, &mut lefts, &mut rights, b);
+            reverse_rows(&self.rows, &mut reversed, b);
             count = count.max(self.rows.first_row(b));
         }
-        linked_rows(&lefts[..count], &rights[..count])
+        linked_rows(&reversed[..count])
     }
 }

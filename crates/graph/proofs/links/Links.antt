@@ -93,15 +93,19 @@ module _ (rows : List ℕ) (k : ℕ) where
   no_row P j e w keys g i l q = (w keys g).passed i (omega arith) l q
 
 module _ (leads : ℕ → ℕ → Bool) (R : Record) (base : ℕ) (rows : List ℕ) (g : Leads leads R base rows) (a b : ℕ) (l : a < length (names R)) (m : b < length (names R)) where
-  pub leads-found : SomeRow rows (base + b) (λ y. y ≡ a) → true ≡ leads (name_at R a) (name_at R b)
+  leads-found : SomeRow rows (base + b) (λ y. y ≡ a) → true ≡ leads (name_at R a) (name_at R b)
   leads-found w = let r = w g.keys g.linked in sym (rw (← r.holds) (g.holds r.row b r.low m r.key))
 
-  pub leads-none : NoRow rows (base + b) (λ y. y ≡ a) → false ≡ leads (name_at R a) (name_at R b)
+  leads-none : NoRow rows (base + b) (λ y. y ≡ a) → false ≡ leads (name_at R a) (name_at R b)
   leads-none w =
       sym (by (leads (name_at R a) (name_at R b))
       (λ e. let r = g.row_of (name_at R a) (name_at R b) e in
       absurd (w g.keys g.linked r.row r.low (r.key ∙ ap (λ y. base + y) (place-get_or (names R) b g.apart m)) (r.left ∙ place-get_or (names R) a g.apart l)))
       (λ e. e))
+
+  pub leads-told : (r : Bool) → (r ≡ true → SomeRow rows (base + b) (λ y. y ≡ a)) × (r ≡ false → NoRow rows (base + b) (λ y. y ≡ a)) → r ≡ leads (name_at R a) (name_at R b)
+  leads-told true w = leads-found (w.0 refl)
+  leads-told false w = leads-none (w.1 refl)
 
 -- what the array is once row j is linked: the head of its key, its link and its left end are new
 abbrev link_set : List ℕ → ℕ → ℕ → List ℕ
