@@ -4,6 +4,11 @@
 ghost use Rattle.std.specs.Prelude.{◌≡◌, Bool, ◌++◌, ◌≤◌, length, drop};
 ghost use Rattle.lists.specs.Lists.{Has, filter};
 
+use record_rows::row;
+
+// How many benches there are.
+pub const BENCHES: usize = row::BENCHES as usize;
+
 // One row of the roll.
 #[derive(Clone, Copy)]
 pub struct RollRow {

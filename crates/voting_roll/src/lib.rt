@@ -8,10 +8,7 @@ ghost use Rattle.record_rows.specs.grounds.Ground.{◌given◌};
 ghost use Rattle.voting_roll.specs.Roll.{roll_bench, roll_faulty, row_faulty};
 
 use refusals::Refusal;
-use voting::RollRow;
-
-// The most rows of a roll, one for each bench.
-const SEATS: usize = 8;
+use voting::{BENCHES, RollRow};
 
 // Whether a bench has one of the rows.
 fn has_bench(rows: &[RollRow], bench: u8) -> bool
@@ -25,7 +22,9 @@ fn has_bench(rows: &[RollRow], bench: u8) -> bool
 fn is_faulty(rows: &[RollRow], row: RollRow) -> bool
     ensures { result ≡ row_faulty rows.now row (length rows.now) }
 {
-    !(1..=8).contains(&row.bench) || SEATS <= rows.len() || has_bench(rows, row.bench)
+    !(1..=BENCHES).contains(&usize::from(row.bench))
+        || BENCHES <= rows.len()
+        || has_bench(rows, row.bench)
 }
 
 // THE FAULT of a roll: a bench that is not 1 to 8 or that stands twice, or a ninth row. Every fault is 14.
