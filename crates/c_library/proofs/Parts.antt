@@ -7,17 +7,13 @@ use lib.ListN.{length, length-append}
 use Rattle.text_lines.specs.Lines.{lines}
 use Rattle.stream.specs.Pieces.{last_end}
 use Rattle.stream.proofs.Pieces.{last-append, lines-few}
-use Rattle.ledger.specs.Ledger.{start}
-use Rattle.ledger.specs.Bench.{bench_of}
 use Rattle.log_forms.specs.declared.Printer.{Printer}
 use Rattle.log_forms.specs.Printed.{Buffer, with_texts, PrintedLines}
-use Rattle.log_lent.specs.Lent.{nothing_lent}
-use Rattle.log_lent.specs.Kept.{Kept}
 use Rattle.log_session.specs.declared.Session.{Session}
 use Rattle.log_session.specs.Desk.{Desk, empty_desk}
 use Rattle.log_session.specs.calls.Lines.{Holds}
 use Rattle.log_run.specs.Log.{begun, run_lines, log_run}
-use Rattle.log_run.proofs.Runs.{prefixed, run-count, run-after, empty_holds}
+use Rattle.log_run.proofs.Runs.{prefixed, run-count, run-after}
 use Rattle.log_run.proofs.Kept.{kept_run}
 use Rattle.c_library.specs.Replies.{texts_after, worked}
 
@@ -28,11 +24,11 @@ Ran log D before session after =
     Holds R.desk session × (after.line ≡ R.count) × PrintedLines R.printed before after
 
 module _ (kept log work : List ℕ) (few : length kept + length log ≤ 4611686018427387904) {start_session held last_session : Session} {first middle last : Printer}
-    (b : start_session.bench ≡ bench_of start) (k : Kept nothing_lent start_session.lending) (w : first.out.now ≡ work) (a : first.at ≡ 0) (l : first.line ≡ 0)
+    (h : Holds empty_desk start_session) (w : first.out.now ≡ work) (a : first.at ≡ 0) (l : first.line ≡ 0)
     (f : (D : Desk) → Holds D start_session → first.line + length kept ≤ 4611686018427387904 → Ran kept D first held middle)
     (g : (D : Desk) → Holds D held → middle.line + length log ≤ 4611686018427387904 → Ran log D (record middle { at = 0 }) last_session last) where
   first_run : Ran kept empty_desk (record first { line = 0 }) held middle
-  first_run = rw l at (f empty_desk (empty_holds b k) (omega (arith, l)))
+  first_run = rw l at (f empty_desk h (omega (arith, l)))
 
   second_run : Ran log (log_run kept).desk (record middle { at = 0; line = (log_run kept).count }) last_session last
   unfolding log_run

@@ -142,10 +142,7 @@ fn log_size(logs: Logs, work: &mut [u8]) -> usize
         → (work.new ≡ (worked logs.entry.kept.now logs.entry.log.now work.old).bytes)
         × (result ≡ (worked logs.entry.kept.now logs.entry.log.now work.old).place) }
 {
-    let mut session = Session {
-        bench: bench::empty_bench(),
-        lending: log_lent::nothing_lent(),
-    };
+    let mut session = Session::empty();
     let mut printer = Printer {
         out: work,
         at: 0,

@@ -58,24 +58,25 @@ fn record_place(k: u32) -> Result<usize, Refusal>
     }
 }
 
-pub fn nothing_lent() -> Lending
-    ensures { Kept nothing_lent result }
-{
-    let seat = RollRow {
-        bench: 0,
-        weight: 0,
-    };
-    Lending {
-        edits: LentTables::new(),
-        constraints: LentTables::new(),
-        roll: [seat; ROLL_PLACES],
-        rollcount: 0,
-        row: [0; ROW_PLACES],
-        rowcount: 0,
-    }
-}
-
 impl Lending {
+    // Nothing lent yet.
+    pub fn nothing() -> Lending
+        ensures { Kept nothing_lent result }
+    {
+        let seat = RollRow {
+            bench: 0,
+            weight: 0,
+        };
+        Lending {
+            edits: LentTables::new(),
+            constraints: LentTables::new(),
+            roll: [seat; ROLL_PLACES],
+            rollcount: 0,
+            row: [0; ROW_PLACES],
+            rowcount: 0,
+        }
+    }
+
     // Record k as it is lent.
     pub fn record(&self, k: usize) -> LentRecord<'_>
         ensures { (L : Lent) → Kept L self.now → k < lent_records → (result.edits.now ≡ L.edits k) × (result.constraints.now ≡ L.constraints k) }

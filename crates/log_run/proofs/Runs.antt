@@ -1,16 +1,10 @@
--- Laws of a run: its count, what was printed before it, a run in two parts, and the desk that it starts from. Assumes nothing.
+-- Laws of a run: its count, what was printed before it, and a run in two parts. Assumes nothing.
 use mathlib.Core.Path.{◌≡◌, refl, sym, ap, ◌∙◌}
 use mathlib.Core.List.{List, [], ◌∷◌, ◌++◌, append_assoc, append-nil}
 use Prim.Native.Nat.{ℕ, suc, ◌+◌}
 use native.Mathlib.Omega.{arith}
 use lib.ListN.{length}
-use Rattle.ledger.specs.Ledger.{start, fed}
-use Rattle.ledger.specs.Bench.{bench_of}
-use Rattle.log_lent.specs.Lent.{nothing_lent}
-use Rattle.log_lent.specs.Kept.{Kept}
-use Rattle.log_session.specs.declared.Session.{Session}
-use Rattle.log_session.specs.Desk.{empty_desk, ledger_of, bench_in, printed_of}
-use Rattle.log_session.specs.calls.Lines.{Holds}
+use Rattle.log_session.specs.Desk.{printed_of}
 use Rattle.log_forms.specs.Printed.{Texts}
 use Rattle.log_commands.specs.Grammar.{command_read}
 use Rattle.log_run.specs.Effects.{effect}
@@ -20,11 +14,6 @@ pub run-count : (r : Run) (l : List (List ℕ)) → (run_lines r l).count ≡ r.
 unfolding run_lines run_line
 run-count r [] = omega arith
 run-count r (x ∷ l) = let h = run-count (run_line r x) l in omega arith
-
--- nothing is lent yet on an empty bench
-pub empty_holds : {session : Session} → session.bench ≡ bench_of start → Kept nothing_lent session.lending → Holds empty_desk session
-unfolding empty_desk bench_in ledger_of fed
-empty_holds b k = record { benched = b; kept = k }
 
 -- what is printed before leaves the rest of a run as it is
 abbrev pub prefixed : Texts → Run → Run

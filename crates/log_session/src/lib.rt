@@ -12,7 +12,7 @@ ghost use Rattle.ledger.specs.Bench.{told_outcome};
 ghost use Rattle.log_forms.specs.Printed.{Printed};
 ghost use Rattle.log_answers.specs.Answers.{answered_text};
 ghost use Rattle.log_lent.specs.Kept.{Kept};
-ghost use Rattle.log_session.specs.Desk.{Desk, replied};
+ghost use Rattle.log_session.specs.Desk.{Desk, empty_desk, replied};
 ghost use Rattle.log_session.specs.Lends.{lend_effect};
 ghost use Rattle.log_session.specs.Requests.{request_of};
 ghost use Rattle.log_session.specs.calls.Lines.{Holds};
@@ -30,6 +30,18 @@ use refusals::Refusal;
 pub struct Session {
     pub bench: Bench,
     pub lending: Lending,
+}
+
+impl Session {
+    // An empty bench, and nothing lent.
+    pub fn empty() -> Session
+        ensures { Holds empty_desk result }
+    {
+        Session {
+            bench: bench::empty_bench(),
+            lending: Lending::nothing(),
+        }
+    }
 }
 
 // A line that lends.

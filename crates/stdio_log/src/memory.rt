@@ -25,10 +25,7 @@ impl Memory {
         ensures { Ran (begun empty_desk 0) result }
     {
         Memory {
-            session: Session {
-                bench: bench::empty_bench(),
-                lending: log_lent::nothing_lent(),
-            },
+            session: Session::empty(),
             line: 0,
             out: [0; OUTPUT_SIZE],
         }

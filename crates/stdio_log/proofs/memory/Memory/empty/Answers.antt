@@ -2,11 +2,10 @@
 use mathlib.Core.Path.{refl}
 use Rattle.log_session.specs.Desk.{empty_desk}
 use Rattle.log_bounds.proofs.Bounds.{empty-bounded}
-use Rattle.log_run.proofs.Runs.{empty_holds}
 use Rattle.stdio_log.proofs.memory.Memory.empty.Goals as goal
 
 pub returns : goal.returns
-returns c = record { held = empty_holds c.empty_bench.ensures c.nothing_lent.ensures; counted = refl }
+returns c = record { held = c.empty.ensures; counted = refl }
 
 pub invariant_of-result : goal.invariant_of-result
-invariant_of-result c = record { held = ∣ record { desk = empty_desk; holds = empty_holds c.empty_bench.ensures c.nothing_lent.ensures; bounded = empty-bounded } ∣₁ }
+invariant_of-result c = record { held = ∣ record { desk = empty_desk; holds = c.empty.ensures; bounded = empty-bounded } ∣₁ }
