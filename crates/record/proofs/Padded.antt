@@ -1,12 +1,19 @@
 -- Laws of lists stored in rows, the others filled. Assumes nothing.
 use mathlib.Core.Path.{◌≡◌, refl, sym, ap, ◌∙◌}
-use mathlib.Core.List.{List, [], ◌∷◌, ◌++◌, append_assoc}
+use mathlib.Core.List.{List, [], ◌∷◌, ◌++◌, map, append_assoc}
 use Prim.Native.Nat.{ℕ, suc, ◌+◌, ◌-◌, ◌≤◌, ◌<◌}
 use native.Mathlib.Nat.{sub-zero}
 use native.Mathlib.Omega.{arith}
-use lib.ListN.{length, take, drop, get_or, set, replicate, length-append, length-replicate, get_or-append}
+use lib.ListN.{length, take, drop, get_or, set, replicate, length-append, length-map, length-replicate, get_or-append}
 use lib.Seq.{take-append-le, set_at, get_or-append-add, slice}
+use Rattle.std.specs.Fn.{Mut, Called}
+use Rattle.std.specs.Array.{IsFromFnResult}
+use lib.Dec.{ltb}
+use borrow.Author.Tests.{ltb-true, ltb-false}
+use Rattle.std.proofs.lemmas.List.{get_or_past}
+use Rattle.lists.proofs.Lists.{by}
 use Rattle.lists.proofs.Arrays.{get_or-filled}
+use Rattle.lists.proofs.Made.{made-is}
 use Rattle.record.specs.Stored.{padded}
 
 module _ {A : Type 0} (n : ℕ) (filler : A) where
@@ -46,3 +53,15 @@ module _ {A : Type 0} (n : ℕ) (filler : A) where
       let e : length l + (i - length l) ≡ i = omega arith in
       ap (λ (j : ℕ). get_or (l ++ replicate (n - length l) filler) j filler) (sym e)
       ∙ get_or-append-add l (replicate (n - length l) filler) (i - length l) filler ∙ get_or-filled filler (n - length l) (i - length l)
+
+  -- the list and, after it, fillers, place by place
+  get_or-whole : (l : List A) (i : ℕ) → get_or (padded n filler l) i filler ≡ get_or l i filler
+  get_or-whole l i =
+      by (ltb i (length l)) (λ t. get_or-padded l i filler (ltb-true i (length l) t))
+      (λ t. let h : length l ≤ i = ltb-false i (length l) t in padded-past l i h ∙ sym (get_or_past l i filler h))
+
+  -- an array that a closure made, of what the elements of a list become
+  pub made-padded : {C F : Type 0} (w : C → A) (t : List C) (g : Mut F (ℕ × Unit {0}) A) (f : F) {ys : List A} → length t ≤ n
+      → ((i : ℕ) (y : A) (q : F) → Called g f (i, tt) y q → (q ≡ f) × (y ≡ get_or (map w t) i filler)) → IsFromFnResult g f ys n → ys ≡ padded n filler (map w t)
+  made-padded w t g f h each m =
+      made-is g f (padded n filler (map w t)) filler (λ i y q e. let k = each i y q e in (k.0, k.1 ∙ sym (get_or-whole (map w t) i))) (length-padded (map w t) (rw (length-map t w) h)) m

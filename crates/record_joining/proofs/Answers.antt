@@ -1,19 +1,19 @@
 -- The answers of the calls, from what the check and the union give. Assumes nothing.
 use mathlib.Core.Path.{◌≡◌, ap, sym, ◌∙◌}
 use mathlib.Core.Bool.{Bool, true, false}
-use mathlib.Core.List.{List, [], ◌∷◌, map, map-append}
-use Prim.Native.Nat.{ℕ, ◌+◌, ◌≤◌, ◌<◌}
-use native.Mathlib.Numerals.{add-one}
+use mathlib.Core.List.{List, [], ◌∷◌, map}
+use Prim.Native.Nat.{ℕ, ◌≤◌, ◌<◌}
 use native.Mathlib.Omega.{arith}
-use lib.ListN.{length, take, get_or, set}
-use lib.Seq.{take-suc, take-suc-set}
+use lib.ListN.{length, take, length-map}
+use lib.Seq.{take_all}
 use Rattle.std.specs.Prelude.{Result, Ok, Err}
 use Rattle.refusals.specs.declared.Refusal.{Refusal}
 use Rattle.refusals.specs.Numbers.{Gives}
 use Rattle.record.specs.declared.Record as declared
 use Rattle.record.specs.declared.Constraint.{Constraint}
 use Rattle.record.specs.Record.{Record, written}
-use Rattle.record.specs.Stored.{stored, record_of}
+use Rattle.record.specs.Stored.{padded, stored, record_of}
+use Rattle.record.proofs.Padded.{take-padded}
 use Rattle.lists.specs.Keyed.{Ascending, inserted, united}
 use Rattle.record_rows.specs.row.Row.{Row, constraint_of}
 use Rattle.record_rows.specs.grounds.Ground.{Rows}
@@ -71,14 +71,11 @@ pub lent_is : (es cs : Rows) → 0 ≡ lent_fault empty_tables es cs → {q : de
 lent_is es cs e g =
     (e, g (joining-editplaces empty_tables (names_of es) false es cs empty-checked (sym e)) (joining-constraintplaces empty_tables (names_of es) false es cs empty-checked (sym e)))
 
--- the rows of the first elements of an array
-pub rows_next : {A : Type 0} (f : A → List ℕ) (a : List A) (out : List (List ℕ)) (i : ℕ) (d : A) {x : List ℕ} → i < length a → i < length out → take i out ≡ map f (take i a) → x ≡ f (get_or a i d)
-    → take (i + 1) (set out i x) ≡ map f (take (i + 1) a)
-rows_next f a out i d {x} h l e g =
-    rw (add-one i) (take-suc-set out i x l ∙ rw (e, g) (sym (rw (take-suc a i d h, map-append))))
-
-pub rows_end : {A : Type 0} (f : A → List ℕ) (a : List A) (out : List (List ℕ)) (i n : ℕ) → i ≤ n → n ≤ i → take i out ≡ map f (take i a) → take n out ≡ map f (take n a)
-rows_end f a out i n h l e = let q : i ≡ n = omega arith in rw q at e
+-- the rows of the elements that a record has, out of their array
+pub rows_back : {A B : Type 0} (f : A → B) (n : ℕ) (d : B) {own held : List A} {rows : List B} → own ≡ held → rows ≡ padded n d (map f own) → take (length own) rows ≡ map f held
+rows_back f n d {own} e g =
+    let l : length (map f own) ≡ length own = length-map own f in
+    rw g (take-padded n d (length own) (map f own) (omega arith) ∙ take_all (length own) (map f own) (omega arith) ∙ ap (map f) e)
 
 -- the rows of a record join a record
 module _ (R S : Record) (k : Checked R) where

@@ -5,9 +5,9 @@
 
 pub mod insertion;
 
-ghost use Rattle.std.specs.Prelude.{◌≡◌, [], ◌∷◌, map, ◌≤◌, length, take};
+ghost use Rattle.std.specs.Prelude.{◌≡◌, [], ◌∷◌, map, ◌≤◌, get_or, length, replicate};
 ghost use Rattle.record.specs.Record as theory;
-ghost use Rattle.record.specs.Stored.{stored};
+ghost use Rattle.record.specs.Stored.{padded, stored};
 ghost use Rattle.record_tables.specs.Table.{decoded, empty_tables, lent_fault, add_edit_fault, add_constraint_fault, record_join_fault, unite};
 ghost use Rattle.record_tables.specs.Checked.{Checked};
 ghost use Rattle.refusals.specs.Numbers.{Gives};
@@ -17,6 +17,7 @@ use record::{CONSTRAINTS, Constraint, EDITS, Edit, Record};
 use record_rows::element::Element;
 use record_rows::row::{CONSTRAINT_CELLS, ConstraintRow, EDIT_CELLS, EditRow, LentRecord};
 use refusals::Refusal;
+use std::array;
 
 // A lent record by itself.
 pub fn lent(lent: LentRecord) -> Result<Record, Refusal>
@@ -61,13 +62,19 @@ fn rows_of<const CELLS: usize, const PLACES: usize, T: Element<CELLS>>(
     elements: &[T],
 ) -> [[u32; CELLS]; PLACES]
     requires { length elements.now ≤ PLACES }
-    ensures { take (length elements.now) result ≡ map T.row_of elements.now }
+    ensures { result ≡ padded PLACES (replicate CELLS 0) (map T.row_of elements.now) }
 {
-    let mut rows = [[0; CELLS]; PLACES];
-    for (i, element) in elements.iter().enumerate() {
-        rows[i] = element.row();
-    }
-    rows
+    let blank = [0; CELLS];
+    array::from_fn(
+        |i| -> [u32; CELLS]
+            ensures { result ≡ get_or (map T.row_of elements.entry.now) i blank }
+        {
+            match elements.get(i) {
+                Some(element) => element.row(),
+                None => blank,
+            }
+        },
+    )
 }
 
 // A record joins a record: its rows do.

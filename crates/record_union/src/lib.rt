@@ -2,7 +2,7 @@
 // The functions are pub for the crates of this workspace that join records.
 #![tactic(auto)]
 
-ghost use Rattle.std.specs.Prelude.{◌≡◌, map, ◌≤◌, length};
+ghost use Rattle.std.specs.Prelude.{◌≡◌, map, ◌≤◌, get_or, length};
 ghost use Rattle.record.specs.Record as theory;
 ghost use Rattle.record.specs.Stored.{padded, stored, edit_limit, constraint_limit};
 ghost use Rattle.lists.specs.Keyed.{united};
@@ -12,6 +12,7 @@ ghost use Rattle.record_union.specs.Union.{Unites, chosen, united_in};
 use record::{CONSTRAINTS, Constraint, EDITS, Edit, Record};
 use record_rows::element::Element;
 use record_rows::row::{CONSTRAINT_CELLS, EDIT_CELLS, LentRecord};
+use std::array;
 
 // The elements that rows are, and the filler after them.
 fn elements_of<const CELLS: usize, const PLACES: usize, T: Element<CELLS>>(
@@ -20,11 +21,17 @@ fn elements_of<const CELLS: usize, const PLACES: usize, T: Element<CELLS>>(
     requires { length t.now ≤ PLACES }
     ensures { result ≡ padded PLACES T.filler (map T.element_of t.now) }
 {
-    let mut elements = [T::filler(); PLACES];
-    for (i, row) in t.iter().enumerate() {
-        elements[i] = T::of(row);
-    }
-    elements
+    let filler = T::filler();
+    array::from_fn(
+        |i| -> T
+            ensures { result ≡ get_or (map T.element_of t.entry.now) i filler }
+        {
+            match t.get(i) {
+                Some(row) => T::of(row),
+                None => filler,
+            }
+        },
+    )
 }
 
 // A lent record within the limits as a record.

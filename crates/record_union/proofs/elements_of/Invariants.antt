@@ -1,9 +1,0 @@
-use Prim.Native.Nat.{◌≤◌}
-use mathlib.Core.Path.{◌≡◌}
-use mathlib.Core.List.{map}
-use lib.ListN.{length, take}
-use Rattle.record.specs.Stored.{padded}
-use Rattle.record_union.proofs.elements_of.Given as goal
-
-abbrev pub invariant-loop-i : goal.invariant-loop-i
-invariant-loop-i g l = (length l.t ≤ g.row.PLACES) × (l.elements ≡ padded g.row.PLACES g.T.Element.filler (map g.T.Element.element_of (take l.i l.t)))
