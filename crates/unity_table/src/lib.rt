@@ -12,7 +12,10 @@ const ELECTION_LIMIT: usize = 200;
 // Eight benches of the greatest weight.
 const TOTAL_LIMIT: u64 = 524280;
 
-// What an election answers: the weight of the greatest group, the silent weight and the whole roll's total.
+// A row of a lent table: the weight of the greatest group, the silent weight and the whole roll's total.
+pub type ElectionRow = [u32; 3];
+
+// What an election answers, by the names of these columns.
 #[derive(Clone, Copy)]
 pub struct Weights {
     pub greatest: u64,
@@ -20,16 +23,30 @@ pub struct Weights {
     pub total: u64,
 }
 
-impl From<[u32; 3]> for Weights {
+impl From<ElectionRow> for Weights {
     ghost from_gives = { λ row weights. weights ≡ unity.weights_of row };
 
-    fn from(row: [u32; 3]) -> Weights {
+    fn from(row: ElectionRow) -> Weights {
         let [greatest, silent, total] = row;
         Weights {
             greatest: u64::from(greatest),
             silent: u64::from(silent),
             total: u64::from(total),
         }
+    }
+}
+
+impl Weights {
+    fn is_out_of_range(self) -> bool
+        ensures { result ≡ unity.out_of_range self }
+    {
+        TOTAL_LIMIT < self.total || self.total < self.greatest.saturating_add(self.silent)
+    }
+
+    fn share(self) -> Fraction
+        ensures { result ≡ unity.share_of self }
+    {
+        Fraction::lowest_terms(self.greatest, self.total)
     }
 }
 
@@ -51,6 +68,13 @@ pub struct RowFault {
     pub row: usize,
 }
 
+// The least or the greatest share, with one more: the first one takes the place of 0/1, which is no share.
+fn extreme(none: bool, before: bool, known: Fraction, share: Fraction) -> Fraction
+    ensures { result ≡ cond (none || before) share known }
+{
+    if none || before { share } else { known }
+}
+
 // Kept: no Option: of no share the least and the greatest are 0/1, which is what is answered.
 // Kept: `held.Left`, `held.Room`: a state is what some answers without fault come to, which a step shows only once its row is known to have
 // none; as a ghost field it would have to be shown of states that are still to be tested.
@@ -66,149 +90,132 @@ pub struct Summed {
     pub empty: usize,
 }
 
-fn is_out_of_range(a: Weights) -> bool
-    ensures { result ≡ unity.out_of_range a }
-{
-    TOTAL_LIMIT < a.total || a.total < a.greatest.saturating_add(a.silent)
-}
-
-pub fn nothing_summed() -> Summed
-    ensures { held.Open result [] }
-{
-    let zero = Fraction {
-        numerator: 0,
-        denominator: 1,
-    };
-    Summed {
-        rows: 0,
-        sum: zero,
-        least: zero,
-        greatest: zero,
-        entered: 0,
-        won: 0,
-        empty: 0,
+impl Summed {
+    pub fn nothing() -> Summed
+        ensures { held.Open result [] }
+    {
+        let zero = Fraction {
+            numerator: 0,
+            denominator: 1,
+        };
+        Summed {
+            rows: 0,
+            sum: zero,
+            least: zero,
+            greatest: zero,
+            entered: 0,
+            won: 0,
+            empty: 0,
+        }
     }
-}
 
-// The least or the greatest share, with one more: the first one takes the place of 0/1, which is no share.
-fn extreme(none: bool, before: bool, known: Fraction, share: Fraction) -> Fraction
-    ensures { result ≡ cond (none || before) share known }
-{
-    if none || before { share } else { known }
-}
-
-// One election with total 0 more.
-fn with_empty(s: Summed) -> Summed
-    requires { held.Room s }
-    ensures { result ≡ held.with_empty s }
-{
-    Summed {
-        rows: s.rows + 1,
-        empty: s.empty + 1,
-        ..s
+    // One election with total 0 more.
+    fn with_empty(self) -> Summed
+        requires { held.Room self }
+        ensures { result ≡ held.with_empty self }
+    {
+        Summed {
+            rows: self.rows + 1,
+            empty: self.empty + 1,
+            ..self
+        }
     }
-}
 
-// One election more whose share enters the sum.
-fn with_sum(s: Summed, a: Weights, share: Fraction, sum: Fraction) -> Summed
-    requires { held.Room s × (a.greatest ≤ unity.total_limit) }
-    ensures { result ≡ held.with_sum s a share sum }
-{
-    let none = s.entered == 0;
-    let lower = fraction::is_below(share, s.least);
-    let higher = fraction::is_below(s.greatest, share);
-    Summed {
-        rows: s.rows + 1,
-        sum,
-        least: extreme(none, lower, s.least, share),
-        greatest: extreme(none, higher, s.greatest, share),
-        entered: s.entered + 1,
-        won: s.won + usize::from(a.total < 2 * a.greatest),
-        empty: s.empty,
+    // One election more whose share enters the sum.
+    fn with_sum(self, a: Weights, share: Fraction, sum: Fraction) -> Summed
+        requires { held.Room self × (a.greatest ≤ unity.total_limit) }
+        ensures { result ≡ held.with_sum self a share sum }
+    {
+        let none = self.entered == 0;
+        let lower = share.is_below(self.least);
+        let higher = self.greatest.is_below(share);
+        Summed {
+            rows: self.rows + 1,
+            sum,
+            least: extreme(none, lower, self.least, share),
+            greatest: extreme(none, higher, self.greatest, share),
+            entered: self.entered + 1,
+            won: self.won + usize::from(a.total < 2 * a.greatest),
+            ..self
+        }
     }
-}
 
-fn share_of(a: Weights) -> Fraction
-    ensures { result ≡ unity.share_of a }
-{
-    fraction::lowest_terms(a.greatest, a.total)
-}
+    // The same, where the sum fits.
+    fn with_share(self, a: Weights) -> Option<Summed>
+        requires { held.Room self × ((unity.out_of_range a ≡ false) × (0 < a.total)) }
+        ensures { result ≡ held.with_share self a }
+    {
+        let share = a.share();
+        let sum = self.sum.plus(share)?;
+        Some(self.with_sum(a, share, sum))
+    }
 
-// The same, where the sum fits.
-fn with_share(s: Summed, a: Weights) -> Option<Summed>
-    requires { held.Room s × ((unity.out_of_range a ≡ false) × (0 < a.total)) }
-    ensures { result ≡ held.with_share s a }
-{
-    let share = share_of(a);
-    let sum = fraction::plus(s.sum, share)?;
-    Some(with_sum(s, a, share, sum))
-}
-
-// The answers so far with one more. Pub for `unity_text`, which hands them in line by line.
-pub fn with_answer(s: Summed, a: Weights) -> Result<Summed, RowFault>
-    requires { held.Left s }
-    ensures { held.Adds s a result }
-{
-    let row = s.rows + 1;
-    if is_out_of_range(a) {
-        return Err(RowFault {
-            refusal: Refusal::OutOfRange,
+    // The answers so far with one more. Pub for `unity_text`, which hands them in line by line.
+    pub fn with_answer(self, a: Weights) -> Result<Summed, RowFault>
+        requires { held.Left self }
+        ensures { held.Adds self a result }
+    {
+        let row = self.rows + 1;
+        if a.is_out_of_range() {
+            return Err(RowFault {
+                refusal: Refusal::OutOfRange,
+                row,
+            });
+        }
+        if ELECTION_LIMIT <= self.rows {
+            return Err(RowFault {
+                refusal: Refusal::NoPlace,
+                row,
+            });
+        }
+        if a.total == 0 {
+            return Ok(self.with_empty());
+        }
+        let wide = RowFault {
+            refusal: Refusal::TooWide,
             row,
-        });
+        };
+        self.with_share(a).ok_or(wide)
     }
-    if ELECTION_LIMIT <= s.rows {
-        return Err(RowFault {
-            refusal: Refusal::NoPlace,
-            row,
-        });
-    }
-    if a.total == 0 {
-        return Ok(with_empty(s));
-    }
-    let wide = RowFault {
-        refusal: Refusal::TooWide,
-        row,
-    };
-    with_share(s, a).ok_or(wide)
-}
 
-// The mean of the shares, where it fits. Of no shares the least one is 0/1, and so is the mean.
-fn mean_of(s: Summed) -> Option<Fraction>
-    requires { held.Left s }
-    ensures { held.Means s result }
-{
-    if s.entered == 0 {
-        return Some(s.least);
+    // The mean of the shares, where it fits. Of no shares the least one is 0/1, and so is the mean.
+    fn mean(self) -> Option<Fraction>
+        requires { held.Left self }
+        ensures { held.Means self result }
+    {
+        if self.entered == 0 {
+            return Some(self.least);
+        }
+        self.sum.divided(self.entered as u64)
     }
-    fraction::divided(s.sum, s.entered as u64)
-}
 
-// What all the answers come to: the last one is known to be the last. Pub for `unity_text`.
-pub fn finished(s: Summed) -> Result<Unity, RowFault>
-    requires { held.Left s }
-    ensures { held.Ends s result }
-{
-    let wide = RowFault {
-        refusal: Refusal::TooWide,
-        row: s.rows,
-    };
-    let mean = mean_of(s).ok_or(wide)?;
-    Ok(Unity {
-        mean,
-        least: s.least,
-        greatest: s.greatest,
-        won: s.won,
-        empty: s.empty,
-    })
+    // What all the answers come to: the last one is known to be the last. Pub for `unity_text`.
+    pub fn finished(self) -> Result<Unity, RowFault>
+        requires { held.Left self }
+        ensures { held.Ends self result }
+    {
+        let wide = RowFault {
+            refusal: Refusal::TooWide,
+            row: self.rows,
+        };
+        let mean = self.mean().ok_or(wide)?;
+        Ok(Unity {
+            mean,
+            least: self.least,
+            greatest: self.greatest,
+            won: self.won,
+            empty: self.empty,
+        })
+    }
 }
 
 // HOW UNITED the benches are, from a lent table of answers.
-pub fn unity_of(answers: &[[u32; 3]]) -> Result<Unity, RowFault>
+pub fn unity_of(answers: &[ElectionRow]) -> Result<Unity, RowFault>
     ensures { unity.answer_told result ≡ unity.unity_of (map unity.weights_of answers.now) }
 {
-    let mut summed = nothing_summed();
+    let mut summed = Summed::nothing();
     for row in answers {
-        summed = with_answer(summed, Weights::from(*row))?;
+        summed = summed.with_answer(Weights::from(*row))?;
     }
-    finished(summed)
+    summed.finished()
 }

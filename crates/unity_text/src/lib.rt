@@ -9,7 +9,7 @@ ghost use Rattle.unity_text.specs.Said.{said_of};
 
 use refusals::Refusal;
 use text_lines::Lines;
-use unity_table::{RowFault, Unity, Weights};
+use unity_table::{RowFault, Summed, Unity, Weights};
 
 // What a line says, where it is in form. Numbers past 32 bits are cut off at 2^32, which is out of range all the same.
 fn read_answer(line: &[u8]) -> Option<Weights>
@@ -30,7 +30,7 @@ fn read_answer(line: &[u8]) -> Option<Weights>
 pub fn text_unity(text: &[u8]) -> Result<Unity, RowFault>
     ensures { answer_told result ≡ text_unity text.now }
 {
-    let mut summed = unity_table::nothing_summed();
+    let mut summed = Summed::nothing();
     for line in Lines::new(text) {
         let Some(answer) = read_answer(line) else {
             return Err(RowFault {
@@ -38,9 +38,9 @@ pub fn text_unity(text: &[u8]) -> Result<Unity, RowFault>
                 row: summed.rows + 1,
             });
         };
-        summed = unity_table::with_answer(summed, answer)?;
+        summed = summed.with_answer(answer)?;
     }
-    unity_table::finished(summed)
+    summed.finished()
 }
 
 // WHAT IS PRINTED of a text of answers, at the start of out where it fits. Refused with 12, out stays as it was.

@@ -6,7 +6,7 @@ use Rattle.unity_text.proofs.text_unity.Goals as goal
 
 pub loop-line-init : goal.loop-line-init
 loop-line-init c =
-    rw c.into_iter-line-iterator.ensures.into_iter_gives (search rules, search rules, rw c.new-line-items.ensures (summed-start c.args.text.now c.nothing_summed-summed.ensures))
+    rw c.into_iter-line-iterator.ensures.into_iter_gives (search rules, search rules, rw c.new-line-items.ensures (summed-start c.args.text.now c.nothing-summed.ensures))
 
 pub overflow_add-result : goal.overflow_add-result
 overflow_add-result c = omega (arith, upto-few c.args.text.now c.loop-line.invariant.2)
