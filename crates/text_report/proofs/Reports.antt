@@ -23,25 +23,26 @@ use Rattle.refusals.specs.Numbers.{number}
 use Rattle.text_reader.specs.declared.Fault.{Fault}
 use Rattle.text_reader.specs.Reading.{Reads}
 use Rattle.text_writer.specs.Placed.{placed, placing}
+use Rattle.text_report.specs.declared.ReportLine.{ReportLine}
 use Rattle.text_report.specs.Report.{counts_form, report_form, report_numbers, report_of, refusal_line, printed, at_no_line, Reported, reported_out}
-use Rattle.text_report.specs.Rows.{numbered}
-use Rattle.text_report.proofs.Numbers.{numbers-are}
+use Rattle.text_report.specs.Rows.{line_text, report_lines}
+use Rattle.text_report.proofs.Numbers.{lines-are}
 
--- the report by the code's rows
+-- the report by the code's lines
 module _ (content : declared.Record) (R : Record) (e : content ≡ stored R) (k : Checked R) {j : Judged} (f : (S : Record) → content ≡ stored S → Fit S → j ≡ judged_of S) {edits : List Edit} {constraints : List Constraint}
-    (a : edits ≡ take content.editcount content.edits) (b : constraints ≡ take content.constraintcount content.constraints) (rows : List (List ℕ)) (g : take (length edits) rows ≡ numbered j 1 edits) where
-  report-is : fill counts_form (length edits ∷ length constraints ∷ []) ++ joined_lines (map (fill report_form) (take (length edits) rows)) ≡ report_of R
+    (a : edits ≡ take content.editcount content.edits) (b : constraints ≡ take content.constraintcount content.constraints) (lines : List ReportLine) (g : take (length edits) lines ≡ report_lines j 1 edits) where
+  report-is : fill counts_form (length edits ∷ length constraints ∷ []) ++ joined_lines (map line_text (take (length edits) lines)) ≡ report_of R
   unfolding report_of padded
   report-is =
       let t : edits ≡ R.edits = a ∙ rw e (take_at R.edits _ (length R.edits) refl) in
       let u : constraints ≡ R.constraints = b ∙ rw e (take_at R.constraints _ (length R.constraints) refl) in
       let q : j ≡ judged_of R = f R e (checked-fit R k) in
-      let w : take (length edits) rows ≡ map (report_numbers R) (written R) = g ∙ rw (t, q) (numbers-are R) in
+      let w : map line_text (take (length edits) lines) ≡ map (fill report_form) (map (report_numbers R) (written R)) = ap (map line_text) g ∙ rw (t, q) (lines-are R) in
       rw (w, t, u)
 
   pub report-placed : (before : List ℕ) {w : Result ℕ Refusal} {after : List ℕ}
-      → w ≡ placing (fill counts_form (length edits ∷ length constraints ∷ []) ++ joined_lines (map (fill report_form) (take (length edits) rows))) 0 before
-      → after ≡ placed (fill counts_form (length edits ∷ length constraints ∷ []) ++ joined_lines (map (fill report_form) (take (length edits) rows))) 0 before
+      → w ≡ placing (fill counts_form (length edits ∷ length constraints ∷ []) ++ joined_lines (map line_text (take (length edits) lines))) 0 before
+      → after ≡ placed (fill counts_form (length edits ∷ length constraints ∷ []) ++ joined_lines (map line_text (take (length edits) lines))) 0 before
       → (w ≡ placing (report_of R) 0 before) × (after ≡ placed (report_of R) 0 before)
   report-placed before p q = (rw report-is at p, rw report-is at q)
 

@@ -1,13 +1,30 @@
 -- Lines written one after the other, for any kind of line: whether they fit, and what they leave. Assumes nothing.
 use Rattle.std.proofs.Common.{◌≡◌, refl, ap, sym, ◌∙◌, List, [], ◌∷◌, ◌++◌, map, append_assoc, ℕ, ◌+◌, ◌-◌, ◌≤◌, ◌<◌, length, get_or, take, drop, Some, None, add-one, length-append, drop-cons, arith}
 use mathlib.Core.List.{map-append, append-nil}
+use Rattle.std.specs.Prelude.{Option, SomeIff}
 use lib.ListN.{drop_of_length-le}
 use lib.Seq.{take-suc, take_all, take-add}
 use Rattle.text_forms.specs.decimal.Written.{Written}
 use Rattle.text_forms.proofs.decimal.Parts.{second-room, written_both}
 use Rattle.text_forms.specs.Fit.{room_after}
-use Rattle.text_forms.proofs.Fits.{room-short, room-whole, room-both}
+use Rattle.lists.proofs.Lists.{le-by}
+use Rattle.text_forms.proofs.Fits.{room-short, room-enough, room-whole, room-both}
 use Rattle.text.specs.Text.{joined_lines}
+
+-- what is left of a room by a subtraction that may fail
+pub left-is : (room size : ℕ) (left : Option ℕ) → SomeIff left (size ≤ room) (room - size) → left ≡ room_after room size
+left-is room size None h = sym (room-short room size (omega (arith, h)))
+left-is room size (Some x) h = ap Some h.1 ∙ sym (room-enough room size h.0)
+
+-- a line does not fit what is left of a room, or leaves the rest
+room-none : (room size : ℕ) → None ≡ room_after room size → room < size
+room-none room size e = le-by size room (λ l. let q = e ∙ room-enough room size l in cc) (λ l. l)
+
+room-some : (room size : ℕ) {rest : ℕ} → Some rest ≡ room_after room size → (size ≤ room) × (rest ≡ room - size)
+room-some room size {rest} e =
+    le-by size room
+    (λ l. let q = e ∙ room-enough room size l in let r : rest ≡ room - size = cc in (l, r))
+    (λ l. let q = e ∙ room-short room size l in cc)
 
 pub joined-append : (s t : List (List ℕ)) → joined_lines (s ++ t) ≡ joined_lines s ++ joined_lines t
 unfolding joined_lines
@@ -36,15 +53,17 @@ module _ {A : Type 0} (line : A → List ℕ) (a : List A) where
     leaves_all = record { is = refl }
 
     module _ {left i : ℕ} (w : Leaves room left i) where
-      module _ (x : A) (q : x ≡ get_or a i x) (h : i < length a) {size : ℕ} (e : size ≡ length (line x)) where
-        size-first : length (lines (drop i a)) ≡ size + length (lines (drop (i + 1) a))
-        size-first = ap length (first-line i x h) ∙ length-append (line (get_or a i x)) (lines (drop (i + 1) a)) ∙ rw (e, ← q)
+      module _ (x : A) (q : x ≡ get_or a i x) (h : i < length a) where
+        size-first : length (lines (drop i a)) ≡ length (line x) + length (lines (drop (i + 1) a))
+        size-first = ap length (first-line i x h) ∙ length-append (line (get_or a i x)) (lines (drop (i + 1) a)) ∙ rw (← q)
 
-        pub leaves-next : size ≤ left → {rest : ℕ} → rest ≡ left - size → Leaves room rest (i + 1)
-        leaves-next l p = rw p (record { is = sym (room-both left size (length (lines (drop (i + 1) a))) l) ∙ ap (room_after left) (sym size-first) ∙ w.is })
+        pub leaves-next : {rest : ℕ} → Some rest ≡ room_after left (length (line x)) → Leaves room rest (i + 1)
+        leaves-next p =
+            let s = room-some left (length (line x)) p in
+            rw s.1 (record { is = sym (room-both left (length (line x)) (length (lines (drop (i + 1) a))) s.0) ∙ ap (room_after left) (sym size-first) ∙ w.is })
 
-        pub leaves-none : left < size → None ≡ room_after room (length (lines a))
-        leaves-none l = sym (room-short left _ (omega (arith, size-first))) ∙ w.is
+        pub leaves-none : None ≡ room_after left (length (line x)) → None ≡ room_after room (length (lines a))
+        leaves-none p = sym (room-short left _ (omega (arith, room-none left (length (line x)) p, size-first))) ∙ w.is
 
       pub leaves-end : length a ≤ i → Some left ≡ room_after room (length (lines a))
       leaves-end h = sym (room-whole left) ∙ ap (room_after left) (sym (ap length (no-lines i h))) ∙ w.is

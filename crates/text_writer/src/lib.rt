@@ -18,9 +18,9 @@ pub trait Lined: Copy {
     // The line, its end included.
     ghost line: { Self → List ℕ };
 
-    // How many bytes it takes.
-    fn line_length(self) -> usize
-        ensures { result ≡ length (line self) };
+    // What is left of a room after it, where it fits.
+    fn line_fit(self, room: usize) -> Option<usize>
+        ensures { result ≡ room_after room (length (line self)) };
 
     // Writes it to the start of out, and answers how many bytes that took.
     fn write_line(self, out: &mut [u8]) -> usize
@@ -33,8 +33,8 @@ impl Lined for Edit {
 
     ghost line = { edit_text };
 
-    fn line_length(self) -> usize {
-        text_lines::edit_line_length(self.row())
+    fn line_fit(self, room: usize) -> Option<usize> {
+        room.checked_sub(text_lines::edit_line_length(self.row()))
     }
 
     fn write_line(self, out: &mut [u8]) -> usize {
@@ -47,8 +47,8 @@ impl Lined for Constraint {
 
     ghost line = { constraint_text };
 
-    fn line_length(self) -> usize {
-        text_lines::constraint_line_length(self.row())
+    fn line_fit(self, room: usize) -> Option<usize> {
+        room.checked_sub(text_lines::constraint_line_length(self.row()))
     }
 
     fn write_line(self, out: &mut [u8]) -> usize {
@@ -62,7 +62,7 @@ pub fn lines_fit<T: Lined>(room: usize, elements: &[T]) -> Option<usize>
 {
     let mut left = room;
     for element in elements {
-        left = left.checked_sub(element.line_length())?;
+        left = element.line_fit(left)?;
     }
     Some(left)
 }

@@ -1,5 +1,4 @@
 -- `lines_fit` meets its contract. Assumes nothing.
-use Rattle.std.proofs.Common.{arith}
 use Rattle.text_writer.proofs.Writing.{leaves_all, leaves-next, leaves-none, leaves-end}
 use Rattle.text_writer.proofs.lines_fit.Goals as goal
 
@@ -9,11 +8,11 @@ loop-element-init g c = leaves_all g.T.Lined.line c.args.elements.now c.args.roo
 pub returns-in_err-left : goal.returns-in_err-left
 returns-in_err-left g c =
     rw c.from_residual.ensures
-    (leaves-none g.T.Lined.line c.args.elements.now c.args.room c.loop-element.invariant c.element-item.result c.element-item.is c.loop-element-test.true c.line_length.ensures (omega (arith, c.in_err-left.ensures)))
+    (leaves-none g.T.Lined.line c.args.elements.now c.args.room c.loop-element.invariant c.element-item.result c.element-item.is c.loop-element-test.true c.in_err-left.ensures)
 
 pub loop-element-preserved : goal.loop-element-preserved
 loop-element-preserved g c =
-    leaves-next g.T.Lined.line c.args.elements.now c.args.room c.loop-element.invariant c.element-item.result c.element-item.is c.loop-element-test.true c.line_length.ensures c.in_ok-left.ensures.0 c.in_ok-left.ensures.1
+    leaves-next g.T.Lined.line c.args.elements.now c.args.room c.loop-element.invariant c.element-item.result c.element-item.is c.loop-element-test.true c.in_ok-left.ensures
 
 pub returns : goal.returns
 returns g c = leaves-end g.T.Lined.line c.args.elements.now c.args.room c.loop-element.invariant c.loop-element-test.false
