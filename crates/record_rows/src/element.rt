@@ -114,10 +114,7 @@ impl Element<5> for Edit {
     }
 
     fn filler() -> Edit {
-        Edit {
-            name: 0,
-            body: Body::Insert(0),
-        }
+        Edit::default()
     }
 
     // Kept: by the name alone, where a derived order takes the body too.
@@ -181,11 +178,7 @@ impl Element<3> for Constraint {
     }
 
     fn filler() -> Constraint {
-        Constraint {
-            left: 0,
-            rule: 0,
-            right: 0,
-        }
+        Constraint::default()
     }
 
     // Kept: the derived order, as the trait asks for it.

@@ -17,7 +17,7 @@ pub const NAMES: usize = 2304;
 
 pub const BENCHES: u32 = 8;
 
-const PLACES: u32 = 64;
+pub const PLACES: u32 = 64;
 
 const RULES: u32 = 3;
 
