@@ -1,11 +1,11 @@
 -- The loop that unites two tables in an array, for elements of any type. Assumes nothing.
 use mathlib.Core.Path.{◌≡◌, refl, ap, sym, ◌∙◌}
 use mathlib.Core.Bool.{Bool, true, false}
-use mathlib.Core.List.{List, [], ◌∷◌, ◌++◌}
+use mathlib.Core.List.{List, [], ◌∷◌, ◌++◌, map, map-append}
 use Prim.Native.Nat.{ℕ, zero, suc, ◌+◌, ◌≤◌, ◌<◌}
 use native.Mathlib.Numerals.{add-one}
 use native.Mathlib.Omega.{arith}
-use lib.ListN.{length, take, drop, get_or, set, replicate, drop_of_length-le, length-drop, length-set, length-replicate}
+use lib.ListN.{length, take, drop, get_or, set, replicate, drop_of_length-le, length-map, length-drop, length-set, length-replicate}
 use lib.Seq.{take-suc, drop-cons, drop-drop, length-take-le, take_all}
 use Rattle.std.specs.Prelude.{Option, Some, None}
 use Rattle.lists.proofs.Lists.{by}
@@ -17,6 +17,17 @@ use Rattle.record.proofs.Padded.{padded-begin, padded-next}
 use Rattle.record_union.specs.declared.Choice.{Choice}
 use Rattle.record_union.specs.declared.Choice.TheVariants.{Own, Joining, Both}
 use Rattle.record_union.specs.Union.{chosen, Unites, united_in}
+
+-- a list that is written row by row, of what the elements of another become
+module _ {A B : Type 0} (n : ℕ) (z : B) (f : A → B) (t : List A) where
+  pub decode-next : (out : List B) (i : ℕ) (d : A) {x : B} → i < length t → length t ≤ n → out ≡ padded n z (map f (take i t)) → x ≡ f (get_or t i d) → set out i x ≡ padded n z (map f (take (i + 1) t))
+  decode-next out i d h w e g =
+      let l : length (map f (take i t)) ≡ i = length-map (take i t) f ∙ length-take-le i t (omega arith) in
+      let m : map f (take (i + 1) t) ≡ map f (take i t) ++ (f (get_or t i d) ∷ []) = rw (add-one i, take-suc t i d h, map-append) in
+      rw (e, g, m) (padded-next n z (map f (take i t)) i (f (get_or t i d)) l (omega arith))
+
+  pub decode-end : (out : List B) (i : ℕ) → length t ≤ i → out ≡ padded n z (map f (take i t)) → out ≡ padded n z (map f t)
+  decode-end out i h e = let q : take i t ≡ t = take_all i t h in rw q at e
 
 -- the choice by the code's tests
 module _ {A : Type 0} (key : A → List ℕ) (P Q : List A) where
