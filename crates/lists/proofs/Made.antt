@@ -3,7 +3,8 @@ use mathlib.Core.Path.{◌≡◌, refl, ◌∙◌}
 use mathlib.Core.List.{List}
 use Prim.Native.Nat.{ℕ, zero, suc, ◌+◌, ◌≤◌, ◌<◌}
 use native.Mathlib.Omega.{arith}
-use lib.ListN.{length, get_or}
+use lib.ListN.{length, get_or, take}
+use lib.Seq.{length-take-le, get_or-take}
 use Rattle.std.specs.Fn.{Mut, Called}
 use Rattle.std.specs.Array.{IsFromFnResult, IsFromFnResultFrom}
 use Rattle.std.proofs.lemmas.List.{ext_get_or}
@@ -22,3 +23,10 @@ module _ {F B : Type 0} (g : Mut F (ℕ × Unit {0}) B) (f : F) (l : List B) (d 
 
   pub made-is : {ys : List B} {n : ℕ} → length l ≡ n → IsFromFnResult g f ys n → ys ≡ l
   made-is {ys} {n} e m = ext_get_or d ys l (omega (arith, m.long, e)) (λ j h. made-at ys n 0 j f refl m.each (omega arith) (omega (arith, m.long)))
+
+  -- a list that is shorter stands at the array's start
+  pub made-start : {ys : List B} {n : ℕ} → length l ≤ n → IsFromFnResult g f ys n → take (length l) ys ≡ l
+  made-start {ys} {n} h m =
+      let e : length (take (length l) ys) ≡ length l = length-take-le (length l) ys (omega (arith, m.long, h)) in
+      ext_get_or d (take (length l) ys) l e
+      (λ j k. let s : j < length l = omega (arith, e, k) in get_or-take (length l) ys j d s ∙ made-at ys n 0 j f refl m.each (omega arith) (omega (arith, s, h)))

@@ -2,6 +2,7 @@
 use Rattle.std.specs.Prelude.{◌≡◌, ℕ, Result, Ok, Err}
 use Rattle.record.specs.declared.Record as declared
 use Rattle.record.specs.Stored.{stored}
+use Rattle.refusals.specs.declared.Refusal.{Refusal}
 use Rattle.refusals.specs.Numbers.{number}
 use Rattle.text.specs.Text.{Answer, Accepted, Refused}
 use Rattle.text_reader.specs.declared.Fault.{Fault}
@@ -10,6 +11,10 @@ use Rattle.text_reader.specs.declared.Fault.{Fault}
 abbrev pub FaultIs : {A : Type 0} → ℕ → ℕ → Result A Fault → Type 0
 FaultIs n line (Ok x) = ⊥
 FaultIs n line (Err fault) = (number fault.refusal ≡ n) × (fault.line ≡ line)
+
+-- at no line of a text
+abbrev pub without_line : Refusal → Fault
+without_line refusal = record { refusal = refusal; line = 0 }
 
 -- the record, or the number and the line of the refusal
 abbrev pub Reads : Answer → Result declared.Record Fault → Type 0

@@ -24,6 +24,17 @@ pub struct Fault {
     pub line: usize,
 }
 
+// A refusal at no line.
+impl From<Refusal> for Fault {
+    ghost use Rattle.text_reader.specs.Reading.{without_line};
+
+    ghost from_gives = { λ refusal fault. fault ≡ without_line refusal };
+
+    fn from(refusal: Refusal) -> Fault {
+        Fault { refusal, line: 0 }
+    }
+}
+
 // Kept: `above` and `row` are two here and below, as in `record_tables`.
 // Whether a row is new and the rows above it take every place.
 fn no_place<const CELLS: usize, T: Element<CELLS>>(

@@ -1,11 +1,10 @@
 -- The report's lines, out of the judgement of a record. Assumes nothing.
-use mathlib.Core.Path.{◌≡◌, refl, ap, ◌∙◌}
-use mathlib.Core.List.{List, [], ◌∷◌, ◌++◌, map}
-use Prim.Native.Nat.{ℕ, suc, ◌+◌, ◌≤◌, ◌<◌}
-use native.Mathlib.Numerals.{add-one}
+use mathlib.Core.Path.{◌≡◌, refl, ap, sym, ◌∙◌}
+use mathlib.Core.List.{List, [], ◌∷◌, map}
+use Prim.Native.Nat.{ℕ, zero, suc, ◌+◌, ◌≤◌, ◌<◌}
 use native.Mathlib.Omega.{arith}
-use lib.ListN.{length, get_or, take, set, length-map}
-use lib.Seq.{take-suc, take-suc-set, length-take-le}
+use lib.ListN.{length, get_or, length-map}
+use Rattle.std.proofs.lemmas.List.{get_or_past}
 use Rattle.record.specs.declared.Edit.{Edit}
 use Rattle.record.specs.Record.{Record, name_of, written, names}
 use Rattle.record.specs.Schedule.{schedule}
@@ -17,28 +16,29 @@ use Rattle.judgement.specs.Judged.{judged_of}
 use Rattle.text_forms.specs.Form.{fill}
 use Rattle.text_report.specs.declared.ReportLine.{ReportLine}
 use Rattle.text_report.specs.Report.{report_form, report_numbers}
-use Rattle.text_report.specs.Rows.{line_text, line_at, report_lines}
+use Rattle.text_report.specs.Rows.{line_text, no_line, line_at, report_lines}
 
-lines-snoc : (j : Judged) (index : ℕ) (l : List Edit) (e : Edit) → report_lines j index (l ++ (e ∷ [])) ≡ report_lines j index l ++ (line_at e.name j (index + length l) ∷ [])
+pub lines-length : (j : Judged) (index : ℕ) (l : List Edit) → length (report_lines j index l) ≡ length l
 unfolding report_lines
-lines-snoc j index [] e = let z : index + 0 ≡ index = omega arith in rw z
-lines-snoc j index (x ∷ l) e =
-    let z : suc index + length l ≡ index + suc (length l) = omega arith in
-    ap (λ (t : List ReportLine). line_at x.name j index ∷ t) (lines-snoc j (suc index) l e ∙ rw z)
+lines-length j index [] = refl
+lines-length j index (e ∷ l) = ap suc (lines-length j (suc index) l)
 
--- one line more
-pub report-lines-next : (edits : List Edit) (j : Judged) (lines : List ReportLine) (i : ℕ) (d : Edit) {line : ReportLine} → i < length edits → i < length lines → take i lines ≡ report_lines j 1 (take i edits) → line ≡ line_at (get_or edits i d).name j (i + 1)
-    → take (i + 1) (set lines i line) ≡ report_lines j 1 (take (i + 1) edits)
-report-lines-next edits j lines i d {line} h k e f =
-    let w : i ≤ length edits = omega arith in
-    let z : 1 + i ≡ i + 1 = omega arith in
-    let a : take (i + 1) (set lines i line) ≡ take i lines ++ (line ∷ []) = rw add-one (take-suc-set lines i line k) in
-    let b : take (i + 1) edits ≡ take i edits ++ (get_or edits i d ∷ []) = rw add-one (take-suc edits i d h) in
-    a ∙ rw (e, f, b, lines-snoc j 1 (take i edits) (get_or edits i d), length-take-le i edits w, z)
-
-pub lines_none : (j : Judged) → [] ≡ report_lines j 1 []
+line-from : (j : Judged) (index : ℕ) (l : List Edit) (i : ℕ) (d : Edit) (o : ReportLine) → i < length l → get_or (report_lines j index l) i o ≡ line_at (get_or l i d).name j (index + i)
 unfolding report_lines
-lines_none j = refl
+line-from j index [] i d o h = absurd (omega (arith, h))
+line-from j index (e ∷ l) zero d o h = let z : index + 0 ≡ index = omega arith in rw z
+line-from j index (e ∷ l) (suc i) d o h = let z : suc index + i ≡ index + suc i = omega arith in line-from j (suc index) l i d o (omega (arith, h)) ∙ rw z
+
+-- place by place
+module _ (j : Judged) (l : List Edit) (i : ℕ) where
+  pub line-there : (e : Edit) → i < length l → e ≡ get_or l i e → line_at e.name j (i + 1) ≡ get_or (report_lines j 1 l) i no_line
+  line-there e h q =
+      let z : 1 + i ≡ i + 1 = omega arith in
+      let n : e.name ≡ (get_or l i e).name = ap (λ (x : Edit). x.name) q in
+      rw n (rw z at (sym (line-from j 1 l i e no_line h)))
+
+  pub line-past : length l ≤ i → no_line ≡ get_or (report_lines j 1 l) i no_line
+  line-past h = sym (get_or_past (report_lines j 1 l) i no_line (omega (arith, lines-length j 1 l)))
 
 -- the edits of the record from an index on
 lines-from : (R : Record) (index : ℕ) (l : List Edit) → ((i : ℕ) → i < length l → (name_at R (index + i) ≡ get_or (map name_of l) i 0) × (index + i < length (names R))) → map line_text (report_lines (judged_of R) index l) ≡ map (fill report_form) (map (report_numbers R) (map name_of l))

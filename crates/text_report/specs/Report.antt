@@ -10,7 +10,7 @@ use Rattle.text.specs.Text.{joined_lines, Answer, Accepted, Refused}
 use Rattle.text_writer.specs.Placed.{placed, placing}
 use Rattle.refusals.specs.declared.Refusal.{Refusal}
 use Rattle.text_reader.specs.declared.Fault.{Fault}
-use Rattle.text_reader.specs.Reading.{FaultIs}
+use Rattle.text_reader.specs.Reading.{FaultIs, without_line}
 
 unfoldable pub counts_form : List ℕ
 counts_form = bytes "edits=# rules=#\n"
@@ -41,7 +41,7 @@ printed (Refused number line) = refusal_line number line
 -- at no line of a text
 abbrev pub at_no_line : Result ℕ Refusal → Result ℕ Fault
 at_no_line (Ok size) = Ok size
-at_no_line (Err refusal) = Err (record { refusal = refusal; line = 0 })
+at_no_line (Err refusal) = Err (without_line refusal)
 
 -- what the library answers: the report at the start of the output, where it fits; or the text's number and line
 abbrev pub Reported : Answer → List ℕ → Result ℕ Fault → Type 0

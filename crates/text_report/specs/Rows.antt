@@ -9,6 +9,10 @@ use Rattle.text_report.specs.Report.{report_form}
 abbrev pub line_text : ReportLine → List ℕ
 line_text l = fill report_form l.numbers
 
+-- where there is no edit
+abbrev pub no_line : ReportLine
+no_line = record { numbers = 0 ∷ 0 ∷ 0 ∷ 0 ∷ 0 ∷ [] }
+
 abbrev pub line_at : ℕ → Judged → ℕ → ReportLine
 line_at name j index =
     record { numbers = name ∷ get_or j.must index 0 ∷ get_or j.never index 0 ∷ get_or j.settled index 0 ∷ get_or j.place index 0 ∷ [] }

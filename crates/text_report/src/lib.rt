@@ -1,7 +1,7 @@
 // The report of a text (document 01, "Text"), and the line of a refusal.
 #![tactic(auto)]
 
-ghost use Rattle.std.specs.Prelude.{◌≡◌, ◌++◌, map, ◌≤◌, leb, length, take};
+ghost use Rattle.std.specs.Prelude.{◌≡◌, ◌++◌, map, ◌≤◌, leb, length, take, get_or};
 ghost use Rattle.record.specs.Record as theory;
 ghost use Rattle.record.specs.Stored.{edit_limit, stored};
 ghost use Rattle.record_tables.specs.Checked.{Checked};
@@ -10,11 +10,12 @@ ghost use Rattle.text_forms.specs.Form.{fill};
 ghost use Rattle.text.specs.Text.{joined_lines, read_text};
 ghost use Rattle.text_writer.specs.Placed.{placed, placing};
 ghost use Rattle.text_report.specs.Report.{counts_form, report_of, refusal_line, printed, Reported, reported_out};
-ghost use Rattle.text_report.specs.Rows.{line_text, line_at, report_lines};
+ghost use Rattle.text_report.specs.Rows.{line_text, no_line, report_lines};
 
 use judgement::Judged;
 use record::{EDITS, Edit, Record};
 use refusals::Refusal;
+use std::array;
 use text_reader::Fault;
 use text_writer::Lined;
 
@@ -47,30 +48,37 @@ impl Lined for ReportLine {
     }
 }
 
-// The line of the edit at an index.
-fn line_at(name: u16, judged: &Judged, index: usize) -> ReportLine
-    requires { index ≤ edit_limit }
-    ensures { result ≡ line_at name judged.now index }
+// A number of a judgement by index, 0 past the last.
+fn number_at(row: &[u8], index: usize) -> u64
+    ensures { result ≡ get_or row.now index 0 }
 {
-    let must = u64::from(judged.must[index]);
-    let never = u64::from(judged.never[index]);
-    let settled = u64::from(judged.settled[index]);
-    let place = u64::from(judged.place[index]);
-    ReportLine {
-        numbers: [u64::from(name), must, never, settled, place],
+    row.get(index).map_or(0, |number| u64::from(*number))
+}
+
+// The line of an edit by its place, or zeros where there is none; in a judgement indexes begin with one.
+fn line_at(edits: &[Edit], judged: &Judged, i: usize) -> ReportLine
+    ensures { result ≡ get_or (report_lines judged.now 1 edits.now) i no_line }
+{
+    match edits.get(i) {
+        Some(edit) => ReportLine {
+            numbers: [
+                u64::from(edit.name),
+                number_at(&judged.must, i + 1),
+                number_at(&judged.never, i + 1),
+                number_at(&judged.settled, i + 1),
+                number_at(&judged.place, i + 1),
+            ],
+        },
+        None => ReportLine { numbers: [0; 5] },
     }
 }
 
-// The lines of edits.
+// The lines of edits, and zeros after them.
 fn report_lines(edits: &[Edit], judged: &Judged) -> [ReportLine; EDITS]
     requires { length edits.now ≤ edit_limit }
     ensures { (take (length edits.now) result ≡ report_lines judged.now 1 edits.now) × (length result ≡ edit_limit) }
 {
-    let mut lines = [ReportLine { numbers: [0; 5] }; EDITS];
-    for (i, edit) in edits.iter().enumerate() {
-        lines[i] = line_at(edit.name, judged, i + 1);
-    }
-    lines
+    array::from_fn(|i| line_at(edits, judged, i))
 }
 
 // Whether a report takes at most so many bytes.
@@ -120,11 +128,8 @@ pub fn report_text(text: &[u8], out: &mut [u8]) -> Result<usize, Fault>
     ensures bytes { out.new ≡ reported_out (read_text text.now) out.old }
 {
     let content = text_reader::read_text(text)?;
-    // Kept: line 0 where the text is read and its report does not fit, which is what C reads.
-    match report_record(content, &mut out[..]) {
-        Ok(size) => Ok(size),
-        Err(refusal) => Err(Fault { refusal, line: 0 }),
-    }
+    let size = report_record(content, &mut out[..])?;
+    Ok(size)
 }
 
 // Writes the line of a refusal to the start of out where it fits. Pub for the crates that print a refusal.

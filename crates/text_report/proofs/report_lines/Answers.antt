@@ -1,14 +1,13 @@
 -- `report_lines` meets its contract. Assumes nothing.
-use Rattle.std.proofs.Common.{◌∙◌, refl, arith}
-use lib.ListN.{length-set}
-use Rattle.text_report.proofs.Numbers.{lines_none, report-lines-next}
+use Rattle.std.proofs.Common.{arith, rules}
+use Rattle.lists.proofs.Made.{made-start}
+use Rattle.text_report.specs.Rows.{no_line, report_lines}
+use Rattle.text_report.proofs.Numbers.{lines-length}
 use Rattle.text_report.proofs.report_lines.Goals as goal
 
-pub loop-i-init : goal.loop-i-init
-loop-i-init c = (refl, lines_none c.args.judged.now)
-
-pub loop-i-preserved : goal.loop-i-preserved
-loop-i-preserved c =
-    let s = c.args in
-    let l = c.loop-i in
-    (length-set l.lines l.i c.line_at.result ∙ l.invariant.0, report-lines-next s.edits.now s.judged.now l.lines l.i _ c.loop-i-test.true (omega (arith, l.invariant.0, c.requires)) l.invariant.1 c.line_at.ensures)
+pub returns : goal.returns
+returns c =
+    let l = report_lines c.args.judged.now 1 c.args.edits.now in
+    let n = lines-length c.args.judged.now 1 c.args.edits.now in
+    let m = c.from_fn.ensures.items in
+    (rw n at (made-start _ _ l no_line (λ i y q h. search rules) (omega (arith, n, c.requires)) m), m.long)
