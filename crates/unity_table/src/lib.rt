@@ -60,7 +60,8 @@ pub struct Unity {
     pub empty: usize,
 }
 
-// Kept: beside text_reader::Fault, since a row of a table has no line.
+// Kept: beside text_reader::Fault, whose place is a line: C has a row in its Unity and a line in its Reply, and a table is read without a
+// crate of texts, which one struct of both would be named from.
 // Why a table is refused: the ground of its first faulty row, and that row, from 1.
 #[derive(Clone, Copy)]
 pub struct RowFault {

@@ -7,7 +7,7 @@ use Prim.Native.Nat.{ℕ, ◌+◌, ◌≤◌, ◌<◌}
 use native.Mathlib.Omega.{arith}
 use borrow.Author.Tests.{lt-ltb, le-ltb}
 use lib.ListN.{length, get_or, take, replicate}
-use Rattle.std.specs.Prelude.{Some, None, Result, Ok, Err}
+use Rattle.std.specs.Prelude.{Option as Answer, Some, None, Result, Ok, Err, ok_or}
 use Rattle.text_lines.specs.Line.{line_limit}
 use Rattle.lists.proofs.Lists.{by}
 use Rattle.text_forms.specs.decimal.Decimal.{saturated}
@@ -35,6 +35,16 @@ said-kept (some ns) {numbers = numbers} e =
 said-other : (o : Option (List ℕ)) → None ≡ filled_of o → None ≡ said_of o
 said-other none e = refl
 said-other (some ns) e = cc
+
+-- what is said, or the fault where nothing is
+module _ (fault : RowFault) where
+  pub answer-none : (o : Answer Weights) {f : RowFault} → ok_or o fault ≡ Err f → (None ≡ o) × (fault ≡ f)
+  answer-none None e = (refl, cc)
+  answer-none (Some a) e = cc
+
+  pub answer-some : (o : Answer Weights) {a : Weights} → ok_or o fault ≡ Ok a → Some a ≡ o
+  answer-some None e = cc
+  answer-some (Some b) e = cc
 
 module _ (line : List ℕ) where
   pub said-long : line_limit < length line → None ≡ said_of (numbers_in line)

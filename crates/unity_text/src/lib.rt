@@ -32,12 +32,11 @@ pub fn text_unity(text: &[u8]) -> Result<Unity, RowFault>
 {
     let mut summed = Summed::nothing();
     for line in Lines::new(text) {
-        let Some(answer) = read_answer(line) else {
-            return Err(RowFault {
-                refusal: Refusal::NotInForm,
-                row: summed.rows + 1,
-            });
+        let unformed = RowFault {
+            refusal: Refusal::NotInForm,
+            row: summed.rows + 1,
         };
+        let answer = read_answer(line).ok_or(unformed)?;
         summed = summed.with_answer(answer)?;
     }
     summed.finished()
