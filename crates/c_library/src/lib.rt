@@ -11,10 +11,9 @@ ghost use Rattle.c_library.specs.Replies.{placed_reply, told_reply, unity_reply,
 use fraction::Fraction;
 use log_forms::Printer;
 use log_session::Session;
-use record_rows::row::ConstraintRow;
 use refusals::Refusal;
 use text_reader::Fault;
-use unity_table::RowFault;
+use unity_table::{ElectionRow, RowFault};
 
 // Kept: C reads the answer, so that the number stands beside the values.
 // Number 0: how many bytes were written. 12: they do not fit, or the place for them is too short. Any other: the text is refused, at this line.
@@ -51,7 +50,7 @@ impl From<Result<usize, Refusal>> for Reply {
     ghost from_gives = { λ answer reply. reply ≡ placed_reply answer };
 
     fn from(answer: Result<usize, Refusal>) -> Reply {
-        Reply::from(answer.map_err(|refusal| Fault { refusal, line: 0 }))
+        Reply::from(answer.map_err(Fault::from))
     }
 }
 
@@ -70,35 +69,35 @@ pub struct Unity {
     pub empty: usize,
 }
 
+// Every part 0.
+const UNKNOWN: Unity = Unity {
+    number: 0,
+    row: 0,
+    mean: Fraction::NONE,
+    least: Fraction::NONE,
+    greatest: Fraction::NONE,
+    won: 0,
+    empty: 0,
+};
+
 impl From<Result<unity_table::Unity, RowFault>> for Unity {
     ghost from_gives = { λ answer unity. unity ≡ unity_reply (answer_told answer) };
 
     fn from(answer: Result<unity_table::Unity, RowFault>) -> Unity {
         match answer {
             Ok(unity) => Unity {
-                number: 0,
-                row: 0,
                 mean: unity.mean,
                 least: unity.least,
                 greatest: unity.greatest,
                 won: unity.won,
                 empty: unity.empty,
+                ..UNKNOWN
             },
-            Err(fault) => {
-                let none = Fraction {
-                    numerator: 0,
-                    denominator: 0,
-                };
-                Unity {
-                    number: fault.refusal.number(),
-                    row: fault.row,
-                    mean: none,
-                    least: none,
-                    greatest: none,
-                    won: 0,
-                    empty: 0,
-                }
-            }
+            Err(fault) => Unity {
+                number: fault.refusal.number(),
+                row: fault.row,
+                ..UNKNOWN
+            },
         }
     }
 }
@@ -118,15 +117,22 @@ pub fn catalogue_report(text: &[u8], out: &mut [u8]) -> Reply
     Reply::from(text_report::report_text(text, &mut out[..]))
 }
 
+// A text read and written back, at the start of out.
+fn rewrite(text: &[u8], out: &mut [u8]) -> Result<usize, Fault>
+    ensures { (told_reply result ≡ rewritten_reply (read_text text.now) out.old)
+        × (out.new ≡ rewritten_out (read_text text.now) out.old) }
+{
+    let content = text_reader::read_text(text)?;
+    let size = text_writer::write_text(content, &mut out[..], 0)?;
+    Ok(size)
+}
+
 // A text read and written back: the same bytes, at the start of out. Refused, out stays as it was.
 pub fn catalogue_rewrite(text: &[u8], out: &mut [u8]) -> Reply
     ensures { (result ≡ rewritten_reply (read_text text.now) out.old)
         × (out.new ≡ rewritten_out (read_text text.now) out.old) }
 {
-    match text_reader::read_text(text) {
-        Ok(content) => Reply::from(text_writer::write_text(content, &mut out[..], 0)),
-        Err(fault) => Reply::from(Err::<usize, Fault>(fault)),
-    }
+    Reply::from(rewrite(text, &mut out[..]))
 }
 
 // A log that was kept, and the lines that follow it.
@@ -193,7 +199,7 @@ pub fn catalogue_continue(kept: &[u8], log: &[u8], work: &mut [u8], out: &mut [u
 }
 
 // How united the benches are, from a table of election answers.
-pub fn catalogue_unity(answers: &[ConstraintRow]) -> Unity
+pub fn catalogue_unity(answers: &[ElectionRow]) -> Unity
     ensures { result ≡ unity_reply (unity_of (map weights_of answers.now)) }
 {
     Unity::from(unity_table::unity_of(answers))

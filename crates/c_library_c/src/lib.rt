@@ -8,7 +8,7 @@ ghost use Rattle.unity_table.specs.Unity.{weights_of, unity_of};
 ghost use Rattle.c_library.specs.Replies.{unity_reply, reported_reply, checked_reply, rewritten_reply, rewritten_out, answers_to, answers_after, answered_reply, answered_out, worked};
 
 use c_library::{Reply, Unity};
-use record_rows::row::ConstraintRow;
+use unity_table::ElectionRow;
 
 #[unsafe(no_mangle)]
 pub extern "C" fn catalogue_check(text: &[u8]) -> Reply
@@ -59,7 +59,7 @@ pub extern "C" fn catalogue_continue(
 }
 
 #[unsafe(no_mangle)]
-pub extern "C" fn catalogue_unity(answers: &[ConstraintRow]) -> Unity
+pub extern "C" fn catalogue_unity(answers: &[ElectionRow]) -> Unity
     ensures { result ≡ unity_reply (unity_of (map weights_of answers.now)) }
 {
     c_library::catalogue_unity(answers)

@@ -13,7 +13,7 @@ use record::{Constraint, Edit, Record};
 use record_rows::element::Element;
 use refusals::Refusal;
 
-// What has a line in a text. Pub for the crates that write other lines.
+// What has a line in a text. Pub for `text_report`, which writes other lines.
 pub trait Lined: Copy {
     // The line, its end included.
     ghost line: { Self → List ℕ };
@@ -56,7 +56,7 @@ impl Lined for Constraint {
     }
 }
 
-// What is left of a room after these lines, where they fit. Pub for the crates that write other lines.
+// What is left of a room after these lines, where they fit. Pub for `text_report`, which writes other lines.
 pub fn lines_fit<T: Lined>(room: usize, elements: &[T]) -> Option<usize>
     ensures { result ≡ room_after room (length (joined_lines (map T.line elements.now))) }
 {

@@ -11,7 +11,8 @@ fn read_full(file: &mut impl Read, text: &mut [u8]) -> usize
     ensures { result ≤ length text.new }
 {
     let mut done = 0;
-    // Kept: as stdio::read_input, a `while`, but a failed read is taken for the end of the input and nothing is told.
+    // Kept: beside stdio::read_input, which tells standard error of a failed read: this program takes it for the end of its input and prints
+    // nothing of it, and what a program prints stays. A `while`, since how many reads it takes is known only by what they give.
     while done < text.len() {
         match file.read(&mut text[done..]) {
             Ok(0) | Err(_) => break,

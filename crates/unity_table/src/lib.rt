@@ -60,8 +60,8 @@ pub struct Unity {
     pub empty: usize,
 }
 
-// Kept: beside text_reader::Fault, whose place is a line: C has a row in its Unity and a line in its Reply, and a table is read without a
-// crate of texts, which one struct of both would be named from.
+// Kept: beside text_reader::Fault, which says a line: C has a `row` in Unity and a `line` in Reply, and a table needs no crate of texts, from
+// which one struct of both would come.
 // Why a table is refused: the ground of its first faulty row, and that row, from 1.
 #[derive(Clone, Copy)]
 pub struct RowFault {
@@ -77,8 +77,8 @@ fn extreme(none: bool, before: bool, known: Fraction, share: Fraction) -> Fracti
 }
 
 // Kept: no Option: of no share the least and the greatest are 0/1, which is what is answered.
-// Kept: `held.Left`, `held.Room`: a state is what some answers without fault come to, which a step shows only once its row is known to have
-// none; as a ghost field it would have to be shown of states that are still to be tested.
+// Kept: `held.Left`, `held.Room`: with Left in the type its three clauses would go, and the three steps below would each have to ask that what
+// they make is the state after one answer more, which with_answer shows only once all is tested. Room stays: not every state has a place left.
 // The answers so far: how many, the sum of their shares over the least common denominator, and how many shares that are.
 #[derive(Clone, Copy)]
 pub struct Summed {
