@@ -2,11 +2,11 @@
 use mathlib.Core.Path.{◌≡◌, refl, ap, sym, ◌∙◌}
 use mathlib.Core.Bool.{Bool, true, false}
 use mathlib.Core.List.{List, [], ◌∷◌, ◌++◌, map, map-append}
-use Prim.Native.Nat.{ℕ, zero, suc, ◌+◌, ◌≤◌, ◌<◌}
+use Prim.Native.Nat.{ℕ, suc, ◌+◌, ◌≤◌, ◌<◌}
 use native.Mathlib.Numerals.{add-one}
 use native.Mathlib.Omega.{arith}
 use lib.ListN.{length, take, drop, get_or, set, replicate, drop_of_length-le, length-map, length-drop, length-set, length-replicate}
-use lib.Seq.{take-suc, drop-cons, drop-drop, length-take-le, take_all}
+use lib.Seq.{take-suc, drop-cons, length-take-le, take_all}
 use Rattle.std.specs.Prelude.{Option, Some, None}
 use Rattle.lists.proofs.Lists.{by}
 use Rattle.record.specs.Stored.{padded}
@@ -99,16 +99,17 @@ module _ {A : Type 0} (key : A → List ℕ) where
       let k : key s ≡ key r = less-total (key s) (key r) (even s r) u l in
       rw (l, u) (omega arith, omega arith, λ a b. united-both key s r P Q k (same_key s r Q k b.0))))
 
-  ascending-drop : (p : ℕ) (l : List A) → Ascending key l → Ascending key (drop p l)
-  ascending-drop zero l a = a
-  ascending-drop (suc p) [] a = tt
-  ascending-drop (suc p) (x ∷ l) a = ascending-drop p l a.1
+  ascending-rest : (l : List A) → Ascending key l → Ascending key (drop 1 l)
+  ascending-rest [] a = tt
+  ascending-rest (x ∷ l) a = a.1
 
-  -- the loop: q elements of the union are written, p of the record's and j of the joining elements are passed
-  pub record Joins (limit : ℕ) (z : A) (E S out : List A) (p j q : ℕ) : Type 0 where
+  -- the loop: q elements of the union are written, and P and Q are left of the two tables
+  pub record Joins (limit : ℕ) (z : A) (E S out P Q : List A) (q : ℕ) : Type 0 where
     pub written : out ≡ padded limit z (take q (united key E S))
-    pub rest : drop q (united key E S) ≡ united key (drop p E) (drop j S)
+    pub rest : drop q (united key E S) ≡ united key P Q
     pub short : q ≤ length (united key E S)
+    pub ownorder : Ascending key P
+    pub joiningorder : Ascending key Q
 
   -- one element more of a list
   put : (limit : ℕ) (z : A) (U : List A) (q : ℕ) (v : A) (rest out : List A) → length U ≤ limit → out ≡ padded limit z (take q U) → drop q U ≡ v ∷ rest
@@ -126,60 +127,40 @@ module _ {A : Type 0} (key : A → List ℕ) where
     U = united key E S
 
     -- what the loop keeps
-    pub record UnionWalk (out : List A) (p j q : ℕ) : Type 0 where
-      pub own : p ≤ length E
-      pub joining : j ≤ length S
+    pub record UnionWalk (out P Q : List A) (q : ℕ) : Type 0 where
       pub size : length out ≡ limit
-      pub joins : Unites key limit E S → Joins limit z E S out p j q
+      pub joins : Unites key limit E S → Joins limit z E S out P Q q
 
-    pub union-walk-start : {o : A} → o ≡ z → UnionWalk (replicate limit o) 0 0 0
+    pub union-walk-start : {o : A} → o ≡ z → UnionWalk (replicate limit o) E S 0
     union-walk-start {o} e = record {
-      own = omega arith;
-      joining = omega arith;
       size = length-replicate limit o;
-      joins = λ u. record { written = padded-begin limit z e; rest = refl; short = omega arith };
+      joins = λ u. record { written = padded-begin limit z e; rest = refl; short = omega arith; ownorder = u.ownorder; joiningorder = u.joiningorder };
     }
 
-    module _ (out : List A) (p j q : ℕ) (w : UnionWalk out p j q) where
-      abbrev P : List A
-      P = drop p E
-
-      abbrev Q : List A
-      Q = drop j S
-
-      -- an element is written, and p' and j' elements are passed then
-      walk-more : (p' j' : ℕ) (v : A) → p' ≤ length E → j' ≤ length S → (Unites key limit E S → united key P Q ≡ v ∷ united key (drop p' E) (drop j' S)) → UnionWalk (set out q v) p' j' (q + 1)
-      walk-more p' j' v x y e = record {
-        own = x;
-        joining = y;
+    module _ (out P Q : List A) (q : ℕ) (w : UnionWalk out P Q q) where
+      -- an element is written, and P' and Q' are left then
+      walk-more : (P' Q' : List A) (v : A) → (Ascending key P → Ascending key P') → (Ascending key Q → Ascending key Q') → Union P Q (v ∷ united key P' Q') → UnionWalk (set out q v) P' Q' (q + 1)
+      walk-more P' Q' v x y e = record {
         size = length-set out q v ∙ w.size;
         joins = λ u.
-            let t = put limit z U q v (united key (drop p' E) (drop j' S)) out u.places (w.joins u).written ((w.joins u).rest ∙ e u) in
+            let s = w.joins u in
+            let t = put limit z U q v (united key P' Q') out u.places s.written (s.rest ∙ e s.ownorder s.joiningorder) in
             let h : q < length U = t.0 in
-            record { written = t.1; rest = t.2; short = omega arith };
+            record { written = t.1; rest = t.2; short = omega arith; ownorder = x s.ownorder; joiningorder = y s.joiningorder };
       }
 
       module _ (even : (x y : A) → length (key x) ≡ length (key y)) {c : Option (Choice A)} (e : c ≡ chosen key P Q) where
         chosen-next : Next P Q c
         chosen-next = rw e (next even P Q)
 
-        pub walk-own : (x : A) → c ≡ Some (Own x) → UnionWalk (set out q x) (p + 1) j (q + 1)
-        walk-own x f =
-            let n : Next P Q (Some (Own x)) = rw f at chosen-next in
-            walk-more (p + 1) j x (omega (arith, n.0, length-drop p E)) w.joining
-            (λ u. n.1 (ascending-drop p E u.ownorder) (ascending-drop j S u.joiningorder) ∙ rw (drop-drop 1 p E))
+        pub walk-own : (x : A) → c ≡ Some (Own x) → UnionWalk (set out q x) (drop 1 P) Q (q + 1)
+        walk-own x f = let n : Next P Q (Some (Own x)) = rw f at chosen-next in walk-more (drop 1 P) Q x (ascending-rest P) (λ a. a) n.1
 
-        pub walk-joining : (y : A) → c ≡ Some (Joining y) → UnionWalk (set out q y) p (j + 1) (q + 1)
-        walk-joining y f =
-            let n : Next P Q (Some (Joining y)) = rw f at chosen-next in
-            walk-more p (j + 1) y w.own (omega (arith, n.0, length-drop j S))
-            (λ u. n.1 (ascending-drop p E u.ownorder) (ascending-drop j S u.joiningorder) ∙ rw (drop-drop 1 j S))
+        pub walk-joining : (y : A) → c ≡ Some (Joining y) → UnionWalk (set out q y) P (drop 1 Q) (q + 1)
+        walk-joining y f = let n : Next P Q (Some (Joining y)) = rw f at chosen-next in walk-more P (drop 1 Q) y (λ a. a) (ascending-rest Q) n.1
 
-        pub walk-both : (x : A) → c ≡ Some (Both x) → UnionWalk (set out q x) (p + 1) (j + 1) (q + 1)
-        walk-both x f =
-            let n : Next P Q (Some (Both x)) = rw f at chosen-next in
-            walk-more (p + 1) (j + 1) x (omega (arith, n.0, length-drop p E)) (omega (arith, n.1, length-drop j S))
-            (λ u. n.2 (ascending-drop p E u.ownorder) (ascending-drop j S u.joiningorder) ∙ rw (drop-drop 1 p E, drop-drop 1 j S))
+        pub walk-both : (x : A) → c ≡ Some (Both x) → UnionWalk (set out q x) (drop 1 P) (drop 1 Q) (q + 1)
+        walk-both x f = let n : Next P Q (Some (Both x)) = rw f at chosen-next in walk-more (drop 1 P) (drop 1 Q) x (ascending-rest P) (ascending-rest Q) n.2
 
         pub walk-end : c ≡ None → Unites key limit E S → (out, q) ≡ united_in limit z U
         unfolding united

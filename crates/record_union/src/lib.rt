@@ -2,7 +2,7 @@
 // The functions are pub for the crates of this workspace that join records.
 #![tactic(auto)]
 
-ghost use Rattle.std.specs.Prelude.{◌≡◌, map, ◌≤◌, get_or, length};
+ghost use Rattle.std.specs.Prelude.{◌≡◌, map, ◌≤◌, get_or, length, drop};
 ghost use Rattle.record.specs.Record as theory;
 ghost use Rattle.record.specs.Stored.{padded, stored, edit_limit, constraint_limit};
 ghost use Rattle.lists.specs.Keyed.{united};
@@ -78,8 +78,17 @@ fn choose<const CELLS: usize, T: Element<CELLS>>(own: &[T], joining: &[T]) -> Op
     Some(Choice::Both(*x))
 }
 
+// What comes after the first element.
+fn after_first<T>(l: &[T]) -> &[T]
+    ensures { result.now ≡ drop 1 l.now }
+{
+    match l {
+        [_, rest @ ..] => rest,
+        [] => l,
+    }
+}
+
 // The union of two tables, as far as it has places, and how many elements it has.
-// Kept: places in both tables, for the loop's law says what of each was taken.
 fn unite<const CELLS: usize, const PLACES: usize, T: Element<CELLS>>(
     own: &[T],
     joining: &[T],
@@ -87,25 +96,25 @@ fn unite<const CELLS: usize, const PLACES: usize, T: Element<CELLS>>(
     ensures { Unites T.key_of PLACES own.now joining.now → result ≡ united_in PLACES T.filler (united T.key_of own.now joining.now) }
 {
     let mut elements = [T::filler(); PLACES];
-    let mut p = 0;
-    let mut j = 0;
+    let mut ownrest = own;
+    let mut joiningrest = joining;
     for count in 0..PLACES {
-        let Some(choice) = choose::<CELLS, T>(&own[p..], &joining[j..]) else {
+        let Some(choice) = choose::<CELLS, T>(ownrest, joiningrest) else {
             return (elements, count);
         };
         match choice {
             Choice::Own(x) => {
                 elements[count] = x;
-                p += 1;
+                ownrest = after_first(ownrest);
             }
             Choice::Joining(y) => {
                 elements[count] = y;
-                j += 1;
+                joiningrest = after_first(joiningrest);
             }
             Choice::Both(x) => {
                 elements[count] = x;
-                p += 1;
-                j += 1;
+                ownrest = after_first(ownrest);
+                joiningrest = after_first(joiningrest);
             }
         }
     }
