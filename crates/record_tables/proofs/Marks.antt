@@ -43,11 +43,10 @@ marks-more marks names x h k n =
 
 -- one more element of a list is marked by its number, which is below the length of the marks where the element is good
 module _ {A : Type 0} (number : A → ℕ) (good : A → Bool) (size : ℕ) (small : (x : A) → good x ≡ true → number x < size) (l : List A) where
-  pub marks-next : (marks : List ℕ) (i k : ℕ) (d : A) → i < length l → length marks ≡ size → (number (get_or l i d) < size → k ≡ number (get_or l i d))
+  pub marks-next : (marks : List ℕ) (i k : ℕ) (d : A) → i < length l → length marks ≡ size → k ≡ number (get_or l i d)
       → (all good l ≡ true → MarksNames marks (map number (take i l))) → all good l ≡ true → MarksNames (set marks k 1) (map number (take (i + 1) l))
-  marks-next marks i k d h w place s f =
+  marks-next marks i k d h w e s f =
       let b : number (get_or l i d) < size = small (get_or l i d) (all-has good l f (get_or l i d) (has-get_or l i d h)) in
-      let e : k ≡ number (get_or l i d) = place b in
       let n : map number (take (i + 1) l) ≡ map number (take i l) ++ (number (get_or l i d) ∷ []) = rw (add-one i, take-suc l i d h, map-append) in
       rw (n, e) (marks-more marks (map number (take i l)) (number (get_or l i d)) (omega arith) (s f))
 

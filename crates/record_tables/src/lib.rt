@@ -4,7 +4,8 @@
 
 pub mod lookup;
 
-ghost use Rattle.std.specs.Prelude.{◌≡◌, true, not, List, map, ℕ, eqb, get_or, length, slice_set, take};
+ghost use Rattle.std.specs.Prelude.{◌≡◌, Bool, true, not, List, map, ℕ, ◌<◌, eqb, get_or, length, slice_set, take};
+ghost use Rattle.std.specs.Fn.{FnReturnsAt};
 ghost use Rattle.record.specs.Record.{name_of};
 ghost use Rattle.lists.specs.Lists.{all};
 ghost use Rattle.lists.specs.Keyed.{Ascending};
@@ -108,27 +109,30 @@ fn mark(marks: &mut [u8; NAMES], name: usize)
     }
 }
 
-// The marks of the names of a table of edits in range.
-// Kept: two loops of one line; one function of both would take how a row names itself as a closure, with a clause for each.
-pub fn mark_rows(t: &[EditRow]) -> [u8; NAMES]
-    ensures { all edit_in_range t.now ≡ true → MarksNames result (names_of t.now) }
+// The marks of what each element gives, and of INIT.
+fn marks_of<T, F: Fn(&T) -> usize>(elements: &[T], name: F) -> [u8; NAMES]
+    requires { F.IsAlwaysCallable name }
+    ensures { (number : T → ℕ) (good : T → Bool) → ((x : T) (r : ℕ) → FnReturnsAt F.Fn name x r → r ≡ number x)
+        → ((x : T) → good x ≡ true → number x < name_limit) → all good elements.now ≡ true → MarksNames result (map number elements.now) }
 {
     let mut marks = [0; NAMES];
     mark(&mut marks, 0);
-    for row in t {
-        mark(&mut marks, row[0] as usize);
+    for x in elements {
+        mark(&mut marks, name(x));
     }
     marks
+}
+
+// The marks of the names of a table of edits in range.
+pub fn mark_rows(t: &[EditRow]) -> [u8; NAMES]
+    ensures { all edit_in_range t.now ≡ true → MarksNames result (names_of t.now) }
+{
+    marks_of(t, |row| row[0] as usize)
 }
 
 // The marks of edits in range. Pub for `record_refusal`.
 pub fn mark_edits(edits: &[Edit]) -> [u8; NAMES]
     ensures { all (λ e. edit_in_range (edit_row e)) edits.now ≡ true → MarksNames result (map name_of edits.now) }
 {
-    let mut marks = [0; NAMES];
-    mark(&mut marks, 0);
-    for edit in edits {
-        mark(&mut marks, usize::from(edit.name));
-    }
-    marks
+    marks_of(edits, |edit| usize::from(edit.name))
 }
