@@ -2,7 +2,8 @@
 use mathlib.Core.Path.{◌≡◌, ap, ◌∙◌}
 use mathlib.Core.Bool.{true}
 use mathlib.Core.List.{List, [], ◌∷◌, map}
-use Rattle.std.specs.Prelude.{Option}
+use Rattle.std.specs.Prelude.{Result}
+use Rattle.refusals.specs.declared.Refusal.{Refusal}
 use Prim.Native.Nat.{ℕ, ◌+◌, ◌≤◌}
 use native.Mathlib.Omega.{arith}
 use lib.Dec.{ltb}
@@ -21,7 +22,7 @@ use Rattle.record_tables.specs.Checked.{Checked}
 use Rattle.record_union.specs.Union.{Unites}
 use Rattle.voting.specs.Proposal.{decisions, decision_on}
 use Rattle.record_joining.specs.declared.insertion.Constraints.{Constraints}
-use Rattle.record_joining.specs.insertion.Insertion.{held_table}
+use Rattle.record_joining.specs.insertion.Insertion.{table_of}
 use Rattle.voting_drafts.proofs.ranking.Joins.{united-none}
 use Rattle.voting_decisions.specs.Decisions.{only_constraints}
 
@@ -64,20 +65,20 @@ module _ (row : List ℕ) where
     }
 
     -- the table of the union
-    pub table-united : length R.constraints ≤ 385 → {table : Option Constraints}
-        → (length (unite R (only_constraints (decisions row (written R)))).constraints ≤ 512 → table ≡ held_table (unite R (only_constraints (decisions row (written R)))).constraints)
-        → table ≡ held_table (united constraint_key R.constraints (decisions row (written R)))
+    pub table-united : length R.constraints ≤ 385 → {table : Result Constraints Refusal}
+        → (length (unite R (only_constraints (decisions row (written R)))).constraints ≤ 512 → table ≡ table_of (unite R (only_constraints (decisions row (written R)))).constraints)
+        → table ≡ table_of (united constraint_key R.constraints (decisions row (written R)))
     unfolding unite
     table-united h e = e (constraints-unite h).places
 
-pub only-start : (rows : List Constraint) (r : declared.Record) → rows ≡ r.constraints → r ≡ empty_record → rows ≡ padded 512 filler_constraint []
+pub only-start : (r : declared.Record) → r ≡ empty_record → r.constraints ≡ padded 512 filler_constraint []
 unfolding padded
-only-start rows r e f = e ∙ ap (λ (x : declared.Record). x.constraints) f
+only-start r e = ap (λ (x : declared.Record). x.constraints) e
 
-pub only-stored : (rows : List Constraint) (n : ℕ) (l : List Constraint) (r : declared.Record) → rows ≡ padded 512 filler_constraint l → n ≡ length l → r ≡ empty_record
-    → record { edits = r.edits; editcount = r.editcount; constraints = rows; constraintcount = n } ≡ stored (only_constraints l)
+pub only-stored : (r : declared.Record) (n : ℕ) (l : List Constraint) → r.constraints ≡ padded 512 filler_constraint l → n ≡ length l → r.edits ≡ empty_record.edits → r.editcount ≡ empty_record.editcount
+    → record { edits = r.edits; editcount = r.editcount; constraints = r.constraints; constraintcount = n } ≡ stored (only_constraints l)
 unfolding padded
-only-stored rows n l r e f g = λ j. record { edits = (g j).edits; editcount = (g j).editcount; constraints = e j; constraintcount = f j }
+only-stored r n l e f g h = λ j. record { edits = g j; editcount = h j; constraints = e j; constraintcount = f j }
 
 pub decisions-many : (row : List ℕ) (R : Record) → length (decisions row (written R)) ≡ length R.edits
 unfolding decisions written

@@ -2,7 +2,8 @@
 use mathlib.Core.Path.{◌≡◌, refl, ap, sym, ◌∙◌}
 use mathlib.Core.Bool.{true, false, cond, ◌&&◌}
 use mathlib.Core.List.{List, [], ◌∷◌, ◌++◌}
-use Rattle.std.specs.Prelude.{Option}
+use Rattle.std.specs.Prelude.{Result}
+use Rattle.refusals.specs.declared.Refusal.{Refusal}
 use Prim.Native.Nat.{ℕ, suc, ◌+◌, ◌≤◌, ◌<◌}
 use native.Mathlib.Numerals.{add-one}
 use native.Mathlib.Omega.{arith}
@@ -28,7 +29,7 @@ use Rattle.graph.proofs.links.Names.{get_or-among, get_or-place, place-known}
 use Rattle.voting.specs.Proposal.{joined_constraints, before, unordered, decisions, orders, finished, decision_on}
 use Rattle.voting.proofs.Finished.{unordered-from}
 use Rattle.record_joining.specs.declared.insertion.Constraints.{Constraints}
-use Rattle.record_joining.specs.insertion.Insertion.{held_table}
+use Rattle.record_joining.specs.insertion.Insertion.{table_of}
 use Rattle.voting_drafts.proofs.pairs.Unordered.{index-low, index-name}
 use Rattle.voting_drafts.proofs.draft.Places.{place_none, place-there, place-mem}
 use Rattle.voting_drafts.specs.ranking.Ranking.{flat_map, rank_of, rank_order, pair_order}
@@ -108,12 +109,12 @@ module _ (R : Record) (rest index pages : List ℕ) (g : Paged R rest index page
         let z : x ≡ 0 → ⊥ = λ y. clash (rw y at known) g.formed.unwritten in
         p ∙ ap (λ (y : ℕ). decided y (get_or pages (i + 1) 0)) decisions-named.1 ∙ decision-is rest x z page-here
 
-    pub decisions-next : (t : List Constraint) → {c : Constraint} {table : Option Constraints} → c ≡ decided (get_or edits i d).name (get_or pages (i + 1) 0)
-        → table ≡ held_table (inserted constraint_key c (united constraint_key t (flat_map (decision_row (0 ∷ rest)) (take i (written R)))))
-        → table ≡ held_table (united constraint_key t (flat_map (decision_row (0 ∷ rest)) (take (i + 1) (written R))))
+    pub decisions-next : (t : List Constraint) → {c : Constraint} {table : Result Constraints Refusal} → c ≡ decided (get_or edits i d).name (get_or pages (i + 1) 0)
+        → table ≡ table_of (inserted constraint_key c (united constraint_key t (flat_map (decision_row (0 ∷ rest)) (take i (written R)))))
+        → table ≡ table_of (united constraint_key t (flat_map (decision_row (0 ∷ rest)) (take (i + 1) (written R))))
     decisions-next t {c} p q =
         joins-next (decision_row (0 ∷ rest)) t (written R) i 0 decisions-named.0
-        (q ∙ ap held_table (united-one constraint_key _ c ∙ ap (λ (y : Constraint). united constraint_key (united constraint_key t (flat_map (decision_row (0 ∷ rest)) (take i (written R)))) (y ∷ [])) (decision-here p)))
+        (q ∙ ap table_of (united-one constraint_key _ c ∙ ap (λ (y : Constraint). united constraint_key (united constraint_key t (flat_map (decision_row (0 ∷ rest)) (take i (written R)))) (y ∷ [])) (decision-here p)))
 
   -- the pairs by the pages of their edits
   pub orders-by-page : ((a b : ℕ) → has a 2 b R.constraints ≡ true → a < b) → flat_map (pair_order (rank_of index pages)) (unordered R) ≡ orders (0 ∷ rest) (unordered R)

@@ -1,14 +1,15 @@
 -- Inner: what is read of the schedule while decisions and orders are made; what they are says the crate proposal. Assumes nothing.
-use Rattle.std.specs.Prelude.{◌≡◌, cond, List, [], ◌∷◌, ℕ, eqb, get_or}
+use Rattle.std.specs.Prelude.{◌≡◌, cond, List, [], ◌∷◌, ℕ, eqb}
 use Rattle.record.specs.declared.Constraint.{Constraint}
-use Rattle.record.specs.Record.{Record, names, WellFormed}
+use Rattle.record.specs.Record.{Record, WellFormed}
 use Rattle.graph.specs.links.Marks.{place_in, values_of}
+use Rattle.graph.specs.indexes.Indexed.{Indexed}
 use Rattle.voting.specs.Proposal.{before, decision_on}
 
 -- the index of each name, and the page of each edit by index, 0 where it is not in the row; the row starts with INIT
 pub record Paged (R : Record) (rest index pages : List ℕ) : Type 0 where
   pub formed : WellFormed R
-  pub indexed : (x : ℕ) → get_or index x 0 ≡ place_in (names R) x
+  pub indexed : Indexed R index
   pub paged : pages ≡ values_of R (place_in (0 ∷ rest))
 
 -- an edit with a page is marked required, one without aborted

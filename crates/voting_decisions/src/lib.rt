@@ -2,7 +2,7 @@
 // and the schedule's unordered pairs are ordered. Functions are pub for the crates of this workspace that make proposals.
 #![tactic(auto)]
 
-ghost use Rattle.std.specs.Prelude.{◌≡◌, true, List, [], ◌∷◌, ℕ};
+ghost use Rattle.std.specs.Prelude.{◌≡◌, true, List, [], ◌∷◌, Ok, ℕ};
 ghost use Rattle.record.specs.declared.Constraint.{Constraint};
 ghost use Rattle.record.specs.Record as theory;
 ghost use Rattle.record.specs.Stored.{stored};
@@ -14,15 +14,15 @@ ghost use Rattle.record_tables.specs.Checked.{Checked};
 ghost use Rattle.graph.specs.links.Marks.{place_in, values_of};
 ghost use Rattle.graph.specs.indexes.Fit.{Fit};
 ghost use Rattle.voting.specs.Proposal as proposal;
-ghost use Rattle.record_joining.specs.insertion.Insertion.{held_table};
+ghost use Rattle.record_joining.specs.insertion.Insertion.{table_of};
 ghost use Rattle.voting_decisions.specs.Decisions.{Paged, decided, only_constraints};
 
 use graph::indexes;
 use graph::links::{MARKS, Marks};
 use judgement_marks::schedules;
 use record::{CONSTRAINTS, Constraint, EDITS, Record};
-use record_joining::insertion;
 use record_joining::insertion::Constraints;
+use refusals::Refusal;
 use voting_drafts::{pairs, ranking};
 
 // So many constraints leave a place for a decision on each edit.
@@ -54,60 +54,57 @@ fn decision(name: u16, page: u8) -> Constraint
 }
 
 // The table joined by the decisions on all edits.
-// Kept: an Option in and out: held_table says None of any list that is too long, so that each step's clause is one equation.
 fn with_decisions(
-    table: Option<Constraints>,
+    table: Constraints,
     multilog: Record,
     pages: &Marks,
-) -> Option<Constraints>
+) -> Result<Constraints, Refusal>
     ensures { (R : theory.Record) (rest index : List ℕ) (t : List Constraint) → multilog ≡ stored R → Fit R → Paged R rest index pages.now
-        → table ≡ held_table t → Ascending constraint_key t → result ≡ held_table (united constraint_key t (proposal.decisions (0 ∷ rest) (theory.written R))) }
+        → Ok table ≡ table_of t → Ascending constraint_key t → result ≡ table_of (united constraint_key t (proposal.decisions (0 ∷ rest) (theory.written R))) }
 {
     let mut out = table;
     for (i, edit) in multilog.edit_slice().iter().enumerate() {
         let c = decision(edit.name, pages[i + 1]);
-        out = insertion::insert(out, c);
+        out = out.insert(c)?;
     }
-    out
+    Ok(out)
 }
 
 // The decisions on all edits as the constraints of a record without edits.
-// Kept: the rows are written apart, since the loop's law speaks of them alone; the record gets them with their count.
+// Kept: a loop by place. array::from_fn was tried: its closure, which reads a page one place after the edit's, has to require and to ensure what the
+// loop needs no clause for.
 fn decisions_of(multilog: Record, pages: &Marks) -> Record
     ensures { (R : theory.Record) (rest index : List ℕ) → multilog ≡ stored R → Fit R → Paged R rest index pages.now
         → result ≡ stored (only_constraints (proposal.decisions (0 ∷ rest) (theory.written R))) }
 {
     let mut r = record::empty();
     let edits = multilog.edit_slice();
-    let mut rows = r.constraints;
     for (i, edit) in edits.iter().enumerate() {
-        rows[i] = decision(edit.name, pages[i + 1]);
+        r.constraints[i] = decision(edit.name, pages[i + 1]);
     }
-    r.constraints = rows;
     r.constraintcount = edits.len();
     r
 }
 
 // The record's constraints joined by the decisions on all edits: both are in order, and where they have places for sure one walk joins them.
-fn decided_table(multilog: Record, pages: &Marks) -> Option<Constraints>
+fn decided_table(multilog: Record, pages: &Marks) -> Result<Constraints, Refusal>
     ensures { (R : theory.Record) (rest index : List ℕ) → multilog ≡ stored R → Checked R → Paged R rest index pages.now
-        → result ≡ held_table (united constraint_key R.constraints (proposal.decisions (0 ∷ rest) (theory.written R))) }
+        → result ≡ table_of (united constraint_key R.constraints (proposal.decisions (0 ∷ rest) (theory.written R))) }
 {
     if UNDECIDED < multilog.constraintcount {
-        let table = insertion::table_of(multilog);
-        return with_decisions(Some(table), multilog, pages);
+        return with_decisions(Constraints::of(multilog), multilog, pages);
     }
     let small = decisions_of(multilog, pages);
-    Some(insertion::table_of(record_union::union(multilog, small)))
+    Ok(Constraints::of(record_union::union(multilog, small)))
 }
 
-// The constraints of the finished proposal; none where they have no place.
-pub fn finished(multilog: Record) -> Option<Constraints>
-    ensures { (R : theory.Record) → multilog ≡ stored R → Checked R → sound R ≡ true → result ≡ held_table (proposal.finished R).constraints }
+// The constraints of the finished proposal.
+pub fn finished(multilog: Record) -> Result<Constraints, Refusal>
+    ensures { (R : theory.Record) → multilog ≡ stored R → Checked R → sound R ≡ true → result ≡ table_of (proposal.finished R).constraints }
 {
     let index = indexes::index_table(multilog);
     let paged = pages(multilog);
-    let table = decided_table(multilog, &paged);
+    let table = decided_table(multilog, &paged)?;
     let pairs = pairs::unordered_pairs(multilog);
     ranking::with_orders(
         table,

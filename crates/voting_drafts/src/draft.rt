@@ -7,7 +7,7 @@ ghost use Rattle.lists.specs.Keyed.{united};
 ghost use Rattle.record_tables.specs.Table.{constraint_key};
 ghost use Rattle.record_tables.specs.Checked.{Checked};
 ghost use Rattle.voting.specs.Proposal.{unordered, firsts};
-ghost use Rattle.record_joining.specs.insertion.Insertion.{held_table};
+ghost use Rattle.record_joining.specs.insertion.Insertion.{table_of};
 ghost use Rattle.voting_drafts.specs.draft.Draft.{settled_rank};
 
 use crate::{pairs, ranking};
@@ -15,8 +15,8 @@ use graph::indexes;
 use graph::indexes::IndexTable;
 use graph::links::Marks;
 use record::Record;
-use record_joining::insertion;
 use record_joining::insertion::Constraints;
+use refusals::Refusal;
 
 // What is settled ranks first. An edit that the old proposal does not know has the index of INIT, and is not settled.
 fn settled_rank(index: &IndexTable, settled: &Marks, name: u16) -> u8
@@ -26,17 +26,16 @@ fn settled_rank(index: &IndexTable, settled: &Marks, name: u16) -> u8
     if 0 < i && settled[i] == 1 { 1 } else { 2 }
 }
 
-// The constraints of the union with the rows "b notafter a"; none where they have no place.
-pub fn started(both: Record, old: Record) -> Option<Constraints>
+// The constraints of the union with the rows "b notafter a".
+pub fn started(both: Record, old: Record) -> Result<Constraints, Refusal>
     ensures { (U Q : theory.Record) → both ≡ stored U → Checked U → old ≡ stored Q → Checked Q
-        → result ≡ held_table (united constraint_key U.constraints (firsts Q (unordered U))) }
+        → result ≡ table_of (united constraint_key U.constraints (firsts Q (unordered U))) }
 {
     let index = indexes::index_table(old);
     let settled = judgement::settleds(old);
     let pairs = pairs::unordered_pairs(both);
-    let table = insertion::table_of(both);
     ranking::with_orders(
-        Some(table),
+        Constraints::of(both),
         &pairs.rows[..pairs.count],
         |name| settled_rank(&index, &settled, name),
     )

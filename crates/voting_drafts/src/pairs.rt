@@ -1,13 +1,13 @@
 // The noncommuting pairs of a record with no order between them (document 01, "Proposals and votes", last paragraph). Functions are pub for
 // the crates of this workspace that make proposals.
-ghost use Rattle.std.specs.Prelude.{◌≡◌, not, ◌&&◌, ◌||◌, ℕ, ◌≤◌, eqb, get_or, take};
+ghost use Rattle.std.specs.Prelude.{◌≡◌, not, ◌&&◌, ◌||◌, ◌≤◌, eqb, take};
 ghost use Rattle.lists.specs.Lists.{◌among◌};
 ghost use Rattle.record.specs.Record as theory;
 ghost use Rattle.record.specs.Record.{names, notafter};
 ghost use Rattle.record.specs.Stored.{stored, constraint_limit};
-ghost use Rattle.graph.specs.links.Marks.{place_in};
 ghost use Rattle.graph.specs.links.Resolved.{Resolved};
 ghost use Rattle.graph.specs.indexes.Fit.{Fit};
+ghost use Rattle.graph.specs.indexes.Indexed.{Indexed};
 ghost use Rattle.voting.specs.Proposal.{unordered};
 
 use graph::indexes;
@@ -20,7 +20,7 @@ use record_joining::insertion::Constraints;
 // Kept: a rule is its number, as in the record, and the theory compares it with 2.
 fn is_unordered(c: Constraint, index: &IndexTable, rows: &Rows) -> bool
     ensures { (R : theory.Record) → Resolved R rows.now
-        → ((x : ℕ) → get_or index.now x 0 ≡ place_in (names R) x) → c.left among names R → c.right among names R
+        → Indexed R index.now → c.left among names R → c.right among names R
         → result ≡ (eqb c.rule 2 && not (notafter R c.left c.right || notafter R c.right c.left)) }
 {
     if c.rule != 2 {

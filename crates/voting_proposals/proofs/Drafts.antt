@@ -3,7 +3,7 @@ use mathlib.Core.Path.{◌≡◌, refl, ap, sym, ◌∙◌}
 use mathlib.Core.Bool.{Bool, true, false, not}
 use mathlib.Core.List.{List}
 use Prim.Native.Nat.{ℕ, ◌≤◌}
-use borrow.Author.Tests.{not-false, ltb-false}
+use borrow.Author.Tests.{not-false, ltb-false, lt-ltb, le-ltb}
 use lib.Dec.{ltb}
 use lib.ListN.{length}
 use Rattle.record.specs.declared.Constraint.{Constraint}
@@ -17,28 +17,25 @@ use Rattle.record_rows.proofs.grounds.Grounds.{orelse-none, given-none}
 use Rattle.record_tables.specs.Table.{constraint_key, unite}
 use Rattle.record_tables.specs.Checked.{Checked}
 use Rattle.record_joining.specs.declared.insertion.Constraints.{Constraints}
-use Rattle.record_joining.specs.insertion.Insertion.{held_table}
-use Rattle.std.specs.Prelude.{Some, None, is_some}
-use Rattle.lists.proofs.Lists.{by, clash}
+use Rattle.record_joining.specs.insertion.Insertion.{table_of}
+use Rattle.record_joining.proofs.insertion.Tables.{too-long, table-full, few}
+use Rattle.std.specs.Prelude.{Ok, Err}
+use Rattle.refusals.specs.declared.Refusal.{Refusal}
+use Rattle.refusals.specs.Numbers.{number, number_of}
 use Rattle.voting.specs.Proposal.{joined_constraints, unordered, firsts, started, finished, proposed}
 use Rattle.voting_proposals.specs.Propose.{overfull, draft_fault}
 use Rattle.voting_proposals.proofs.Added.{started-checked, finished-checked}
 
--- whether a table is held tells whether the rows have places
-none-tells : (l : List Constraint) → None ≡ held_table l → ltb 512 (length l) ≡ true
-unfolding held_table
-none-tells l e = by (ltb 512 (length l)) (λ q. q) (λ q. clash (ap is_some (rw q at e)) refl)
-
-some-tells : (table : Constraints) (l : List Constraint) → Some table ≡ held_table l → ltb 512 (length l) ≡ false
-unfolding held_table
-some-tells table l e = by (ltb 512 (length l)) (λ q. clash (sym (ap is_some (rw q at e))) refl) (λ q. q)
+-- 3 is given of a list that is too long
+no-place : (l : List Constraint) {r : Refusal} → Err r ≡ table_of l → (number r ≡ 3) × (ltb 512 (length l) ≡ true)
+no-place l e = let h = too-long l e in (ap number_of (e ∙ table-full l h), lt-ltb 512 (length l) h)
 
 module _ (M Q : Record) where
   -- the number by the outcomes of its tests
-  abbrev number : Bool → Bool → Bool → Bool → ℕ
-  number a b c d = 8 given not a orelse 3 given b orelse 8 given not c orelse 3 given d
+  abbrev number_by : Bool → Bool → Bool → Bool → ℕ
+  number_by a b c d = 8 given not a orelse 3 given b orelse 8 given not c orelse 3 given d
 
-  tested : draft_fault M Q ≡ number (sound Q) (overfull (started M Q)) (sound (started M Q)) (overfull (proposed M Q))
+  tested : draft_fault M Q ≡ number_by (sound Q) (overfull (started M Q)) (sound (started M Q)) (overfull (proposed M Q))
   unfolding draft_fault
   tested = refl
 
@@ -46,14 +43,14 @@ module _ (M Q : Record) where
   unsound-old e = sym (tested ∙ rw e)
 
   module _ (p : sound Q ≡ true) where
-    pub no-place-before : None ≡ held_table (united constraint_key (unite M Q).constraints (firsts Q (unordered (unite M Q)))) → 3 ≡ draft_fault M Q
+    pub no-place-before : {r : Refusal} → Err r ≡ table_of (united constraint_key (unite M Q).constraints (firsts Q (unordered (unite M Q)))) → number r ≡ draft_fault M Q
     unfolding overfull started joined_constraints
-    no-place-before e = let q : overfull (started M Q) ≡ true = none-tells _ e in sym (tested ∙ rw (p, q))
+    no-place-before e = let w = no-place _ e in let q : overfull (started M Q) ≡ true = w.1 in w.0 ∙ sym (tested ∙ rw (p, q))
 
-    module _ (first : Constraints) (t : Some first ≡ held_table (united constraint_key (unite M Q).constraints (firsts Q (unordered (unite M Q))))) where
+    module _ (first : Constraints) (t : Ok first ≡ table_of (united constraint_key (unite M Q).constraints (firsts Q (unordered (unite M Q))))) where
       placed : overfull (started M Q) ≡ false
       unfolding overfull started joined_constraints
-      placed = some-tells first _ t
+      placed = le-ltb 512 _ (few first _ t)
 
       pub start-checked : Checked (unite M Q) → Checked (started M Q)
       unfolding overfull
@@ -61,7 +58,7 @@ module _ (M Q : Record) where
 
       -- the start as it is stored
       pub start_is : (both start : declared.Record)
-          → ((R : Record) (l : List Constraint) → both ≡ stored R → Some first ≡ held_table l → start ≡ stored (record { edits = R.edits; constraints = l }))
+          → ((R : Record) (l : List Constraint) → both ≡ stored R → Ok first ≡ table_of l → start ≡ stored (record { edits = R.edits; constraints = l }))
           → both ≡ stored (unite M Q) → start ≡ stored (started M Q)
       unfolding started joined_constraints
       start_is both start f e = f (unite M Q) _ e t
@@ -70,20 +67,20 @@ module _ (M Q : Record) where
       unsound-start e = sym (tested ∙ rw (p, placed, e))
 
       module _ (s : sound (started M Q) ≡ true) where
-        pub no-place-after : None ≡ held_table (finished (started M Q)).constraints → 3 ≡ draft_fault M Q
+        pub no-place-after : {r : Refusal} → Err r ≡ table_of (finished (started M Q)).constraints → number r ≡ draft_fault M Q
         unfolding overfull proposed
-        no-place-after e = let z : overfull (proposed M Q) ≡ true = none-tells _ e in sym (tested ∙ rw (p, placed, s, z))
+        no-place-after e = let w = no-place _ e in let z : overfull (proposed M Q) ≡ true = w.1 in w.0 ∙ sym (tested ∙ rw (p, placed, s, z))
 
-        module _ (last : Constraints) (u : Some last ≡ held_table (finished (started M Q)).constraints) where
+        module _ (last : Constraints) (u : Ok last ≡ table_of (finished (started M Q)).constraints) where
           last-placed : overfull (proposed M Q) ≡ false
           unfolding overfull proposed
-          last-placed = some-tells last _ u
+          last-placed = le-ltb 512 _ (few last _ u)
 
           pub propose-no-fault : 0 ≡ draft_fault M Q
           propose-no-fault = sym (tested ∙ rw (p, placed, s, last-placed))
 
           pub last-is : (start new : declared.Record)
-              → ((R : Record) (l : List Constraint) → start ≡ stored R → Some last ≡ held_table l → new ≡ stored (record { edits = R.edits; constraints = l }))
+              → ((R : Record) (l : List Constraint) → start ≡ stored R → Ok last ≡ table_of l → new ≡ stored (record { edits = R.edits; constraints = l }))
               → start ≡ stored (started M Q) → new ≡ stored (proposed M Q)
           unfolding proposed finished joined_constraints
           last-is start new f e = f (started M Q) _ e u

@@ -14,7 +14,6 @@ ghost use Rattle.voting.specs.Proposal.{proposed};
 ghost use Rattle.voting_proposals.specs.Propose.{draft_fault, unkept, new_fault, over, Makes};
 
 use record::Record;
-use record_joining::insertion;
 use record_rows::element::Element;
 use record_rows::row::{ConstraintRow, EditRow, LentRecord};
 use refusals::Refusal;
@@ -34,13 +33,13 @@ fn drafted(both: Record, old: Record) -> Result<Record, Refusal>
     if !judgement::sound(old) {
         return Err(Refusal::Unsound);
     }
-    let first = draft::started(both, old).ok_or(Refusal::NoPlace)?;
-    let started = insertion::with_table(both, first);
+    let first = draft::started(both, old)?;
+    let started = first.in_record(both);
     if !judgement::sound(started) {
         return Err(Refusal::Unsound);
     }
-    let last = voting_decisions::finished(started).ok_or(Refusal::NoPlace)?;
-    Ok(insertion::with_table(started, last))
+    let last = voting_decisions::finished(started)?;
+    Ok(last.in_record(started))
 }
 
 // The finished proposal, if it keeps the old one.
@@ -66,7 +65,8 @@ pub fn new_proposal(lent: LentRecord, old: LentRecord) -> Result<Record, Refusal
 }
 
 // The rows of edits or of constraints, written over the first of a table.
-// Kept: beside record_joining's rows, which are a whole table of their own: here a lent table is written, and its rest stays.
+// Kept: a loop by place: array::from_fn makes whole arrays, and here the first rows of a lent table are written and its rest stays; of what is
+// written through iter_mut with zip a proof is told nothing.
 fn write_rows<const CELLS: usize, T: Element<CELLS>>(elements: &[T], table: &mut [[u32; CELLS]])
     requires { length elements.now ≤ length table.old }
     ensures { table.new ≡ over (map T.row_of elements.now) table.old }

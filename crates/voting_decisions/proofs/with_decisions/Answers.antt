@@ -1,5 +1,8 @@
 -- `decisions::with_decisions` meets its contract. Assumes nothing.
 use mathlib.Core.Path.{◌≡◌, ap, ◌∙◌}
+use Prim.Native.Nat.{◌+◌}
+use Rattle.std.specs.Prelude.{Err}
+use Rattle.std.proofs.lemmas.Result.{err_from_is_err_and}
 use mathlib.Core.List.{List, ◌∷◌}
 use Rattle.record.specs.Record.{written}
 use Rattle.record.specs.declared.Constraint.{Constraint}
@@ -7,8 +10,8 @@ use Rattle.record.specs.Stored.{filler_edit}
 use Rattle.lists.specs.Keyed.{united}
 use Rattle.record_tables.specs.Table.{constraint_key}
 use Rattle.voting.specs.Proposal.{decisions, decision_on}
-use Rattle.record_joining.specs.insertion.Insertion.{held_table}
-use Rattle.voting_drafts.proofs.ranking.Joins.{map-flat, joins-start, joins-order, joined-end}
+use Rattle.record_joining.specs.insertion.Insertion.{table_of}
+use Rattle.voting_drafts.proofs.ranking.Joins.{map-flat, joins-start, joins-order, joined-end, joined-full}
 use Rattle.voting_decisions.specs.Decisions.{decision_row}
 use Rattle.voting_decisions.proofs.Paging.{decisions-next, decisions-end, held-edits}
 use Rattle.voting_decisions.proofs.with_decisions.Goals as goal
@@ -16,16 +19,28 @@ use Rattle.voting_decisions.proofs.with_decisions.Goals as goal
 pub loop-i-init : goal.loop-i-init
 loop-i-init c = λ R rest index t q g e a. joins-start (decision_row (0 ∷ rest)) t (written R) e
 
+pub returns-in_err-out : goal.returns-in_err-out
+unfolding decisions
+returns-in_err-out c = λ R rest index t q f g e a.
+    let items = c.edit_slice-edit-items.result.now in
+    let s : items ≡ R.edits = c.edit_slice-edit-items.ensures ∙ held-edits c.args.multilog R q in
+    let p = err_from_is_err_and c.from_residual.result c.from_residual.ensures.1 in
+    p.1 ∙ ap Err p.2
+    ∙ joined-full (decision_row (0 ∷ rest)) t (written R) (c.loop-i.i + 1)
+    (decisions-next R rest index c.args.pages.now g items s c.loop-i.i filler_edit c.loop-i-test.true t c.decision-c.ensures
+    (c.in_err-out.ensures _ (c.loop-i.invariant R rest index t q g e a) (joins-order (decision_row (0 ∷ rest)) t (written R) c.loop-i.i a)))
+    ∙ ap (λ (l : List Constraint). table_of (united constraint_key t l)) (map-flat (decision_on (0 ∷ rest)) (written R))
+
 pub loop-i-preserved : goal.loop-i-preserved
 loop-i-preserved c = λ R rest index t q g e a.
     let items = c.edit_slice-edit-items.result.now in
     let s : items ≡ R.edits = c.edit_slice-edit-items.ensures ∙ held-edits c.args.multilog R q in
     decisions-next R rest index c.args.pages.now g items s c.loop-i.i filler_edit c.loop-i-test.true t c.decision-c.ensures
-    (c.insert-out.ensures _ (c.loop-i.invariant R rest index t q g e a) (joins-order (decision_row (0 ∷ rest)) t (written R) c.loop-i.i a))
+    (c.in_ok-out.ensures _ (c.loop-i.invariant R rest index t q g e a) (joins-order (decision_row (0 ∷ rest)) t (written R) c.loop-i.i a))
 
 pub returns : goal.returns
 unfolding decisions
 returns c = λ R rest index t e f g q a.
     let s : c.edit_slice-edit-items.result.now ≡ R.edits = c.edit_slice-edit-items.ensures ∙ held-edits c.args.multilog R e in
     joined-end (decision_row (0 ∷ rest)) t (written R) c.loop-i.i (decisions-end R c.edit_slice-edit-items.result.now c.loop-i.i s c.loop-i-test.false) (c.loop-i.invariant R rest index t e g q a)
-    ∙ ap (λ (l : List Constraint). held_table (united constraint_key t l)) (map-flat (decision_on (0 ∷ rest)) (written R))
+    ∙ ap (λ (l : List Constraint). table_of (united constraint_key t l)) (map-flat (decision_on (0 ∷ rest)) (written R))

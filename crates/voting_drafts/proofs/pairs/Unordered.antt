@@ -16,10 +16,11 @@ use Rattle.record.specs.Stored.{stored, constraint_limit}
 use Rattle.lists.proofs.Lists.{mem_index}
 use Rattle.lists.proofs.Front.{filter-length}
 use Rattle.graph.proofs.indexes.Resolving as resolving
-use Rattle.graph.specs.links.Marks.{name_at, place_in}
+use Rattle.graph.specs.links.Marks.{name_at}
 use Rattle.graph.proofs.links.Names.{get_or-place, place-known}
 use Rattle.record_tables.proofs.Tables.{held}
 use Rattle.graph.specs.links.Resolved.{Resolved}
+use Rattle.graph.specs.indexes.Indexed.{Indexed}
 use Rattle.voting.specs.Proposal.{unordered}
 use Rattle.voting.proofs.Joined.{in-has}
 
@@ -29,10 +30,10 @@ is_unordered R c = eqb c.rule 2 && not (notafter R c.left c.right || notafter R 
 -- what the test tells of a constraint
 abbrev pub TellsUnordered : List ℕ → List ℕ → Constraint → Bool → Type 0
 TellsUnordered index rows c b =
-    (R : Record) → Resolved R rows → ((x : ℕ) → get_or index x 0 ≡ place_in (names R) x) → c.left among names R → c.right among names R → b ≡ is_unordered R c
+    (R : Record) → Resolved R rows → Indexed R index → c.left among names R → c.right among names R → b ≡ is_unordered R c
 
 -- the index of a known name
-module _ (R : Record) (table : List ℕ) (f : (x : ℕ) → get_or table x 0 ≡ place_in (names R) x) (x : ℕ) (h : x among names R) {i : ℕ} (e : i ≡ get_or table x 0) where
+module _ (R : Record) (table : List ℕ) (f : Indexed R table) (x : ℕ) (h : x among names R) {i : ℕ} (e : i ≡ get_or table x 0) where
   index_at : i ≡ index_of x (names R)
   index_at = e ∙ f x ∙ place-known x (names R) h
 

@@ -2,10 +2,11 @@
 use mathlib.Core.Path.{◌≡◌, refl, ap, sym, ◌∙◌}
 use mathlib.Core.Logic.{inl, inr}
 use mathlib.Core.List.{List, [], ◌∷◌, ◌++◌, map, append_assoc, append-nil}
-use Rattle.std.specs.Prelude.{Option}
+use Rattle.std.specs.Prelude.{Result, Err}
+use Rattle.refusals.specs.declared.Refusal.{Refusal}
 use Prim.Native.Nat.{ℕ, ◌+◌, ◌≤◌, ◌<◌}
 use native.Mathlib.Numerals.{add-one}
-use lib.ListN.{length, take, get_or}
+use lib.ListN.{length, take, drop, get_or, take-append-drop}
 use lib.Seq.{take-suc, take_all}
 use Rattle.record.specs.declared.Constraint.{Constraint}
 use Rattle.lists.specs.Lists.{Has}
@@ -13,7 +14,8 @@ use Rattle.lists.specs.Keyed.{Ascending, inserted, united}
 use Rattle.lists.proofs.Union.{ascending-united}
 use Rattle.record_tables.specs.Table.{constraint_key}
 use Rattle.record_joining.specs.declared.insertion.Constraints.{Constraints}
-use Rattle.record_joining.specs.insertion.Insertion.{held_table}
+use Rattle.record_joining.specs.insertion.Insertion.{table_of}
+use Rattle.record_joining.proofs.insertion.Tables.{stays-full}
 use Rattle.voting_drafts.specs.ranking.Ranking.{flat_map}
 
 module _ {A B : Type 0} (f : A → List B) where
@@ -54,16 +56,16 @@ unfolding united
 united-none key t = refl
 
 -- a table that is joined by no row, and by one
-module _ (t : List Constraint) {rows : List Constraint} {table : Option Constraints} where
-  pub joined-none : rows ≡ [] → table ≡ held_table t → table ≡ held_table (united constraint_key t rows)
-  joined-none e q = q ∙ ap held_table (united-none constraint_key t ∙ ap (united constraint_key t) (sym e))
+module _ (t : List Constraint) {rows : List Constraint} {table : Result Constraints Refusal} where
+  pub joined-none : rows ≡ [] → table ≡ table_of t → table ≡ table_of (united constraint_key t rows)
+  joined-none e q = q ∙ ap table_of (united-none constraint_key t ∙ ap (united constraint_key t) (sym e))
 
-  pub joined-one : {row : Constraint} → rows ≡ row ∷ [] → {c : Constraint} → c ≡ row → table ≡ held_table (inserted constraint_key c t) → table ≡ held_table (united constraint_key t rows)
-  joined-one e {c} r q = q ∙ ap held_table (united-one constraint_key t c ∙ ap (λ (x : Constraint). united constraint_key t (x ∷ [])) r ∙ ap (united constraint_key t) (sym e))
+  pub joined-one : {row : Constraint} → rows ≡ row ∷ [] → {c : Constraint} → c ≡ row → table ≡ table_of (inserted constraint_key c t) → table ≡ table_of (united constraint_key t rows)
+  joined-one e {c} r q = q ∙ ap table_of (united-one constraint_key t c ∙ ap (λ (x : Constraint). united constraint_key t (x ∷ [])) r ∙ ap (united constraint_key t) (sym e))
 
 -- a table that is joined by what f gives for the first elements of a list
 module _ {A : Type 0} (f : A → List Constraint) (t : List Constraint) where
-  pub joins-start : (l : List A) {table : Option Constraints} → table ≡ held_table t → table ≡ held_table (united constraint_key t (flat_map f (take 0 l)))
+  pub joins-start : (l : List A) {table : Result Constraints Refusal} → table ≡ table_of t → table ≡ table_of (united constraint_key t (flat_map f (take 0 l)))
   unfolding flat_map
   joins-start l = joined-none t refl
 
@@ -71,9 +73,16 @@ module _ {A : Type 0} (f : A → List Constraint) (t : List Constraint) where
   pub joins-order : (l : List A) (i : ℕ) → Ascending constraint_key t → Ascending constraint_key (united constraint_key t (flat_map f (take i l)))
   joins-order l i = ascending-united constraint_key t (flat_map f (take i l))
 
-  pub joins-next : (l : List A) (i : ℕ) (d : A) {table : Option Constraints} → i < length l
-      → table ≡ held_table (united constraint_key (united constraint_key t (flat_map f (take i l))) (f (get_or l i d))) → table ≡ held_table (united constraint_key t (flat_map f (take (i + 1) l)))
-  joins-next l i d h e = e ∙ ap held_table (sym (ap (united constraint_key t) (flat-next f l i d h) ∙ united-append constraint_key t (flat_map f (take i l)) (f (get_or l i d))))
+  pub joins-next : (l : List A) (i : ℕ) (d : A) {table : Result Constraints Refusal} → i < length l
+      → table ≡ table_of (united constraint_key (united constraint_key t (flat_map f (take i l))) (f (get_or l i d))) → table ≡ table_of (united constraint_key t (flat_map f (take (i + 1) l)))
+  joins-next l i d h e = e ∙ ap table_of (sym (ap (united constraint_key t) (flat-next f l i d h) ∙ united-append constraint_key t (flat_map f (take i l)) (f (get_or l i d))))
 
-  pub joined-end : (l : List A) (i : ℕ) {table : Option Constraints} → length l ≤ i → table ≡ held_table (united constraint_key t (flat_map f (take i l))) → table ≡ held_table (united constraint_key t (flat_map f l))
-  joined-end l i h e = e ∙ ap (λ (r : List A). held_table (united constraint_key t (flat_map f r))) (take_all i l h)
+  pub joined-end : (l : List A) (i : ℕ) {table : Result Constraints Refusal} → length l ≤ i → table ≡ table_of (united constraint_key t (flat_map f (take i l))) → table ≡ table_of (united constraint_key t (flat_map f l))
+  joined-end l i h e = e ∙ ap (λ (r : List A). table_of (united constraint_key t (flat_map f r))) (take_all i l h)
+
+  -- what has no place for the rows of the first elements has none for those of all
+  pub joined-full : (l : List A) (i : ℕ) {r : Refusal} → Err r ≡ table_of (united constraint_key t (flat_map f (take i l))) → Err r ≡ table_of (united constraint_key t (flat_map f l))
+  joined-full l i e =
+      let s : flat_map f (take i l) ++ flat_map f (drop i l) ≡ flat_map f l = sym (flat_append f (take i l) (drop i l)) ∙ ap (flat_map f) (take-append-drop i l) in
+      stays-full (united constraint_key t (flat_map f (take i l))) (flat_map f (drop i l)) e
+      ∙ ap table_of (sym (united-append constraint_key t (flat_map f (take i l)) (flat_map f (drop i l))) ∙ ap (united constraint_key t) s)

@@ -2,7 +2,8 @@
 use mathlib.Core.Path.{◌≡◌, ◌∙◌, ap}
 use mathlib.Core.Bool.{or-true}
 use mathlib.Core.List.{List, [], ◌∷◌}
-use Rattle.std.specs.Prelude.{Option}
+use Rattle.std.specs.Prelude.{Result}
+use Rattle.refusals.specs.declared.Refusal.{Refusal}
 use Prim.Native.Nat.{ℕ, ◌+◌, ◌≤◌, ◌<◌}
 use borrow.Author.Tests.{eq-eqb, ne_eqb, lt-ltb, le-ltb}
 use lib.Dec.{eqb}
@@ -12,7 +13,7 @@ use Rattle.lists.specs.Keyed.{united}
 use Rattle.record_tables.specs.Table.{constraint_key}
 use Rattle.voting.specs.Proposal.{before}
 use Rattle.record_joining.specs.declared.insertion.Constraints.{Constraints}
-use Rattle.record_joining.specs.insertion.Insertion.{held_table}
+use Rattle.record_joining.specs.insertion.Insertion.{table_of}
 use Rattle.voting_drafts.specs.ranking.Ranking.{flat_map, rank_order, pair_order}
 use Rattle.voting_drafts.proofs.ranking.Joins.{joins-next}
 
@@ -41,10 +42,10 @@ module _ (a b left right : ℕ) where
 
 -- one pair more
 pub ranked-next : (rank : ℕ → ℕ) (t rows : List Constraint) (i : ℕ) (d : Constraint) → i < length rows → {a b : ℕ}
-    → a ≡ rank (get_or rows i d).left → b ≡ rank (get_or rows i d).right → {table : Option Constraints}
-    → table ≡ held_table (united constraint_key (united constraint_key t (flat_map (pair_order rank) (take i rows))) (rank_order a b (get_or rows i d).left (get_or rows i d).right))
-    → table ≡ held_table (united constraint_key t (flat_map (pair_order rank) (take (i + 1) rows)))
+    → a ≡ rank (get_or rows i d).left → b ≡ rank (get_or rows i d).right → {table : Result Constraints Refusal}
+    → table ≡ table_of (united constraint_key (united constraint_key t (flat_map (pair_order rank) (take i rows))) (rank_order a b (get_or rows i d).left (get_or rows i d).right))
+    → table ≡ table_of (united constraint_key t (flat_map (pair_order rank) (take (i + 1) rows)))
 ranked-next rank t rows i d h {a} {b} p q e =
     let c = get_or rows i d in
     let w : rank_order a b c.left c.right ≡ pair_order rank c = ap (λ (x : ℕ). rank_order x b c.left c.right) p ∙ ap (λ (x : ℕ). rank_order (rank c.left) x c.left c.right) q in
-    joins-next (pair_order rank) t rows i d h (e ∙ ap (λ (l : List Constraint). held_table (united constraint_key (united constraint_key t (flat_map (pair_order rank) (take i rows))) l)) w)
+    joins-next (pair_order rank) t rows i d h (e ∙ ap (λ (l : List Constraint). table_of (united constraint_key (united constraint_key t (flat_map (pair_order rank) (take i rows))) l)) w)
