@@ -1,7 +1,7 @@
 // Whether a new proposal keeps an old one (document 01, "Proposals and votes", last paragraph). Functions are pub for the crates of this workspace
 // that make proposals.
-ghost use Rattle.std.specs.Prelude.{◌≡◌, not, ◌&&◌, ◌||◌, ℕ};
-ghost use Rattle.lists.specs.Lists.{◌within◌};
+ghost use Rattle.std.specs.Prelude.{◌≡◌, not, ◌&&◌, ◌||◌};
+ghost use Rattle.lists.specs.Lists.{◌among◌, ◌within◌};
 ghost use Rattle.record.specs.Record as theory;
 ghost use Rattle.record.specs.Stored.{stored};
 ghost use Rattle.graph.specs.indexes.Fit.{Fit};
@@ -13,12 +13,14 @@ use record::Record;
 use voting_bundles::bundling::Bundling;
 use voting_bundles::equality;
 
-// Whether an old bundle is kept by the new one of the same edit. Whether it is eligible is asked of the old one only, and only where they differ:
-// an equal bundle is as eligible as the old one.
-fn is_kept(before: Record, after: Record) -> bool
-    ensures { (Q P : theory.Record) (e : ℕ) → Fit Q → before ≡ stored (vote.bundle Q e) → after ≡ stored (vote.bundle P e)
-        → result ≡ (not (vote.eligible Q e) || same_bundle (vote.bundle P e) (vote.bundle Q e) && vote.eligible P e) }
+// Whether the old bundle of an edit that both proposals know is kept by the new one. Whether it is eligible is asked of the old one only, and only
+// where they differ: an equal bundle is as eligible as the old one.
+fn is_kept(old: &Bundling, new: &Bundling, name: u16) -> bool
+    ensures { (Q P : theory.Record) → old.now ≡ stored Q → Fit Q → new.now ≡ stored P → Fit P → name among theory.written Q → name among theory.written P
+        → result ≡ (not (vote.eligible Q name) || same_bundle (vote.bundle P name) (vote.bundle Q name) && vote.eligible P name) }
 {
+    let before = old.bundle(name);
+    let after = new.bundle(name);
     if equality::same_bundle(&after, &before) {
         return true;
     }
@@ -26,18 +28,12 @@ fn is_kept(before: Record, after: Record) -> bool
 }
 
 // Each edit of the old proposal with an eligible bundle has the same in the new one, still eligible. The new one knows the edits of the old.
-// Kept: bundles are told of edits that both proposals know, which the edit's place in the old one gives; a closure is told no place.
 pub fn keeps(old: Record, new: Record) -> bool
     ensures { (Q P : theory.Record) → old ≡ stored Q → Fit Q → new ≡ stored P → Fit P → theory.written Q within theory.written P → result ≡ proposal.keeps Q P }
 {
     let oldbundles = Bundling::new(old);
     let newbundles = Bundling::new(new);
-    for edit in old.edit_slice() {
-        let before = oldbundles.bundle(edit.name);
-        let after = newbundles.bundle(edit.name);
-        if !is_kept(before, after) {
-            return false;
-        }
-    }
-    true
+    old.edit_slice()
+        .iter()
+        .all(|edit| is_kept(&oldbundles, &newbundles, edit.name))
 }

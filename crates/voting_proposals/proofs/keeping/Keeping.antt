@@ -1,21 +1,23 @@
 -- Keeping, edit by edit. Assumes nothing.
 use mathlib.Core.Path.{◌≡◌, refl, ap, sym, ◌∙◌}
 use mathlib.Core.Bool.{Bool, true, false, not, ◌&&◌, ◌||◌}
-use mathlib.Core.List.{List}
-use Prim.Native.Nat.{ℕ, ◌+◌, ◌≤◌, ◌<◌}
+use mathlib.Core.List.{List, [], ◌∷◌, map}
+use Prim.Native.Nat.{ℕ, zero, suc, ◌≤◌, ◌<◌}
 use native.Mathlib.Omega.{arith}
-use lib.ListN.{length, take, get_or, length-map}
-use lib.Seq.{take_all}
+use lib.ListN.{length, get_or, length-map}
+use Rattle.std.specs.Bool.{MatchBool}
+use Rattle.std.specs.List.{AllWithin, HoldsAt}
 use Rattle.record.specs.declared.Edit.{Edit}
 use Rattle.lists.specs.Lists.{all, ◌among◌}
 use Rattle.record.specs.Record.{Record, written, name_of}
 use Rattle.record.specs.Judgement.{settled}
-use Rattle.lists.proofs.Lists.{by, clash, get_or-mapped}
+use Rattle.record.specs.declared.Record as declared
+use Rattle.record.specs.Stored.{stored, filler_edit}
+use Rattle.graph.specs.indexes.Fit.{Fit}
+use Rattle.lists.proofs.Lists.{by, get_or-mapped}
 use Rattle.graph.proofs.links.Names.{get_or-among}
 use Rattle.voting.specs.Bundle.{bundle, eligible}
 use Rattle.voting.specs.Tally.{same_bundle}
-use Rattle.lists.proofs.Logic.{has-get_or, all-has}
-use Rattle.lists.proofs.Front.{all_more}
 use Rattle.voting.proofs.Elections.{same-is}
 use Rattle.voting.specs.Proposal.{keeps}
 
@@ -39,40 +41,33 @@ module _ (Q P : Record) (e : ℕ) where
       let s : same_bundle (bundle P e) (bundle Q e) ≡ false = sym f ∙ g in
       rw (s, h) (by (eligible Q e) (λ q. rw q) (λ q. rw q))
 
--- a test that one name fails
-all-stop : (p : ℕ → Bool) (l : List ℕ) (i : ℕ) → i < length l → p (get_or l i 0) ≡ false → false ≡ all p l
-all-stop p l i h f = by (all p l) (λ q. clash (all-has p l q (get_or l i 0) (has-get_or l i 0 h)) f) (λ q. sym q)
+-- a test of all names of a table: passed by each, and failed by one
+module _ (f : ℕ → Bool) where
+  all-pass : (l : List Edit) → ((k : ℕ) (d : Edit) → k < length l → f (get_or l k d).name ≡ true) → all f (map name_of l) ≡ true
+  unfolding all
+  all-pass [] h = refl
+  all-pass (e ∷ l) h = rw (h 0 e (omega arith)) (all-pass l (λ k d i. h (suc k) d (omega arith)))
 
--- the edits of a record one by one
-module _ (items : List Edit) (Q : Record) (e : items ≡ Q.edits) (i : ℕ) (d : Edit) (h : i < length items) where
-  kept-name-low : i < length (written Q)
+  one-fails : (l : List Edit) (k : ℕ) (d : Edit) → k < length l → f (get_or l k d).name ≡ false → all f (map name_of l) ≡ false
+  unfolding all
+  one-fails [] k d h e = absurd (omega (arith, h))
+  one-fails (x ∷ l) zero d h e = rw e
+  one-fails (x ∷ l) (suc k) d h e = let i = one-fails l k d (omega arith) e in by (f x.name) (λ p. rw (p, i)) (λ p. rw p)
+
+-- what the test tells of a name, and, of two records, of an edit that the old one has
+abbrev pub TellsKept : declared.Record → declared.Record → ℕ → Bool → Type 0
+TellsKept old new x b = (Q P : Record) → old ≡ stored Q → Fit Q → new ≡ stored P → Fit P → x among written Q → x among written P → b ≡ is_kept Q P x
+
+abbrev pub KeptAs : Record → Record → Bool → Edit → Type 0
+KeptAs Q P b e = e.name among written Q → b ≡ is_kept Q P e.name
+
+module _ (Q P : Record) where
+  known : (k : ℕ) (d : Edit) → k < length Q.edits → (get_or Q.edits k d).name among written Q
   unfolding written
-  kept-name-low = let n = length-map Q.edits name_of in let f : i < length Q.edits = rw e at h in omega arith
+  known k d h = rw (← get_or-mapped name_of Q.edits k d 0 h) (get_or-among (map name_of Q.edits) k (omega (arith, length-map Q.edits name_of)))
 
-  kept-name-is : (get_or items i d).name ≡ get_or (written Q) i 0
-  unfolding written
-  kept-name-is = let f : i < length Q.edits = rw e at h in rw e (sym (get_or-mapped name_of Q.edits i d 0 f))
-
-  pub name-known : (get_or items i d).name among written Q
-  name-known = rw kept-name-is (get_or-among (written Q) i kept-name-low)
-
-  module _ (P : Record) {b : Bool} (f : b ≡ is_kept Q P (get_or items i d).name) where
-    test-is : is_kept Q P (get_or (written Q) i 0) ≡ b
-    test-is = ap (is_kept Q P) (sym kept-name-is) ∙ sym f
-
-    pub keeps-stop : b ≡ false → false ≡ keeps Q P
-    unfolding keeps
-    keeps-stop g = all-stop (is_kept Q P) (written Q) i kept-name-low (test-is ∙ g)
-
-    pub keeps-next : b ≡ true → all (is_kept Q P) (take i (written Q)) ≡ true → all (is_kept Q P) (take (i + 1) (written Q)) ≡ true
-    keeps-next g t = all_more (is_kept Q P) (written Q) i 0 kept-name-low t (test-is ∙ g)
-
-pub keeps-start : (Q P : Record) → all (is_kept Q P) (take 0 (written Q)) ≡ true
-unfolding all
-keeps-start Q P = refl
-
-pub keeps-end : (items : List Edit) (Q P : Record) → items ≡ Q.edits → (i : ℕ) → length items ≤ i → all (is_kept Q P) (take i (written Q)) ≡ true → true ≡ keeps Q P
-unfolding keeps written
-keeps-end items Q P e i h t =
-    let n : length (written Q) ≤ i = let m = length-map Q.edits name_of in let k : length Q.edits ≤ i = rw e at h in omega arith in
-    sym (ap (all (is_kept Q P)) (sym (take_all i (written Q) n)) ∙ t)
+  -- the test of all edits
+  pub kept-all : (b : Bool) → MatchBool b (AllWithin (KeptAs Q P true) Q.edits 0 (length Q.edits)) ((k : ℕ) × (k < length Q.edits) × HoldsAt (KeptAs Q P false) Q.edits k) → b ≡ keeps Q P
+  unfolding keeps written
+  kept-all true h = sym (all-pass (is_kept Q P) Q.edits (λ k d i. sym (h k d (omega arith) i (known k d i))))
+  kept-all false h = let d = filler_edit in sym (one-fails (is_kept Q P) Q.edits h.0 d h.1 (sym (h.2 d (known h.0 d h.1))))

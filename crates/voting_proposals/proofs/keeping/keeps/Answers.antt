@@ -1,36 +1,19 @@
 -- `keeping::keeps` meets its contract. Assumes nothing.
 use mathlib.Core.Path.{◌≡◌, ◌∙◌}
-use Rattle.record.specs.Stored.{filler_edit}
+use mathlib.Core.Bool.{true, false}
+use borrow.Author.Rules.{rules}
+use borrow.Author.Tests.{tests}
+use Rattle.std.proofs.lemmas.Iterator.{YieldsList-from_slice, cases_from_all}
 use Rattle.voting_bundles.proofs.equality.Equal.{edits-kept}
-use Rattle.voting_proposals.proofs.keeping.Keeping.{name-known, keeps-stop, keeps-next, keeps-start, keeps-end}
+use Rattle.voting_proposals.proofs.keeping.Keeping.{TellsKept, KeptAs, kept-all}
 use Rattle.voting_proposals.proofs.keeping.keeps.Goals as goal
-
-pub loop-edit-init : goal.loop-edit-init
-loop-edit-init c = λ Q P e f g h w. keeps-start Q P
-
-pub returns-then-not-is_kept : goal.returns-then-not-is_kept
-returns-then-not-is_kept c = λ Q P e f g h w.
-    let items = c.edit_slice-edit-items.result.now in
-    let s : items ≡ Q.edits = c.edit_slice-edit-items.ensures ∙ edits-kept c.args.old Q e in
-    let i = c.loop-edit.edit-index in
-    let l = c.loop-edit-test.true in
-    let m = name-known items Q s i filler_edit l in
-    let b = c.bundle-before.ensures Q (c.new-oldbundles.ensures ∙ e) f m in
-    let a = c.bundle-after.ensures P (c.new-newbundles.ensures ∙ g) h (w _ m) in
-    keeps-stop items Q s i filler_edit l P (c.is_kept.ensures Q P _ f b a) c.if-not-is_kept.true
-
-pub loop-edit-preserved : goal.loop-edit-preserved
-loop-edit-preserved c = λ Q P e f g h w.
-    let items = c.edit_slice-edit-items.result.now in
-    let s : items ≡ Q.edits = c.edit_slice-edit-items.ensures ∙ edits-kept c.args.old Q e in
-    let i = c.loop-edit.edit-index in
-    let l = c.loop-edit-test.true in
-    let m = name-known items Q s i filler_edit l in
-    let b = c.bundle-before.ensures Q (c.new-oldbundles.ensures ∙ e) f m in
-    let a = c.bundle-after.ensures P (c.new-newbundles.ensures ∙ g) h (w _ m) in
-    keeps-next items Q s i filler_edit l P (c.is_kept.ensures Q P _ f b a) c.if-not-is_kept.false (c.loop-edit.invariant Q P e f g h w)
 
 pub returns : goal.returns
 returns c = λ Q P e f g h w.
-    let s = c.edit_slice-edit-items.ensures ∙ edits-kept c.args.old Q e in
-    keeps-end c.edit_slice-edit-items.result.now Q P s c.loop-edit.edit-index c.loop-edit-test.false (c.loop-edit.invariant Q P e f g h w)
+    let s = c.edit_slice.ensures ∙ edits-kept c.args.old Q e in
+    let o = c.new-oldbundles.ensures ∙ e in
+    let n = c.new-newbundles.ensures ∙ g in
+    kept-all Q P _
+    (cases_from_all _ _ _ (KeptAs Q P true) (KeptAs Q P false) c.all.ensures.ran (YieldsList-from_slice Q.edits (cc))
+    (λ x q k. let is : TellsKept c.new-oldbundles.result c.new-newbundles.result x.now.name true = search (rules, tests) in (search (rules, tests), λ m. is Q P o f n h m (w _ m)))
+    (λ x q k. let is : TellsKept c.new-oldbundles.result c.new-newbundles.result x.now.name false = search (rules, tests) in λ m. is Q P o f n h m (w _ m)))
