@@ -13,7 +13,7 @@ use record_rows::element::Element;
 use refusals::Refusal;
 
 // Rows past the count hold a filler.
-// Kept: the two fields of a record, copied in and out; the library's ArrayVec is no Copy and would be filled row by row.
+// Kept: an array with its count, as in a record: it is copied out of one and into one whole, with its fillers, which an ArrayVec has not.
 #[derive(Clone, Copy)]
 pub struct Constraints {
     pub rows: [Constraint; CONSTRAINTS],

@@ -76,7 +76,7 @@ impl Further<CONSTRAINT_CELLS> for Sides<'_> {
 }
 
 // The ground of the first faulty row of a table that joins one of a record.
-// Kept: a place in the record's table, for the loop's law says what of it was passed.
+// Kept: a place in the record's table and not what is left of it, for `late` looks through the whole.
 fn table_fault<const CELLS: usize, T: Element<CELLS>, F: Further<CELLS>>(
     own: &[T],
     t: &[[u32; CELLS]],
