@@ -6,7 +6,7 @@ ghost use Rattle.std.specs.Prelude.{◌≡◌, ℕ, ◌+◌, ◌<◌, ◌≤◌,
 ghost use Rattle.record.specs.Record as theory;
 ghost use Rattle.lists.specs.Lists.{mem, ◌among◌};
 ghost use Rattle.record.specs.Stored.{stored};
-ghost use Rattle.graph.specs.links.Marks.{marks_of};
+ghost use Rattle.graph.specs.links.Marks.{mark_limit, marks_of};
 ghost use Rattle.graph.specs.links.Links.{row_limit, with_row, Leads};
 ghost use Rattle.graph.specs.links.Resolved.{Resolved};
 ghost use Rattle.graph.specs.indexes.Fit.{Fit};
@@ -20,10 +20,10 @@ use graph::links::{Linking, MARKS, Marks, NOTAFTER, Rows};
 use record::Record;
 
 // The key of the row between two noncommuting edits; for none it is the count of indexes, which no edit has as its own.
-// Kept: the key 128 for no row, so that each constraint links two rows and no more is asked of their places.
+// Kept: a key for no row, so that each constraint links two rows and no more is asked of their places.
 fn rival_key(rows: &Rows, from: usize, to: usize) -> usize
-    requires { (from < 128) × (to < 128) }
-    ensures { (result ≤ 128) × ((R : theory.Record) → Resolved R rows.now → from < length (theory.names R)
+    requires { (from < mark_limit) × (to < mark_limit) }
+    ensures { (result ≤ mark_limit) × ((R : theory.Record) → Resolved R rows.now → from < length (theory.names R)
         → to < length (theory.names R) → result ≡ rival_key R from to) }
 {
     if rows.leads_to(NOTAFTER, to, from) {
@@ -34,10 +34,10 @@ fn rival_key(rows: &Rows, from: usize, to: usize) -> usize
 }
 
 // "enables 0" gives no row: INIT is no member of a bundle.
-// Kept: the key 128 for no row, as in rival_key.
+// Kept: a key for no row, as in rival_key.
 fn enabled_key(right: usize) -> usize
-    requires { right < 128 }
-    ensures { (result ≤ 128) × (result ≡ enabled_key right) }
+    requires { right < mark_limit }
+    ensures { (result ≤ mark_limit) × (result ≡ enabled_key right) }
 {
     if right == 0 { MARKS } else { right }
 }
@@ -48,12 +48,12 @@ struct IndexedConstraint {
     left: usize,
     rule: u8,
     right: usize,
-    ghost low: { (left < 128) × (right < 128) },
+    ghost low: { (left < mark_limit) × (right < mark_limit) },
 }
 
 // The key of a constraint's row from its left to its right edit.
 fn forward_key(rows: &Rows, c: IndexedConstraint) -> usize
-    ensures { (result ≤ 128) × ((R : theory.Record) → Resolved R rows.now → c.left < length (theory.names R)
+    ensures { (result ≤ mark_limit) × ((R : theory.Record) → Resolved R rows.now → c.left < length (theory.names R)
         → c.right < length (theory.names R) → result ≡ forward_key R c.left c.rule c.right) }
 {
     // Kept: the specification names a constraint's rule by number.
@@ -65,9 +65,9 @@ fn forward_key(rows: &Rows, c: IndexedConstraint) -> usize
 }
 
 // The key of its row from its right to its left edit, which a noncommuting pair alone has.
-// Kept: the key 128 for no row, as in rival_key.
+// Kept: a key for no row, as in rival_key.
 fn backward_key(rows: &Rows, c: IndexedConstraint) -> usize
-    ensures { (result ≤ 128) × ((R : theory.Record) → Resolved R rows.now → c.left < length (theory.names R)
+    ensures { (result ≤ mark_limit) × ((R : theory.Record) → Resolved R rows.now → c.left < length (theory.names R)
         → c.right < length (theory.names R) → result ≡ backward_key R c.left c.rule c.right) }
 {
     if c.rule < 2 {
@@ -80,7 +80,7 @@ fn backward_key(rows: &Rows, c: IndexedConstraint) -> usize
 // Links both rows of a constraint.
 fn link_both(linking: &mut Linking, c: IndexedConstraint, forward: usize, backward: usize)
     requires room { linking.old.count + 1 < row_limit }
-    requires keys { (forward ≤ 128) × (backward ≤ 128) }
+    requires keys { (forward ≤ mark_limit) × (backward ≤ mark_limit) }
     ensures cells { linking.new.cells ≡ with_row (with_row linking.old.cells linking.old.count forward c.left) (linking.old.count + 1) backward c.right }
     ensures count { linking.new.count ≡ linking.old.count + 2 }
 {
