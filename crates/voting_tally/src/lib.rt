@@ -10,7 +10,7 @@ ghost use Rattle.voting.specs.Tally.{Ballot, total, winner};
 ghost use Rattle.voting_tally.specs.Groups.{place, group_in, cast_of, tally_of, result_by, held_bundle};
 
 use record::Record;
-use voting::ElectionResult;
+use voting::{BENCHES, ElectionResult};
 use voting_bundles::equality;
 
 // Kept: document 01 has the tally take the vote apart by let .. else, silent weight in the else branch, bundle beside the enum.
@@ -37,7 +37,7 @@ pub struct Group {
 // Kept: an array with its count, which the specification names (tally_of); a tally is Copy, which the library's ArrayVec is not.
 #[derive(Clone, Copy)]
 pub struct Tally {
-    pub groups: [Group; 8],
+    pub groups: [Group; BENCHES],
     pub count: usize,
     pub election: ElectionResult,
 }
@@ -69,7 +69,7 @@ pub fn no_votes() -> Tally
         weight: 0,
     };
     Tally {
-        groups: [filler; 8],
+        groups: [filler; BENCHES],
         count: 0,
         election: answer(0, 0, 0),
     }
@@ -91,7 +91,7 @@ impl Tally {
     pub fn group_slice(&self) -> &[Group]
         ensures { result.now ≡ take self.now.count self.now.groups }
     {
-        &self.groups[..self.count.min(8)]
+        &self.groups[..self.count.min(BENCHES)]
     }
 
     fn add_silent(&mut self, weight: u16)
@@ -111,7 +111,7 @@ impl Tally {
             → self.new ≡ tally_of (l ++ (record { weight = weight; vote = some C } ∷ [])) }
     {
         let n = self.count;
-        if 8 <= n {
+        if BENCHES <= n {
             return;
         }
         let e = self.election;

@@ -6,8 +6,8 @@ use lib.ListN.{set}
 use Rattle.voting_tally.proofs.Steps.{total-is, tally-room, vote-placed, weight-raised, bundle-step}
 use Rattle.voting_tally.proofs.Tally.add_bundle.Goals as goal
 
-pub returns-then-n-ge8 : goal.returns-then-n-ge8
-returns-then-n-ge8 c = λ l C e h t p. absurd (omega (arith, tally-room c.args.self.now l c.args.weight e C h))
+pub returns-then-n-ge-BENCHES : goal.returns-then-n-ge-BENCHES
+returns-then-n-ge-BENCHES c = λ l C e h t p. absurd (omega (arith, tally-room c.args.self.now l c.args.weight e C h))
 
 pub returns : goal.returns
 returns c = λ l C e h t p.
