@@ -31,12 +31,7 @@ fn lowest(graph: &Graph, from: usize, waits: &Marks) -> Option<usize>
         → waits.now ≡ marks_of R test → ((y : ℕ) → y < from → free R test (name_at R y) ≡ false)
         → (find (free R test) (names R) ≡ found R result) × IfSome result (λ x. (y : ℕ) → y < x → free R test (name_at R y) ≡ false) }
 {
-    for x in from..graph.count {
-        if is_free(&graph.rows, waits, x) {
-            return Some(x);
-        }
-    }
-    None
+    (from..graph.count).find(|x| is_free(&graph.rows, waits, *x))
 }
 
 // The lower of best and the edit at y, where that is free.
@@ -101,12 +96,7 @@ fn any_barred(graph: &Graph, marks: &Marks, hidden: &Marks, mustmarks: &Marks) -
     ensures { (R : Record) (hiddens t : List ℕ) → graph.now.count ≡ length (names R) → t within names R → marks.now ≡ marks_of R (λ y. mem y t)
         → mustmarks.now ≡ marks_of R (must R) → Hides R hidden.now hiddens → result ≡ any (bars R hiddens) t }
 {
-    for x in 0..graph.count {
-        if is_barred(marks, hidden, mustmarks, x) {
-            return true;
-        }
-    }
-    false
+    (0..graph.count).any(|x| is_barred(marks, hidden, mustmarks, x))
 }
 
 // What the set of the schedule is taken from: the graph with its reversed rows, what must stand and what is hidden; and of the record as a whole,

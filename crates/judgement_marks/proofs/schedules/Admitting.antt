@@ -1,6 +1,6 @@
 -- One edit of the bench schedule, and the loop over all, by marks. Assumes nothing.
 use mathlib.Core.Path.{◌≡◌, refl, sym, ◌∙◌}
-use mathlib.Core.Bool.{true, false, not, ◌&&◌, ◌||◌, or-true, and-false}
+use mathlib.Core.Bool.{Bool, true, false, not, ◌&&◌, ◌||◌, or-true, and-false}
 use mathlib.Core.List.{List, [], ◌∷◌}
 use Prim.Native.Nat.{ℕ, ◌+◌, ◌≤◌, ◌<◌}
 use native.Mathlib.Omega.{arith}
@@ -9,6 +9,9 @@ use lib.Dec.{eqb}
 use lib.ListN.{length, get_or, drop, drop_of_length-le}
 use lib.Seq.{drop-cons}
 use borrow.Author.Tests.{eq-eqb, ne_eqb}
+use Rattle.std.specs.Bool.{MatchBool}
+use Rattle.std.specs.List.{range_with_len, AllWithin, HoldsAt}
+use Rattle.std.proofs.lemmas.List.FromFn.{length-range_with_len, get_or-range_with_len}
 use Rattle.lists.specs.Lists.{any, mem, index_of, ◌among◌, ◌within◌}
 use Rattle.record.specs.Record.{Record, names, written, enables, WellFormed}
 use Rattle.record.specs.Schedule.{needs, musts, order, ring, bars, barred, admit, admits, scheduled, schedule}
@@ -40,14 +43,33 @@ module _ (R : Record) (hiddens t marks hidden mustmarks : List ℕ) (x : ℕ) (l
   bar-must o u =
       rw (sym (marked-is R (λ y. mem y t) marks x e l) ∙ eq-eqb (get_or marks x 0) 1 o, sym (h x l) ∙ eq-eqb (get_or hidden x 0) 1 u, marked-is R (must R) mustmarks x m l)
 
+-- what `is_barred` says of an edit
+abbrev pub TellsBarred : List ℕ → List ℕ → List ℕ → ℕ → Bool → Type 0
+TellsBarred marks hidden mustmarks x b =
+    (R : Record) (hiddens t : List ℕ) → x < length (names R) → marks ≡ marks_of R (λ y. mem y t) → mustmarks ≡ marks_of R (must R) → Hides R hidden hiddens → b ≡ (mem (name_at R x) t && bars R hiddens (name_at R x))
+
 module _ (R : Record) (hiddens t : List ℕ) (n : ℕ) (q : n ≡ length (names R)) where
-  pub any-bars : (x : ℕ) → x < n → true ≡ (mem (name_at R x) t && bars R hiddens (name_at R x)) → true ≡ any (bars R hiddens) t
+  any-bars : (x : ℕ) → x < n → true ≡ (mem (name_at R x) t && bars R hiddens (name_at R x)) → true ≡ any (bars R hiddens) t
   any-bars x l e = sym (any-in (bars R hiddens) t (name_at R x) (and_l _ _ (sym e)) (and_r (mem (name_at R x) t) _ (sym e)))
 
-  pub none-bars : t within names R → ((x : ℕ) → x < n → (mem (name_at R x) t && bars R hiddens (name_at R x)) ≡ false) → false ≡ any (bars R hiddens) t
+  none-bars : t within names R → ((x : ℕ) → x < n → (mem (name_at R x) t && bars R hiddens (name_at R x)) ≡ false) → false ≡ any (bars R hiddens) t
   none-bars sub f =
       sym (no-any (bars R hiddens) t
       (λ y i. let z = f (index_of y (names R)) (omega (arith, mem_index y (names R) (sub y i))) in rw i at (rw (get_or-place y (names R) (sub y i)) at z)))
+
+  -- what a walk over all indexes tells
+  pub bars-told : t within names R → (r : Bool)
+      → MatchBool r ((k : ℕ) × (k < length (range_with_len 0 n)) × HoldsAt (λ x. x < n → true ≡ (mem (name_at R x) t && bars R hiddens (name_at R x))) (range_with_len 0 n) k)
+      (AllWithin (λ x. x < n → (mem (name_at R x) t && bars R hiddens (name_at R x)) ≡ false) (range_with_len 0 n) 0 (length (range_with_len 0 n)))
+      → r ≡ any (bars R hiddens) t
+  bars-told sub true w =
+      let l : w.0 < n = omega (arith, w.1, length-range_with_len 0 n) in
+      let i : get_or (range_with_len 0 n) w.0 0 ≡ w.0 = omega (arith, get_or-range_with_len 0 n w.0 0 l) in
+      any-bars w.0 l (rw i at (w.2 0) l)
+  bars-told sub false w =
+      none-bars sub (λ x l.
+      let i : get_or (range_with_len 0 n) x 0 ≡ x = omega (arith, get_or-range_with_len 0 n x 0 l) in
+      rw i at (w x 0 (omega arith) (omega (arith, length-range_with_len 0 n))) l)
 
 -- one step of the schedule
 module _ (R : Record) (w : WellFormed R) (hiddens t : List ℕ) (g : Clear R hiddens t) (x : ℕ) where

@@ -3,6 +3,7 @@ use mathlib.Core.Path.{◌≡◌, refl, sym, ap, ◌∙◌, fun_ext}
 use mathlib.Core.Bool.{Bool, true, false, not, ◌&&◌, or-true, or-false, and-true, and-false}
 use mathlib.Core.List.{List, [], ◌∷◌, ◌++◌, map, map-append}
 use mathlib.Core.Option.{none, some}
+use Rattle.std.specs.Prelude.{Option, Some, None, MatchOption, IfSome}
 use Prim.Native.Nat.{ℕ, zero, suc, ◌+◌, ◌-◌, ◌≤◌, ◌<◌}
 use native.Mathlib.Omega.{arith}
 use native.Mathlib.Numerals.{add-one}
@@ -13,7 +14,7 @@ use borrow.Author.Tests.{eq-eqb, ne_eqb, not-false}
 use Rattle.lists.specs.Lists.{any, mem, index_of, ◌among◌, ◌within◌, distinct, find, grown}
 use Rattle.record.specs.Record.{Record, names, notafter}
 use Rattle.record.specs.Schedule.{ready, order}
-use Rattle.lists.proofs.Lists.{by, clash, is-by, and_l, and_r, and_i, same_by, mem-append, any-by, any-in, no-any, mem_index, grown-some, grown-none}
+use Rattle.lists.proofs.Lists.{by, clash, is-by, le-by, and_l, and_r, and_i, same_by, mem-append, any-by, any-in, no-any, mem_index, grown-some, grown-none}
 use Rattle.graph.specs.links.Marks.{name_at, marks_of}
 use Rattle.graph.specs.links.Links.{left_at, FirstRow, NextRow, NoRow, SomeRow}
 use Rattle.graph.specs.links.Reach.{On, Off}
@@ -24,7 +25,7 @@ use Rattle.graph.proofs.links.Links.{Looking, looking-start, looking-step}
 use Rattle.graph.specs.links.Resolved.{Resolved}
 use Rattle.judgement_marks.proofs.Standing.{marked-on, marked-off, marked-is}
 use Rattle.judgement_marks.specs.declared.row.Row.{Row}
-use Rattle.judgement_marks.specs.schedules.Rows.{free, RowIs}
+use Rattle.judgement_marks.specs.schedules.Rows.{free, found, RowIs}
 
 -- is an edit free, by the marks of what waits
 module _ (R : Record) (test : ℕ → Bool) (rows waits : List ℕ) (g : Resolved R rows) (x : ℕ) (l : x < length (names R))
@@ -120,13 +121,27 @@ module _ (p : ℕ → Bool) where
   first-nowhere [] f = refl
   first-nowhere (x ∷ l) f = rw (f 0 (omega arith)) (first-nowhere l (λ y k. f (suc y) (omega arith)))
 
+-- what `is_free` says of an edit
+abbrev pub TellsFree : List ℕ → List ℕ → ℕ → Bool → Type 0
+TellsFree rows waits x b = (R : Record) (test : ℕ → Bool) → Resolved R rows → x < length (names R) → waits ≡ marks_of R test → b ≡ free R test (name_at R x)
+
 module _ (R : Record) (test : ℕ → Bool) (n : ℕ) (q : n ≡ length (names R)) where
-  pub lowest-found : (r : ℕ) → r < n → true ≡ free R test (name_at R r) → ((y : ℕ) → y < r → free R test (name_at R y) ≡ false)
+  lowest-found : (r : ℕ) → r < n → true ≡ free R test (name_at R r) → ((y : ℕ) → y < r → free R test (name_at R y) ≡ false)
       → find (free R test) (names R) ≡ some (name_at R r)
   lowest-found r h e f = (first-at (free R test) (names R) r (omega arith) (sym e) f)
 
-  pub lowest-free-none : (r : ℕ) → n ≤ r → ((y : ℕ) → y < r → free R test (name_at R y) ≡ false) → find (free R test) (names R) ≡ none
+  lowest-free-none : (r : ℕ) → n ≤ r → ((y : ℕ) → y < r → free R test (name_at R y) ≡ false) → find (free R test) (names R) ≡ none
   lowest-free-none r h f = (first-nowhere (free R test) (names R) (λ y k. f y (omega arith)))
+
+  -- what a search from a place tells below which none is free
+  pub lowest-told : (from : ℕ) → from ≤ n → ((y : ℕ) → y < from → free R test (name_at R y) ≡ false) → (r : Option ℕ)
+      → MatchOption r ((y : ℕ) → from ≤ y → y < n → y < n → free R test (name_at R y) ≡ false)
+      (λ x. (from ≤ x) × (x < n) × (x < n → true ≡ free R test (name_at R x)) × ((y : ℕ) → from ≤ y → y < x → y < n → free R test (name_at R y) ≡ false))
+      → (find (free R test) (names R) ≡ found R r) × IfSome r (λ x. (y : ℕ) → y < x → free R test (name_at R y) ≡ false)
+  lowest-told from l f None w = (lowest-free-none n (omega arith) (λ y h. le-by from y (λ k. w y k h h) (λ k. f y k)), tt)
+  lowest-told from l f (Some x) w =
+      let g : (y : ℕ) → y < x → free R test (name_at R y) ≡ false = λ y h. le-by from y (λ k. w.3 y k h (omega (arith, w.1))) (λ k. f y k) in
+      (lowest-found x w.1 (w.2 w.1) g, g)
 
 -- the test of what still waits of the set t, of which a row is placed
 abbrev pub waiting : List ℕ → List ℕ → ℕ → Bool

@@ -1,24 +1,17 @@
 -- `schedules::any_barred` meets its contract. Assumes nothing.
-use mathlib.Core.Path.{sym, ◌∙◌}
-use native.Mathlib.Omega.{arith}
-use borrow.Author.Count.{below_more}
-use Rattle.judgement_marks.proofs.schedules.Admitting.{any-bars, none-bars}
+use Rattle.std.proofs.Common.{arith, rules, refl, ◌≡◌, true, false, ◌&&◌, ◌<◌, sym}
+use borrow.Author.Tests.{tests}
+use Rattle.std.proofs.lemmas.Iterator.{YieldsList-from_range, cases_from_any}
+use Rattle.lists.specs.Lists.{mem}
+use Rattle.record.specs.Schedule.{bars}
+use Rattle.graph.specs.links.Marks.{name_at}
+use Rattle.judgement_marks.proofs.schedules.Admitting.{TellsBarred, bars-told}
 use Rattle.judgement_marks.proofs.schedules.any_barred.Goals as goal
 
-pub loop-x-init : goal.loop-x-init
-loop-x-init c = λ R h t q e m u y k. absurd (omega arith)
-
-pub returns-then-is_barred : goal.returns-then-is_barred
-returns-then-is_barred c =
-    let l = c.loop-x in
-    λ R h t q sub e m u. any-bars R h t c.args.graph.now.count q l.x (omega arith) (sym c.if-is_barred.true ∙ c.is_barred.ensures R h t (omega arith) e m u)
-
-pub loop-x-preserved : goal.loop-x-preserved
-loop-x-preserved c =
-    let l = c.loop-x in
-    λ R h t q e m u. below_more _ _ (l.invariant R h t q e m u) (sym (c.is_barred.ensures R h t (omega arith) e m u) ∙ c.if-is_barred.false)
-
 pub returns : goal.returns
-returns c =
-    let l = c.loop-x in
-    λ R h t q sub e m u. none-bars R h t c.args.graph.now.count q sub (λ y k. l.invariant R h t q e m u y (omega arith))
+returns c R h t q sub e m u =
+    bars-told R h t c.args.graph.now.count q sub c.any.result
+    (cases_from_any _ _ c.any.result (λ x. x < c.args.graph.now.count → true ≡ (mem (name_at R x) t && bars R h (name_at R x))) (λ x. x < c.args.graph.now.count → (mem (name_at R x) t && bars R h (name_at R x)) ≡ false) c.any.ensures.ran
+    (YieldsList-from_range 0 c.args.graph.now.count c.args.graph.now.count refl (omega arith))
+    (λ x k d l. let is : TellsBarred c.args.marks.now c.args.hidden.now c.args.mustmarks.now x true = search (rules, tests) in is R h t (omega arith) e m u)
+    (λ x k d. let is : TellsBarred c.args.marks.now c.args.hidden.now c.args.mustmarks.now x false = search (rules, tests) in (search rules, λ l. sym (is R h t (omega arith) e m u))))

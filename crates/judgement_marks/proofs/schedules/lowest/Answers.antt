@@ -1,23 +1,15 @@
 -- `schedules::lowest` meets its contract. Assumes nothing.
-use mathlib.Core.Path.{sym, ◌∙◌}
-use native.Mathlib.Omega.{arith}
-use borrow.Author.Count.{below_more}
-use Rattle.judgement_marks.proofs.schedules.Ordering.{lowest-found, lowest-free-none}
+use Rattle.std.proofs.Common.{arith, rules, ◌≡◌, true, false, ◌<◌, sym}
+use borrow.Author.Tests.{tests}
+use Rattle.std.proofs.lemmas.Iterator.{first_from_Range}
+use Rattle.graph.specs.links.Marks.{name_at}
+use Rattle.judgement_marks.specs.schedules.Rows.{free}
+use Rattle.judgement_marks.proofs.schedules.Ordering.{TellsFree, lowest-told}
 use Rattle.judgement_marks.proofs.schedules.lowest.Goals as goal
-
-pub loop-x-init : goal.loop-x-init
-loop-x-init c = λ R p g q e f. f
-
-pub returns-then-is_free-clause-is : goal.returns-then-is_free-clause-is
-returns-then-is_free-clause-is c R p g q e f =
-    let l = c.loop-x in
-    (lowest-found R p c.args.graph.now.count q l.x (omega arith) (sym c.if-is_free.true ∙ c.is_free.ensures R p g (omega arith) e) (l.invariant R p g q e f), l.invariant R p g q e f)
-
-pub loop-x-preserved : goal.loop-x-preserved
-loop-x-preserved c =
-    let l = c.loop-x in
-    λ R p g q e f. below_more _ _ (l.invariant R p g q e f) (sym (c.is_free.ensures R p g (omega arith) e) ∙ c.if-is_free.false)
 
 pub returns-clause-is : goal.returns-clause-is
 returns-clause-is c R p g q e f =
-    (lowest-free-none R p c.args.graph.now.count q c.args.graph.now.count (omega arith) (λ y h. c.loop-x.invariant R p g q e f y (omega arith)), tt)
+    lowest-told R p c.args.graph.now.count q c.args.from c.requires f c.find.result
+    (first_from_Range _ _ _ c.find.result (λ x. x < c.args.graph.now.count → true ≡ free R p (name_at R x)) (λ x. x < c.args.graph.now.count → free R p (name_at R x) ≡ false) c.find.ensures.ran
+    (λ x k h l. let is : TellsFree c.args.graph.now.rows c.args.waits.now x true = search (rules, tests) in is R p g (omega arith) e)
+    (λ x k h. let is : TellsFree c.args.graph.now.rows c.args.waits.now x false = search (rules, tests) in (search rules, λ l. sym (is R p g (omega arith) e))))
