@@ -2,7 +2,7 @@
 // checked tables.
 ghost use Rattle.std.specs.Prelude.{◌≡◌, cond, List, ℕ, ◌<◌, Some, None, IfSome, is_some};
 ghost use Rattle.record.specs.Record as theory;
-ghost use Rattle.lists.specs.Lists.{all, mem, index_of, position_of};
+ghost use Rattle.lists.specs.Lists.{all, mem, index_of, position_of, ◌among◌};
 ghost use Rattle.record.specs.Stored.{stored};
 ghost use Rattle.record.specs.Judgement.{fits, sound_row};
 ghost use Rattle.graph.specs.links.Marks.{mark_limit};
@@ -13,7 +13,7 @@ ghost use Rattle.judgement.specs.row_test.Seats.{Seated, known_apart};
 use graph::indexes;
 use graph::indexes::IndexTable;
 use graph::links::MARKS;
-use record::Record;
+use record::{Constraint, Record};
 
 // The index of a name, where the record knows it.
 fn known_index(table: &IndexTable, name: usize) -> Option<usize>
@@ -57,19 +57,25 @@ fn rule_fits(rule: u8, left: usize, right: usize) -> bool
     }
 }
 
+// Whether a constraint fits the row.
+fn is_fitting(table: &IndexTable, places: &[usize; MARKS], constraint: Constraint) -> bool
+    ensures { (R : theory.Record) (row : List ℕ) → Indexed R table.now → Seated R row places.now
+        → constraint.left among theory.names R → constraint.right among theory.names R → result ≡ fits row constraint.left constraint.rule constraint.right }
+{
+    let left = places[table.index_of(usize::from(constraint.left))];
+    let right = places[table.index_of(usize::from(constraint.right))];
+    rule_fits(constraint.rule, left, right)
+}
+
 // Whether each constraint fits the row.
 fn all_fit(multilog: Record, table: &IndexTable, places: &[usize; MARKS]) -> bool
     ensures { (R : theory.Record) (row : List ℕ) → multilog ≡ stored R → Fit R → Indexed R table.now → Seated R row places.now
         → result ≡ all (λ c. fits row c.left c.rule c.right) R.constraints }
 {
-    for constraint in multilog.constraint_slice() {
-        let left = places[table.index_of(usize::from(constraint.left))];
-        let right = places[table.index_of(usize::from(constraint.right))];
-        if !rule_fits(constraint.rule, left, right) {
-            return false;
-        }
-    }
-    true
+    multilog
+        .constraint_slice()
+        .iter()
+        .all(|constraint| is_fitting(table, places, *constraint))
 }
 
 // Whether the row is a sound schedule of the record.

@@ -4,16 +4,19 @@ use mathlib.Core.Bool.{Bool, true, false, not, ◌&&◌, and-false}
 use mathlib.Core.List.{List, [], ◌∷◌}
 use Prim.Native.Nat.{ℕ, zero, suc, ◌+◌, ◌≤◌, ◌<◌}
 use native.Mathlib.Omega.{arith}
-use native.Mathlib.Numerals.{add-one}
 use lib.Dec.{eqb, ltb}
-use lib.ListN.{length, get_or, drop, drop_of_length-le}
-use lib.Seq.{drop-cons}
+use lib.ListN.{length, get_or}
+use lib.Seq.{take_all}
 use borrow.Author.Tests.{ltb-true, lt-ltb, eq-eqb, ne_eqb}
 use Rattle.record.specs.declared.Constraint.{Constraint}
-use Rattle.lists.specs.Lists.{all, mem, index_of, position_of}
+use Rattle.std.specs.Bool.{MatchBool}
+use Rattle.std.specs.List.{AllWithin, HoldsAt}
+use Rattle.lists.specs.Lists.{◌among◌, all, mem, index_of, position_of}
 use Rattle.record.specs.Record.{Record, names, has}
+use Rattle.record.specs.Stored.{filler_constraint}
 use Rattle.record.specs.Judgement.{fits, starts_with_init, sound_row}
 use Rattle.lists.proofs.Lists.{is-by, same_by, position-none, position_some, position_at}
+use Rattle.lists.proofs.Front.{all-broken}
 use Rattle.graph.proofs.links.Names.{place-known}
 use Rattle.graph.specs.indexes.Fit.{Fit}
 use Rattle.graph.specs.indexes.Indexed.{Indexed}
@@ -64,40 +67,37 @@ fits-other row x zero y n m = absurd (n refl)
 fits-other row x (suc zero) y n m = absurd (m refl)
 fits-other row x (suc (suc k)) y n m = refl
 
--- the seats of a constraint's ends, among those that are the record's
-module _ (R : Record) (f : Fit R) (table : List ℕ) (t : Indexed R table) (row places : List ℕ) (s : Seated R row places)
-    (l : List Constraint) (e : l ≡ R.constraints) (j : ℕ) (d : Constraint) (u : j < length l) where
-  within : j < length R.constraints
-  within = omega (arith, ap length e)
+-- the seat of a known name
+pub known-seat : (R : Record) (table row places : List ℕ) → Indexed R table → Seated R row places → (x w i : ℕ) → x among names R → w ≡ x → i ≡ get_or table w 0 → get_or places i 0 ≡ position_of x row
+known-seat R table row places t s x w i k p q =
+    ap (λ v. get_or places v 0) (q ∙ ap (λ v. get_or table v 0) p ∙ t x ∙ place-known x (names R) k) ∙ s x k
 
-  stands : has (get_or l j d).left (get_or l j d).rule (get_or l j d).right R.constraints ≡ true
-  stands = rw e (has-at R.constraints j d within)
+-- what `is_fitting` says of a constraint
+abbrev pub TellsFit : List ℕ → List ℕ → Constraint → Bool → Type 0
+TellsFit table places c b =
+    (R : Record) (row : List ℕ) → Indexed R table → Seated R row places → c.left among names R → c.right among names R → b ≡ fits row c.left c.rule c.right
 
-  pub left-seat : (w i : ℕ) → w ≡ (get_or l j d).left → i ≡ get_or table w 0 → get_or places i 0 ≡ position_of (get_or l j d).left row
-  left-seat w i p q =
-      let k = left-known f.formed _ _ _ stands in
-      ap (λ v. get_or places v 0) (q ∙ ap (λ v. get_or table v 0) p ∙ t _ ∙ place-known _ (names R) k) ∙ s _ k
+-- the test of a record's constraints, where each is told of by itself
+module _ (R : Record) (f : Fit R) (table row places : List ℕ) (t : Indexed R table) (s : Seated R row places) where
+  abbrev fitting : Constraint → Bool
+  fitting c = fits row c.left c.rule c.right
 
-  pub right-seat : (w i : ℕ) → w ≡ (get_or l j d).right → i ≡ get_or table w 0 → get_or places i 0 ≡ position_of (get_or l j d).right row
-  right-seat w i p q =
-      let k = right-known f.formed _ _ _ stands in
-      ap (λ v. get_or places v 0) (q ∙ ap (λ v. get_or table v 0) p ∙ t _ ∙ place-known _ (names R) k) ∙ s _ k
+  told-fits : (l : List Constraint) → l ≡ R.constraints → (k : ℕ) (d : Constraint) → k < length l → (b : Bool) → TellsFit table places (get_or l k d) b → b ≡ fitting (get_or l k d)
+  told-fits l e k d h b is =
+      let stands : has (get_or l k d).left (get_or l k d).rule (get_or l k d).right R.constraints ≡ true = rw e (has-at R.constraints k d (omega (arith, ap length e))) in
+      is R row t s (left-known f.formed _ _ _ stands) (right-known f.formed _ _ _ stands)
 
-  -- one constraint of the rest
-  pub fitting-step : (b : Bool) → b ≡ fits row (get_or l j d).left (get_or l j d).rule (get_or l j d).right → b ≡ true
-      → all (λ c. fits row c.left c.rule c.right) (drop j l) ≡ all (λ c. fits row c.left c.rule c.right) (drop (j + 1) l)
+  every : (l : List Constraint) → ((k : ℕ) (d : Constraint) → k < length l → true ≡ fitting (get_or l k d)) → true ≡ all fitting l
   unfolding all
-  fitting-step b q y = rw (drop-cons l j d u, ← q, y, add-one j)
+  every [] h = refl
+  every (c ∷ l) h = rw (← h 0 c (omega arith)) (every l (λ k d e. h (suc k) d (omega arith)))
 
-  pub fitting-stop : (b : Bool) → b ≡ fits row (get_or l j d).left (get_or l j d).rule (get_or l j d).right → b ≡ false
-      → false ≡ all (λ c. fits row c.left c.rule c.right) (drop j l)
-  unfolding all
-  fitting-stop b q y = rw (drop-cons l j d u, ← q, y)
-
-pub row-fitting-end : (l : List Constraint) (row : List ℕ) (j : ℕ) → length l ≤ j
-    → true ≡ all (λ c. fits row c.left c.rule c.right) (drop j l)
-unfolding all
-row-fitting-end l row j h = rw (drop_of_length-le l h)
+  pub fitting-told : (l : List Constraint) → l ≡ R.constraints → (r : Bool)
+      → MatchBool r (AllWithin (λ c. TellsFit table places c true) l 0 (length l)) ((k : ℕ) × (k < length l) × HoldsAt (λ c. TellsFit table places c false) l k)
+      → r ≡ all fitting R.constraints
+  fitting-told l e true w = every l (λ k d h. told-fits l e k d h true (w k d (omega arith) h)) ∙ ap (all fitting) e
+  fitting-told l e false w =
+      sym (all-broken fitting l (length l) w.0 filler_constraint w.1 (omega arith) (sym (told-fits l e w.0 filler_constraint w.1 false (w.2 filler_constraint)))) ∙ ap (all fitting) (take_all (length l) l (omega arith) ∙ e)
 
 -- the whole test
 pub empty-not : (R : Record) (row : List ℕ) → length row ≡ 0 → false ≡ sound_row R row
