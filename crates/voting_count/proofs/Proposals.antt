@@ -1,24 +1,27 @@
 -- Proposals without fault: checked records, known edits and soundness bench by bench, and the ballot of a row. Assumes nothing.
-use mathlib.Core.Path.{◌≡◌, sym, ap, ◌∙◌}
+use mathlib.Core.Path.{◌≡◌, refl, sym, ap, ◌∙◌}
 use mathlib.Core.Bool.{Bool, true, false}
 use mathlib.Core.List.{List, [], ◌∷◌, map}
 use Prim.Native.Nat.{ℕ, zero, suc, ◌+◌, ◌-◌, ◌≤◌, ◌<◌}
+use Rattle.std.specs.Bool.{MatchBool}
+use Rattle.std.specs.List.{AllWithin, HoldsAt}
 use native.Mathlib.Omega.{arith}
 use lib.Dec.{leb}
-use lib.ListN.{length, take, get_or, length-map}
+use lib.ListN.{length, get_or, length-map}
 use borrow.Author.Tests.{leb-true}
 use Rattle.record.specs.declared.Record as declared
 use Rattle.lists.specs.Lists.{all}
 use Rattle.record.specs.Stored.{stored}
+use Rattle.record.specs.Judgement.{sound}
 use Rattle.lists.proofs.Lists.{and_l, and_r}
 use Rattle.record_rows.specs.row.Row.{edit_of, constraint_of}
 use Rattle.record_rows.specs.grounds.Ground.{Rows}
 use Rattle.record_rows.proofs.grounds.Grounds.{orelse-none}
-use Rattle.record_tables.specs.Table.{decoded}
+use Rattle.record_tables.specs.Table.{empty_tables, decoded, lent_fault}
 use Rattle.record_tables.specs.Checked.{Checked}
 use Rattle.record_tables.proofs.Records.{lent-checked}
 use Rattle.voting.specs.declared.RollRow.{RollRow}
-use Rattle.lists.proofs.Front.{all_more, all-broken}
+use Rattle.lists.proofs.Front.{all-broken}
 use Rattle.voting_roll.specs.Roll.{is_bench}
 use Rattle.voting_count.specs.Count.{lent_proposals, Faultless}
 use Rattle.voting_count.proofs.Benches.{bench-at, held_at, fault-at}
@@ -47,19 +50,29 @@ proposal-stored rows cells es cs k a b ea eb r f h =
     let c = lent-checked x y (sym (fault-at rows cells es cs k a b ea eb) ∙ h) in
     f (omega (arith, c.editplaces, length-map x edit_of)) (omega (arith, c.constraintplaces, length-map y constraint_of)) ∙ ap stored (sym (held_at rows cells es cs k a b ea eb))
 
--- a test of every bench, one after the other
-module _ (p : ℕ → Bool) (k : ℕ) (h : k < 8) (x : Bool) (e : x ≡ p (k + 1)) where
-  at-bench : p (get_or benches k 0) ≡ x
-  at-bench = ap p (bench-at k h) ∙ sym e
+-- what a record tells of its soundness, where its rows have no fault
+abbrev pub Tells : Rows → Rows → Bool → Type 0
+Tells E C b = lent_fault empty_tables E C ≡ 0 → b ≡ sound (decoded E C)
 
-  pub not-every : x ≡ false → false ≡ all p benches
-  not-every q = sym (all-broken p benches 8 k 0 h (omega arith) (at-bench ∙ q))
+every : (p : ℕ → Bool) (l : List ℕ) → ((k : ℕ) → k < length l → true ≡ p (get_or l k 0)) → true ≡ all p l
+unfolding all
+every p [] h = refl
+every p (x ∷ l) h = rw (← h 0 (omega arith)) (every p l (λ k e. h (suc k) (omega arith)))
 
-  pub every_more : x ≡ true → all p (take k benches) ≡ true → all p (take (k + 1) benches) ≡ true
-  every_more q w = all_more p benches k 0 h w (at-bench ∙ q)
+-- the eight lent records, and the benches
+module _ {A : Type 0} (edits constraints : A → Rows) (es : List A) (a : A) (ea : edits a ≡ []) (ec : constraints a ≡ []) (l : length es ≡ 8) where
+  abbrev P : Proposals
+  P = lent_proposals (map edits es) (map constraints es)
 
-pub benches-end : (k : ℕ) → k ≤ 8 → 8 ≤ k → take k benches ≡ benches
-benches-end k a b = let e : k ≡ 8 = omega arith in rw e
+  sound-at : Faultless P → (k : ℕ) → k < 8 → (b : Bool) → Tells (edits (get_or es k a)) (constraints (get_or es k a)) b → b ≡ sound (held P (get_or benches k 0))
+  sound-at h k e b f =
+      f (sym (fault-at edits constraints es es k a a ea ec) ∙ bench-faultless P h k e) ∙ ap sound (sym (held_at edits constraints es es k a a ea ec) ∙ ap (held P) (sym (bench-at k e)))
+
+  pub all-sound : Faultless P → (r : Bool)
+      → MatchBool r (AllWithin (λ x. Tells (edits x) (constraints x) true) es 0 (length es)) ((k : ℕ) × (k < length es) × HoldsAt (λ x. Tells (edits x) (constraints x) false) es k)
+      → r ≡ all (λ k. sound (held P k)) benches
+  all-sound h true w = every (λ k. sound (held P k)) benches (λ k e. sound-at h k e true (w k a (omega arith) (omega arith)))
+  all-sound h false w = let e : w.0 < 8 = omega (arith, w.1) in sym (all-broken (λ k. sound (held P k)) benches 8 w.0 0 e (omega arith) (sym (sound-at h w.0 e false (w.2 a))))
 
 -- a bench of the roll
 pub proposal-bench-low : (row : RollRow) → is_bench row ≡ true → (1 ≤ row.bench) × (row.bench ≤ 8)

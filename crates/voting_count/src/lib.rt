@@ -8,7 +8,7 @@ ghost use Rattle.lists.specs.Lists.{any, all, mem};
 ghost use Rattle.record.specs.Stored.{stored};
 ghost use Rattle.record.specs.Judgement.{sound};
 ghost use Rattle.refusals.specs.Numbers.{number_of, Gives};
-ghost use Rattle.record_tables.specs.Table.{names_of};
+ghost use Rattle.record_tables.specs.Table.{empty_tables, decoded, lent_fault, names_of};
 ghost use Rattle.record_tables.specs.Checked.{Checked};
 ghost use Rattle.voting.specs.Bundle as vote;
 ghost use Rattle.voting.specs.Tally.{winner, election_told};
@@ -22,11 +22,11 @@ use record_rows::row;
 use record_rows::row::{EditRow, LentRecord};
 use record_tables::lookup;
 use refusals::Refusal;
-use voting::{ElectionResult, RollRow};
+use voting::{BENCHES, ElectionResult, RollRow};
 use voting_tally::{Cast, Tally, Vote};
 
 // The proposals of the eight benches, an empty one for a bench that has none.
-pub type LentProposals<'a> = [LentRecord<'a>; 8];
+pub type LentProposals<'a> = [LentRecord<'a>; BENCHES];
 
 // The proposals of the eight benches and the rows of the roll.
 #[derive(Clone, Copy)]
@@ -102,24 +102,25 @@ fn is_known(proposals: &LentProposals, name: u16) -> bool
         .any(|proposal| has_name(proposal.edits, name))
 }
 
+// Whether a proposal is sound, where its rows have no fault.
+fn is_sound(proposal: LentRecord) -> bool
+    ensures { lent_fault empty_tables proposal.entry.edits.now proposal.entry.constraints.now ≡ 0 → result ≡ sound (decoded proposal.entry.edits.now proposal.entry.constraints.now) }
+{
+    judgement::sound(record_union::decode(proposal))
+}
+
 // Whether all eight proposals are sound, those off the roll too.
-// Kept: by bench: a proposal is the theory's where its own bench has no fault, and a closure over the proposals is told no bench.
 fn all_sound(proposals: &LentProposals) -> bool
     ensures { Faultless (lent proposals.now) → result ≡ all (λ k. sound (held (lent proposals.now) k)) benches }
 {
-    for k in 0..8 {
-        if !judgement::sound(proposal_at(proposals, k)) {
-            return false;
-        }
-    }
-    true
+    proposals.iter().all(|proposal| is_sound(*proposal))
 }
 
 // The vote of a bench: that of its proposal.
 fn vote_in(name: u16, proposals: &LentProposals, bench: u8) -> Cast
     ensures { Faultless (lent proposals.now) → 1 ≤ bench → bench ≤ 8 → result ≡ cast_of (vote.vote (held (lent proposals.now) bench) name) }
 {
-    let k = usize::from(bench.clamp(1, 8)) - 1;
+    let k = usize::from(bench).clamp(1, BENCHES) - 1;
     vote_of(proposal_at(proposals, k), name)
 }
 

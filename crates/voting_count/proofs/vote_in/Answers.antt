@@ -12,7 +12,7 @@ use Rattle.voting_count.proofs.vote_in.Goals as goal
 pub returns : goal.returns
 returns c = λ h low high.
     let P = lent c.args.proposals.now in
-    let x = c.from-k.result in
-    let q : c.args.bench ≡ (x - 1) + 1 = omega (arith, c.from-k.ensures, c.clamp.ensures) in
+    let x = c.clamp-k.result in
+    let q : c.args.bench ≡ (x - 1) + 1 = omega (arith, c.clamp-k.ensures, c.from.ensures) in
     let g = bench-faultless P h (x - 1) (omega (arith, q)) in
     c.vote_of.ensures (held P ((x - 1) + 1)) (c.proposal_at.ensures g) (held-checked P ((x - 1) + 1) g) ∙ ap (λ j. cast_of (vote (held P j) c.args.name)) (sym q)
