@@ -57,9 +57,9 @@ schedule-starts R f hidden =
 abbrev pub Listing : Record → List ℕ → List Edit → ℕ → Type 0
 Listing R list edits q = edits ≡ padded 127 filler_edit (map (edit_named R.edits) (take (q - 1) (drop 1 list)))
 
-pub listing_start : (R : Record) (list : List ℕ) (edit : Edit) → edit ≡ filler_edit → Listing R list (replicate 127 edit) 1
+pub listing_start : (R : Record) (list : List ℕ) → Listing R list (replicate 127 filler_edit) 1
 unfolding padded
-listing_start R list edit e = rw e
+listing_start R list = refl
 
 name-zero : (R : Record) → name_at R 0 ≡ 0
 unfolding names

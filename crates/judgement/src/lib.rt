@@ -20,8 +20,7 @@ use graph::indexes;
 use graph::links::{MARKS, Marks};
 use judgement_marks::row::Row;
 use judgement_marks::schedules;
-use record::{EDITS, Edit, Record, Schedule};
-use record_rows::element::Element;
+use record::{Record, Schedule};
 
 // Marks by index, 0 for INIT and i for the i-th edit; the page of each edit with nothing hidden, 0 where it is not in the schedule.
 // Kept: four arrays, as document 01 has the marks ("an array of 128 marks, one to each edit").
@@ -83,21 +82,16 @@ pub fn needs(multilog: Record, index: usize) -> Marks
 fn edits_of(multilog: Record, row: Row) -> Schedule
     ensures { (R : theory.Record) (hidden : List ℕ) → multilog ≡ stored R → Fit R → RowIs R row (theory_schedule.schedule R hidden) → result ≡ stored_schedule R hidden }
 {
-    let mut edits = [Edit::filler(); EDITS];
+    let mut schedule = Schedule::empty();
     for q in 1..row.count {
         let index = usize::from(row.indexes[q]);
         if index == 0 {
-            return Schedule {
-                edits,
-                count: q - 1,
-            };
+            return schedule;
         }
-        edits[q - 1] = multilog.edits[index - 1];
+        schedule.edits[q - 1] = multilog.edits[index - 1];
+        schedule.count = q;
     }
-    Schedule {
-        edits,
-        count: row.count.saturating_sub(1),
-    }
+    schedule
 }
 
 // The bench schedule with these edits hidden.
