@@ -14,7 +14,8 @@ use record_rows::row::LentRecord;
 use refusals::Refusal;
 
 // For each edit, INIT first: must, never, settled and its page with nothing hidden (0: not in it).
-// Kept: the arrays of `Judged` one by one and no `Judged` inside, for crate benchmark_entry takes them out by name.
+// Kept: the arrays of `Judged` one by one: tried with a `Judged` inside, which crate benchmark_entry has to take apart in two steps, for the borrow
+// checker does not cover an array of an inner struct that is made part of a literal.
 #[derive(Clone, Copy)]
 pub struct Judgement {
     pub count: usize,

@@ -34,7 +34,8 @@ pub struct Group {
 }
 
 // The groups in the order of their first votes, and the answer so far. Groups past the count hold a filler.
-// Kept: an array with its count, which the specification names (tally_of); a tally is Copy, which the library's ArrayVec is not.
+// Kept: an array with its count, which the specification names (tally_of). An ArrayVec of the library fills its places with a Default too, so that
+// Group and Record would get one as well, and it is no Copy.
 #[derive(Clone, Copy)]
 pub struct Tally {
     pub groups: [Group; BENCHES],
