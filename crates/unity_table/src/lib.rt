@@ -60,7 +60,7 @@ pub struct Unity {
     pub empty: usize,
 }
 
-// Kept: beside text_reader::Fault, which says a line: C has a `row` in Unity and a `line` in Reply, and a table needs no crate of texts, from
+// Kept: beside text_reader::Fault, which says a line: C has a row in Unity and a line in Reply, and a table needs no crate of texts, from
 // which one struct of both would come.
 // Why a table is refused: the ground of its first faulty row, and that row, from 1.
 #[derive(Clone, Copy)]
