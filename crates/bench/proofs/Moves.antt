@@ -31,7 +31,6 @@ use Rattle.pages_turner.proofs.Landed.{turned-lands}
 use Rattle.pages.specs.Steps.{common_beginning, Agree}
 use Rattle.record.proofs.Padded.{take-padded}
 use Rattle.catalogue.specs.declared.View.{View}
-use Rattle.catalogue.specs.declared.Changed.{Changed}
 use Rattle.catalogue.specs.Chips.{rows, chips_view, schedule_of}
 use Rattle.catalogue.specs.Changes as moves
 use Rattle.ledger.specs.declared.Bench.{Bench}
@@ -207,7 +206,7 @@ module _ (L : Ledger) (v : Valid L) (bench : Bench) (e : bench ≡ bench_of L) (
   unfolding news
   length-news = length-map (drop 1 (schedule R h)) (edit_named R.edits)
 
-  pub change-is : (E : Election) (multilog : declared.Record) (hidden : List ℕ) (new : Schedule) (moved : Changed)
+  pub change-is : (E : Election) (multilog : declared.Record) (hidden : List ℕ) (new : Schedule) (moved : moves.Changed)
       → multilog ≡ stored R → hidden ≡ marks_of R (λ x. mem x h) → new ≡ pages_of R h
       → moves.ViewChanges bench.schedule bench.turner.opened new bench.view moved
       → record {
@@ -235,7 +234,7 @@ module _ (L : Ledger) (v : Valid L) (bench : Bench) (e : bench ≡ bench_of L) (
       })
 
 -- the same of every list of calls
-pub change-from : (bench : Bench) (multilog : declared.Record) (hidden : List ℕ) (new : Schedule) (E : Election) (moved : Changed)
+pub change-from : (bench : Bench) (multilog : declared.Record) (hidden : List ℕ) (new : Schedule) (E : Election) (moved : moves.Changed)
     → moves.ViewChanges bench.schedule bench.turner.opened new bench.view moved
     → Reschedules bench multilog hidden new E (record {
       answer = answered moved.undone moved.redone E;

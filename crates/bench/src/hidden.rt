@@ -11,7 +11,7 @@ ghost use Rattle.bench.specs.hidden.Marks.{index_in, mark_named};
 
 use graph::indexes;
 use graph::indexes::IndexTable;
-use graph::links::MARKS;
+use graph::links::{MARKS, Marks};
 use record::{EDITS, Record};
 use record_tables::lookup;
 
@@ -27,7 +27,7 @@ pub fn edit_index(multilog: Record, name: u32) -> Option<usize>
 
 // The marks of a record's edits by index: each edit has the mark of its name in another record, given by that record's table of indexes and
 // its marks.
-fn by_index(multilog: Record, index: &IndexTable, hidden: [u8; MARKS]) -> [u8; MARKS]
+fn by_index(multilog: Record, index: &IndexTable, hidden: Marks) -> Marks
     ensures { (R : theory.Record) (test : ℕ → Bool) → multilog ≡ stored R → Checked R → test 0 ≡ false
         → ((x : ℕ) → x among written R → mark_named index.now hidden x ≡ cond (test x) 1 0) → result ≡ marks_of R test }
 {
@@ -39,7 +39,7 @@ fn by_index(multilog: Record, index: &IndexTable, hidden: [u8; MARKS]) -> [u8; M
 }
 
 // The marks of the hidden edits of a record, by the indexes of a record that has its edits.
-pub fn carried(old: Record, hidden: [u8; MARKS], new: Record) -> [u8; MARKS]
+pub fn carried(old: Record, hidden: Marks, new: Record) -> Marks
     ensures { (R S : theory.Record) (h : List ℕ) → old ≡ stored R → new ≡ stored S → Checked R → Checked S → h within written R
         → hidden ≡ marks_of R (λ x. mem x h) → result ≡ marks_of S (λ x. mem x h) }
 {

@@ -10,7 +10,8 @@ ghost use Rattle.ledger.specs.Ledger.{Call, call_told, no_election, plain_answer
 ghost use Rattle.ledger.specs.Bench.{Answers, bench_of, told_outcome};
 ghost use Rattle.bench.specs.Changes.{Opens, Reschedules};
 
-use graph::links::MARKS;
+use catalogue::View;
+use graph::links::{MARKS, Marks};
 use ledger::{Bench, CallResult};
 use pages_turner::{Turner, turning};
 use record::{Record, Schedule};
@@ -21,14 +22,12 @@ use voting::ElectionResult;
 pub fn empty_bench() -> Bench
     ensures { result ≡ bench_of start }
 {
-    let multilog = record::empty();
-    let edits = multilog.edits;
     Bench {
-        multilog,
+        multilog: record::empty(),
         hidden: [0; MARKS],
-        schedule: Schedule { edits, count: 0 },
+        schedule: Schedule::empty(),
         turner: Turner { opened: 0, last: 0 },
-        view: catalogue::empty_view(),
+        view: View::empty(),
     }
 }
 
@@ -36,7 +35,7 @@ pub fn empty_bench() -> Bench
 pub fn open_at(bench: &mut Bench, page: usize)
     ensures { Opens bench.old page bench.new }
 {
-    bench.view = catalogue::turn_to(bench.view, bench.schedule, bench.turner.opened, page);
+    bench.view.turn_to(bench.schedule, bench.turner.opened, page);
     bench.turner.opened = page;
 }
 
@@ -75,19 +74,18 @@ pub fn no_election() -> ElectionResult
 pub fn reschedule(
     bench: &mut Bench,
     multilog: Record,
-    hidden: [u8; MARKS],
+    hidden: Marks,
     schedule: Schedule,
     election: ElectionResult,
 ) -> CallResult
     ensures { Reschedules bench.old multilog hidden schedule (election_told (Ok election)) (told_outcome (Ok result) bench.new) }
 {
     let last = schedule.count;
-    let moved = catalogue::change(bench.view, bench.schedule, bench.turner.opened, schedule);
+    let moved = bench.view.change(bench.schedule, bench.turner.opened, schedule);
     bench.multilog = multilog;
     bench.hidden = hidden;
     bench.schedule = schedule;
     bench.turner = Turner { opened: last, last };
-    bench.view = moved.view;
     CallResult {
         undone: moved.undone,
         redone: moved.redone,

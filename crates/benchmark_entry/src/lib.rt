@@ -4,7 +4,7 @@
 ghost use Rattle.std.specs.Prelude.{◌≡◌};
 ghost use Rattle.benchmark_entry.specs.Measured.{judged_numbers, judgement_numbers, scheduled_of, merged_of, elected_of};
 
-use graph::links::MARKS;
+use graph::links::{MARKS, Marks};
 use judgement::lent_record;
 use judgement::lent_record::Judgement;
 use record_rows::row::{ConstraintRow, EditRow, LentRecord};
@@ -19,10 +19,10 @@ use voting_count::Poll;
 #[derive(Clone, Copy)]
 pub struct Judged {
     pub number: u32,
-    pub must: [u8; MARKS],
-    pub never: [u8; MARKS],
-    pub settled: [u8; MARKS],
-    pub place: [u8; MARKS],
+    pub must: Marks,
+    pub never: Marks,
+    pub settled: Marks,
+    pub place: Marks,
 }
 
 // How many pages the bench schedule has.

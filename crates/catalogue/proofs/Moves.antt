@@ -20,9 +20,8 @@ use Rattle.record.proofs.Padded.{take-padded, slice-padded}
 use Rattle.pages.proofs.Turns.{pages-turn, pages-change}
 use Rattle.pages.proofs.Common.{common-left, common-right, common-take}
 use Rattle.catalogue.specs.declared.View.{View}
-use Rattle.catalogue.specs.declared.Changed.{Changed}
 use Rattle.catalogue.specs.Chips.{rows, places, chips, stored_view, content_of, chips_view, schedule_of}
-use Rattle.catalogue.specs.Changes.{ViewTurns, ViewChanges, changed, common}
+use Rattle.catalogue.specs.Changes.{ViewTurns, Changed, ViewChanges, changed, common}
 
 -- whether two edits have one name, and how many do at the beginning of two rows
 abbrev pub same_name : Edit × Edit → Bool

@@ -6,7 +6,7 @@ use Rattle.record.specs.Record.{name_of}
 use Rattle.pages.specs.Steps as steps
 use Rattle.pages.specs.Steps.{common_beginning, Agree}
 use Rattle.catalogue.specs.declared.View.{View}
-use Rattle.catalogue.specs.declared.Changed.{Changed}
+use Rattle.catalogue.specs.declared.Moved.{Moved}
 use Rattle.catalogue.specs.Chips.{rows, chips, stored_view, content_of, chips_view, schedule_of}
 
 -- From a view of the first `opened` edits of a row to that of the first `page` edits.
@@ -18,6 +18,15 @@ ViewTurns schedule opened page view r =
 -- the pages that the open part of a row of edits and a new row have in common at their beginning
 unfoldable pub common : List Edit → List Edit → ℕ
 common opened new = common_beginning (map name_of opened) (map name_of new)
+
+-- the view that a change leaves, and the pages undone and redone
+pub record Changed : Type 0 where
+  pub view : View
+  pub undone : ℕ
+  pub redone : ℕ
+
+abbrev pub change_told : Moved → View → Changed
+change_told moved view = record { view = view; undone = moved.undone; redone = moved.redone }
 
 -- From a view of the first `opened` edits of a row to that of all the edits of a new row, and what is reported.
 unfoldable pub ViewChanges : Schedule → ℕ → Schedule → View → Changed → Type 0

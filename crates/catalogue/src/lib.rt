@@ -7,14 +7,15 @@ ghost use Rattle.pages.specs.Pages.{run_edit, touched};
 ghost use Rattle.pages.specs.Steps.{back, forward, turn};
 ghost use Rattle.catalogue.specs.Entries.{absent_entry, run_body};
 ghost use Rattle.catalogue.specs.Chips.{cells, chips, content_of, empty_view, stored_view};
-ghost use Rattle.catalogue.specs.Changes.{ViewChanges, ViewTurns, changed, common};
+ghost use Rattle.catalogue.specs.Changes.{ViewChanges, ViewTurns, change_told, changed, common};
 
 use record::{Body, EDITS, Edit, Schedule};
+use record_rows::row;
 
 // The sizes of the chip catalogue; specs/Chips.antt has the same numbers.
 pub const CELLS: usize = 4;
 
-pub const PLACES: usize = 64;
+pub const PLACES: usize = row::PLACES as usize;
 
 pub const PAGES: usize = EDITS;
 
@@ -99,63 +100,12 @@ impl Catalogue {
             self.entries[place] = entry;
         }
     }
-}
 
-// An edit run on the catalogue. A place past the last changes nothing.
-pub fn run_edit(catalogue: Catalogue, edit: Edit) -> Catalogue
-    ensures { result ≡ record { entries = run_edit chips catalogue.entries edit } }
-{
-    let mut changed = catalogue;
-    let _touched = changed.run(edit);
-    changed
-}
-
-// No entry is present, and no page is open.
-pub fn empty_view() -> View
-    ensures { result ≡ empty_view }
-{
-    let absent = absent_entry();
-    View {
-        catalogue: Catalogue {
-            entries: [absent; PLACES],
-        },
-        journal: Journal {
-            rows: [absent; PAGES],
-        },
-    }
-}
-
-// The pages after page `from` up to page `to`, run. A schedule has no page past its rows.
-fn forward_to(mut view: View, schedule: Schedule, from: usize, to: usize) -> View
-    ensures { result ≡ stored_view (forward chips from (slice from to schedule.edits) (content_of view)) }
-{
-    for page in from..to.min(PAGES) {
-        view.journal.rows[page] = view.catalogue.run(schedule.edits[page]);
-    }
-    view
-}
-
-// The pages after page `to` up to page `from`, undone by the journal, the last one first.
-fn back_to(mut view: View, schedule: Schedule, from: usize, to: usize) -> View
-    ensures { result ≡ stored_view (back chips to (slice to from schedule.edits) (content_of view)) }
-{
-    for page in (to..from.min(PAGES)).rev() {
-        let kept = view.journal.rows[page];
-        view.journal.rows[page] = absent_entry();
-        view.catalogue.put(schedule.edits[page].body.place(), kept);
-    }
-    view
-}
-
-// From the open page to another page of the schedule.
-pub fn turn_to(view: View, schedule: Schedule, opened: usize, page: usize) -> View
-    ensures moves { result ≡ stored_view (turn chips schedule.edits opened page (content_of view)) }
-    ensures opens { ViewTurns schedule opened page view result }
-{
-    if opened <= page {
-        forward_to(view, schedule, opened, page)
-    } else {
-        back_to(view, schedule, opened, page)
+    // An edit run on the catalogue. A place past the last changes nothing.
+    pub fn run_edit(&mut self, edit: Edit)
+        ensures { self.new ≡ record { entries = run_edit chips self.old.entries edit } }
+    {
+        let _touched = self.run(edit);
     }
 }
 
@@ -170,25 +120,73 @@ fn common_beginning(old: Schedule, opened: usize, new: Schedule) -> usize
         .count()
 }
 
-// The view at the last page of the new schedule, and the pages undone and redone.
+// The pages that a change has undone and redone.
 #[derive(Clone, Copy)]
-pub struct Changed {
-    pub view: View,
+pub struct Moved {
     pub undone: usize,
     pub redone: usize,
 }
 
-// Back to the common beginning by the journal, and on along the new schedule.
-pub fn change(view: View, old: Schedule, opened: usize, new: Schedule) -> Changed
-    ensures moves { result ≡ changed view old opened new }
-    ensures opens { ViewChanges old opened new view result }
-{
-    let last = new.count;
-    let common = common_beginning(old, opened, new);
-    let undone = back_to(view, old, opened, common);
-    Changed {
-        view: forward_to(undone, new, common, last),
-        undone: opened - common,
-        redone: last - common,
+impl View {
+    // No entry is present, and no page is open.
+    pub fn empty() -> View
+        ensures { result ≡ empty_view }
+    {
+        let absent = absent_entry();
+        View {
+            catalogue: Catalogue {
+                entries: [absent; PLACES],
+            },
+            journal: Journal {
+                rows: [absent; PAGES],
+            },
+        }
+    }
+
+    // The pages after page `from` up to page `to`, run. A schedule has no page past its rows.
+    fn forward_to(&mut self, schedule: Schedule, from: usize, to: usize)
+        ensures { self.new ≡ stored_view (forward chips from (slice from to schedule.edits) (content_of self.old)) }
+    {
+        for page in from..to.min(PAGES) {
+            self.journal.rows[page] = self.catalogue.run(schedule.edits[page]);
+        }
+    }
+
+    // The pages after page `to` up to page `from`, undone by the journal, the last one first.
+    fn back_to(&mut self, schedule: Schedule, from: usize, to: usize)
+        ensures { self.new ≡ stored_view (back chips to (slice to from schedule.edits) (content_of self.old)) }
+    {
+        for page in (to..from.min(PAGES)).rev() {
+            let kept = self.journal.rows[page];
+            self.journal.rows[page] = absent_entry();
+            self.catalogue.put(schedule.edits[page].body.place(), kept);
+        }
+    }
+
+    // From the open page to another page of the schedule.
+    pub fn turn_to(&mut self, schedule: Schedule, opened: usize, page: usize)
+        ensures moves { self.new ≡ stored_view (turn chips schedule.edits opened page (content_of self.old)) }
+        ensures opens { ViewTurns schedule opened page self.old self.new }
+    {
+        if opened <= page {
+            self.forward_to(schedule, opened, page);
+        } else {
+            self.back_to(schedule, opened, page);
+        }
+    }
+
+    // Back to the common beginning by the journal, and on along the new schedule, to its last page.
+    pub fn change(&mut self, old: Schedule, opened: usize, new: Schedule) -> Moved
+        ensures moves { change_told result self.new ≡ changed self.old old opened new }
+        ensures opens { ViewChanges old opened new self.old (change_told result self.new) }
+    {
+        let last = new.count;
+        let common = common_beginning(old, opened, new);
+        self.back_to(old, opened, common);
+        self.forward_to(new, common, last);
+        Moved {
+            undone: opened - common,
+            redone: last - common,
+        }
     }
 }

@@ -3,7 +3,7 @@
 #![tactic(auto)]
 
 use catalogue::View;
-use graph::links::MARKS;
+use graph::links::Marks;
 use pages_turner::Turner;
 use record::{Record, Schedule};
 use voting::ElectionResult;
@@ -12,7 +12,7 @@ use voting::ElectionResult;
 #[derive(Clone, Copy)]
 pub struct Bench {
     pub multilog: Record,
-    pub hidden: [u8; MARKS],
+    pub hidden: Marks,
     pub schedule: Schedule,
     pub turner: Turner,
     pub view: View,

@@ -9,4 +9,4 @@ use Rattle.bench.proofs.empty_bench.Goals as goal
 
 pub returns : goal.returns
 unfolding bench_of start padded marks_of values_of schedule_of last pages page_edits open_edits names written mem
-returns c = rw (c.empty-multilog.ensures, c.empty_view.ensures)
+returns c = rw (c.empty.ensures, c.empty-2.ensures, c.empty-3.ensures)

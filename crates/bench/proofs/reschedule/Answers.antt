@@ -5,4 +5,4 @@ use Rattle.bench.proofs.reschedule.Goals as goal
 
 pub returns : goal.returns
 returns c =
-    change-from c.args.bench.now c.args.multilog c.args.hidden c.args.schedule (election_told (Ok c.args.election)) c.change-moved.result c.change-moved.ensures.opens
+    change-from c.args.bench.now c.args.multilog c.args.hidden c.args.schedule (election_told (Ok c.args.election)) _ c.change-moved.ensures.opens

@@ -1,7 +1,7 @@
 -- `change` meets its contract.
 use native.Mathlib.Omega.{arith}
 use Rattle.catalogue.proofs.Moves.{common-le, change-moves, change-opens}
-use Rattle.catalogue.proofs.change.Goals as goal
+use Rattle.catalogue.proofs.View.change.Goals as goal
 
 pub overflow_sub-result : goal.overflow_sub-result
 overflow_sub-result c =
@@ -15,5 +15,5 @@ overflow_sub-result-2 c =
 
 pub returns : goal.returns
 returns c =
-    let e = change-moves c.args.view c.args.old c.args.opened c.args.new _ _ _ c.common_beginning-common.ensures c.back_to-undone.ensures c.forward_to.ensures in
-    record { moves = e; opens = change-opens c.args.view c.args.old c.args.opened c.args.new _ e }
+    let e = change-moves c.args.self.now c.args.old c.args.opened c.args.new _ _ _ c.common_beginning-common.ensures c.back_to.ensures c.forward_to.ensures in
+    record { moves = e; opens = change-opens c.args.self.now c.args.old c.args.opened c.args.new _ e }

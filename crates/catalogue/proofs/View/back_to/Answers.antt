@@ -6,7 +6,7 @@ use borrow.Author.Rules.{rules}
 use Rattle.lists.proofs.Lists.{length-mapped}
 use Rattle.catalogue.specs.Chips.{cells, rows, stored_view}
 use Rattle.catalogue.proofs.Loops.{undo-more, undo-end}
-use Rattle.catalogue.proofs.back_to.Goals as goal
+use Rattle.catalogue.proofs.View.back_to.Goals as goal
 
 pub loop-page-preserved : goal.loop-page-preserved
 loop-page-preserved c =

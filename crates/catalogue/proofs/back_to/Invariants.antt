@@ -1,7 +1,0 @@
-use Prim.Native.Nat.{min}
-use Rattle.catalogue.specs.Chips.{cells, rows, content_of}
-use Rattle.catalogue.proofs.Loops.{Undoing}
-use Rattle.catalogue.proofs.back_to.Given as goal
-
-abbrev pub invariant-loop-page : goal.invariant-loop-page
-invariant-loop-page l = Undoing cells rows l.schedule.edits l.to (min l.fn.from rows) (content_of l.initial.view) l.page (content_of l.view)
