@@ -19,7 +19,9 @@ pub struct Bench {
 }
 
 // What a call that is not refused answers: the pages undone and redone, and of an adoption the election.
-// Kept: no Option: the ledger's answer has an election's numbers for every call, 0 where there is none (no_election), and these are its parts.
+// Kept: no Option: a `CallAnswer` has zeros where there is no election, and an adoption over an empty roll answers zeros too. None and that election
+// would be told alike: from what is told a caller could not say which of the two was answered, and call-told-unique would be false. And
+// print_adoption, which alone reads these numbers, would have to put the zeros back for None.
 #[derive(Clone, Copy)]
 pub struct CallResult {
     pub undone: usize,
