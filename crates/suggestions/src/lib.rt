@@ -12,7 +12,7 @@ use record_rows::row::{ConstraintRow, EditRow};
 use refusals::Refusal;
 
 // What a pair of edits suggests: nothing, A notafter B, that and A enables B, or that they are noncommuting.
-// Kept: no Option: after_table gives nothing as one of its four entries.
+// Kept: no Option: nothing is one of the four entries of the table that 002 gives, and after_table is that table.
 #[derive(Clone, Copy, PartialEq, Eq)]
 pub enum Advice {
     Nothing,
@@ -67,9 +67,7 @@ fn concurrent(first: Body, second: Body) -> bool
 fn advise(kind: u32, a: Edit, b: Edit) -> Advice
     ensures { result ≡ advised kind (edit_row a) (edit_row b) }
 {
-    if a.name == b.name {
-        Advice::Nothing
-    } else if a.body.place() != b.body.place() {
+    if a.name == b.name || a.body.place() != b.body.place() {
         Advice::Nothing
     } else if kind == 0 {
         after(a.body, b.body)
@@ -80,7 +78,7 @@ fn advise(kind: u32, a: Edit, b: Edit) -> Advice
     }
 }
 
-// Kept: rules by their numbers, as in `record::Constraint`.
+// Kept: rules by their numbers: they are cells of rows as a caller would lend them.
 fn rows(advice: Advice, a: u32, b: u32) -> Suggested
     ensures { result ≡ given (rows_of advice a b) }
 {
@@ -93,7 +91,8 @@ fn rows(advice: Advice, a: u32, b: u32) -> Suggested
 }
 
 // The rows that the edits a and b suggest. Case 0: b after a by one author; 1: concurrent.
-// Kept: the case as the number that a caller gives; another is refused as out of range.
+// Kept: the case as the number that a caller gives. An enum of the two cases was tried and closes with 58 lines more: one test reads it, and it would
+// need to be made from the number, told as the number again, and laws of both.
 pub fn suggest(a: EditRow, b: EditRow, kind: u32) -> Result<Suggested, Refusal>
     ensures { result ≡ suggested a b kind }
 {

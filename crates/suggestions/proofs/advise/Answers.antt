@@ -3,9 +3,6 @@ use Rattle.std.proofs.lemmas.Grind.{common_steps}
 use Rattle.suggestions.proofs.Advised.{advised-edits}
 use Rattle.suggestions.proofs.advise.Goals as goal
 
-pub returns-then-a-b : goal.returns-then-a-b
-returns-then-a-b c = let s = c.args in let e = advised-edits s.kind s.a s.b in grind (arith, common_steps)
-
 pub returns-then-place : goal.returns-then-place
 returns-then-place c = let s = c.args in let e = advised-edits s.kind s.a s.b in grind (arith, common_steps)
 
