@@ -22,7 +22,8 @@ pub const PAGES: usize = EDITS;
 // What is known of a chip in one field, if anything.
 pub type Cell = Option<u32>;
 
-// Kept: document 01 has "an entry of four cells, present or absent", and an absent entry has four blank cells.
+// Kept: document 01 has "an entry of four cells, present or absent". The journal's lines tell the cells of a row that is absent too (`row_text`), and
+// that they are blank is a theorem (`absent-blank`): with an Option of the cells blank ones would be put back where they are told.
 #[derive(Clone, Copy)]
 pub struct Entry {
     pub present: bool,
