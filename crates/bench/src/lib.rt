@@ -35,7 +35,8 @@ pub fn empty_bench() -> Bench
 pub fn open_at(bench: &mut Bench, page: usize)
     ensures { Opens bench.old page bench.new }
 {
-    bench.view.turn_to(bench.schedule, bench.turner.opened, page);
+    let opened = bench.turner.opened;
+    bench.view.turn_to(bench.schedule, opened, page);
     bench.turner.opened = page;
 }
 
@@ -81,7 +82,8 @@ pub fn reschedule(
     ensures { Reschedules bench.old multilog hidden schedule (election_told (Ok election)) (told_outcome (Ok result) bench.new) }
 {
     let last = schedule.count;
-    let moved = bench.view.change(bench.schedule, bench.turner.opened, schedule);
+    let opened = bench.turner.opened;
+    let moved = bench.view.change(bench.schedule, opened, schedule);
     bench.multilog = multilog;
     bench.hidden = hidden;
     bench.schedule = schedule;
