@@ -198,6 +198,7 @@ pub fn catalogue_continue(kept: &[u8], log: &[u8], work: &mut [u8], out: &mut [u
     Reply::from(answered(logs, &mut work[..], &mut out[..]))
 }
 
+// Kept: alike with voting_count::is_sound in that one call is made of another's answer; one function of both would be given the two calls.
 // How united the benches are, from a table of election answers.
 pub fn catalogue_unity(answers: &[ElectionRow]) -> Unity
     ensures { result ≡ unity_reply (unity_of (map weights_of answers.now)) }

@@ -77,8 +77,9 @@ fn extreme(none: bool, before: bool, known: Fraction, share: Fraction) -> Fracti
 }
 
 // Kept: no Option: of no share the least and the greatest are 0/1, which is what is answered.
-// Kept: `held.Left`, `held.Room`: with Left in the type its three clauses would go, and the three steps below would each have to ask that what
-// they make is the state after one answer more, which with_answer shows only once all is tested. Room stays: not every state has a place left.
+// Kept: `held.Left self`, `held.Room self`: with Left in the type its three clauses would go, and the three steps below would each have to
+// ask that what they make is the state after one answer more, which with_answer shows only once all is tested. Room stays: not every state
+// has a place left.
 // The answers so far: how many, the sum of their shares over the least common denominator, and how many shares that are.
 #[derive(Clone, Copy)]
 pub struct Summed {
