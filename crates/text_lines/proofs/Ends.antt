@@ -108,8 +108,10 @@ unfolding lines
 no_lines s from h = rw (drop_of_length-le s {i = from} h)
 
 -- a walk along the lines: where nothing is left, and the next line
-pub walked-all : (s : List ℕ) → eqb (length s) 0 ≡ true → lines s ≡ []
-walked-all s h = no_lines s 0 (omega (arith, eqb-true (length s) 0 h))
+pub walked-all : (s : List ℕ) → eqb (length s) 0 ≡ true → (lines s ≡ []) × (s ≡ [])
+unfolding lines
+walked-all [] h = (refl, refl)
+walked-all (c ∷ s) h = absurd (omega (arith, eqb-true (length (c ∷ s)) 0 h))
 
 pub walked-line : (s : List ℕ) → eqb (length s) 0 ≡ false → {end : ℕ} → end ≡ 0 + length (first_line s) → NextLine s 0 end
 walked-line s h e = let n : length s ≢ 0 = eqb-false (length s) 0 h in next-line s 0 (omega arith) e

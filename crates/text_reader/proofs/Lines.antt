@@ -1,106 +1,80 @@
 -- The laws of the loop over the lines of a text. Assumes nothing.
-use Rattle.std.proofs.Common.{◌≡◌, refl, ap, sym, ◌∙◌, Bool, true, false, List, [], ◌∷◌, ℕ, suc, ◌+◌, ◌≤◌, length, take, set, replicate, add-one, arith}
+use Rattle.std.proofs.Common.{◌≡◌, refl, ap, sym, ◌∙◌, Bool, true, false, List, [], ◌∷◌, ℕ, suc, ◌+◌, ◌≤◌, length, add-one, arith}
 use Rattle.std.specs.Prelude.{Result, Ok, Err}
+use Rattle.std.specs.Result.{MatchResult, IsErrAnd, is_ok}
 use borrow.Author.Tests.{ne_eqb}
-use lib.ListN.{length-set, length-replicate}
-use lib.Seq.{length-take-le}
+use lib.ListN.{length-append}
 use Rattle.record.specs.declared.Record as declared
 use Rattle.record.specs.Record.{Record}
 use Rattle.record.specs.Judgement.{sound}
-use Rattle.record.specs.Stored.{edit_limit, constraint_limit, stored}
+use Rattle.record.specs.Stored.{stored}
 use Rattle.refusals.specs.declared.Refusal.{Refusal}
 use Rattle.refusals.specs.declared.Refusal.TheVariants.{Unsound}
-use Rattle.refusals.specs.Numbers.{number}
+use Rattle.refusals.specs.Numbers.{number, number_of}
 use Rattle.refusals.proofs.Numbers.{number-positive}
-use Rattle.record_rows.specs.grounds.Ground.{Rows}
 use Rattle.record_tables.specs.Table.{decoded}
-use Rattle.record_tables.proofs.Marks.{marks-start}
 use Rattle.text_lines.specs.declared.Line.{Line}
 use Rattle.text_lines.specs.declared.Line.TheVariants.{Edit, Constraint}
 use Rattle.text_lines.specs.Line.{line_read}
 use Rattle.text_lines.specs.Lines.{lines}
-use Rattle.text.specs.Text.{line_fault, edits_with, constraints_with, Answer, Accepted, Refused, read_from, read_rows, judged, read_text}
+use Rattle.text.specs.Text.{line_fault, Answer, Accepted, Refused, read_from, read_rows, judged, read_text}
 use Rattle.text.proofs.RoundTrip.{rows-took}
 use Rattle.graph.specs.indexes.Fit.{Fit}
 use Rattle.graph.proofs.indexes.Fit.{checked-fit}
 use Rattle.text_reader.specs.declared.Fault.{Fault}
 use Rattle.text_reader.specs.Reading.{Reads}
-use Rattle.text_reader.specs.Held.{EditsHeld, ConstraintsHeld, LineTaken, edit_count, constraint_count}
+use Rattle.text_reader.specs.Held.{HeldRows, none_held, lines_read, with_line, LineTaken}
 
 -- what is read so far, and what is left
-pub record Upto (text : List ℕ) (edits : Rows) (constraints : Rows) (marks : List ℕ) (n m : ℕ) (rest : List ℕ) : Type 0 where
-  pub edits-held : EditsHeld edits marks n
-  pub constraints-held : ConstraintsHeld constraints m
-  pub answer : read_rows text ≡ read_from (n + m) (take n edits) (take m constraints) (lines rest)
+abbrev pub Upto : List ℕ → HeldRows → List ℕ → Type 0
+Upto text rows rest = read_rows text ≡ read_from (lines_read rows) rows.edits rows.constraints (lines rest)
 
-pub upto-start : (text : List ℕ) → Upto text (replicate edit_limit (replicate 5 0)) (replicate constraint_limit (replicate 3 0)) (set (replicate 2304 0) 0 1) 0 0 text
+pub upto-start : (text : List ℕ) → Upto text none_held text
 unfolding read_rows
-upto-start text =
-    record {
-      edits-held = record { size = length-replicate {A = List ℕ} edit_limit (replicate 5 0); marksize = length-set {A = ℕ} (replicate 2304 0) 0 1 ∙ length-replicate {A = ℕ} 2304 0; few = omega arith; ascends = tt; marked = marks-start 2304 (omega arith) };
-      constraints-held = record { size = length-replicate {A = List ℕ} constraint_limit (replicate 3 0); few = omega arith; ascends = tt };
-      answer = refl;
-    }
+upto-start text = refl
 
-step-faulty : (n : ℕ) (edits constraints : Rows) (l : List ℕ) (rest : List (List ℕ)) {said : Result Line Refusal} {k : ℕ} → said ≡ line_read l → k ≡ line_fault edits constraints said → (k ≡ 0 → ⊥)
-    → read_from n edits constraints (l ∷ rest) ≡ Refused k (n + 1)
-unfolding read_from
-step-faulty n edits constraints l rest {said} e f z =
-    let q : line_fault edits constraints said ≡ 0 → ⊥ = λ y. z (f ∙ y) in
-    rw (← e, ne_eqb (line_fault edits constraints said) 0 q, ← f, add-one)
-
-step-good : (n : ℕ) (edits constraints : Rows) (l : List ℕ) (rest : List (List ℕ)) {said : Result Line Refusal} {k : ℕ} → said ≡ line_read l → k ≡ line_fault edits constraints said → k ≡ 0
-    → read_from n edits constraints (l ∷ rest) ≡ read_from (suc n) (edits_with said edits) (constraints_with said constraints) rest
-unfolding read_from
-step-good n edits constraints l rest {said} e f z = let q : line_fault edits constraints said ≡ 0 = sym f ∙ z in rw (← e, q)
-
-unread-number : (edits constraints : Rows) (refusal : Refusal) → number refusal ≡ line_fault edits constraints (Err refusal)
+-- a line without fault gives one row
+pub one-row : (rows : HeldRows) (said : Result Line Refusal) → line_fault rows.edits rows.constraints said ≡ 0 → lines_read (with_line said rows) ≡ suc (lines_read rows)
 unfolding line_fault
-unread-number edits constraints refusal = refl
+one-row rows (Ok (Edit row)) h = omega (arith, length-append rows.edits (row ∷ []))
+one-row rows (Ok (Constraint row)) h = omega (arith, length-append rows.constraints (row ∷ []))
+one-row rows (Err refusal) h = absurd (number-positive refusal h)
 
-pub one-line : (said : Line) → edit_count said + constraint_count said ≡ 1
-one-line (Edit row) = refl
-one-line (Constraint row) = refl
+-- an answer, and what is told of it with the line where it is refused
+pub number-none : {T : Type 0} (answer : Result T Refusal) (told : Result T Fault) → is_ok told ≡ is_ok answer → {x : T} → told ≡ Ok x → number_of answer ≡ 0
+number-none (Ok x) told v e = refl
+number-none (Err refusal) told v e = let z : true ≡ false = rw e at v in (cc)
 
-module _ (text : List ℕ) {edits constraints : Rows} {marks : List ℕ} {n m : ℕ} {rest : List ℕ} (u : Upto text edits constraints marks n m rest) where
+pub fault-told : {T : Type 0} (answer : Result T Refusal) (told : Result T Fault) {P : Refusal → Fault → Type 0} → MatchResult answer (λ x. told ≡ Ok x) (λ refusal. IsErrAnd told (P refusal))
+    → {fault : Fault} → told ≡ Err fault → {line : ℕ} → ((refusal : Refusal) (fault : Fault) → P refusal fault → fault ≡ record { refusal = refusal; line = line })
+    → (number fault.refusal ≡ number_of answer) × (fault.line ≡ line)
+fault-told (Ok x) told m e k = let z : ⊥ = cc in absurd z
+fault-told {T} (Err refusal) told {P} m {fault} e k =
+    let s : IsErrAnd {T = T} (Err fault) (P refusal) = rw e at m in
+    let f = k refusal fault s in
+    (ap (λ (f : Fault). number f.refusal) f, ap (λ (f : Fault). f.line) f)
+
+module _ (text : List ℕ) (rows : HeldRows) (rest : List ℕ) (u : Upto text rows rest) where
   -- the next line, and what is left after it
-  module _ (l after : List ℕ) (h : lines rest ≡ l ∷ lines after) where
-    refused-here : {said : Result Line Refusal} → said ≡ line_read l → (refusal : Refusal) → number refusal ≡ line_fault (take n edits) (take m constraints) said
-        → Reads (read_rows text) (Err (record { refusal = refusal; line = n + m + 1 }))
-    refused-here r refusal f =
-        let p : read_rows text ≡ Refused (number refusal) ((n + m) + 1) = u.answer ∙ ap (read_from (n + m) (take n edits) (take m constraints)) h ∙ step-faulty (n + m) (take n edits) (take m constraints) l (lines after) r f (number-positive refusal) in
-        rw p (refl, refl)
+  module _ (l after : List ℕ) (h : lines rest ≡ l ∷ lines after) {k : ℕ} {rows' : HeldRows} (t : LineTaken rows (line_read l) k rows') where
+    pub upto-refused : (fault : Fault) → (number fault.refusal ≡ k) × (fault.line ≡ lines_read rows + 1) → Reads (read_rows text) (Err fault)
+    unfolding read_from
+    upto-refused fault q =
+        let f : number fault.refusal ≡ line_fault rows.edits rows.constraints (line_read l) = q.0 ∙ t.number_is in
+        let z : line_fault rows.edits rows.constraints (line_read l) ≡ 0 → ⊥ = λ y. number-positive fault.refusal (f ∙ y) in
+        let p : read_rows text ≡ Refused (line_fault rows.edits rows.constraints (line_read l)) (suc (lines_read rows)) = u ∙ rw (h, ne_eqb (line_fault rows.edits rows.constraints (line_read l)) 0 z) refl in
+        rw p (f, q.1 ∙ add-one (lines_read rows))
 
-    pub upto-unread : {refusal : Refusal} → Err refusal ≡ line_read l → Reads (read_rows text) (Err (record { refusal = refusal; line = n + m + 1 }))
-    upto-unread {refusal} r = refused-here r refusal (unread-number (take n edits) (take m constraints) refusal)
+    pub upto_next : k ≡ 0 → Upto text rows' after
+    unfolding read_from
+    upto_next z =
+        let f : line_fault rows.edits rows.constraints (line_read l) ≡ 0 = sym t.number_is ∙ z in
+        let r : rows' ≡ with_line (line_read l) rows = t.rows-are ∙ rw z refl in
+        rw (r, one-row rows (line_read l) f) (u ∙ rw (h, f) refl)
 
-    module _ {said : Line} (r : Ok said ≡ line_read l) {k : ℕ} {edits' : Rows} {marks' : List ℕ} {constraints' : Rows} (t : LineTaken edits marks constraints n m said k edits' marks' constraints') where
-      pub upto-refused : (refusal : Refusal) → number refusal ≡ k → Reads (read_rows text) (Err (record { refusal = refusal; line = n + m + 1 }))
-      upto-refused refusal q = refused-here r refusal (q ∙ t.number_is)
-
-      pub upto_next : k ≡ 0 → {i j : ℕ} → i ≡ n + edit_count said → j ≡ m + constraint_count said → Upto text edits' constraints' marks' i j after
-      upto_next z {i} {j} p q =
-          let o : edit_count said + constraint_count said ≡ 1 = one-line said in
-          let c : suc (n + m) ≡ i + j = omega arith in
-          let a : take i edits' ≡ edits_with (Ok said) (take n edits) = rw p (t.edits-are z) in
-          let b : take j constraints' ≡ constraints_with (Ok said) (take m constraints) = rw q (t.constraints-are z) in
-          record {
-            edits-held = rw p (t.edits-held z);
-            constraints-held = rw q (t.constraints-held z);
-            answer = u.answer ∙ ap (read_from (n + m) (take n edits) (take m constraints)) h ∙ step-good (n + m) (take n edits) (take m constraints) l (lines after) r t.number_is z ∙ rw (c, a, b);
-          }
-
-  few-edits : length (take n edits) ≤ edit_limit
-  few-edits = let w : n ≤ length edits = omega (arith, u.edits-held.size, u.edits-held.few) in rw (length-take-le n edits w) u.edits-held.few
-
-  few-constraints : length (take m constraints) ≤ constraint_limit
-  few-constraints = let w : m ≤ length constraints = omega (arith, u.constraints-held.size, u.constraints-held.few) in rw (length-take-le m constraints w) u.constraints-held.few
-
-  pub upto-end : lines rest ≡ [] → {r : declared.Record} → (length (take n edits) ≤ edit_limit → length (take m constraints) ≤ constraint_limit → r ≡ stored (decoded (take n edits) (take m constraints))) → Reads (read_rows text) (Ok r)
+  pub upto-end : lines rest ≡ [] → {content : declared.Record} → content ≡ stored (decoded rows.edits rows.constraints) → Reads (read_rows text) (Ok content)
   unfolding read_from
-  upto-end h {r} f =
-      let a : read_rows text ≡ Accepted (decoded (take n edits) (take m constraints)) = u.answer ∙ rw h in
-      rw a (ap Ok (f few-edits few-constraints))
+  upto-end h f = let a : read_rows text ≡ Accepted (decoded rows.edits rows.constraints) = u ∙ rw h refl in rw a (ap Ok f)
 
 -- after the rows
 module _ (text : List ℕ) where

@@ -1,21 +1,26 @@
 -- A row that is judged and held. Assumes nothing.
-use Rattle.std.proofs.Common.{◌≡◌, refl, sym, ◌∙◌, false, List, [], ◌∷◌, ◌++◌, ℕ, ◌+◌, ◌≤◌, ◌<◌, ltb, length, take, set, add-one, arith}
+use Rattle.std.proofs.Common.{◌≡◌, refl, sym, ◌∙◌, false, List, [], ◌∷◌, ◌++◌, ℕ, ◌+◌, ◌≤◌, ◌<◌, ltb, length, take, set, replicate, add-one, arith}
+use Rattle.std.specs.Prelude.{Result, Ok, Err}
 use mathlib.Core.List.{map-append}
-use borrow.Author.Tests.{le-ltb}
-use lib.ListN.{length-set}
+use borrow.Author.Tests.{le-ltb, lt-ltb, ne_eqb}
+use lib.ListN.{length-set, length-replicate}
 use lib.Seq.{length-take-le, take-suc-set}
 use Rattle.lists.specs.Keyed.{Ascending}
 use Rattle.lists.proofs.Union.{ascending-snoc}
+use Rattle.record.specs.Stored.{edit_limit, constraint_limit}
 use Rattle.record_rows.specs.row.Row.{Row, cell}
 use Rattle.record_rows.specs.grounds.Ground.{Rows, TableKind, misplaced, row_fault, ◌given◌}
-use Rattle.record_rows.proofs.grounds.Grounds.{orelse-none, orelse-second}
+use Rattle.record_rows.proofs.grounds.Grounds.{orelse-first, orelse-second}
 use Rattle.record_rows.proofs.grounds.Accepted.{row-clean}
 use Rattle.record_tables.specs.Table.{names_of, edit_kind, constraint_kind}
-use Rattle.record_tables.proofs.Marks.{marks-more, row_small}
+use Rattle.record_tables.proofs.Marks.{marks-start, marks-more, row_small}
 use Rattle.text_lines.specs.declared.Line.{Line}
 use Rattle.text_lines.specs.declared.Line.TheVariants.{Edit, Constraint}
+use Rattle.refusals.specs.declared.Refusal.{Refusal}
+use Rattle.refusals.specs.Numbers.{number}
+use Rattle.refusals.proofs.Numbers.{number-positive}
 use Rattle.text.specs.Text.{edit_fault, constraint_fault, line_fault}
-use Rattle.text_reader.specs.Held.{EditsHeld, ConstraintsHeld, EditTaken, ConstraintTaken, LineTaken}
+use Rattle.text_reader.specs.Held.{EditsHeld, ConstraintsHeld, HeldRows, LineTaken, EditTaken, ConstraintTaken}
 use Rattle.text_reader.proofs.Faults.{alone-room}
 
 -- a row without fault below n others, which then stands at n
@@ -31,92 +36,105 @@ module _ (K : TableKind) (t : Rows) (n : ℕ) (row : Row) (w : n ≤ length t) (
     unfolding misplaced
     more-ascends = rw one_more (ascending-snoc (take K.key) (take n t) row a (row-clean K [] (take n t) row z).order)
 
-module _ (edits : Rows) (marks : List ℕ) (n m : ℕ) (row : Row) (h : EditsHeld edits marks n) {number : ℕ} (is : number ≡ row_fault edit_kind [] (take n edits) row) where
-  near : n ≤ length edits
-  near = omega (arith, h.size, h.few)
+-- no rows
+pub edits-start : EditsHeld (replicate edit_limit (replicate 5 0)) (set (replicate 2304 0) 0 1) 0
+edits-start =
+    record {
+      size = length-replicate {A = List ℕ} edit_limit (replicate 5 0);
+      marksize = length-set {A = ℕ} (replicate 2304 0) 0 1 ∙ length-replicate {A = ℕ} 2304 0;
+      few = omega arith;
+      ascends = tt;
+      marked = marks-start 2304 (omega arith);
+    }
 
-  module _ (z : number ≡ 0) where
-    none : row_fault edit_kind [] (take n edits) row ≡ 0
-    none = sym is ∙ z
+pub constraints-start : ConstraintsHeld (replicate constraint_limit (replicate 3 0)) 0
+constraints-start = record { size = length-replicate {A = List ℕ} constraint_limit (replicate 3 0); few = omega arith; ascends = tt }
+
+-- a line with a fault leaves the rows
+pub refused-taken : (rows : HeldRows) (said : Result Line Refusal) {number : ℕ} → number ≡ line_fault rows.edits rows.constraints said → (number ≡ 0 → ⊥) → LineTaken rows said number rows
+refused-taken rows said {number} f z = record { number_is = f; rows-are = rw (ne_eqb number 0 z) refl }
+
+pub unread-taken : (rows : HeldRows) {said : Result Line Refusal} (refusal : Refusal) → Err refusal ≡ said → LineTaken rows said (number refusal) rows
+unfolding line_fault
+unread-taken rows refusal e = rw (← e) (refused-taken rows (Err refusal) refl (number-positive refusal))
+
+-- the first edits and constraints of two tables
+abbrev pub first_rows : Rows → Rows → ℕ → ℕ → HeldRows
+first_rows edits constraints n m = record { edits = take n edits; constraints = take m constraints }
+
+module _ (edits constraints : Rows) (marks : List ℕ) (n m : ℕ) (row : Row) where
+  pub edit-faulty : {number : ℕ} → number ≡ row_fault edit_kind [] (take n edits) row → (number ≡ 0 → ⊥) → EditTaken (first_rows edits constraints n m) row number (first_rows edits constraints n m)
+  unfolding line_fault edit_fault
+  edit-faulty {number} is z =
+      let f : row_fault edit_kind [] (take n edits) row ≡ 0 → ⊥ = λ y. z (is ∙ y) in
+      refused-taken (first_rows edits constraints n m) (Ok (Edit row)) (is ∙ sym (orelse-first (row_fault edit_kind [] (take n edits) row) (13 given ltb 0 (length (take m constraints))) f)) z
+
+  module _ (h : EditsHeld edits marks n) (none : 0 ≡ row_fault edit_kind [] (take n edits) row) where
+    near : n ≤ length edits
+    near = omega (arith, h.size, h.few)
 
     pub edit-inside : n < length edits
-    edit-inside = omega (arith, more_room edit_kind edits n row near h.ascends none, h.size)
+    edit-inside = omega (arith, more_room edit_kind edits n row near h.ascends (sym none), h.size)
 
     pub name-inside : cell row 0 < length marks
-    name-inside = omega (arith, h.marksize, row_small row (row-clean edit_kind [] (take n edits) row none).range)
+    name-inside = omega (arith, h.marksize, row_small row (row-clean edit_kind [] (take n edits) row (sym none)).range)
 
     names_more : names_of (take (n + 1) (set edits n row)) ≡ names_of (take n edits) ++ (cell row 0 ∷ [])
-    names_more = rw (one_more edit_kind edits n row near h.ascends none edit-inside) (map-append (λ (r : Row). cell r 0) (take n edits) (row ∷ []))
+    names_more = rw (one_more edit_kind edits n row near h.ascends (sym none) edit-inside) (map-append (λ (r : Row). cell r 0) (take n edits) (row ∷ []))
 
-    pub edit-taken : m ≤ 0 → EditTaken edits marks n m row 0 (set edits n row) (set marks (cell row 0) 1)
-    edit-taken o =
+    pub edit-held : EditsHeld (set edits n row) (set marks (cell row 0) 1) (n + 1)
+    edit-held =
         record {
-          number_is = sym (orelse-second (row_fault edit_kind [] (take n edits) row) (13 given ltb 0 m) none ∙ rw (le-ltb 0 m o));
-          edits-are = λ e. refl;
-          held = λ e.
-              record {
-                size = length-set edits n row ∙ h.size;
-                marksize = length-set marks (cell row 0) 1 ∙ h.marksize;
-                few = let r = more_room edit_kind edits n row near h.ascends none in omega arith;
-                ascends = more-ascends edit_kind edits n row near h.ascends none edit-inside;
-                marked = rw names_more (marks-more marks (names_of (take n edits)) (cell row 0) name-inside h.marked);
-              };
+          size = length-set edits n row ∙ h.size;
+          marksize = length-set marks (cell row 0) 1 ∙ h.marksize;
+          few = let r = more_room edit_kind edits n row near h.ascends (sym none) in omega arith;
+          ascends = more-ascends edit_kind edits n row near h.ascends (sym none) edit-inside;
+          marked = rw names_more (marks-more marks (names_of (take n edits)) (cell row 0) name-inside h.marked);
         }
 
-module _ (names : List ℕ) (constraints : Rows) (m : ℕ) (row : Row) (h : ConstraintsHeld constraints m) {number : ℕ} (is : number ≡ row_fault (constraint_kind names false) [] (take m constraints) row) where
-  pub constraint-faulty : (number ≡ 0 → ⊥) → ConstraintTaken names constraints m row number constraints
-  constraint-faulty z = record { number_is = is; constraints-are = λ e. absurd (z e); held = λ e. absurd (z e) }
+    edit-number : line_fault (take n edits) (take m constraints) (Ok (Edit row)) ≡ 13 given ltb 0 (length (take m constraints))
+    unfolding line_fault edit_fault
+    edit-number = orelse-second (row_fault edit_kind [] (take n edits) row) _ (sym none)
 
-  module _ (z : number ≡ 0) where
-    constraint-near : m ≤ length constraints
-    constraint-near = omega (arith, h.size, h.few)
+    module _ (k : ConstraintsHeld constraints m) where
+      counted : length (take m constraints) ≡ m
+      counted = length-take-le m constraints (omega (arith, k.size, k.few))
+
+      pub edit-late : 0 < m → EditTaken (first_rows edits constraints n m) row 13 (first_rows edits constraints n m)
+      edit-late o = refused-taken (first_rows edits constraints n m) (Ok (Edit row)) (sym (edit-number ∙ rw (counted, lt-ltb 0 m o) refl)) (λ z. absurd (omega (arith, z)))
+
+      pub edit-taken : m ≤ 0 → EditTaken (first_rows edits constraints n m) row 0 (first_rows (set edits n row) constraints (n + 1) m)
+      edit-taken o =
+          record {
+            number_is = sym (edit-number ∙ rw (counted, le-ltb 0 m o) refl);
+            rows-are = rw (one_more edit_kind edits n row near h.ascends (sym none) edit-inside) refl;
+          }
+
+module _ (edits constraints : Rows) (n m : ℕ) (row : Row) {number : ℕ} (is : number ≡ row_fault (constraint_kind (names_of (take n edits)) false) [] (take m constraints) row) where
+  pub constraint-faulty : (number ≡ 0 → ⊥) → ConstraintTaken (first_rows edits constraints n m) row number (first_rows edits constraints n m)
+  unfolding line_fault constraint_fault
+  constraint-faulty z = refused-taken (first_rows edits constraints n m) (Ok (Constraint row)) is z
+
+  module _ (k : ConstraintsHeld constraints m) (z : number ≡ 0) where
+    near-constraints : m ≤ length constraints
+    near-constraints = omega (arith, k.size, k.few)
 
     pub constraint-inside : m < length constraints
-    constraint-inside = omega (arith, more_room (constraint_kind names false) constraints m row constraint-near h.ascends (sym is ∙ z), h.size)
+    constraint-inside = omega (arith, more_room (constraint_kind (names_of (take n edits)) false) constraints m row near-constraints k.ascends (sym is ∙ z), k.size)
 
-    pub constraint-taken : ConstraintTaken names constraints m row 0 (set constraints m row)
+    pub constraint-held : ConstraintsHeld (set constraints m row) (m + 1)
+    constraint-held =
+        let r = more_room (constraint_kind (names_of (take n edits)) false) constraints m row near-constraints k.ascends (sym is ∙ z) in
+        record {
+          size = length-set constraints m row ∙ k.size;
+          few = omega arith;
+          ascends = more-ascends (constraint_kind (names_of (take n edits)) false) constraints m row near-constraints k.ascends (sym is ∙ z) constraint-inside;
+        }
+
+    pub constraint-taken : ConstraintTaken (first_rows edits constraints n m) row 0 (first_rows edits (set constraints m row) n (m + 1))
+    unfolding line_fault constraint_fault
     constraint-taken =
         record {
           number_is = sym z ∙ is;
-          constraints-are = λ e. refl;
-          held = λ e.
-              let r = more_room (constraint_kind names false) constraints m row constraint-near h.ascends (sym is ∙ z) in
-              record {
-                size = length-set constraints m row ∙ h.size;
-                few = omega arith;
-                ascends = more-ascends (constraint_kind names false) constraints m row constraint-near h.ascends (sym is ∙ z) constraint-inside;
-              };
+          rows-are = rw (one_more (constraint_kind (names_of (take n edits)) false) constraints m row near-constraints k.ascends (sym is ∙ z) constraint-inside) refl;
         }
-
--- a line
-module _ (edits : Rows) (marks : List ℕ) (constraints : Rows) (n m : ℕ) (row : Row) (h : EditsHeld edits marks n) (k : ConstraintsHeld constraints m) {said : Line} {number : ℕ} where
-  pub line-edit-taken : said ≡ Edit row → {edits' : Rows} {marks' : List ℕ} → EditTaken edits marks n m row number edits' marks' → LineTaken edits marks constraints n m said number edits' marks' constraints
-  unfolding line_fault edit_fault
-  line-edit-taken e t =
-      let w : m ≤ length constraints = omega (arith, k.size, k.few) in
-      let q : m + 0 ≡ m = omega arith in
-      let near : n ≤ length edits = omega (arith, h.size, h.few) in
-      let none : number ≡ 0 → row_fault edit_kind [] (take n edits) row ≡ 0 = λ y. (orelse-none (row_fault edit_kind [] (take n edits) row) (13 given ltb 0 m) (sym t.number_is ∙ y)).0 in
-      let inside : number ≡ 0 → n < length edits = λ y. omega (arith, more_room edit_kind edits n row near h.ascends (none y), h.size) in
-      rw e (record {
-        number_is = t.number_is ∙ rw (length-take-le m constraints w);
-        edits-held = t.held;
-        constraints-held = λ y. rw q k;
-        edits-are = λ y. rw (t.edits-are y) (one_more edit_kind edits n row near h.ascends (none y) (inside y));
-        constraints-are = λ y. rw q refl;
-      })
-
-  pub line-constraint-taken : said ≡ Constraint row → {constraints' : Rows} → ConstraintTaken (names_of (take n edits)) constraints m row number constraints' → LineTaken edits marks constraints n m said number edits marks constraints'
-  unfolding line_fault constraint_fault
-  line-constraint-taken e t =
-      let q : n + 0 ≡ n = omega arith in
-      let K = constraint_kind (names_of (take n edits)) false in
-      let near : m ≤ length constraints = omega (arith, k.size, k.few) in
-      let inside : number ≡ 0 → m < length constraints = λ y. omega (arith, more_room K constraints m row near k.ascends (sym t.number_is ∙ y), k.size) in
-      rw e (record {
-        number_is = t.number_is;
-        edits-held = λ y. rw q h;
-        constraints-held = t.held;
-        edits-are = λ y. rw q refl;
-        constraints-are = λ y. rw (t.constraints-are y) (one_more K constraints m row near k.ascends (sym t.number_is ∙ y) (inside y));
-      })

@@ -1,11 +1,12 @@
 -- Inner: the rows of a text as the reader holds them while it goes on; Text.antt says what is read. Assumes nothing.
-use Rattle.std.specs.Prelude.{◌≡◌, Bool, false, List, [], ℕ, ◌+◌, ◌≤◌, ltb, length, take, set, Ok}
+use Rattle.std.specs.Prelude.{◌≡◌, Bool, cond, List, [], ℕ, ◌+◌, ◌≤◌, eqb, length, take, Result, Ok}
 use Rattle.lists.specs.Keyed.{Ascending}
 use Rattle.record.specs.Stored.{edit_limit, constraint_limit}
 use Rattle.record_rows.specs.row.Row.{Row}
-use Rattle.record_rows.specs.grounds.Ground.{Rows, TableKind, row_fault, ◌given◌, ◌orelse◌}
-use Rattle.record_tables.specs.Table.{names_of, edit_kind, constraint_kind}
+use Rattle.record_rows.specs.grounds.Ground.{Rows, TableKind}
+use Rattle.record_tables.specs.Table.{names_of}
 use Rattle.record_tables.specs.Checked.{MarksNames}
+use Rattle.refusals.specs.declared.Refusal.{Refusal}
 use Rattle.text_lines.specs.declared.Line.{Line}
 use Rattle.text_lines.specs.declared.Line.TheVariants.{Edit, Constraint}
 use Rattle.text.specs.Text.{line_fault, edits_with, constraints_with}
@@ -27,30 +28,29 @@ pub record ConstraintsHeld (constraints : Rows) (m : ℕ) : Type 0 where
   pub few : m ≤ constraint_limit
   pub ascends : Ascending (take 3) (take m constraints)
 
--- how many edits and constraints a line adds
-abbrev pub edit_count : Line → ℕ
-edit_count (Edit row) = 1
-edit_count (Constraint row) = 0
+-- the rows of the lines read so far
+pub record HeldRows : Type 0 where
+  pub edits : Rows
+  pub constraints : Rows
 
-abbrev pub constraint_count : Line → ℕ
-constraint_count (Edit row) = 0
-constraint_count (Constraint row) = 1
+abbrev pub none_held : HeldRows
+none_held = record { edits = []; constraints = [] }
 
--- a row was judged below n others, m constraints being read, and is held where it has no fault
-pub record EditTaken (edits : Rows) (marks : List ℕ) (n m : ℕ) (row : Row) (number : ℕ) (edits' : Rows) (marks' : List ℕ) : Type 0 where
-  pub number_is : number ≡ row_fault edit_kind [] (take n edits) row orelse 13 given ltb 0 m
-  pub edits-are : number ≡ 0 → edits' ≡ set edits n row
-  pub held : number ≡ 0 → EditsHeld edits' marks' (n + 1)
+-- how many they are, each of a line
+abbrev pub lines_read : HeldRows → ℕ
+lines_read rows = length rows.edits + length rows.constraints
 
-pub record ConstraintTaken (names : List ℕ) (constraints : Rows) (m : ℕ) (row : Row) (number : ℕ) (constraints' : Rows) : Type 0 where
-  pub number_is : number ≡ row_fault (constraint_kind names false) [] (take m constraints) row
-  pub constraints-are : number ≡ 0 → constraints' ≡ set constraints m row
-  pub held : number ≡ 0 → ConstraintsHeld constraints' (m + 1)
+-- with the row of one more line
+abbrev pub with_line : Result Line Refusal → HeldRows → HeldRows
+with_line said rows = record { edits = edits_with said rows.edits; constraints = constraints_with said rows.constraints }
 
--- a line was judged and is held where it has no fault
-pub record LineTaken (edits : Rows) (marks : List ℕ) (constraints : Rows) (n m : ℕ) (said : Line) (number : ℕ) (edits' : Rows) (marks' : List ℕ) (constraints' : Rows) : Type 0 where
-  pub number_is : number ≡ line_fault (take n edits) (take m constraints) (Ok said)
-  pub edits-held : number ≡ 0 → EditsHeld edits' marks' (n + edit_count said)
-  pub constraints-held : number ≡ 0 → ConstraintsHeld constraints' (m + constraint_count said)
-  pub edits-are : number ≡ 0 → take (n + edit_count said) edits' ≡ edits_with (Ok said) (take n edits)
-  pub constraints-are : number ≡ 0 → take (m + constraint_count said) constraints' ≡ constraints_with (Ok said) (take m constraints)
+-- a line was judged below the rows, and its row is one of them where it has no fault
+pub record LineTaken (rows : HeldRows) (said : Result Line Refusal) (number : ℕ) (rows' : HeldRows) : Type 0 where
+  pub number_is : number ≡ line_fault rows.edits rows.constraints said
+  pub rows-are : rows' ≡ cond (eqb number 0) (with_line said rows) rows
+
+abbrev pub EditTaken : HeldRows → Row → ℕ → HeldRows → Type 0
+EditTaken rows row number rows' = LineTaken rows (Ok (Edit row)) number rows'
+
+abbrev pub ConstraintTaken : HeldRows → Row → ℕ → HeldRows → Type 0
+ConstraintTaken rows row number rows' = LineTaken rows (Ok (Constraint row)) number rows'

@@ -1,23 +1,28 @@
 // A text is read line by line into a record (document 01, "Text").
 #![tactic(auto)]
 
-ghost use Rattle.std.specs.Prelude.{◌≡◌, not, ◌&&◌, List, [], ℕ, ◌+◌, leb, length, take, IfOk};
+ghost use Rattle.std.specs.Prelude.{◌≡◌, not, ◌&&◌, [], ◌+◌, leb, length, take, IfOk};
 ghost use Rattle.lists.specs.Keyed.{Ascending};
 ghost use Rattle.refusals.specs.Numbers.{number_of};
 ghost use Rattle.record_rows.specs.grounds.Ground.{known, row_fault};
-ghost use Rattle.record_tables.specs.Checked.{MarksNames};
+ghost use Rattle.record.specs.Stored.{stored};
+ghost use Rattle.record_tables.specs.Table.{decoded};
+ghost use Rattle.text_lines.specs.Line.{line_read};
 ghost use Rattle.text_lines.specs.Lines.{lines};
 ghost use Rattle.text.specs.Text.{read_rows, read_text};
 ghost use Rattle.text_reader.specs.Reading.{Reads};
-ghost use Rattle.text_reader.specs.Held.{row_kind, EditsHeld, ConstraintsHeld, EditTaken, ConstraintTaken, LineTaken};
+ghost use Rattle.text_reader.specs.Held.{row_kind, none_held, lines_read, EditTaken, ConstraintTaken, LineTaken};
 
 use record::{CONSTRAINTS, Constraint, EDITS, Edit, Record};
 use record_rows::element::Element;
 use record_rows::row::{CONSTRAINT_CELLS, ConstraintRow, EDIT_CELLS, EditRow, LentRecord, NAMES};
 use refusals::Refusal;
+use std::marker::Model;
 use text_lines::{Line, Lines};
 
 // Why a text is refused, and the line, counted from 1.
+// Kept: beside `unity_table::RowFault`: C reads `line` of the one and `row` of the other, and a row of a lent table is no line; one struct with a
+// `place` would not say which, and would spare no clause: each has one definition that reads it (FaultIs, answer_told), and no function takes both.
 #[derive(Clone, Copy)]
 pub struct Fault {
     pub refusal: Refusal,
@@ -70,92 +75,109 @@ fn row_fault<const CELLS: usize, T: Element<CELLS>>(
     Ok(())
 }
 
-// The fault of an edit after n edits and m constraints. Without fault it is held.
-fn take_edit(
-    edits: &mut [EditRow],
-    marks: &mut [u8],
-    n: usize,
-    m: usize,
-    row: EditRow,
-) -> Result<(), Refusal>
-    requires { EditsHeld edits.old marks.old n }
-    ensures { EditTaken edits.old marks.old n m row (number_of result) edits.new marks.new }
-{
-    row_fault::<EDIT_CELLS, Edit>(&edits[..n], &row, Ok(()))?;
-    if 0 < m {
-        return Err(Refusal::Misplaced);
+// The rows of a text as they are read: the first edits and constraints of two tables, as many as are counted, and the marks of the edits' names.
+// Kept: tables with their counts, as in `record::Record`, since nothing may be allocated; a clause sees the rows that are counted, and no more.
+#[derive(Drop)]
+struct RowsRead {
+    edits: [EditRow; EDITS],
+    editcount: usize,
+    constraints: [ConstraintRow; CONSTRAINTS],
+    constraintcount: usize,
+    marks: [u8; NAMES],
+}
+
+impl Model for RowsRead {
+    ghost use Rattle.std.specs.Prelude.{◌≡◌, take};
+    ghost use Rattle.text_reader.specs.Held.{HeldRows, EditsHeld, ConstraintsHeld};
+
+    ghost Value = { HeldRows };
+
+    ghost view = { λ r. record { edits = take r.editcount r.edits; constraints = take r.constraintcount r.constraints } };
+
+    ghost invariant = { λ r. EditsHeld r.edits r.marks r.editcount × ConstraintsHeld r.constraints r.constraintcount };
+}
+
+impl RowsRead {
+    fn new() -> RowsRead
+        ensures { result ≡ none_held }
+    {
+        let mut marks = [0; NAMES];
+        marks[0] = 1;
+        RowsRead {
+            edits: [[0; EDIT_CELLS]; EDITS],
+            editcount: 0,
+            constraints: [[0; CONSTRAINT_CELLS]; CONSTRAINTS],
+            constraintcount: 0,
+            marks,
+        }
     }
-    edits[n] = row;
-    marks[row[0] as usize] = 1;
-    Ok(())
-}
 
-// The fault of a constraint after m constraints. Without fault it is held.
-fn take_constraint(
-    constraints: &mut [ConstraintRow],
-    m: usize,
-    marks: &[u8],
-    row: ConstraintRow,
-) -> Result<(), Refusal>
-    requires { ConstraintsHeld constraints.old m }
-    ensures { (names : List ℕ) → MarksNames marks.now names → ConstraintTaken names constraints.old m row (number_of result) constraints.new }
-{
-    let further = record_tables::constraint_further(row, marks, false);
-    row_fault::<CONSTRAINT_CELLS, Constraint>(&constraints[..m], &row, further)?;
-    constraints[m] = row;
-    Ok(())
-}
+    // The number of the line after those that gave these rows, counted from 1: each gave one.
+    fn next_line(&self) -> usize
+        ensures { result ≡ lines_read self.now + 1 }
+    {
+        self.editcount + self.constraintcount + 1
+    }
 
-// Kept: edits, marks, constraints, n and m, here and in the takers above, are the loop's locals: EditsHeld and ConstraintsHeld are facts of
-// its law (Upto), which also says what text is left, so that a struct of them would bring those two facts and leave the third.
-// The fault of a line's row after n edits and m constraints. Without fault it is held.
-fn take_line(
-    edits: &mut [EditRow],
-    marks: &mut [u8],
-    constraints: &mut [ConstraintRow],
-    n: usize,
-    m: usize,
-    said: Line,
-) -> Result<(), Refusal>
-    requires { EditsHeld edits.old marks.old n × ConstraintsHeld constraints.old m }
-    ensures { LineTaken edits.old marks.old constraints.old n m said (number_of result) edits.new marks.new constraints.new }
-{
-    match said {
-        Line::Edit(row) => take_edit(&mut edits[..], &mut marks[..], n, m, row),
-        Line::Constraint(row) => take_constraint(&mut constraints[..], m, &marks[..], row),
+    // The fault of an edit below the rows. Without fault it is one of them.
+    fn take_edit(&mut self, row: EditRow) -> Result<(), Refusal>
+        ensures { EditTaken self.old row (number_of result) self.new }
+    {
+        row_fault::<EDIT_CELLS, Edit>(&self.edits[..self.editcount], &row, Ok(()))?;
+        if 0 < self.constraintcount {
+            return Err(Refusal::Misplaced);
+        }
+        self.edits[self.editcount] = row;
+        self.editcount += 1;
+        self.marks[row[0] as usize] = 1;
+        Ok(())
+    }
+
+    // The fault of a constraint below the rows. Without fault it is one of them.
+    fn take_constraint(&mut self, row: ConstraintRow) -> Result<(), Refusal>
+        ensures { ConstraintTaken self.old row (number_of result) self.new }
+    {
+        let further = record_tables::constraint_further(row, &self.marks, false);
+        row_fault::<CONSTRAINT_CELLS, Constraint>(
+            &self.constraints[..self.constraintcount],
+            &row,
+            further,
+        )?;
+        self.constraints[self.constraintcount] = row;
+        self.constraintcount += 1;
+        Ok(())
+    }
+
+    // The fault of a line below the rows. Without fault its row is one of them.
+    fn take(&mut self, bytes: &[u8]) -> Result<(), Refusal>
+        ensures { LineTaken self.old (line_read bytes.now) (number_of result) self.new }
+    {
+        match text_lines::read_line(bytes)? {
+            Line::Edit(row) => self.take_edit(row),
+            Line::Constraint(row) => self.take_constraint(row),
+        }
+    }
+
+    fn record(&self) -> Record
+        ensures { result ≡ stored (decoded self.now.edits self.now.constraints) }
+    {
+        record_union::decode(LentRecord {
+            edits: &self.edits[..self.editcount],
+            constraints: &self.constraints[..self.constraintcount],
+        })
     }
 }
 
-// Reads the rows of a text. Each line read is a row held, so that n + m counts the lines.
+// Reads the rows of a text.
 fn read_rows(text: &[u8]) -> Result<Record, Fault>
     ensures { Reads (read_rows text.now) result }
 {
-    let mut edits = [[0u32; EDIT_CELLS]; EDITS];
-    let mut constraints = [[0u32; CONSTRAINT_CELLS]; CONSTRAINTS];
-    let mut marks = [0u8; NAMES];
-    marks[0] = 1;
-    let mut n = 0;
-    let mut m = 0;
+    let mut rows = RowsRead::new();
     for bytes in Lines::new(text) {
-        let line = n + m + 1;
-        // Kept: two matches: map_err with a closure was tried, and what its clause says of the fault did not close the law of the loop.
-        let said = match text_lines::read_line(bytes) {
-            Ok(said) => said,
-            Err(refusal) => return Err(Fault { refusal, line }),
-        };
-        match take_line(&mut edits, &mut marks, &mut constraints, n, m, said) {
-            Ok(_) => {}
-            Err(refusal) => return Err(Fault { refusal, line }),
-        }
-        match said {
-            Line::Edit(_) => n += 1,
-            Line::Constraint(_) => m += 1,
-        }
+        let line = rows.next_line();
+        rows.take(bytes).map_err(|refusal| Fault { refusal, line })?;
     }
-    Ok(record_union::decode(LentRecord {
-        edits: &edits[..n],
-        constraints: &constraints[..m],
-    }))
+    Ok(rows.record())
 }
 
 // Reads a text: its rows, and then whether the record is sound; that it is not is told of its last line. An accepted text has a line for each row.

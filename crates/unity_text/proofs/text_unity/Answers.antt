@@ -36,4 +36,4 @@ pub finished-requires : goal.finished-requires
 finished-requires c = upto_left c.args.text.now c.loop-line.invariant.2
 
 pub returns : goal.returns
-returns c = summed-end c.args.text.now c.loop-line.invariant.2 c.in-None.ensures.steps c.finished.result c.finished.ensures
+returns c = summed-end c.args.text.now c.loop-line.invariant.2 c.in-None.ensures.steps.0 c.finished.result c.finished.ensures
