@@ -44,6 +44,7 @@ fn order_row(table: Constraints, c: Constraint, a: u8, b: u8) -> Result<Constrai
 }
 
 // The table joined by the orders of all pairs, which may be any.
+// Kept: `F.IsAlwaysCallable` is a clause, since no bound says of a closure that it may be called with every name.
 pub fn with_orders<F: Fn(u16) -> u8>(
     table: Constraints,
     pairs: &[Constraint],
