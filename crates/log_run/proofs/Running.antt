@@ -18,7 +18,7 @@ use Rattle.log_session.specs.Desk.{Desk, printed_of}
 use Rattle.log_bounds.specs.Bounded.{answer_limit}
 use Rattle.log_session.specs.calls.Lines.{Holds}
 use Rattle.log_run.specs.Effects.{effect}
-use Rattle.log_run.specs.Log.{begun, run_line, run_lines}
+use Rattle.log_run.specs.Log.{begun, run_line, run_lines, most_lines}
 use Rattle.log_run.specs.Running.{Running}
 use Rattle.log_run.proofs.Fits.{answer-fits, line-bounded, printed-within}
 use Rattle.log_run.proofs.Performed.{Performed, performed-as}
@@ -28,7 +28,7 @@ module _ (log : List ℕ) (D : Desk) (before : Printer) where
   running-start h = record { run = begun D before.line; rest = refl; held = h; counted = refl; told = lines-first before; few = omega arith; bounded = λ B. B; near = λ B k s l. omega arith }
 
   module _ {from : ℕ} {session : Session} {now : Printer} {limit : ℕ} (R : Running log D before from session now limit) where
-    pub running-few : from < length log → before.line + length log ≤ 4611686018427387904 → now.line < 4611686018427387904
+    pub running-few : from < length log → before.line + length log ≤ most_lines → now.line < most_lines
     running-few h k = let f = R.few in omega arith
 
     pub running-next : (h : from < length log) → now.at ≤ limit → {end : ℕ} → end ≡ from + length (first_line (drop from log)) → {n : ℕ} → n ≡ suc now.line

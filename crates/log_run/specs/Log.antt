@@ -18,6 +18,10 @@ pub record Run : Type 0 where
 abbrev pub begun : Desk → ℕ → Run
 begun D count = record { desk = D; count = count; printed = [] }
 
+-- so many bytes are read at most, and there are no more lines
+abbrev pub most_lines : ℕ
+most_lines = 4611686018427387904
+
 -- a refusal tells the line's number, from 1
 unfoldable pub run_line : Run → List ℕ → Run
 run_line r line =

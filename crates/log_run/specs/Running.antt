@@ -8,7 +8,7 @@ use Rattle.log_session.specs.declared.Session.{Session}
 use Rattle.log_session.specs.Desk.{Desk}
 use Rattle.log_bounds.specs.Bounded.{answer_limit, Bounded}
 use Rattle.log_session.specs.calls.Lines.{Holds}
-use Rattle.log_run.specs.Log.{Run, begun, run_lines}
+use Rattle.log_run.specs.Log.{Run, begun, run_lines, most_lines}
 
 -- a session whose bench has another page open
 abbrev pub opened : Session → ℕ → Session
@@ -25,7 +25,7 @@ pub record Running (log : List ℕ) (D : Desk) (before : Printer) (from : ℕ) (
   pub few : now.line + (length log - from) ≤ before.line + length log
   pub bounded : Bounded D → Bounded run.desk
   -- with room for one answer more after the limit, every answer fits
-  pub near : Bounded D → before.line + length log ≤ 4611686018427387904 → before.at ≤ limit → limit + answer_limit ≤ length before.out.now → now.at ≤ limit + answer_limit
+  pub near : Bounded D → before.line + length log ≤ most_lines → before.at ≤ limit → limit + answer_limit ≤ length before.out.now → now.at ≤ limit + answer_limit
 
 -- a run stops at the end of the log or above the limit, after one line at least
 pub record Stops (size limit start from at : ℕ) : Type 0 where

@@ -13,7 +13,7 @@ ghost use Rattle.log_session.specs.Desk.{Desk, printed_of};
 ghost use Rattle.log_session.specs.calls.Lines.{Holds, call_effect};
 ghost use Rattle.log_run.specs.Branches.{paging_of};
 ghost use Rattle.log_run.specs.Effects.{effect};
-ghost use Rattle.log_run.specs.Log.{begun, run_lines};
+ghost use Rattle.log_run.specs.Log.{begun, run_lines, most_lines};
 ghost use Rattle.log_run.specs.Running.{opened, Running, Stops};
 
 use log_answers::bench_answers;
@@ -97,7 +97,7 @@ fn run_turns(
     ensures forward { start < result }
     ensures inside { result ≤ length log.now }
     ensures run { (D : Desk) (before : Printer) (session : Session) → Running log.now D before start session printer.old limit → session.bench.turner ≡ turner.old
-        → before.line + length log.now ≤ 4611686018427387904
+        → before.line + length log.now ≤ most_lines
         → Running log.now D before result (opened session turner.new.opened) printer.new limit }
 {
     let mut from = start;
@@ -118,7 +118,7 @@ fn run_turns(
 // the last one. Only a row of turns leaves the bench as it is until its end.
 pub fn run_some(printer: &mut Printer<'_>, session: &mut Session, log: &[u8], limit: usize) -> usize
     ensures stops { Stops (length log.now) limit printer.old.at result printer.new.at }
-    ensures run { (D : Desk) → Holds D session.old → printer.old.line + length log.now ≤ 4611686018427387904
+    ensures run { (D : Desk) → Holds D session.old → printer.old.line + length log.now ≤ most_lines
         → Running log.now D printer.old result session.new printer.new limit }
 {
     let mut from = 0;
@@ -142,7 +142,7 @@ pub fn run_some(printer: &mut Printer<'_>, session: &mut Session, log: &[u8], li
 // last.
 pub fn run_log(printer: &mut Printer<'_>, session: &mut Session, log: &[u8]) -> usize
     ensures place { result ≡ printer.new.at }
-    ensures run { (D : Desk) → Holds D session.old → printer.old.line + length log.now ≤ 4611686018427387904
+    ensures run { (D : Desk) → Holds D session.old → printer.old.line + length log.now ≤ most_lines
         → Holds (run_lines (begun D printer.old.line) (lines log.now)).desk session.new
         × (printer.new.line ≡ (run_lines (begun D printer.old.line) (lines log.now)).count)
         × PrintedLines (run_lines (begun D printer.old.line) (lines log.now)).printed printer.old printer.new }

@@ -15,12 +15,12 @@ use Rattle.log_session.specs.declared.Session.{Session}
 use Rattle.log_session.specs.Desk.{Desk}
 use Rattle.log_bounds.specs.Bounded.{answer_limit}
 use Rattle.log_session.specs.calls.Lines.{Holds}
-use Rattle.log_run.specs.Log.{Run, begun, run_lines}
+use Rattle.log_run.specs.Log.{Run, begun, run_lines, most_lines}
 use Rattle.log_run.specs.Running.{Running, Stops}
 use Rattle.log_run.proofs.Runs.{prefixed, after_both, run-after}
 use Rattle.stdio_log.specs.declared.memory.Memory.{Memory}
 use Rattle.stdio_log.specs.Held.{Held}
-use Rattle.stdio_log.specs.Streaming.{most_lines, Ran}
+use Rattle.stdio_log.specs.Streaming.{Ran}
 
 part-is : (s : List ℕ) (from : ℕ) → take (length s - from) (drop from s) ≡ drop from s
 part-is s from = take_all (length s - from) (drop from s) (omega (arith, length-drop from s))

@@ -6,10 +6,6 @@ use Rattle.log_session.specs.calls.Lines.{Holds}
 use Rattle.log_run.specs.Log.{Run, run_lines, log_run}
 use Rattle.stdio_log.specs.declared.memory.Memory.{Memory}
 
--- so many bytes are read at most, and there are no more lines
-abbrev pub most_lines : ℕ
-most_lines = 4611686018427387904
-
 -- what is in memory after a run
 pub record Ran (run : Run) (memory : Memory) : Type 0 where
   pub held : Holds run.desk memory.session

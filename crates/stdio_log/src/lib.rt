@@ -9,8 +9,8 @@ ghost use Rattle.std.specs.Prelude.{◌≡◌, ◌+◌, ◌≤◌, ◌<◌, leng
 ghost use Rattle.text_lines.specs.Lines.{lines};
 ghost use Rattle.stream.specs.Pieces.{ended, waiting};
 ghost use Rattle.log_session.specs.Desk.{empty_desk};
-ghost use Rattle.log_run.specs.Log.{Run, begun, run_lines};
-ghost use Rattle.stdio_log.specs.Streaming.{most_lines, Ran, Streaming, Streamed, Continued};
+ghost use Rattle.log_run.specs.Log.{Run, begun, run_lines, most_lines};
+ghost use Rattle.stdio_log.specs.Streaming.{Ran, Streaming, Streamed, Continued};
 
 use crate::memory::Memory;
 use log_forms::Printer;

@@ -1,6 +1,6 @@
 use Rattle.std.proofs.Common.{◌+◌, ◌≤◌, take}
-use Rattle.log_run.specs.Log.{Run}
-use Rattle.stdio_log.specs.Streaming.{most_lines, Ran, Streaming}
+use Rattle.log_run.specs.Log.{Run, most_lines}
+use Rattle.stdio_log.specs.Streaming.{Ran, Streaming}
 use Rattle.stdio_log.proofs.read_all.Given as goal
 
 abbrev pub invariant-loop-chunk : goal.invariant-loop-chunk
