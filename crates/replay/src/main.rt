@@ -9,12 +9,15 @@ use stdio::Failed;
 // The system's number of the error that a name is too long.
 const ENAMETOOLONG: i32 = 36;
 
+// A longer argument is no name that the system opens.
+const ARGUMENT_SIZE: usize = 4096;
+
 const USAGE: &[u8] =
     b"usage: replay < LOG\n  runs the call log on one bench from empty and prints the answers\nusage: replay FILE < LOG\n  the same on the bench that the log kept in FILE makes; lines count on from it\n";
 
 // What the argument asks for. A file's name that is too long cannot be opened.
 fn run_after(rt: &(impl Env + Files + Input + Print + Eprint), count: usize) -> Result<(), Failed> {
-    let mut argument = [0u8; 4096];
+    let mut argument = [0u8; ARGUMENT_SIZE];
     let size = rt.arg(1, &mut argument).map_err(|_| {
         stdio::fail(rt, "opening failed", Error::from_raw_os_error(ENAMETOOLONG))
     })?;
