@@ -270,20 +270,20 @@ new-proposal-fits t f g =
     (λ (e : eqb (propose_fault t) 0 ≡ true). rw e (united-fits (record_m t).edits (proposal_q t).edits (decoded-fits t.edits f) (decoded-fits t.oldedits g)))
     (λ (e : eqb (propose_fault t) 0 ≡ false). rw e (λ x m. absurd m))
 
-proposal-fits : (L : Lent) → LentFits L → (k old n m : ℕ) → Each EditFits (proposal_made L k old n m).edits
+proposal-fits : (L : Lent) → LentFits L → (w : Proposing) → Each EditFits (proposal_made L w).edits
 unfolding proposal_made
-proposal-fits L F k old n m =
-    by (is_lent k && is_lent old)
-    (λ (e : (ltb k 9 && ltb old 9) ≡ true). rw e (new-proposal-fits (tables_of L k old n m) (F.lent k) (F.lent old)))
-    (λ (e : (ltb k 9 && ltb old 9) ≡ false). rw e (λ x w. absurd w))
+proposal-fits L F w =
+    by (is_lent w.lent && is_lent w.old)
+    (λ (e : (ltb w.lent 9 && ltb w.old 9) ≡ true). rw e (new-proposal-fits (tables_of L w) (F.lent w.lent) (F.lent w.old)))
+    (λ (e : (ltb w.lent 9 && ltb w.old 9) ≡ false). rw e (λ x m. absurd m))
 
 proposes-fit : (D : Desk) → Bounded D → (w : Proposing) → LentFits (proposal_effect D w).after.lent
 unfolding proposal_effect
 proposes-fit D B w =
-    let n = lent_proposal_fault D.lent w.lent w.old w.edits w.rules in
+    let n = lent_proposal_fault D.lent w in
     by (eqb n 0 && w.keep)
     (λ (e : (eqb n 0 && w.keep) ≡ true).
-    rw e (record-lent D.lent w.old (proposal_made D.lent w.lent w.old w.edits w.rules) (lent_fits D B) (proposal-fits D.lent (lent_fits D B) w.lent w.old w.edits w.rules)))
+    rw e (record-lent D.lent w.old (proposal_made D.lent w) (lent_fits D B) (proposal-fits D.lent (lent_fits D B) w)))
     (λ (e : (eqb n 0 && w.keep) ≡ false). rw e (lent_fits D B))
 
 pub proposal-bounded : (D : Desk) → Bounded D → (w : Proposing) → Bounded (proposal_effect D w).after

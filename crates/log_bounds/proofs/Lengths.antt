@@ -6,7 +6,7 @@ use mathlib.Core.List.{List, [], ◌∷◌, ◌++◌}
 use mathlib.Core.Option.{Option, none, some}
 use Prim.Native.Nat.{ℕ, ◌-◌, ◌≤◌, ◌<◌, ◌^◌, min, max}
 use native.Mathlib.Omega.{arith}
-use borrow.Author.Tests.{eqb-true, eqb-false, eq-eqb}
+use borrow.Author.Tests.{eqb-true, eqb-false}
 use lib.Dec.{eqb, ltb}
 use lib.ListN.{length, take, replicate, length-map, length-take}
 use lib.Seq.{take-length}
@@ -25,9 +25,8 @@ use Rattle.record_rows.specs.grounds.Ground.{Rows}
 use Rattle.record_rows.proofs.grounds.Grounds.{orelse-none}
 use Rattle.record_rows.proofs.row.Cells.{name-small, edit-bounds}
 use Rattle.record_tables.specs.Table.{empty_tables, decoded, lent_fault}
-use Rattle.record_tables.specs.Checked.{Checked}
 use Rattle.record_tables.proofs.Tables.{stored_back}
-use Rattle.record_tables.proofs.Records.{joined-checked, lent-checked}
+use Rattle.record_tables.proofs.Records.{lent-checked}
 use Rattle.catalogue.specs.Chips.{rows, chips_view, schedule_of}
 use Rattle.text_forms.specs.Spelling.{bytes}
 use Rattle.text_forms.specs.Form.{is_mark, fill}
@@ -42,9 +41,7 @@ use Rattle.voting_roll.specs.Roll.{is_bench}
 use Rattle.voting_roll.specs.Election.{Proposals, held, election_fault, cast, election_of}
 use Rattle.voting_count.specs.Count.{count_of}
 use Rattle.voting_bundles.specs.Bundles.{BundleAnswer, lent_bundle_fault, bundle_answer}
-use Rattle.voting_proposals.specs.Propose as proposal
-use Rattle.voting_proposals.specs.Propose.{draft_fault, record_m, proposal_q, propose_fault, new_proposal}
-use Rattle.voting_proposals.proofs.Drafts.{drafted-checked}
+use Rattle.voting_proposals.specs.Propose.{propose_fault, new_proposal}
 use Rattle.suggestions.specs.declared.Advice.{Advice}
 use Rattle.suggestions.specs.declared.Advice.TheVariants.{Nothing, Notafter, NotafterEnables, Noncommuting}
 use Rattle.suggestions.specs.Suggest.{rows_of, advised, given, pair_fault, suggested_rules}
@@ -63,6 +60,7 @@ use Rattle.log_commands.specs.declared.Call.{Call as Calls}
 use Rattle.log_commands.specs.declared.Call.TheVariants.{AddEdit, AddConstraint, Merge, Hide, Show, Turn, Adopt}
 use Rattle.log_commands.specs.declared.Lend.{Lend as Lends}
 use Rattle.log_commands.specs.declared.Proposing.{Proposing}
+use Rattle.log_commands.specs.declared.Suggesting.{Suggesting}
 use Rattle.log_commands.specs.declared.Vote.{Vote}
 use Rattle.log_commands.specs.declared.Vote.TheVariants.{Elect, Bundle, Suggest, Test, Winner}
 use Rattle.log_lent.specs.Lent.{is_lent}
@@ -79,6 +77,7 @@ use Rattle.log_session.proofs.Cases.{ledger-valid}
 use Rattle.log_session.proofs.calls.Telling.{lend-text}
 use Rattle.log_bounds.proofs.Numbers.{judge-small, propose-small, bundle-number-small, test-number-small, suggest-number-small, lend-number-small, SmallElection, counted-small, election-small}
 use Rattle.log_bounds.proofs.Bounds.{RowFits, SeatFits, decoded-fits, ProposalsFit, held_fits, CallFits, RequestFits, CallLineFits, proposals-fit, request-fits, new-proposal-fits}
+use Rattle.log_session.proofs.votes.Making.{proposal-checked}
 use Rattle.log_session.proofs.winners.Won.{winner-holds, vote-bundle, faultless, seat-checked, won-bundle}
 
 -- the edits of a desk
@@ -230,21 +229,12 @@ module _ (D : Desk) (B : Bounded D) (line : ℕ) (l : line < 2 ^ 64) where
   call-size call v = requested-size call (request_of D call) (request-fits D B call v)
 
   -- A PROPOSAL
-  proposal-checked : (t : proposal.LentToPropose) → propose_fault t ≡ 0 → Checked (new_proposal t)
-  unfolding new_proposal propose_fault
-  proposal-checked t z =
-      let a = orelse-none (lent_fault empty_tables t.edits t.constraints) _ z in
-      let b = orelse-none (lent_fault (record_m t) t.oldedits t.oldconstraints) _ a.1 in
-      let d = orelse-none (draft_fault (record_m t) (proposal_q t)) _ b.1 in
-      let e : eqb (propose_fault t) 0 ≡ true = eq-eqb (propose_fault t) 0 z in
-      rw e (drafted-checked (record_m t) (proposal_q t) (joined-checked (record_m t) t.oldedits t.oldconstraints (lent-checked t.edits t.constraints a.0) b.0) d.0)
-
   pub proposal-size : (w : Proposing) → size_of (printed_of (proposal_effect D w) line) ≤ answer_limit
   unfolding proposal_effect printed_of lent_proposal_fault proposal_made
   proposal-size w =
       by (is_lent w.lent && is_lent w.old)
       (λ (e : (ltb w.lent 9 && ltb w.old 9) ≡ true).
-      let t = tables_of D.lent w.lent w.old w.edits w.rules in
+      let t = tables_of D.lent w in
       rw e (answer-size (propose_fault t) line _ (propose-small t) l
       (λ z. omega (arith, record-size (new_proposal t) (checked-small (new_proposal t) (proposal-checked t z) (new-proposal-fits t (B.lent w.lent) (B.lent w.old)))))))
       (λ (e : (ltb w.lent 9 && ltb w.old 9) ≡ false). rw e (outside-size line l))
@@ -302,11 +292,11 @@ pair-size a b kind z =
     suggestion-size (advised kind a b) (name_cell a) (name_cell b) p.0 q.0)
     (λ (e : (edit_in_range a && (edit_in_range b && ltb kind 2)) ≡ false). absurd (let y : ◌≡◌ {A = ℕ} 2 0 = rw e at z in omega arith))
 
-suggested-size : (R : Record) (first second kind : ℕ) → suggestion_fault R first second kind ≡ 0 → size_of (suggestion_text (suggested_rules_in R first second kind)) ≤ 162
+suggested-size : (R : Record) (w : Suggesting) → suggestion_fault R w ≡ 0 → size_of (suggestion_text (suggested_rules_in R w)) ≤ 162
 unfolding suggestion_fault suggested_rules_in
-suggested-size R first second kind z =
-    pair-size (edit_row (edit_named R.edits first)) (edit_row (edit_named R.edits second)) kind
-    (orelse-none (suggest_fault R first second kind) (pair_fault (edit_row (edit_named R.edits first)) (edit_row (edit_named R.edits second)) kind) z).1
+suggested-size R w z =
+    pair-size (edit_row (edit_named R.edits w.first)) (edit_row (edit_named R.edits w.second)) w.case
+    (orelse-none (suggest_fault R w) (pair_fault (edit_row (edit_named R.edits w.first)) (edit_row (edit_named R.edits w.second)) w.case) z).1
 
 tested-size : (sound : Bool) → size_of (test_line sound) ≤ answer_limit
 unfolding test_line room bytes is_mark
@@ -397,8 +387,8 @@ module _ (D : Desk) (B : Bounded D) (line : ℕ) (l : line < 2 ^ 64) where
   vote-size (Bundle edit k) = bundle-size k edit
   vote-size (Suggest w) =
       let R = (ledger_of D).multilog in
-      answer-size (suggestion_fault R w.first w.second w.case) line (suggestion_text (suggested_rules_in R w.first w.second w.case)) (suggest-number-small R w.first w.second w.case) l
-      (λ z. omega (arith, suggested-size R w.first w.second w.case z))
+      answer-size (suggestion_fault R w) line (suggestion_text (suggested_rules_in R w)) (suggest-number-small R w) l
+      (λ z. omega (arith, suggested-size R w z))
   vote-size (Test k) = test-size k
   vote-size (Winner edit) = winner-size line l edit (proposals_of D.lent) D.lent.roll (proposals-fit D B) B.weights
 

@@ -38,6 +38,7 @@ use Rattle.ledger.specs.Ledger.{Ledger, Call, add_edit, add_constraint, merge, h
 use Rattle.log_commands.specs.declared.Lend.{Lend}
 use Rattle.log_commands.specs.declared.Lend.TheVariants.{EditRow, ConstraintRow, NoRows, BenchRows, RollRow as SeatRow, NoRoll, RowName, NoRow}
 use Rattle.log_lent.specs.Lent.{Lent, is_lent, edit_places, constraint_places, row_places, rows_fault, seat_number, name_number}
+use Rattle.log_commands.specs.declared.Suggesting.{Suggesting}
 use Rattle.log_lent.specs.lent_calls.Calls.{lent_row_fault as tested_fault, suggest_fault, suggestion_fault}
 use Rattle.log_session.specs.Desk.{Desk}
 use Rattle.log_session.specs.Lends.{lend_effect}
@@ -127,10 +128,11 @@ pub test-number-small : (L : Lent) (k : ℕ) → tested_fault L k ≤ 14
 unfolding tested_fault
 test-number-small L k = by (is_lent k) (λ (e : ltb k 9 ≡ true). rw e (tested-small (L.edits k) (L.constraints k))) (λ (e : ltb k 9 ≡ false). rw e (omega arith))
 
-suggest-small : (R : Record) (first second kind : ℕ) → suggest_fault R first second kind ≤ 14
+suggest-small : (R : Record) (w : Suggesting) → suggest_fault R w ≤ 14
 unfolding suggest_fault
-suggest-small R first second kind =
-    first_small 14 2 (not (is_name first && (is_name second && ltb kind 2))) _ (omega arith) (given-small 14 5 (not (mem first (written R) && mem second (written R))) (omega arith))
+suggest-small R w =
+    first_small 14 2 (not (is_name w.first && (is_name w.second && ltb w.case 2))) _ (omega arith)
+    (given-small 14 5 (not (mem w.first (written R) && mem w.second (written R))) (omega arith))
 
 pair-small : (a b : Row) (kind : ℕ) → pair_fault a b kind ≤ 14
 unfolding pair_fault
@@ -139,9 +141,9 @@ pair-small a b kind =
     (λ (e : (edit_in_range a && (edit_in_range b && ltb kind 2)) ≡ true). rw e (omega arith))
     (λ (e : (edit_in_range a && (edit_in_range b && ltb kind 2)) ≡ false). rw e (omega arith))
 
-pub suggest-number-small : (R : Record) (first second kind : ℕ) → suggestion_fault R first second kind ≤ 14
+pub suggest-number-small : (R : Record) (w : Suggesting) → suggestion_fault R w ≤ 14
 unfolding suggestion_fault
-suggest-number-small R first second kind = orelse-small 14 _ _ (suggest-small R first second kind) (pair-small _ _ kind)
+suggest-number-small R w = orelse-small 14 _ _ (suggest-small R w) (pair-small _ _ w.case)
 
 pub lend-number-small : (D : Desk) (lend : Lend) → (lend_effect D lend).number ≤ 14
 unfolding lend_effect rows_fault seat_number name_number

@@ -19,6 +19,7 @@ ghost use Rattle.log_lent.specs.lent_calls.Named.{row_known};
 use crate::Lending;
 use judgement::lent_record;
 use ledger::{Bench, CallResult};
+use log_commands::Suggesting;
 use record::Record;
 use record_rows::element::Element;
 use record_rows::row;
@@ -39,7 +40,7 @@ pub fn merge_lent(bench: &mut Bench, lending: &Lending, k: u32) -> Result<CallRe
     bench_edits::merge(bench, lending.record(place))
 }
 
-// Kept: an operation each for the count and for its election alone, a call of one line.
+// Kept: one line each over an operation of `voting_count`, which are two: an election alone makes no bundle.
 // The election on an edit over records 1 to 8 and the roll, with its won bundle.
 pub fn count_lent(lending: &Lending, edit: u32) -> Result<Counted, Refusal>
     ensures told { (L : Lent) → Kept L lending.now → count_told result ≡ count_of edit (proposals_of L) L.roll }
@@ -69,7 +70,7 @@ pub fn test_lent(lending: &Lending, k: u32) -> Result<bool, Refusal>
     ensures { (L : Lent) → Kept L lending.now → Gives (lent_row_fault L k) (row_sound L k) result }
 {
     let place = crate::record_place(k)?;
-    lent_record::test_row(lending.record(place), lending.row())
+    lent_record::test_row(lending.record(place), lending.row.as_slice())
 }
 
 // The eight proposals and the roll are what is lent, and the won bundle joins the bench's record.
@@ -89,18 +90,13 @@ fn row_named(multilog: &Record, name: u16) -> Option<EditRow>
 }
 
 // What two edits of a record suggest.
-pub fn suggest_named(
-    multilog: &Record,
-    first: u32,
-    second: u32,
-    kind: u32,
-) -> Result<Suggested, Refusal>
-    ensures { (R : theory.Record) → multilog.now ≡ stored R → Checked R → Gives (suggestion_fault R first second kind) (suggested_rules_in R first second kind) result }
+pub fn suggest_named(multilog: &Record, asked: Suggesting) -> Result<Suggested, Refusal>
+    ensures { (R : theory.Record) → multilog.now ≡ stored R → Checked R → Gives (suggestion_fault R asked) (suggested_rules_in R asked) result }
 {
-    if !row::is_name(first) || !row::is_name(second) || 1 < kind {
+    if !row::is_name(asked.first) || !row::is_name(asked.second) || 1 < asked.case {
         return Err(Refusal::OutOfRange);
     }
-    let a = row_named(multilog, first as u16).ok_or(Refusal::Unknown)?;
-    let b = row_named(multilog, second as u16).ok_or(Refusal::Unknown)?;
-    suggestions::suggest(a, b, kind)
+    let first = row_named(multilog, asked.first as u16).ok_or(Refusal::Unknown)?;
+    let second = row_named(multilog, asked.second as u16).ok_or(Refusal::Unknown)?;
+    suggestions::suggest(first, second, asked.case)
 }

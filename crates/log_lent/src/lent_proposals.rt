@@ -10,28 +10,26 @@ ghost use Rattle.log_lent.specs.Kept.{Kept};
 ghost use Rattle.log_lent.specs.lent_proposals.Made.{lent_proposal_fault, proposal_made};
 
 use crate::Lending;
+use log_commands::Proposing;
 use record::Record;
 use refusals::Refusal;
 
-// A new proposal, if n edits and m constraints have a place for it.
-fn fitted(new: Record, n: u32, m: u32) -> Result<Record, Refusal>
-    ensures { (P : theory.Record) → new ≡ stored P → Gives (12 given too_short n m P) (stored P) result }
+// A new proposal, if so many edits and rules have a place for it.
+fn fitted(new: Record, edits: u32, rules: u32) -> Result<Record, Refusal>
+    ensures { (P : theory.Record) → new ≡ stored P → Gives (12 given too_short edits rules P) (stored P) result }
 {
-    if (n as usize) < new.editcount {
-        return Err(Refusal::NoRoom);
-    }
-    if (m as usize) < new.constraintcount {
+    if (edits as usize) < new.editcount || (rules as usize) < new.constraintcount {
         return Err(Refusal::NoRoom);
     }
     Ok(new)
 }
 
-// The new proposal from record k and the old one, where n edits and m constraints have a place.
-pub fn propose_lent(lending: &Lending, k: u32, old: u32, n: u32, m: u32) -> Result<Record, Refusal>
-    ensures { (L : Lent) → Kept L lending.now → Gives (lent_proposal_fault L k old n m) (stored (proposal_made L k old n m)) result }
+// The new proposal that a line asks for. Whether it is kept, its caller sees to.
+pub fn propose_lent(lending: &Lending, asked: Proposing) -> Result<Record, Refusal>
+    ensures { (L : Lent) → Kept L lending.now → Gives (lent_proposal_fault L asked) (stored (proposal_made L asked)) result }
 {
-    let place = crate::record_place(k)?;
-    let oldplace = crate::record_place(old)?;
-    let new = voting_proposals::new_proposal(lending.record(place), lending.record(oldplace))?;
-    fitted(new, n, m)
+    let lent = crate::record_place(asked.lent)?;
+    let old = crate::record_place(asked.old)?;
+    let new = voting_proposals::new_proposal(lending.record(lent), lending.record(old))?;
+    fitted(new, asked.edits, asked.rules)
 }

@@ -6,69 +6,73 @@ ghost use Rattle.log_lent.specs.Lent.{lent_records, is_lent, with, constraint_pl
 ghost use Rattle.log_lent.specs.lent_tables.Tables.{Tables};
 
 use crate::RECORDS;
+use arrayvec::ArrayVec;
 use record_rows::element::Element;
 use refusals::Refusal;
 
-// Kept: arrays with their counts, which the specification names (Kept, Tables); an ArrayVec would be one more crate for three pushes.
-// The nine lent tables of a kind. The first rows of each are lent, as many as it counts; the others are never read.
+// The nine lent tables of a kind.
 #[derive(Drop)]
 pub struct LentTables<const CELLS: usize, const PLACES: usize> {
-    counts: [usize; RECORDS],
-    rows: [[[u32; CELLS]; PLACES]; RECORDS],
-    ghost narrow: { CELLS ≤ 5 },
-    ghost short: { PLACES ≤ constraint_places },
+    tables: [ArrayVec<[u32; CELLS], PLACES>; RECORDS],
+}
+
+// A table is these elements, if each has a place.
+fn refill<T: Element<CELLS>, const CELLS: usize, const PLACES: usize>(
+    table: &mut ArrayVec<[u32; CELLS], PLACES>,
+    elements: &[T],
+)
+    requires narrow { CELLS ≤ 5 }
+    ensures { length elements.now ≤ PLACES → table.new.items ≡ map T.row_of elements.now }
+{
+    table.clear();
+    for element in elements {
+        let _pushed = table.try_push(element.row());
+    }
 }
 
 impl<const CELLS: usize, const PLACES: usize> LentTables<CELLS, PLACES> {
     pub fn new() -> Self
         requires narrow { CELLS ≤ 5 }
         requires short { PLACES ≤ constraint_places }
-        ensures { Tables PLACES (λ k. []) result.counts result.rows }
+        ensures { Tables (λ k. []) result.tables }
     {
         LentTables {
-            counts: [0; RECORDS],
-            rows: [[[0; CELLS]; PLACES]; RECORDS],
+            tables: Default::default(),
         }
     }
 
     // A row joins table k.
     pub fn add(&mut self, k: u32, row: [u32; CELLS]) -> Result<(), Refusal>
-        ensures { (tables : ℕ → Rows) → Tables PLACES tables self.old.counts self.old.rows
-            → (number_of result ≡ rows_fault PLACES tables k) × Tables PLACES (added PLACES tables k row.entry) self.new.counts self.new.rows }
+        ensures { (tables : ℕ → Rows) → Tables tables self.old.tables
+            → (number_of result ≡ rows_fault PLACES tables k) × Tables (added PLACES tables k row.entry) self.new.tables }
     {
         let table = crate::record_place(k)?;
-        let n = self.counts[table];
-        if PLACES <= n {
+        if self.tables[table].is_full() {
             return Err(Refusal::NoPlace);
         }
-        self.rows[table][n] = row;
-        self.counts[table] = n + 1;
+        self.tables[table].push(row);
         Ok(())
     }
 
     // Table k is these elements. No row is refused: an empty table has a place for each.
     pub fn replace<T: Element<CELLS>>(&mut self, k: u32, elements: &[T]) -> Result<(), Refusal>
-        ensures { (tables : ℕ → Rows) → Tables PLACES tables self.old.counts self.old.rows → length elements.now ≤ PLACES
-            → (number_of result ≡ record_number k) × Tables PLACES (cond (is_lent k) (with k (map T.row_of elements.now) tables) tables) self.new.counts self.new.rows }
+        requires narrow { CELLS ≤ 5 }
+        ensures { (tables : ℕ → Rows) → Tables tables self.old.tables → length elements.now ≤ PLACES
+            → (number_of result ≡ record_number k) × Tables (cond (is_lent k) (with k (map T.row_of elements.now) tables) tables) self.new.tables }
     {
         let table = crate::record_place(k)?;
-        self.counts[table] = 0;
-        for element in elements {
-            let row = element.row();
-            let _added = self.add(k, row);
-        }
+        refill(&mut self.tables[table], elements);
         Ok(())
     }
 
     // The rows of table k.
     pub fn table(&self, k: usize) -> &[[u32; CELLS]]
-        ensures { (tables : ℕ → Rows) → Tables PLACES tables self.now.counts self.now.rows → k < lent_records → result.now ≡ tables k }
+        ensures { (tables : ℕ → Rows) → Tables tables self.now.tables → k < lent_records → result.now ≡ tables k }
     {
         if RECORDS <= k {
             return &[];
         }
-        let tables = &self.rows[..];
-        let rows = &tables[k][..];
-        &rows[..self.counts[k].min(PLACES)]
+        let table = &self.tables[k];
+        table.as_slice()
     }
 }

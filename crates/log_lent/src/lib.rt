@@ -7,7 +7,7 @@ pub mod lent_proposals;
 mod lent_tables;
 
 ghost use Rattle.std.specs.Prelude.{◌≡◌, ◌<◌, ◌≤◌, length, take, MatchResult};
-ghost use Rattle.refusals.specs.Numbers.{number, number_of};
+ghost use Rattle.refusals.specs.Numbers.{number, number_of, Gives};
 ghost use Rattle.record.specs.Record as theory;
 ghost use Rattle.record.specs.Stored.{stored};
 ghost use Rattle.voting_count.specs.Count.{lent};
@@ -15,10 +15,12 @@ ghost use Rattle.log_lent.specs.Lent.{Lent, nothing_lent, lent_records, edit_pla
 ghost use Rattle.log_lent.specs.Kept.{Kept};
 ghost use Rattle.log_lent.specs.lent_calls.Calls.{proposals_of};
 
+use arrayvec::ArrayVec;
 use lent_tables::LentTables;
 use record::{CONSTRAINTS, EDITS, Record};
 use record_rows::row::{CONSTRAINT_CELLS, ConstraintRow, EDIT_CELLS, EditRow, LentRecord};
 use refusals::Refusal;
+use std::array;
 use voting::RollRow;
 use voting_count::Poll;
 
@@ -33,17 +35,14 @@ const ROW_PLACES: usize = EDITS + 2;
 
 const ROLL_PLACES: usize = 9;
 
-// Kept: arrays with their counts, which the specification names (Kept, Tables); an ArrayVec would be one more crate for three pushes.
 // Kept: "Kept L": a desk's roll may be longer than the nine rows that are kept, so that no view of a Lending gives the desk back.
 // The tables of the nine records; the first rows of the roll; the row to be tested.
 #[derive(Drop)]
 pub struct Lending {
     edits: LentTables<EDIT_CELLS, EDIT_PLACES>,
     constraints: LentTables<CONSTRAINT_CELLS, CONSTRAINT_PLACES>,
-    roll: [RollRow; ROLL_PLACES],
-    rollcount: usize,
-    row: [u32; ROW_PLACES],
-    rowcount: usize,
+    roll: ArrayVec<RollRow, ROLL_PLACES>,
+    row: ArrayVec<u32, ROW_PLACES>,
 }
 
 // The place of record k among those that lines lend to.
@@ -58,22 +57,25 @@ fn record_place(k: u32) -> Result<usize, Refusal>
     }
 }
 
+// A row of the roll, where its numbers fit.
+fn seat_of(bench: u32, weight: u32) -> Result<RollRow, Refusal>
+    ensures { Gives (seat_number bench weight) (record { bench = bench; weight = weight }) result }
+{
+    let bench = u8::try_from(bench).map_err(|_| Refusal::OutOfRange)?;
+    let weight = u16::try_from(weight).map_err(|_| Refusal::OutOfRange)?;
+    Ok(RollRow { bench, weight })
+}
+
 impl Lending {
     // Nothing lent yet.
     pub fn nothing() -> Lending
         ensures { Kept nothing_lent result }
     {
-        let seat = RollRow {
-            bench: 0,
-            weight: 0,
-        };
         Lending {
             edits: LentTables::new(),
             constraints: LentTables::new(),
-            roll: [seat; ROLL_PLACES],
-            rollcount: 0,
-            row: [0; ROW_PLACES],
-            rowcount: 0,
+            roll: ArrayVec::new(),
+            row: ArrayVec::new(),
         }
     }
 
@@ -93,26 +95,9 @@ impl Lending {
         ensures roll { (L : Lent) → Kept L self.now → result.roll.now ≡ take roll_places L.roll }
     {
         Poll {
-            proposals: [
-                self.record(1),
-                self.record(2),
-                self.record(3),
-                self.record(4),
-                self.record(5),
-                self.record(6),
-                self.record(7),
-                self.record(8),
-            ],
-            roll: &self.roll[..self.rollcount.min(ROLL_PLACES)],
+            proposals: array::from_fn(|k| self.record(k + 1)),
+            roll: self.roll.as_slice(),
         }
-    }
-
-    // Kept: as the slices of a record, one line over a field and its count.
-    // The row to be tested.
-    fn row(&self) -> &[u32]
-        ensures { (L : Lent) → Kept L self.now → result.now ≡ L.row }
-    {
-        &self.row[..self.rowcount.min(ROW_PLACES)]
     }
 
     // A row of edits for record k.
@@ -143,16 +128,9 @@ impl Lending {
     pub fn lend_seat(&mut self, bench: u32, weight: u32) -> Result<(), Refusal>
         ensures { (L : Lent) → Kept L self.old → (number_of result ≡ seat_number bench weight) × Kept (with_seat L bench weight) self.new }
     {
-        let Ok(bench) = u8::try_from(bench) else {
-            return Err(Refusal::OutOfRange);
-        };
-        let Ok(weight) = u16::try_from(weight) else {
-            return Err(Refusal::OutOfRange);
-        };
-        let n = self.rollcount;
-        if n < ROLL_PLACES {
-            self.roll[n] = RollRow { bench, weight };
-            self.rollcount = n + 1;
+        let seat = seat_of(bench, weight)?;
+        if !self.roll.is_full() {
+            self.roll.push(seat);
         }
         Ok(())
     }
@@ -161,19 +139,17 @@ impl Lending {
     pub fn lend_no_roll(&mut self)
         ensures { (L : Lent) → Kept L self.old → Kept (without_roll L) self.new }
     {
-        self.rollcount = 0;
+        self.roll.clear();
     }
 
     // A name of the row to be tested.
     pub fn lend_name(&mut self, name: u32) -> Result<(), Refusal>
         ensures { (L : Lent) → Kept L self.old → (number_of result ≡ name_number L) × Kept (with_name L name) self.new }
     {
-        let n = self.rowcount;
-        if ROW_PLACES <= n {
+        if self.row.is_full() {
             return Err(Refusal::NoPlace);
         }
-        self.row[n] = name;
-        self.rowcount = n + 1;
+        self.row.push(name);
         Ok(())
     }
 
@@ -181,6 +157,6 @@ impl Lending {
     pub fn lend_no_row(&mut self)
         ensures { (L : Lent) → Kept L self.old → Kept (without_row L) self.new }
     {
-        self.rowcount = 0;
+        self.row.clear();
     }
 }

@@ -13,6 +13,7 @@ use log_forms::Printer;
 use pages_turner::Turner;
 use refusals::Refusal;
 
+// Kept: a line is printed whole or not at all, so that what a turn prints is no part that an adoption could print after its election.
 fn print_pages(printer: &mut Printer<'_>, accepted: CallResult, turner: Turner)
     ensures { Printed (pages_text (call_told (Ok accepted)) turner.opened turner.last) printer.old printer.new }
 {

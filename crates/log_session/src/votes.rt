@@ -103,13 +103,7 @@ fn answer_vote(printer: &mut Printer<'_>, session: &Session, vote: Vote) -> Resu
         Vote::Bundle(edit, k) => print_bundle(printer, &lent_calls::bundle_lent(lending, k, edit)?),
         Vote::Suggest(asked) => {
             let multilog = &session.bench.multilog;
-            let suggested = lent_calls::suggest_named(
-                multilog,
-                asked.first,
-                asked.second,
-                asked.case,
-            )?;
-            print_rules(printer, suggested);
+            print_rules(printer, lent_calls::suggest_named(multilog, asked)?);
         }
         Vote::Test(k) => print_test(printer, lent_calls::test_lent(lending, k)?),
         Vote::Winner(edit) => print_winner(printer, edit, &lent_calls::count_lent(lending, edit)?),
@@ -117,7 +111,7 @@ fn answer_vote(printer: &mut Printer<'_>, session: &Session, vote: Vote) -> Resu
     Ok(())
 }
 
-// Kept: two calls, as for a proposal: one is lent the session, the other changes it, so that one closure's bound does not serve both.
+// Kept: two lines, as for a proposal. One function for both would take the answer as a closure, and its clause would have to say what that prints.
 // What a line about votes prints.
 pub fn print_vote(printer: &mut Printer<'_>, session: &Session, vote: Vote)
     ensures { (D : Desk) → Kept D.lent session.now.lending → session.now.bench.multilog ≡ (bench_in D).multilog
@@ -140,13 +134,7 @@ fn answer_proposal(
     ensures bench { session.new.bench ≡ session.old.bench }
 {
     let lending = &mut session.lending;
-    let new = lent_proposals::propose_lent(
-        lending,
-        asked.lent,
-        asked.old,
-        asked.edits,
-        asked.rules,
-    )?;
+    let new = lent_proposals::propose_lent(lending, asked)?;
     log_answers::print_record(printer, &new);
     if asked.keep {
         let _kept = lending.lend_record(asked.old, new);
@@ -154,7 +142,7 @@ fn answer_proposal(
     Ok(())
 }
 
-// Kept: two calls, as for a line about votes.
+// Kept: two lines, as for a line about votes.
 // What a line that makes a proposal prints.
 pub fn print_proposal(printer: &mut Printer<'_>, session: &mut Session, asked: Proposing)
     ensures told { (D : Desk) → Kept D.lent session.old.lending

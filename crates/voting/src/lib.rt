@@ -10,7 +10,7 @@ use record_rows::row;
 pub const BENCHES: usize = row::BENCHES as usize;
 
 // One row of the roll.
-#[derive(Clone, Copy)]
+#[derive(Clone, Copy, Default)]
 pub struct RollRow {
     pub bench: u8,
     pub weight: u16,

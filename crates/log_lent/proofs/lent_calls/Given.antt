@@ -1,16 +1,20 @@
 -- Calls with what is lent, where it is kept. Assumes nothing.
 use mathlib.Core.Path.{◌≡◌, refl, ap, ◌∙◌}
 use mathlib.Core.Bool.{Bool, true, false}
-use mathlib.Core.List.{List}
-use Prim.Native.Nat.{ℕ, ◌≤◌, ◌<◌}
+use mathlib.Core.List.{List, [], ◌∷◌, map}
+use Prim.Native.Nat.{ℕ, ◌+◌, ◌≤◌, ◌<◌}
+use native.Mathlib.Omega.{arith}
 use lib.Dec.{ltb}
-use lib.ListN.{take}
+use lib.ListN.{length, get_or, take, length-map}
 use borrow.Author.Tests.{lt-ltb, le-ltb}
+use Rattle.std.proofs.lemmas.List.{get_or-map}
+use Rattle.std.proofs.lemmas.List.FromFn.{fill_by_all}
+use Rattle.record_rows.specs.declared.row.LentRecord.{LentRecord}
 use Rattle.record_rows.specs.grounds.Ground.{Rows}
 use Rattle.voting.specs.declared.RollRow.{RollRow}
 use Rattle.voting.specs.Tally.{Election}
 use Rattle.voting_roll.specs.Election.{Proposals, election_of}
-use Rattle.voting_count.specs.Count.{Count, count_of}
+use Rattle.voting_count.specs.Count.{lent, Count, count_of}
 use Rattle.voting_bundles.specs.declared.Bundled.{Bundled}
 use Rattle.voting_bundles.specs.Bundles.{BundleAnswer, bundle_told, bundle_answer}
 use Rattle.std.specs.Prelude.{Result, Ok, Err, IsErr}
@@ -42,6 +46,18 @@ pub merge-given : (bench : Bench) {E C : Rows} (r : Outcome) → Answers bench (
 merge-given bench r a e f = rw (e, f) at a
 
 module _ (L : Lent) where
+  -- the proposals, record by record
+  pub proposals-lent : (l : List LentRecord) → length l ≡ 8
+      → ((i : ℕ) (d : LentRecord) → i < 8 → ((get_or l i d).edits.now ≡ L.edits (i + 1)) × ((get_or l i d).constraints.now ≡ L.constraints (i + 1))) → lent l ≡ proposals_of L
+  proposals-lent [] e h = absurd (omega arith)
+  proposals-lent (d ∷ rest) e h =
+      let l = d ∷ rest in
+      let a = fill_by_all (λ i. L.edits (i + 1)) (map (λ (r : LentRecord). r.edits.now) l) 8 [] (length-map l (λ (r : LentRecord). r.edits.now) ∙ e)
+      (λ k lt. get_or-map (λ (r : LentRecord). r.edits.now) l k d [] (omega (arith, e)) ∙ (h k d lt).0) in
+      let b = fill_by_all (λ i. L.constraints (i + 1)) (map (λ (r : LentRecord). r.constraints.now) l) 8 [] (length-map l (λ (r : LentRecord). r.constraints.now) ∙ e)
+      (λ k lt. get_or-map (λ (r : LentRecord). r.constraints.now) l k d [] (omega (arith, e)) ∙ (h k d lt).1) in
+      λ i. record { edits = a i; constraints = b i }
+
   module _ (x : ℕ) {P : Proposals} {seats : List RollRow} (e : P ≡ proposals_of L) (g : seats ≡ take roll_places L.roll) where
     pub count-given : {r : Count} → r ≡ count_of x P seats → r ≡ count_of x (proposals_of L) L.roll
     count-given q = (rw (e, g) at q) ∙ first_counted x (proposals_of L) L.roll

@@ -22,6 +22,7 @@ use Rattle.refusals.proofs.Numbers.{number-positive}
 use Rattle.record_tables.specs.Checked.{known_place}
 use Rattle.suggestions.specs.declared.Suggested.{Suggested}
 use Rattle.suggestions.specs.Suggest.{pair_fault, suggested_rules}
+use Rattle.log_commands.specs.declared.Suggesting.{Suggesting}
 use Rattle.log_lent.specs.lent_calls.Calls.{suggest_fault, suggestion_fault, suggested_rules_in}
 use Rattle.log_lent.specs.lent_calls.Named.{row_known}
 
@@ -77,35 +78,35 @@ pub refused-unknown : (o : Option Row) (r : Refusal) → ◌≡◌ {A = Result R
 refused-unknown None r e = (ap number_of e, refl)
 refused-unknown (Some row) r e = absurd (number-positive r (ap number_of e))
 
-module _ (R : Record) (first second kind : ℕ) where
-  pub first-unnamed : is_name first ≡ false → 2 ≡ suggestion_fault R first second kind
+module _ (R : Record) (asked : Suggesting) where
+  pub first-unnamed : is_name asked.first ≡ false → 2 ≡ suggestion_fault R asked
   unfolding suggestion_fault suggest_fault
   first-unnamed e = rw e refl
 
-  module _ (a : is_name first ≡ true) where
-    pub second-unnamed : is_name second ≡ false → 2 ≡ suggestion_fault R first second kind
+  module _ (a : is_name asked.first ≡ true) where
+    pub second-unnamed : is_name asked.second ≡ false → 2 ≡ suggestion_fault R asked
     unfolding suggestion_fault suggest_fault
     second-unnamed e = rw (a, e) refl
 
-    module _ (b : is_name second ≡ true) where
-      pub no-case : 1 < kind → 2 ≡ suggestion_fault R first second kind
+    module _ (b : is_name asked.second ≡ true) where
+      pub no-case : 1 < asked.case → 2 ≡ suggestion_fault R asked
       unfolding suggestion_fault suggest_fault
-      no-case h = let e : ltb kind 2 ≡ false = le-ltb kind 2 (omega arith) in rw (a, b, e) refl
+      no-case h = let e : ltb asked.case 2 ≡ false = le-ltb asked.case 2 (omega arith) in rw (a, b, e) refl
 
-      module _ (h : kind ≤ 1) where
-        fine : ltb kind 2 ≡ true
-        fine = lt-ltb kind 2 (omega arith)
+      module _ (h : asked.case ≤ 1) where
+        fine : ltb asked.case 2 ≡ true
+        fine = lt-ltb asked.case 2 (omega arith)
 
-        pub first-unknown : mem first (written R) ≡ false → 5 ≡ suggestion_fault R first second kind
+        pub first-unknown : mem asked.first (written R) ≡ false → 5 ≡ suggestion_fault R asked
         unfolding suggestion_fault suggest_fault
         first-unknown e = rw (a, b, fine, e) refl
 
-        module _ (c : mem first (written R) ≡ true) where
-          pub second-unknown : mem second (written R) ≡ false → 5 ≡ suggestion_fault R first second kind
+        module _ (c : mem asked.first (written R) ≡ true) where
+          pub second-unknown : mem asked.second (written R) ≡ false → 5 ≡ suggestion_fault R asked
           unfolding suggestion_fault suggest_fault
           second-unknown e = rw (a, b, fine, c, e) refl
 
-          pub both-named : mem second (written R) ≡ true → {x y : Row} (r : Result Suggested Refusal) → Gives (pair_fault x y kind) (suggested_rules x y kind) r
-              → x ≡ edit_row (edit_named R.edits first) → y ≡ edit_row (edit_named R.edits second) → Gives (suggestion_fault R first second kind) (suggested_rules_in R first second kind) r
+          pub both-named : mem asked.second (written R) ≡ true → {x y : Row} (r : Result Suggested Refusal) → Gives (pair_fault x y asked.case) (suggested_rules x y asked.case) r
+              → x ≡ edit_row (edit_named R.edits asked.first) → y ≡ edit_row (edit_named R.edits asked.second) → Gives (suggestion_fault R asked) (suggested_rules_in R asked) r
           unfolding suggestion_fault suggest_fault suggested_rules_in
           both-named d r q e f = rw (a, b, fine, c, d) (rw (e, f) at q)

@@ -20,6 +20,7 @@ use Rattle.record_rows.proofs.grounds.Grounds.{orelse-first, orelse-second}
 use Rattle.record_tables.specs.Table.{empty_tables, decoded, lent_fault}
 use Rattle.voting.specs.Proposal.{proposed}
 use Rattle.voting_proposals.specs.Propose.{propose_fault, draft_fault, unkept, new_proposal, new_fault, too_short}
+use Rattle.log_commands.specs.declared.Proposing.{Proposing}
 use Rattle.log_lent.specs.Lent.{Lent}
 use Rattle.log_lent.specs.lent_proposals.Made.{tables_with, lent_proposal_fault, proposal_made}
 
@@ -67,39 +68,39 @@ module _ (E C D F : Rows) (n m : ℕ) where
       (orelse-fifth (lent_fault empty_tables E C) (lent_fault (decoded E C) D F) (draft_fault (decoded E C) (decoded D F)) (11 given unkept (decoded E C) (decoded D F))
       (12 given too_short n m made))
 
-module _ (L : Lent) (k old n m : ℕ) where
-  pub record-elsewhere : 9 ≤ k → 2 ≡ lent_proposal_fault L k old n m
+module _ (L : Lent) (asked : Proposing) where
+  pub record-elsewhere : 9 ≤ asked.lent → 2 ≡ lent_proposal_fault L asked
   unfolding lent_proposal_fault
-  record-elsewhere h = let e : ltb k 9 ≡ false = le-ltb k 9 h in rw e refl
+  record-elsewhere h = let e : ltb asked.lent 9 ≡ false = le-ltb asked.lent 9 h in rw e refl
 
-  pub old-elsewhere : 9 ≤ old → 2 ≡ lent_proposal_fault L k old n m
+  pub old-elsewhere : 9 ≤ asked.old → 2 ≡ lent_proposal_fault L asked
   unfolding lent_proposal_fault
-  old-elsewhere h = let e : ltb old 9 ≡ false = le-ltb old 9 h in rw (e, and-false (ltb k 9)) refl
+  old-elsewhere h = let e : ltb asked.old 9 ≡ false = le-ltb asked.old 9 h in rw (e, and-false (ltb asked.lent 9)) refl
 
-  module _ (h : k < 9) (i : old < 9) {E C D F : Rows} (e : E ≡ L.edits k) (c : C ≡ L.constraints k) (d : D ≡ L.edits old) (f : F ≡ L.constraints old) where
-    inside : lent_proposal_fault L k old n m ≡ propose_fault (tables_with E C D F n m)
+  module _ (h : asked.lent < 9) (i : asked.old < 9) {E C D F : Rows} (e : E ≡ L.edits asked.lent) (c : C ≡ L.constraints asked.lent) (d : D ≡ L.edits asked.old) (f : F ≡ L.constraints asked.old) where
+    inside : lent_proposal_fault L asked ≡ propose_fault (tables_with E C D F asked.edits asked.rules)
     unfolding lent_proposal_fault
-    inside = let a : ltb k 9 ≡ true = lt-ltb k 9 h in let b : ltb old 9 ≡ true = lt-ltb old 9 i in rw (a, b, e, c, d, f) refl
+    inside = let a : ltb asked.lent 9 ≡ true = lt-ltb asked.lent 9 h in let b : ltb asked.old 9 ≡ true = lt-ltb asked.old 9 i in rw (a, b, e, c, d, f) refl
 
-    parts : lent_proposal_fault L k old n m ≡ (new_fault E C D F orelse (12 given too_short n m (made E C D F n m)))
-    parts = inside ∙ fault-parts E C D F n m
+    parts : lent_proposal_fault L asked ≡ (new_fault E C D F orelse (12 given too_short asked.edits asked.rules (made E C D F asked.edits asked.rules)))
+    parts = inside ∙ fault-parts E C D F asked.edits asked.rules
 
-    pub proposal-refused : (r : Refusal) → number r ≡ new_fault E C D F → number r ≡ lent_proposal_fault L k old n m
-    proposal-refused r q = q ∙ sym (parts ∙ orelse-first (new_fault E C D F) (12 given too_short n m (made E C D F n m)) (λ z. number-positive r (q ∙ z)))
+    pub proposal-refused : (r : Refusal) → number r ≡ new_fault E C D F → number r ≡ lent_proposal_fault L asked
+    proposal-refused r q = q ∙ sym (parts ∙ orelse-first (new_fault E C D F) (12 given too_short asked.edits asked.rules (made E C D F asked.edits asked.rules)) (λ z. number-positive r (q ∙ z)))
 
     module _ (z : 0 ≡ new_fault E C D F) where
-      last-part : lent_proposal_fault L k old n m ≡ (12 given too_short n m (made E C D F n m))
-      last-part = parts ∙ orelse-second (new_fault E C D F) (12 given too_short n m (made E C D F n m)) (sym z)
+      last-part : lent_proposal_fault L asked ≡ (12 given too_short asked.edits asked.rules (made E C D F asked.edits asked.rules))
+      last-part = parts ∙ orelse-second (new_fault E C D F) (12 given too_short asked.edits asked.rules (made E C D F asked.edits asked.rules)) (sym z)
 
-      made-is : lent_proposal_fault L k old n m ≡ 0 → proposal_made L k old n m ≡ made E C D F n m
+      made-is : lent_proposal_fault L asked ≡ 0 → proposal_made L asked ≡ made E C D F asked.edits asked.rules
       unfolding proposal_made new_proposal
       made-is w =
-          let a : ltb k 9 ≡ true = lt-ltb k 9 h in
-          let b : ltb old 9 ≡ true = lt-ltb old 9 i in
-          let y : eqb (propose_fault (tables_with E C D F n m)) 0 ≡ true = eq-eqb (propose_fault (tables_with E C D F n m)) 0 (sym inside ∙ w) in
+          let a : ltb asked.lent 9 ≡ true = lt-ltb asked.lent 9 h in
+          let b : ltb asked.old 9 ≡ true = lt-ltb asked.old 9 i in
+          let y : eqb (propose_fault (tables_with E C D F asked.edits asked.rules)) 0 ≡ true = eq-eqb (propose_fault (tables_with E C D F asked.edits asked.rules)) 0 (sym inside ∙ w) in
           rw (a, b, ← e, ← c, ← d, ← f, y) refl
 
-      pub proposal-given : (r : Result declared.Record Refusal) → Gives (12 given too_short n m (made E C D F n m)) (stored (made E C D F n m)) r
-          → Gives (lent_proposal_fault L k old n m) (stored (proposal_made L k old n m)) r
+      pub proposal-given : (r : Result declared.Record Refusal) → Gives (12 given too_short asked.edits asked.rules (made E C D F asked.edits asked.rules)) (stored (made E C D F asked.edits asked.rules)) r
+          → Gives (lent_proposal_fault L asked) (stored (proposal_made L asked)) r
       proposal-given (Ok y) g = let w = last-part ∙ sym g.0 in (sym w, g.1 ∙ ap stored (sym (made-is w)))
       proposal-given (Err s) g = (g.0 ∙ sym last-part, tt)

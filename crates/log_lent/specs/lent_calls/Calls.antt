@@ -13,6 +13,7 @@ use Rattle.record_tables.specs.Table.{decoded}
 use Rattle.judgement.specs.lent_record.Lent.{record_fault}
 use Rattle.suggestions.specs.declared.Suggested.{Suggested}
 use Rattle.suggestions.specs.Suggest.{pair_fault, suggested_rules}
+use Rattle.log_commands.specs.declared.Suggesting.{Suggesting}
 use Rattle.log_lent.specs.Lent.{Lent, is_lent}
 
 -- the eight proposals are records 1 to 8
@@ -31,13 +32,13 @@ unfoldable pub row_sound : Lent → ℕ → Bool
 row_sound L k = sound_row (decoded (L.edits k) (L.constraints k)) L.row
 
 -- what two edits of a record suggest; case 0: the second after the first by one author, 1: concurrent
-unfoldable pub suggest_fault : Record → ℕ → ℕ → ℕ → ℕ
-suggest_fault R first second kind =
-    2 given not (is_name first && (is_name second && ltb kind 2)) orelse 5 given not (mem first (written R) && mem second (written R))
+unfoldable pub suggest_fault : Record → Suggesting → ℕ
+suggest_fault R asked =
+    2 given not (is_name asked.first && (is_name asked.second && ltb asked.case 2)) orelse 5 given not (mem asked.first (written R) && mem asked.second (written R))
 
 -- the number of the refusal, and the rows that are suggested
-unfoldable pub suggestion_fault : Record → ℕ → ℕ → ℕ → ℕ
-suggestion_fault R first second kind = suggest_fault R first second kind orelse pair_fault (edit_row (edit_named R.edits first)) (edit_row (edit_named R.edits second)) kind
+unfoldable pub suggestion_fault : Record → Suggesting → ℕ
+suggestion_fault R asked = suggest_fault R asked orelse pair_fault (edit_row (edit_named R.edits asked.first)) (edit_row (edit_named R.edits asked.second)) asked.case
 
-unfoldable pub suggested_rules_in : Record → ℕ → ℕ → ℕ → Suggested
-suggested_rules_in R first second kind = suggested_rules (edit_row (edit_named R.edits first)) (edit_row (edit_named R.edits second)) kind
+unfoldable pub suggested_rules_in : Record → Suggesting → Suggested
+suggested_rules_in R asked = suggested_rules (edit_row (edit_named R.edits asked.first)) (edit_row (edit_named R.edits asked.second)) asked.case

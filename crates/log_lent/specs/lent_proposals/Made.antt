@@ -5,6 +5,7 @@ use Rattle.record_rows.specs.grounds.Ground.{Rows}
 use Rattle.record_tables.specs.Table.{empty_tables}
 use Rattle.voting_proposals.specs.Propose as proposal
 use Rattle.voting_proposals.specs.Propose.{propose_fault, new_proposal}
+use Rattle.log_commands.specs.declared.Proposing.{Proposing}
 use Rattle.log_lent.specs.Lent.{Lent, is_lent}
 
 -- from the tables of a record and of the old proposal, into tables of n and m places
@@ -18,13 +19,14 @@ tables_with edits constraints oldedits oldconstraints n m = record {
   newconstraints = replicate m [];
 }
 
-abbrev pub tables_of : Lent → ℕ → ℕ → ℕ → ℕ → proposal.LentToPropose
-tables_of L k old n m = tables_with (L.edits k) (L.constraints k) (L.edits old) (L.constraints old) n m
+-- what a line asks for
+abbrev pub tables_of : Lent → Proposing → proposal.LentToPropose
+tables_of L asked = tables_with (L.edits asked.lent) (L.constraints asked.lent) (L.edits asked.old) (L.constraints asked.old) asked.edits asked.rules
 
 -- the number of the refusal
-unfoldable pub lent_proposal_fault : Lent → ℕ → ℕ → ℕ → ℕ → ℕ
-lent_proposal_fault L k old n m = cond (is_lent k && is_lent old) (propose_fault (tables_of L k old n m)) 2
+unfoldable pub lent_proposal_fault : Lent → Proposing → ℕ
+lent_proposal_fault L asked = cond (is_lent asked.lent && is_lent asked.old) (propose_fault (tables_of L asked)) 2
 
 -- the new proposal; the empty record where it is refused
-unfoldable pub proposal_made : Lent → ℕ → ℕ → ℕ → ℕ → Record
-proposal_made L k old n m = cond (is_lent k && is_lent old) (new_proposal (tables_of L k old n m)) empty_tables
+unfoldable pub proposal_made : Lent → Proposing → Record
+proposal_made L asked = cond (is_lent asked.lent && is_lent asked.old) (new_proposal (tables_of L asked)) empty_tables

@@ -1,11 +1,13 @@
--- How the nine lent tables of a kind are kept: of each the first rows, as many as it counts. Assumes nothing.
-use Rattle.std.specs.Prelude.{◌≡◌, List, [], ℕ, ◌≤◌, ◌<◌, length, get_or, take}
+-- How the nine lent tables of a kind are kept. Assumes nothing.
+use Rattle.std.specs.Prelude.{◌≡◌, List, [], ℕ, ◌<◌, length, get_or}
+use Rattle.arrayvec.specs.ArrayVec.{ArrayVec}
+use Rattle.record_rows.specs.row.Row.{Row}
 use Rattle.record_rows.specs.grounds.Ground.{Rows}
 use Rattle.log_lent.specs.Lent.{lent_records}
 
-pub record Tables (places : ℕ) (tables : ℕ → Rows) (counts : List ℕ) (kept : List Rows) : Type 0 where
-  pub counted : length counts ≡ lent_records
-  pub few : (k : ℕ) → get_or counts k 0 ≤ places
+abbrev pub no_rows : ArrayVec Row
+no_rows = record { items = [] }
+
+pub record Tables (tables : ℕ → Rows) (kept : List (ArrayVec Row)) : Type 0 where
   pub size : length kept ≡ lent_records
-  pub roomy : (k : ℕ) → k < lent_records → length (get_or kept k []) ≡ places
-  pub rows : (k : ℕ) → k < lent_records → take (get_or counts k 0) (get_or kept k []) ≡ tables k
+  pub rows : (k : ℕ) → k < lent_records → (get_or kept k no_rows).items ≡ tables k

@@ -42,12 +42,12 @@ proposal-checked t z =
     let e : eqb (propose_fault t) 0 ≡ true = eq-eqb (propose_fault t) 0 z in
     rw e (drafted-checked (record_m t) (proposal_q t) (joined-checked (record_m t) t.oldedits t.oldconstraints (lent-checked t.edits t.constraints a.0) b.0) d.0)
 
-pub made-checked : (L : Lent) (k old n m : ℕ) → lent_proposal_fault L k old n m ≡ 0 → Checked (proposal_made L k old n m)
+pub made-checked : (L : Lent) (w : Proposing) → lent_proposal_fault L w ≡ 0 → Checked (proposal_made L w)
 unfolding lent_proposal_fault proposal_made
-made-checked L k old n m z =
-    by (is_lent k && is_lent old)
-    (λ (e : (ltb k 9 && ltb old 9) ≡ true). rw e (proposal-checked (tables_of L k old n m) (rw e at z)))
-    (λ (e : (ltb k 9 && ltb old 9) ≡ false). absurd (let w : ◌≡◌ {A = ℕ} 2 0 = rw e at z in omega arith))
+made-checked L w z =
+    by (is_lent w.lent && is_lent w.old)
+    (λ (e : (ltb w.lent 9 && ltb w.old 9) ≡ true). rw e (proposal-checked (tables_of L w) (rw e at z)))
+    (λ (e : (ltb w.lent 9 && ltb w.old 9) ≡ false). absurd (let w : ◌≡◌ {A = ℕ} 2 0 = rw e at z in omega arith))
 
 module _ (D : Desk) (w : Proposing) where
   -- the calls on the bench stay
@@ -56,10 +56,10 @@ module _ (D : Desk) (w : Proposing) where
   proposal-held b k = record { benched = b ∙ same-calls D (proposal_effect D w).after refl; kept = k }
 
   module _ {lending : Lending} where
-    pub refused-lent : (r : Refusal) → number r ≡ lent_proposal_fault D.lent w.lent w.old w.edits w.rules → Kept D.lent lending → Kept (proposal_effect D w).after.lent lending
+    pub refused-lent : (r : Refusal) → number r ≡ lent_proposal_fault D.lent w → Kept D.lent lending → Kept (proposal_effect D w).after.lent lending
     unfolding proposal_effect
     refused-lent r q K =
-        let n = lent_proposal_fault D.lent w.lent w.old w.edits w.rules in
+        let n = lent_proposal_fault D.lent w in
         let e : eqb n 0 ≡ false = ne_eqb n 0 (λ z. number-positive r (q ∙ z)) in
         rw e K
 
@@ -67,15 +67,15 @@ module _ (D : Desk) (w : Proposing) where
     unfolding proposal_effect
     unkept-lent e K = rw (e, and-false) K
 
-    pub kept-lent : 0 ≡ lent_proposal_fault D.lent w.lent w.old w.edits w.rules → w.keep ≡ true
-        → Kept (with_record D.lent w.old (proposal_made D.lent w.lent w.old w.edits w.rules)) lending → Kept (proposal_effect D w).after.lent lending
+    pub kept-lent : 0 ≡ lent_proposal_fault D.lent w → w.keep ≡ true
+        → Kept (with_record D.lent w.old (proposal_made D.lent w)) lending → Kept (proposal_effect D w).after.lent lending
     unfolding proposal_effect
     kept-lent z k K =
-        let n = lent_proposal_fault D.lent w.lent w.old w.edits w.rules in
+        let n = lent_proposal_fault D.lent w in
         let e : eqb n 0 ≡ true = eq-eqb n 0 (sym z) in
         rw (e, k) K
 
-  pub made-printed : {new : declared.Record} → new ≡ stored (proposal_made D.lent w.lent w.old w.edits w.rules) → {before after : Printer} → Printed (record_text new) before after
+  pub made-printed : {new : declared.Record} → new ≡ stored (proposal_made D.lent w) → {before after : Printer} → Printed (record_text new) before after
       → Printed (proposal_effect D w).text before after
   unfolding proposal_effect
   made-printed q p = rw q at p

@@ -31,8 +31,8 @@ bundle_text b =
 -- THE EFFECT of a line that makes a proposal: kept, an accepted one takes the place of the old one
 unfoldable pub proposal_effect : Desk → Proposing → Effect
 proposal_effect D w =
-    let n = lent_proposal_fault D.lent w.lent w.old w.edits w.rules in
-    let P = proposal_made D.lent w.lent w.old w.edits w.rules in
+    let n = lent_proposal_fault D.lent w in
+    let P = proposal_made D.lent w in
     record {
       number = n;
       after = record { calls = D.calls; lent = cond (eqb n 0 && w.keep) (with_record D.lent w.old P) D.lent };
@@ -66,6 +66,6 @@ vote_effect D (Elect edit) = let E = election_of edit (proposals_of D.lent) D.le
 vote_effect D (Bundle edit k) = let b = bundle_in D.lent k edit in tells D b.number (bundle_text b)
 vote_effect D (Suggest w) =
     let R = (ledger_of D).multilog in
-    tells D (suggestion_fault R w.first w.second w.case) (suggestion_text (suggested_rules_in R w.first w.second w.case))
+    tells D (suggestion_fault R w) (suggestion_text (suggested_rules_in R w))
 vote_effect D (Test k) = tells D (lent_row_fault D.lent k) (test_line (row_sound D.lent k))
 vote_effect D (Winner edit) = let c = count_of edit (proposals_of D.lent) D.lent.roll in tells D c.election.number (winner_text edit c)

@@ -1,19 +1,21 @@
 -- `Lending::lend_seat` meets its contract. Assumes nothing.
-use native.Mathlib.Omega.{arith}
-use Rattle.log_lent.proofs.Settings.{seat-bench, seat-weight, seat-past, seat-lent}
+use mathlib.Core.Path.{◌≡◌}
+use borrow.Author.Rules.{rules}
+use Rattle.refusals.specs.Numbers.{number, number_of}
+use Rattle.log_lent.proofs.Settings.{no-seat, seat-past, seat-lent}
+use Rattle.log_lent.proofs.lent_tables.Rows.{is-full, has-place}
 use Rattle.log_lent.proofs.Lending.lend_seat.Goals as goal
 
-pub returns-in_default : goal.returns-in_default
-returns-in_default c = λ L K. seat-bench K _ _ (omega (arith, c.in_default.ensures))
+pub returns-in_err-seat : goal.returns-in_err-seat
+returns-in_err-seat c =
+    let n : number_of c.from_residual.result ≡ number c.in_err-seat.field-0.0 = search rules in
+    λ L K. rw n (no-seat K _ _ _ c.in_err-seat.ensures.0)
 
-pub returns-in_default-try_from : goal.returns-in_default-try_from
-returns-in_default-try_from c = λ L K. seat-weight K _ _ (omega (arith, c.in_default-try_from.ensures))
+pub returns-then-not-is_full : goal.returns-then-not-is_full
+returns-then-not-is_full c = λ L K.
+    let q = c.in_ok-seat.ensures in
+    let f = c.is_full.ensures in
+    seat-lent K _ _ q.0 q.1 (has-place _ _ f.value f.fits c.if-not-is_full.true) c.push.ensures.items
 
-pub returns-then-n-lt-ROLL_PLACES : goal.returns-then-n-lt-ROLL_PLACES
-returns-then-n-lt-ROLL_PLACES c =
-    let b = c.in-Ok.ensures in
-    let w = c.in-Ok-try_from.ensures in
-    λ L K. rw (b.1, w.1) (seat-lent K _ _ b.0 w.0 c.if-n-lt-ROLL_PLACES.true)
-
-pub returns-else-n-lt-ROLL_PLACES : goal.returns-else-n-lt-ROLL_PLACES
-returns-else-n-lt-ROLL_PLACES c = λ L K. seat-past K _ _ c.in-Ok.ensures.0 c.in-Ok-try_from.ensures.0 c.if-n-lt-ROLL_PLACES.false
+pub returns-else-not-is_full : goal.returns-else-not-is_full
+returns-else-not-is_full c = λ L K. let q = c.in_ok-seat.ensures in seat-past K _ _ q.0 q.1 (is-full _ _ c.is_full.ensures.value c.if-not-is_full.false)

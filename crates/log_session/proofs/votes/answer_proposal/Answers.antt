@@ -29,6 +29,6 @@ returns-then-asked-clause-told c =
     λ D K.
     let s = c.args in
     let g = c.in_ok-new.ensures D.lent K in
-    let v = made-checked D.lent s.asked.lent s.asked.old s.asked.edits s.asked.rules (sym g.0) in
+    let v = made-checked D.lent s.asked (sym g.0) in
     let k = c.lend_record-kept.ensures D.lent _ K g.1 v.editplaces v.constraintplaces in
     (kept-lent D s.asked g.0 c.if-asked.true k.1, g.0, made-printed D s.asked g.1 c.print_record.ensures)

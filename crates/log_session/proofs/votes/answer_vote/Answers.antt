@@ -37,19 +37,19 @@ returns-in_ok-bundle_lent-in-Bundle c =
     let e = c.in_ok-bundle_lent-in-Bundle.ensures D.lent K in
     vote-accepted D c.in-Bundle.is (ap (λ (b : BundleAnswer). b.number) e) (ap bundle_text e) c.print_bundle.ensures
 
-pub returns-in_err-suggested-in-Suggest : goal.returns-in_err-suggested-in-Suggest
+pub returns-in_err-suggest_named-in-Suggest : goal.returns-in_err-suggest_named-in-Suggest
 unfolding vote_effect
-returns-in_err-suggested-in-Suggest c =
+returns-in_err-suggest_named-in-Suggest c =
     λ D K m.
-    let g = c.in_err-suggested-in-Suggest.ensures _ (multilog-stored D m) (ledger-valid D).checked in
-    let r = c.from_residual-in_err-suggested-in-Suggest in
+    let g = c.in_err-suggest_named-in-Suggest.ensures _ (multilog-stored D m) (ledger-valid D).checked in
+    let r = c.from_residual-in_err-suggest_named-in-Suggest in
     vote-refused D c.in-Suggest.is r.result _ c.args.printer.now r.ensures g.0
 
-pub returns-in_ok-suggested-in-Suggest : goal.returns-in_ok-suggested-in-Suggest
+pub returns-in_ok-suggest_named-in-Suggest : goal.returns-in_ok-suggest_named-in-Suggest
 unfolding vote_effect
-returns-in_ok-suggested-in-Suggest c =
+returns-in_ok-suggest_named-in-Suggest c =
     λ D K m.
-    let g = c.in_ok-suggested-in-Suggest.ensures _ (multilog-stored D m) (ledger-valid D).checked in
+    let g = c.in_ok-suggest_named-in-Suggest.ensures _ (multilog-stored D m) (ledger-valid D).checked in
     vote-accepted D c.in-Suggest.is g.0 (ap suggestion_text g.1) c.print_rules.ensures
 
 pub returns-in_err-test_lent-in-Test : goal.returns-in_err-test_lent-in-Test

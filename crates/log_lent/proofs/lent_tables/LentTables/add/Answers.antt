@@ -2,21 +2,17 @@
 use mathlib.Core.Path.{◌≡◌}
 use borrow.Author.Rules.{rules}
 use Rattle.refusals.specs.Numbers.{number_of}
-use Rattle.log_lent.proofs.lent_tables.Rows.{no_record, no-lent-place, row-placed}
+use Rattle.log_lent.proofs.lent_tables.Rows.{is-full, has-place, no_record, no-lent-place, row-placed}
 use Rattle.log_lent.proofs.lent_tables.LentTables.add.Goals as goal
 
 pub returns-in_err-table : goal.returns-in_err-table
 returns-in_err-table g c =
     let e = c.in_err-table.ensures in
     let n : number_of c.from_residual.result ≡ 2 = search rules in
-    λ tables T. rw n (no_record T _ _ e.1)
+    λ tables T. rw n (no_record T _ e.1 _ _)
 
-pub returns-then-n : goal.returns-then-n
-returns-then-n g c =
-    let q = c.in_ok-table.ensures in
-    λ tables T. no-lent-place T _ _ q.1 (rw q.0 at c.if-n.true)
+pub returns-then-is_full : goal.returns-then-is_full
+returns-then-is_full g c = λ tables T. let q = c.in_ok-table.ensures in no-lent-place T q.0 q.1 _ _ _ (is-full _ _ c.is_full.ensures.value c.if-is_full.true)
 
 pub returns : goal.returns
-returns g c =
-    let q = c.in_ok-table.ensures in
-    λ tables T. rw q.0 (row-placed T _ _ q.1 (rw q.0 at c.if-n.false))
+returns g c = λ tables T. let q = c.in_ok-table.ensures in row-placed T q.0 q.1 _ _ _ (has-place _ _ c.is_full.ensures.value c.is_full.ensures.fits c.if-is_full.false) _ c.push.ensures.items
