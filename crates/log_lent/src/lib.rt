@@ -21,11 +21,11 @@ use record::{CONSTRAINTS, EDITS, Record};
 use record_rows::row::{CONSTRAINT_CELLS, ConstraintRow, EDIT_CELLS, EditRow, LentRecord};
 use refusals::Refusal;
 use std::array;
-use voting::RollRow;
+use voting::{BENCHES, RollRow};
 use voting_count::Poll;
 
 // The records that lines lend to, and how many rows of each kind are kept; specs/Lent.antt has the same numbers, and why.
-const RECORDS: usize = 9;
+const RECORDS: usize = BENCHES + 1;
 
 const EDIT_PLACES: usize = EDITS + 1;
 
@@ -33,7 +33,7 @@ const CONSTRAINT_PLACES: usize = CONSTRAINTS + 1;
 
 const ROW_PLACES: usize = EDITS + 2;
 
-const ROLL_PLACES: usize = 9;
+const ROLL_PLACES: usize = BENCHES + 1;
 
 // Kept: "Kept L": a desk's roll may be longer than the nine rows that are kept, so that no view of a Lending gives the desk back.
 // The tables of the nine records; the first rows of the roll; the row to be tested.

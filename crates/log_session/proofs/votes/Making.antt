@@ -69,7 +69,7 @@ module _ (D : Desk) (w : Proposing) where
 
     pub kept-lent : 0 ≡ lent_proposal_fault D.lent w → w.keep ≡ true
         → Kept (with_record D.lent w.old (proposal_made D.lent w)) lending → Kept (proposal_effect D w).after.lent lending
-    unfolding proposal_effect
+    unfolding proposal_effect proposal_made
     kept-lent z k K =
         let n = lent_proposal_fault D.lent w in
         let e : eqb n 0 ≡ true = eq-eqb n 0 (sym z) in
