@@ -38,7 +38,7 @@ module _ (chunk : List ℕ) (filled : ℕ) {whole : ℕ} (l : filled ≤ length 
 
   -- what feeding leaves
   pub record Feeds (memory after : Memory) (rest : ℕ) (later : List ℕ) : Type 0 where
-    pub few : rest ≤ 102
+    pub few : rest ≤ kept_bytes
     pub waits : take rest later ≡ waiting (take filled chunk)
     pub counted : after.line + rest ≤ memory.line + filled
     pub runs : (R : Run) → Ran R memory → Ran (run_lines R (lines (ended (take filled chunk)))) after

@@ -7,7 +7,7 @@ mod memory;
 
 ghost use Rattle.std.specs.Prelude.{◌≡◌, ◌+◌, ◌≤◌, ◌<◌, length, take, IfOk, OnOk};
 ghost use Rattle.text_lines.specs.Lines.{lines};
-ghost use Rattle.stream.specs.Pieces.{ended, waiting};
+ghost use Rattle.stream.specs.Pieces.{kept_bytes, ended, waiting};
 ghost use Rattle.log_session.specs.Desk.{empty_desk};
 ghost use Rattle.log_run.specs.Log.{Run, begun, run_lines, most_lines};
 ghost use Rattle.stdio_log.specs.Streaming.{Ran, Streaming, Streamed, Continued};
@@ -70,7 +70,7 @@ fn feed<T: Fn(&[u8]) -> Result<(), Failed>>(
     requires callable { T.IsAlwaysCallable tell.now }
     requires inside { filled ≤ length chunk.old }
     requires few { memory.old.line + filled ≤ most_lines }
-    ensures { IfOk result (λ rest. (rest ≤ 102) × (take rest chunk.new ≡ waiting (take filled chunk.old))
+    ensures { IfOk result (λ rest. (rest ≤ kept_bytes) × (take rest chunk.new ≡ waiting (take filled chunk.old))
         × (memory.new.line + rest ≤ memory.old.line + filled)
         × ((R : Run) → Ran R memory.old → Ran (run_lines R (lines (ended (take filled chunk.old)))) memory.new)) }
 {
@@ -103,7 +103,7 @@ fn read_all<T: Fn(&[u8]) -> Result<(), Failed>>(
 ) -> Result<usize, Failed>
     requires callable { T.IsAlwaysCallable tell.now }
     requires few { memory.old.line ≤ most_lines }
-    requires chunk_room { 102 < length chunk.old }
+    requires chunk_room { kept_bytes < length chunk.old }
     ensures { IfOk result (λ rest. (rest ≤ length chunk.new) × (memory.new.line + rest ≤ most_lines)
         × ((R : Run) → Ran R memory.old → Streaming R memory.new (take rest chunk.new))) }
 {
