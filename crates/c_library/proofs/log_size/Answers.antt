@@ -6,6 +6,6 @@ use Rattle.c_library.proofs.log_size.Goals as goal
 
 pub returns : goal.returns
 returns c = λ l.
-    let q = two-logs _ _ _ l c.empty.ensures refl refl refl c.run_log.ensures.run c.run_log-2.ensures.run in
+    let q = two-logs _ _ _ l c.empty-session.ensures refl refl refl c.run_log.ensures.run c.run_log-2.ensures.run in
     let same = q.2 in
     (search rules ∙ q.0, c.run_log-2.ensures.place ∙ q.1)
