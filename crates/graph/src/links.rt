@@ -6,7 +6,7 @@ ghost use Rattle.lists.specs.Lists.{mem, ◌among◌, ◌within◌, closure};
 ghost use Rattle.record.specs.Record.{Record, names, notafter};
 ghost use Rattle.record.specs.Schedule.{ring};
 ghost use Rattle.graph.specs.links.Marks.{mark_limit, name_at, marks_of};
-ghost use Rattle.graph.specs.links.Links.{notafter_base, noncommuting_base, key_limit, row_limit, rows_length, left_at, with_row, Safe, Growing, FirstRow, NextRow, LeftEnd, Walks, LinkedByKey, NoRow, SomeRow, Leads};
+ghost use Rattle.graph.specs.links.Links.{notafter_base, noncommuting_base, key_limit, row_limit, rows_length, with_row, Safe, Growing, FirstRow, NextRow, LeftEnd, Walks, NoRow, SomeRow, Leads};
 ghost use Rattle.graph.specs.links.Reach.{Marked};
 ghost use Rattle.graph.specs.links.Reversed.{LinksReversed, Noting, Reversed};
 ghost use Rattle.graph.specs.links.Search.{Visited, VisitedNew};

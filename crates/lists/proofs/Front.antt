@@ -31,10 +31,6 @@ module _ {A : Type 0} (f : A → Bool) where
   filter-length (x ∷ l) = let h = filter-length l in by (f x) (λ e. rw e (omega arith)) (λ e. rw e (omega arith))
 
   module _ (a : List A) (i : ℕ) (d : A) (h : i < length a) where
-    pub all_more : all f (take i a) ≡ true → f (get_or a i d) ≡ true → all f (take (i + 1) a) ≡ true
-    unfolding all
-    all_more n e = rw (take_more a i d h, all_append, n, e)
-
     pub filter-passed : f (get_or a i d) ≡ true → filter f (take (i + 1) a) ≡ filter f (take i a) ++ (get_or a i d ∷ [])
     unfolding filter
     filter-passed e = rw (take_more a i d h, filter-append, e)

@@ -2,7 +2,7 @@
 // are pub for the crates that make bundles; they are safe for any record.
 #![tactic(auto)]
 
-ghost use Rattle.std.specs.Prelude.{◌≡◌, ℕ, ◌+◌, ◌<◌, ◌≤◌, length};
+ghost use Rattle.std.specs.Prelude.{◌≡◌, ◌+◌, ◌<◌, ◌≤◌, length};
 ghost use Rattle.record.specs.Record as theory;
 ghost use Rattle.lists.specs.Lists.{mem, ◌among◌};
 ghost use Rattle.record.specs.Stored.{stored};

@@ -1,4 +1,4 @@
-use Rattle.std.proofs.Common.{ℕ, ◌≡◌, ◌*◌, ◌≤◌, length}
+use Rattle.std.proofs.Common.{◌≡◌, ◌*◌, ◌≤◌, length}
 use Rattle.record.specs.Stored.{stored}
 use Rattle.record.specs.Record.{Record}
 use Rattle.graph.specs.links.Resolved.{Resolved}
