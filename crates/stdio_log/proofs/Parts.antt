@@ -70,6 +70,13 @@ module _ (log : List ℕ) (from next limit : ℕ) {session later : Session} {bef
     pub run-part-inside : before.at ≤ limit → limit + answer_limit ≤ length before.out.now → after.at ≤ limit + answer_limit
     run-part-inside l room = ∥∥₁_elim held le_prop (λ H. (of-part H).near H.bounded (omega (arith, part-size log from)) l room)
 
+    -- they were printed into the same buffer
+    pub run-part-same : before.out.ghost_name ≡ after.out.ghost_name
+    run-part-same =
+        let a : before.out.ghost_name ≤ after.out.ghost_name = ∥∥₁_elim held le_prop (λ H. let e = (of-part H).told.same_reference in omega arith) in
+        let b : after.out.ghost_name ≤ before.out.ghost_name = ∥∥₁_elim held le_prop (λ H. let e = (of-part H).told.same_reference in omega arith) in
+        omega arith
+
 module _ (log : List ℕ) (R : Run) where
   pub up-to-start : {memory : Memory} → Ran R memory → UpTo log R 0 memory.session memory.line
   up-to-start h = record { run = R; rest = refl; holds = h.held; counted = h.counted }

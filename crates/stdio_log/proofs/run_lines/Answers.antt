@@ -1,7 +1,7 @@
 -- `run_lines` meets its contract. Assumes nothing.
 use native.Mathlib.Omega.{arith}
 use borrow.Author.Rules.{rules}
-use Rattle.stdio_log.proofs.Parts.{further, run-part-held, run-part-few, run-part-inside, up-to-start, up-to-next, up-to-end}
+use Rattle.stdio_log.proofs.Parts.{further, run-part-held, run-part-few, run-part-inside, run-part-same, up-to-start, up-to-next, up-to-end}
 use Rattle.stdio_log.proofs.run_lines.Goals as goal
 
 pub loop-from-init : goal.loop-from-init
@@ -30,3 +30,7 @@ returns-in_err-tell-clause-few g c =
 
 pub returns-clause-run : goal.returns-clause-run
 returns-clause-run g c = λ R H. up-to-end _ R (c.loop-from.invariant.2 R H) c.loop-from-test.false
+
+pub shape_of-memory-in-loop-from : goal.shape_of-memory-in-loop-from
+shape_of-memory-in-loop-from g c =
+    run-part-same c.args.log.now c.loop-from.from _ _ (omega (arith, c.loop-from.invariant.1, c.requires.few)) c.run_some-from.ensures.run c.loop-from.memory.held
