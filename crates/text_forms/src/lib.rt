@@ -1,6 +1,8 @@
 // Forms (document 01, "Text"): quoted texts in which `#` stands for a number, `@` for an edit's name and `?` for yes or no, read and
 // written. Public for the crates of this workspace that read and write lines; what they lend is long enough, so the writers require it.
-// Kept: a writer is lent the rest of the output and answers its size, as document 01 has it; a struct of both would be split at each word.
+// Kept: a writer is lent the rest of the output and answers how many bytes it wrote. Its clause (`Written`) then speaks of these bytes alone; a
+// struct of output and place has to say besides what stands before the place, and that it holds the same reference, as a line of the log does
+// once (`Printed` of `log_forms`), and here each word of a line would.
 #![tactic(auto)]
 
 pub mod decimal;
@@ -101,7 +103,7 @@ fn read_mark(mark: u8, bytes: &[u8]) -> Option<Numeral>
     }
 }
 
-// Kept: one call of the library's, named for its clause (get_or .. 0); one for numbers and bytes would be generic and no shorter.
+// Kept: beside `byte_at` of `text_lines`, as is said there.
 // A number that is not there is 0.
 fn number_at(numbers: &[u64], k: usize) -> u64
     ensures { result ≡ get_or numbers.now k 0 }

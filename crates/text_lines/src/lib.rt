@@ -1,7 +1,8 @@
 // The lines of the exchanged text (document 01, "Text") as rows of numbers. Public for the crates of this workspace that read and write
 // texts; these lend what is long enough, so the writers require it.
-// Kept: kinds, fields and rules by number, as document 01 has field numbers matched in the text.
-// Kept: a writer is lent the rest of the output and answers its size, as document 01 has it; a struct of both would be split at each word.
+// Kept: kinds, fields and rules by number: a line is read into a row of numbers, which is judged only afterwards, and a row is written from its
+// numbers, so that one table of forms by number serves both ways, in the code as in the definitions (`edit_form`, `rule_form`).
+// Kept: a writer is lent the rest of the output and answers how many bytes it wrote, as in `text_forms`.
 #![tactic(auto)]
 
 ghost use Rattle.std.specs.Prelude.{◌≡◌, [], ◌∷◌, ◌++◌, ◌+◌, ◌≤◌, ◌==◌, length, drop, get_or, position, ⊤};
@@ -87,7 +88,8 @@ fn read_rule_as(rule: u32, bytes: &[u8]) -> Result<Line, Refusal>
     Ok(Line::Constraint([left, rule, right]))
 }
 
-// Kept: one call of the library's under the name of its clause; one function for it and for the numbers of a form would be no shorter.
+// Kept: beside `number_at` of `text_forms`: one generic function for bytes and numbers would be handed the 0 that stands past the end, at each of
+// the twenty places that call one of the two.
 // The byte at a place of a text, 0 past its end. Pub for the reader of logs.
 pub fn byte_at(bytes: &[u8], i: usize) -> u8
     ensures { result ≡ get_or bytes.now i 0 }
