@@ -110,6 +110,7 @@ fn mark(marks: &mut [u8; NAMES], name: usize)
 }
 
 // The marks of what each element gives, and of INIT.
+// Kept: `F.IsAlwaysCallable` is a clause, since no bound says of a closure that it may be called with every element.
 fn marks_of<T, F: Fn(&T) -> usize>(elements: &[T], name: F) -> [u8; NAMES]
     requires { F.IsAlwaysCallable name }
     ensures { (number : T → ℕ) (good : T → Bool) → ((x : T) (r : ℕ) → FnReturnsAt F.Fn name x r → r ≡ number x)

@@ -103,6 +103,7 @@ fn is_known(proposals: &LentProposals, name: u16) -> bool
 }
 
 // Whether a proposal is sound, where its rows have no fault.
+// Kept: no twin but in shape, one call inside another.
 fn is_sound(proposal: LentRecord) -> bool
     ensures { lent_fault empty_tables proposal.entry.edits.now proposal.entry.constraints.now ≡ 0 → result ≡ sound (decoded proposal.entry.edits.now proposal.entry.constraints.now) }
 {

@@ -89,6 +89,7 @@ fn place_of(groups: &[Group], bundle: &Record) -> Option<usize>
 
 impl Tally {
     // Its groups, without the filler.
+    // Kept: as the slices of a record, one line over a field and its count.
     pub fn group_slice(&self) -> &[Group]
         ensures { result.now ≡ take self.now.count self.now.groups }
     {
