@@ -333,10 +333,9 @@ fn read_row(bytes: &[u8]) -> Result<Command, Refusal>
     }
 }
 
-// Kept: `length bytes.now ≤ line_limit`: as in `text_lines`, for sums of places in the line; a type of short lines would say only that.
 // The record's number ends at `number`.
 fn read_rows(bytes: &[u8], number: usize) -> Result<Command, Refusal>
-    requires { (length bytes.now ≤ line_limit) × (number ≡ 5 + numeral_size (drop 5 bytes.now)) }
+    requires { number ≡ 5 + numeral_size (drop 5 bytes.now) }
     ensures { result ≡ read_starting "lent=# rows=" bytes.now }
 {
     let letter = text_lines::byte_at(bytes, number + 6);
@@ -393,6 +392,7 @@ fn lent_number(bytes: &[u8]) -> Option<Numeral>
 }
 
 // A line of the exchanged text after a record's number.
+// Kept: `length bytes.now ≤ line_limit`: what stands after the number is read as a line with a limit of its own, which it then cannot pass.
 fn read_lent_line(bytes: &[u8]) -> Result<Command, Refusal>
     requires { length bytes.now ≤ line_limit }
     ensures { result ≡ lent_line_read bytes.now }

@@ -20,7 +20,6 @@ use Rattle.text_forms.proofs.decimal.Parts.{part_to_end}
 use Rattle.text_forms.proofs.decimal.Laws.{number_short}
 use Rattle.text_forms.proofs.decimal.RoundTrip.{size-nothing}
 use Rattle.text_forms.specs.Spelling.{bytes}
-use Rattle.text_lines.specs.Line.{line_limit}
 use Rattle.text_forms.specs.Form.{is_mark, spelling, more, begins_with, taken}
 use Rattle.text_forms.proofs.Lawful.{lawful}
 use Rattle.text_forms.proofs.Forms.{mark-taken, mark-missing, byte-taken, byte-missing, plain}
@@ -197,5 +196,6 @@ module _ (s : List ℕ) (from : ℕ) where
     pub number-ends : from ≤ length s → (from + numeral.size ≡ from + numeral_size (drop from s)) × (from + numeral.size ≤ from + length s)
     number-ends h = (ap (λ (n : ℕ). from + n) number_size, omega (arith, number-inside h))
 
-pub name-near : (s : List ℕ) (name : ℕ) → length s ≤ line_limit → name ≡ 5 + numeral_size (drop 5 s) → name ≤ 106
-name-near s name h e = omega (arith, number_short (drop 5 s), length-drop 5 s)
+-- where a number ends that starts at `from`, and the end of the text
+pub number-near : (s : List ℕ) (from : ℕ) {end : ℕ} → end ≡ from + numeral_size (drop from s) → end ≤ from + (length s - from)
+number-near s from e = omega (arith, number_short (drop from s), length-drop from s)

@@ -110,11 +110,9 @@ pub fn number_end(bytes: &[u8], from: usize) -> usize
     }
 }
 
-// Kept: `length bytes.now ≤ line_limit`: here and in the reader of logs it stands beside facts about letters of the same line, which a type of
-// short lines would not say, so that each contract would keep its `requires`.
 // Set, by the letter after `field=`; the name ends at `name`.
 fn read_set(bytes: &[u8], name: usize) -> Result<Line, Refusal>
-    requires { (length bytes.now ≤ line_limit) × (name ≡ 5 + numeral_size (drop 5 bytes.now)) × (get_or bytes.now 2 0 ≡ 105) × (get_or bytes.now (name + 4) 0 ≡ 115) }
+    requires { (name ≡ 5 + numeral_size (drop 5 bytes.now)) × (get_or bytes.now 2 0 ≡ 105) × (get_or bytes.now (name + 4) 0 ≡ 115) }
     ensures { result ≡ read_by shapes bytes.now }
 {
     let chip = number_end(bytes, name + 13);
@@ -130,7 +128,7 @@ fn read_set(bytes: &[u8], name: usize) -> Result<Line, Refusal>
 
 // An edit, by the letter after `do=`.
 fn read_edit(bytes: &[u8]) -> Result<Line, Refusal>
-    requires { (length bytes.now ≤ line_limit) × (get_or bytes.now 2 0 ≡ 105) }
+    requires { get_or bytes.now 2 0 ≡ 105 }
     ensures { result ≡ read_by shapes bytes.now }
 {
     let name = number_end(bytes, 5);
@@ -145,7 +143,7 @@ fn read_edit(bytes: &[u8]) -> Result<Line, Refusal>
 
 // A constraint, by its rule's third letter.
 fn read_rule(bytes: &[u8]) -> Result<Line, Refusal>
-    requires { (length bytes.now ≤ line_limit) × (get_or bytes.now 2 0 ≡ 102) }
+    requires { get_or bytes.now 2 0 ≡ 102 }
     ensures { result ≡ read_by shapes bytes.now }
 {
     let name = number_end(bytes, 5);

@@ -8,10 +8,10 @@ pub returns-then-bytes-gt-LINE_LIMIT : goal.returns-then-bytes-gt-LINE_LIMIT
 returns-then-bytes-gt-LINE_LIMIT c = too_long c.args.bytes.now c.if-bytes-gt-LINE_LIMIT.true refl
 
 pub read_edit-requires : goal.read_edit-requires
-read_edit-requires c = (c.if-bytes-gt-LINE_LIMIT.false, sym c.byte_at-third.ensures ∙ c.in-105.is)
+read_edit-requires c = sym c.byte_at-third.ensures ∙ c.in-105.is
 
 pub read_rule-requires : goal.read_rule-requires
-read_rule-requires c = (c.if-bytes-gt-LINE_LIMIT.false, sym c.byte_at-third.ensures ∙ c.in-102.is)
+read_rule-requires c = sym c.byte_at-third.ensures ∙ c.in-102.is
 
 pub returns-in-105 : goal.returns-in-105
 returns-in-105 c = whole c.args.bytes.now c.if-bytes-gt-LINE_LIMIT.false c.read_edit.ensures
