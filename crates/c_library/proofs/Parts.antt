@@ -12,7 +12,7 @@ use Rattle.log_forms.specs.Printed.{Buffer, with_texts, PrintedLines}
 use Rattle.log_session.specs.declared.Session.{Session}
 use Rattle.log_session.specs.Desk.{Desk, empty_desk}
 use Rattle.log_session.specs.calls.Lines.{Holds}
-use Rattle.log_run.specs.Log.{begun, run_lines, log_run}
+use Rattle.log_run.specs.Log.{begun, run_lines, log_run, most_lines}
 use Rattle.log_run.proofs.Runs.{prefixed, run-count, run-after}
 use Rattle.log_run.proofs.Kept.{kept_run}
 use Rattle.c_library.specs.Replies.{texts_after, worked}
@@ -23,10 +23,10 @@ Ran log D before session after =
     let R = run_lines (begun D before.line) (lines log) in
     Holds R.desk session × (after.line ≡ R.count) × PrintedLines R.printed before after
 
-module _ (kept log work : List ℕ) (few : length kept + length log ≤ 4611686018427387904) {start_session held last_session : Session} {first middle last : Printer}
+module _ (kept log work : List ℕ) (few : length kept + length log ≤ most_lines) {start_session held last_session : Session} {first middle last : Printer}
     (h : Holds empty_desk start_session) (w : first.out.now ≡ work) (a : first.at ≡ 0) (l : first.line ≡ 0)
-    (f : (D : Desk) → Holds D start_session → first.line + length kept ≤ 4611686018427387904 → Ran kept D first held middle)
-    (g : (D : Desk) → Holds D held → middle.line + length log ≤ 4611686018427387904 → Ran log D (record middle { at = 0 }) last_session last) where
+    (f : (D : Desk) → Holds D start_session → first.line + length kept ≤ most_lines → Ran kept D first held middle)
+    (g : (D : Desk) → Holds D held → middle.line + length log ≤ most_lines → Ran log D (record middle { at = 0 }) last_session last) where
   first_run : Ran kept empty_desk (record first { line = 0 }) held middle
   first_run = rw l at (f empty_desk h (omega (arith, l)))
 

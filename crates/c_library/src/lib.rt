@@ -6,6 +6,7 @@ ghost use Rattle.std.specs.Prelude.{◌≡◌, [], map, ◌+◌, ◌≤◌, leng
 ghost use Rattle.text.specs.Text.{read_text};
 ghost use Rattle.text_report.specs.Report.{reported_out};
 ghost use Rattle.unity_table.specs.Unity.{weights_of, unity_of, answer_told};
+ghost use Rattle.log_run.specs.Log.{most_lines};
 ghost use Rattle.c_library.specs.Replies.{placed_reply, told_reply, unity_reply, reported_reply, checked_reply, rewritten_reply, rewritten_out, answers_to, answers_after, answered_reply, answered_out, worked};
 
 use fraction::Fraction;
@@ -144,7 +145,7 @@ struct Logs<'a> {
 
 // The place after the answers in work. What the kept log printed there is written over.
 fn log_size(logs: Logs, work: &mut [u8]) -> usize
-    ensures { length logs.entry.kept.now + length logs.entry.log.now ≤ 4611686018427387904
+    ensures { length logs.entry.kept.now + length logs.entry.log.now ≤ most_lines
         → (work.new ≡ (worked logs.entry.kept.now logs.entry.log.now work.old).bytes)
         × (result ≡ (worked logs.entry.kept.now logs.entry.log.now work.old).place) }
 {
@@ -162,7 +163,7 @@ fn log_size(logs: Logs, work: &mut [u8]) -> usize
 // A kept log is run from an empty bench, then the log that follows it, into work; where work and out are long enough, the answers to the
 // second are copied to the start of out.
 fn answered(logs: Logs, work: &mut [u8], out: &mut [u8]) -> Result<usize, Refusal>
-    ensures { length logs.entry.kept.now + length logs.entry.log.now ≤ 4611686018427387904
+    ensures { length logs.entry.kept.now + length logs.entry.log.now ≤ most_lines
         → (placed_reply result ≡ answered_reply (answers_after logs.entry.kept.now logs.entry.log.now) work.old out.old)
         × (out.new ≡ answered_out (answers_after logs.entry.kept.now logs.entry.log.now) work.old out.old)
         × (work.new ≡ (worked logs.entry.kept.now logs.entry.log.now work.old).bytes) }
@@ -178,7 +179,7 @@ fn answered(logs: Logs, work: &mut [u8], out: &mut [u8]) -> Result<usize, Refusa
 // THE ANSWERS to a call log from an empty bench, at the start of out. Refused with 12, out stays as it was. Work has the answers, up to the first
 // text of them that does not fit.
 pub fn catalogue_replay(log: &[u8], work: &mut [u8], out: &mut [u8]) -> Reply
-    ensures { length log.now ≤ 4611686018427387904
+    ensures { length log.now ≤ most_lines
         → (result ≡ answered_reply (answers_to log.now) work.old out.old)
         × (out.new ≡ answered_out (answers_to log.now) work.old out.old)
         × (work.new ≡ (worked [] log.now work.old).bytes) }
@@ -189,7 +190,7 @@ pub fn catalogue_replay(log: &[u8], work: &mut [u8], out: &mut [u8]) -> Reply
 
 // The answers to the lines that follow a kept log, which is how a bench is kept between calls.
 pub fn catalogue_continue(kept: &[u8], log: &[u8], work: &mut [u8], out: &mut [u8]) -> Reply
-    ensures { length kept.now + length log.now ≤ 4611686018427387904
+    ensures { length kept.now + length log.now ≤ most_lines
         → (result ≡ answered_reply (answers_after kept.now log.now) work.old out.old)
         × (out.new ≡ answered_out (answers_after kept.now log.now) work.old out.old)
         × (work.new ≡ (worked kept.now log.now work.old).bytes) }

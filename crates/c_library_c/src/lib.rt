@@ -5,6 +5,7 @@ ghost use Rattle.std.specs.Prelude.{◌≡◌, [], map, ◌+◌, ◌≤◌, leng
 ghost use Rattle.text.specs.Text.{read_text};
 ghost use Rattle.text_report.specs.Report.{reported_out};
 ghost use Rattle.unity_table.specs.Unity.{weights_of, unity_of};
+ghost use Rattle.log_run.specs.Log.{most_lines};
 ghost use Rattle.c_library.specs.Replies.{unity_reply, reported_reply, checked_reply, rewritten_reply, rewritten_out, answers_to, answers_after, answered_reply, answered_out, worked};
 
 use c_library::{Reply, Unity};
@@ -35,7 +36,7 @@ pub extern "C" fn catalogue_rewrite(text: &[u8], out: &mut [u8]) -> Reply
 
 #[unsafe(no_mangle)]
 pub extern "C" fn catalogue_replay(log: &[u8], work: &mut [u8], out: &mut [u8]) -> Reply
-    ensures { length log.now ≤ 4611686018427387904
+    ensures { length log.now ≤ most_lines
         → (result ≡ answered_reply (answers_to log.now) work.old out.old)
         × (out.new ≡ answered_out (answers_to log.now) work.old out.old)
         × (work.new ≡ (worked [] log.now work.old).bytes) }
@@ -50,7 +51,7 @@ pub extern "C" fn catalogue_continue(
     work: &mut [u8],
     out: &mut [u8],
 ) -> Reply
-    ensures { length kept.now + length log.now ≤ 4611686018427387904
+    ensures { length kept.now + length log.now ≤ most_lines
         → (result ≡ answered_reply (answers_after kept.now log.now) work.old out.old)
         × (out.new ≡ answered_out (answers_after kept.now log.now) work.old out.old)
         × (work.new ≡ (worked kept.now log.now work.old).bytes) }

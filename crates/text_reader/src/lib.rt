@@ -87,7 +87,7 @@ struct RowsRead {
 }
 
 impl Model for RowsRead {
-    ghost use Rattle.std.specs.Prelude.{◌≡◌, take};
+    ghost use Rattle.std.specs.Prelude.{take};
     ghost use Rattle.text_reader.specs.Held.{HeldRows, EditsHeld, ConstraintsHeld};
 
     ghost Value = { HeldRows };
