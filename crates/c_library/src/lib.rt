@@ -150,11 +150,7 @@ fn log_size(logs: Logs, work: &mut [u8]) -> usize
         × (result ≡ (worked logs.entry.kept.now logs.entry.log.now work.old).place) }
 {
     let mut session = Session::empty();
-    let mut printer = Printer {
-        out: work,
-        at: 0,
-        line: 0,
-    };
+    let mut printer = Printer::new(work, 0);
     log_run::run_log(&mut printer, &mut session, logs.kept);
     printer.at = 0;
     log_run::run_log(&mut printer, &mut session, logs.log)

@@ -29,9 +29,8 @@ pub fn print_refusal(printer: &mut Printer<'_>, refusal: Refusal)
 pub fn print_text(printer: &mut Printer<'_>, content: &Record)
     ensures { Printed (text_of (record_of content.now) ∷ []) printer.old printer.new }
 {
-    let past = printer.out.len() + 1;
     let end = text_writer::write_text(*content, printer.out, printer.at);
-    printer.at = end.unwrap_or(past);
+    printer.place_at(end);
 }
 
 // Prints the counts of a record, then its text.
@@ -47,18 +46,6 @@ pub fn print_record(printer: &mut Printer<'_>, content: &Record)
 pub fn print_report(printer: &mut Printer<'_>, content: &Record)
     ensures { (R : theory.Record) → content.now ≡ stored R → Checked R → Printed (report_of R ∷ []) printer.old printer.new }
 {
-    let size = printer.out.len();
-    if size < printer.at {
-        printer.at = size + 1;
-        return;
-    }
-    let Ok(end) = text_report::report_record(*content, &mut printer.out[printer.at..]) else {
-        printer.at = size + 1;
-        return;
-    };
-    if size - printer.at < end {
-        printer.at = size + 1;
-        return;
-    }
-    printer.at += end;
+    let end = text_report::report_record(*content, printer.out, printer.at);
+    printer.place_at(end);
 }

@@ -10,55 +10,37 @@ use borrow.Author.Tests.{le-leb, lt-leb, leb-true, leb-false}
 use lib.Dec.{leb}
 use lib.ListN.{length, get_or, take, drop, length-append, length-drop, take-append-drop}
 use lib.Seq.{take_all, take-suc, drop-drop, length-take-le}
-use Rattle.lists.proofs.Lists.{le-by}
+use Rattle.std.specs.Prelude.{Result, Ok, Err}
+use Rattle.std.specs.Result.{result_unwrap_or}
+use Rattle.lists.proofs.Lists.{by, le-by}
+use Rattle.refusals.specs.declared.Refusal.{Refusal}
 use Rattle.text_forms.specs.decimal.Written.{Written}
 use Rattle.text_forms.proofs.decimal.Parts.{part-written}
 use Rattle.text_forms.proofs.Filling.{front_of, back-of}
 use Rattle.text.specs.Text.{joined_lines}
-use Rattle.text_writer.specs.Placed.{fits_at, placed}
-use Rattle.log_forms.specs.Printed.{Texts, Buffer, with_text, with_texts, PrintedInto, Printed, PrintedLines, texts_from}
+use Rattle.text_writer.specs.Placed.{fits_at, placed, placing}
+use Rattle.log_forms.specs.Printed.{Texts, after_text, Buffer, with_text, with_texts, PrintedInto, Printed, PrintedLines, texts_from}
 use Rattle.log_forms.specs.declared.Printer.{Printer}
 
--- a printer that has moved on in its buffer
-abbrev pub moved : Printer → List ℕ → ℕ → Printer
-moved p bytes place = record p { out = record p.out { now = bytes }; at = place }
+-- the buffer keeps its size
+placed-size : (text : List ℕ) (at : ℕ) (out : List ℕ) → length (placed text at out) ≡ length out
+unfolding placed
+placed-size text at out =
+    le-by (at + length text) (length out)
+    (λ h.
+    let t : length (take at out) ≡ at = length-take-le at out (omega arith) in
+    rw (le-leb (at + length text) (length out) h, length-append, length-append, length-drop, t) (omega arith))
+    (λ h. rw (lt-leb (at + length text) (length out) h) refl)
 
--- a printer that is past the end
-abbrev pub past_end : Printer → Printer
-past_end p = record p { at = length p.out.now + 1 }
-
--- one text at a place where it fits, and where it does not
-module _ (text : List ℕ) (p : Printer) where
-  printed-one : {bytes : List ℕ} {place : ℕ} → bytes ≡ placed text p.at p.out.now → place ≡ cond (fits_at text p.at p.out.now) (p.at + length text) (suc (length p.out.now))
-      → Printed (text ∷ []) p (moved p bytes place)
-  unfolding with_texts with_text
-  printed-one b e = record { into = record { buffer = λ i. record { bytes = b i; place = e i } }; line = refl; same_reference = refl }
-
-  pub form-printed-fits : {bytes : List ℕ} {place : ℕ} → p.at + length text ≤ length p.out.now → place ≡ p.at + length text
-      → bytes ≡ take p.at p.out.now ++ (text ++ drop (p.at + length text) p.out.now) → Printed (text ∷ []) p (moved p bytes place)
-  unfolding placed
-  form-printed-fits h e b =
-      let q : leb (p.at + length text) (length p.out.now) ≡ true = le-leb (p.at + length text) (length p.out.now) h in
-      printed-one (rw q b) (rw q e)
-
-  pub printed-over : {bytes : List ℕ} {place : ℕ} → length p.out.now < p.at + length text → place ≡ suc (length p.out.now) → bytes ≡ p.out.now → Printed (text ∷ []) p (moved p bytes place)
-  unfolding placed
-  printed-over h e b =
-      let q : leb (p.at + length text) (length p.out.now) ≡ false = lt-leb (p.at + length text) (length p.out.now) h in
-      printed-one (rw q b) (rw q e)
-
-  pub printed-past : length p.out.now < p.at → Printed (text ∷ []) p (past_end p)
-  printed-past h = printed-over (omega arith) (omega arith) refl
-
-  module _ (near : p.at ≤ length p.out.now) where
-    pub printed-none : leb (length text) (length p.out.now - p.at) ≡ false → Printed (text ∷ []) p (past_end p)
-    printed-none h = printed-over (omega (arith, leb-false (length text) (length p.out.now - p.at) h)) (omega arith) refl
-
-    pub printed-there : {r : ℕ} {part : List ℕ} → leb (length text) (length p.out.now - p.at) ≡ true → Written text (take (length p.out.now - p.at) (drop p.at p.out.now)) r part
-        → Printed (text ∷ []) p (moved p (take p.at p.out.now ++ (part ++ drop (length p.out.now - p.at) (drop p.at p.out.now))) (p.at + r))
-    printed-there {r} {part} h w =
-        let n : p.at + length text ≤ length p.out.now = omega (arith, near, leb-true (length text) (length p.out.now - p.at) h) in
-        form-printed-fits n (rw w.0) (part-written p.at p.out.now part text n w.1)
+-- a text that was placed where it fits, and the place after it
+pub text-printed : (text : List ℕ) (p : Printer) {w : Result ℕ Refusal} {bytes : List ℕ} → w ≡ placing text p.at p.out.now → bytes ≡ placed text p.at p.out.now
+    → Printed (text ∷ []) p (after_text w (record p { out = record p.out { now = bytes } }))
+unfolding with_texts with_text placing
+text-printed text p {w} {bytes} e b =
+    let size : length bytes ≡ length p.out.now = ap length b ∙ placed-size text p.at p.out.now in
+    let q : result_unwrap_or w (suc (length bytes)) ≡ cond (fits_at text p.at p.out.now) (p.at + length text) (suc (length p.out.now)) =
+    rw (e, size) (by (fits_at text p.at p.out.now) (λ h. rw h refl) (λ h. rw h refl)) in
+    record { into = record { buffer = λ i. record { bytes = b i; place = q i } }; line = refl; same_reference = refl }
 
 -- the texts of a printing may be said by equal ones
 pub printed-as : {texts other : Texts} {before after : Printer} → texts ≡ other → Printed texts before after → Printed other before after
@@ -90,15 +72,6 @@ pub lines-next : {s t : Texts} {before middle after : Printer} {n : ℕ} → Pri
 lines-next p q = record { into = into-both p.into q.into; same_reference = q.same_reference ∙ p.same_reference }
 
 -- the buffer keeps its size
-placed-size : (text : List ℕ) (at : ℕ) (out : List ℕ) → length (placed text at out) ≡ length out
-unfolding placed
-placed-size text at out =
-    le-by (at + length text) (length out)
-    (λ h.
-    let t : length (take at out) ≡ at = length-take-le at out (omega arith) in
-    rw (le-leb (at + length text) (length out) h, length-append, length-append, length-drop, t) (omega arith))
-    (λ h. rw (lt-leb (at + length text) (length out) h) refl)
-
 pub texts-size : (b : Buffer) (texts : Texts) → length (with_texts b texts).bytes ≡ length b.bytes
 unfolding with_texts with_text
 texts-size b [] = refl

@@ -3,9 +3,11 @@
 
 pub mod productions;
 
-ghost use Rattle.std.specs.Prelude.{[], ◌∷◌};
+ghost use Rattle.std.specs.Prelude.{◌≡◌, [], ◌∷◌};
 ghost use Rattle.text_forms.specs.Form.{fill};
-ghost use Rattle.log_forms.specs.Printed.{Printed};
+ghost use Rattle.log_forms.specs.Printed.{new_printer, after_text, Printed};
+
+use refusals::Refusal;
 
 // Kept: `at` is past the end after a text that did not fit, as with_text has it; an Option would lose that no later text is written.
 // What is printed: the buffer, the place after what stands in it, past the end where a text did not fit, and the number of the line that is
@@ -17,16 +19,26 @@ pub struct Printer<'a> {
     pub line: usize,
 }
 
-impl Printer<'_> {
-    // Prints a form with these numbers, where it fits; where it does not, the place goes past the end. Pub for the crates that print answers.
+impl<'a> Printer<'a> {
+    // At the start of a buffer. Pub for the crates that run a log.
+    pub fn new(out: &'a mut [u8], line: usize) -> Printer<'a>
+        ensures { result ≡ new_printer out.entry line }
+    {
+        Printer { out, at: 0, line }
+    }
+
+    // The place after a text: its end, or past the end of the buffer where it did not fit. Pub for the crates that print answers, as below.
+    pub fn place_at(&mut self, end: Result<usize, Refusal>)
+        ensures { self.new ≡ after_text end self.old }
+    {
+        self.at = end.unwrap_or(self.out.len() + 1);
+    }
+
+    // Prints a form with these numbers, where it fits.
     pub fn print(&mut self, form: &[u8], numbers: &[u64])
         ensures { Printed (fill form.now numbers.now ∷ []) self.old self.new }
     {
-        let size = self.out.len();
-        if size < self.at || !text_forms::form_fits(form, numbers, size - self.at) {
-            self.at = size + 1;
-            return;
-        }
-        self.at += text_forms::write_form(&mut self.out[self.at..], form, numbers);
+        let end = text_writer::place_form(form, numbers, self.out, self.at);
+        self.place_at(end);
     }
 }

@@ -9,12 +9,7 @@ use refusals::Refusal;
 fn words_kept(numbers: [u64; 8]) -> Result<[u32; 8], Refusal>
     ensures { result ≡ words_kept numbers }
 {
-    let mut words = [0u32; 8];
-    for (i, n) in numbers.iter().enumerate() {
-        let word = text_lines::word(*n)?;
-        words[i] = word;
-    }
-    Ok(words)
+    numbers.try_map(text_lines::word)
 }
 
 // The numbers with which this form gives the bytes.

@@ -46,11 +46,7 @@ fn run_lines<T: Fn(&[u8]) -> Result<(), Failed>>(
 {
     let mut from = 0;
     while from < log.len() {
-        let mut printer = Printer {
-            out: &mut memory.out,
-            at: 0,
-            line: memory.line,
-        };
+        let mut printer = Printer::new(&mut memory.out, memory.line);
         from += log_run::run_some(&mut printer, &mut memory.session, &log[from..], LIMIT);
         let end = printer.at;
         memory.line = printer.line;

@@ -40,11 +40,11 @@ module _ (content : declared.Record) (R : Record) (e : content ≡ stored R) (k 
       let w : map line_text (take (length edits) lines) ≡ map (fill report_form) (map (report_numbers R) (written R)) = ap (map line_text) g ∙ rw (t, q) (lines-are R) in
       rw (w, t, u)
 
-  pub report-placed : (before : List ℕ) {w : Result ℕ Refusal} {after : List ℕ}
-      → w ≡ placing (fill counts_form (length edits ∷ length constraints ∷ []) ++ joined_lines (map line_text (take (length edits) lines))) 0 before
-      → after ≡ placed (fill counts_form (length edits ∷ length constraints ∷ []) ++ joined_lines (map line_text (take (length edits) lines))) 0 before
-      → (w ≡ placing (report_of R) 0 before) × (after ≡ placed (report_of R) 0 before)
-  report-placed before p q = (rw report-is at p, rw report-is at q)
+  pub report-placed : (before : List ℕ) (at : ℕ) {w : Result ℕ Refusal} {after : List ℕ}
+      → w ≡ placing (fill counts_form (length edits ∷ length constraints ∷ []) ++ joined_lines (map line_text (take (length edits) lines))) at before
+      → after ≡ placed (fill counts_form (length edits ∷ length constraints ∷ []) ++ joined_lines (map line_text (take (length edits) lines))) at before
+      → (w ≡ placing (report_of R) at before) × (after ≡ placed (report_of R) at before)
+  report-placed before at p q = (rw report-is at p, rw report-is at q)
 
 module _ (text out : List ℕ) where
   -- a refused text

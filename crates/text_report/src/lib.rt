@@ -99,27 +99,32 @@ fn write_report(out: &mut [u8], counts: &[u64], lines: &[ReportLine]) -> usize
     at + text_writer::write_lines(&mut out[at..], lines)
 }
 
-// Writes a report to the start of out where it fits. Refused, out stays as it was.
-fn place_report(out: &mut [u8], counts: &[u64], lines: &[ReportLine]) -> Result<usize, Refusal>
-    ensures answer { result ≡ placing (fill counts_form counts.now ++ joined_lines (map line_text lines.now)) 0 out.old }
-    ensures bytes { out.new ≡ placed (fill counts_form counts.now ++ joined_lines (map line_text lines.now)) 0 out.old }
+// Writes a report at a place of out, where it fits. Refused, out stays as it was.
+fn place_report(
+    counts: &[u64],
+    lines: &[ReportLine],
+    out: &mut [u8],
+    at: usize,
+) -> Result<usize, Refusal>
+    ensures answer { result ≡ placing (fill counts_form counts.now ++ joined_lines (map line_text lines.now)) at out.old }
+    ensures bytes { out.new ≡ placed (fill counts_form counts.now ++ joined_lines (map line_text lines.now)) at out.old }
 {
-    if !report_fits(counts, lines, out.len()) {
+    if out.len() < at || !report_fits(counts, lines, out.len() - at) {
         return Err(Refusal::NoRoom);
     }
-    Ok(write_report(&mut out[..], counts, lines))
+    Ok(at + write_report(&mut out[at..], counts, lines))
 }
 
-// Writes the report of a sound record in memory to the start of out.
-pub fn report_record(content: Record, out: &mut [u8]) -> Result<usize, Refusal>
-    ensures { (R : theory.Record) → content ≡ stored R → Checked R → (result ≡ placing (report_of R) 0 out.old) × (out.new ≡ placed (report_of R) 0 out.old) }
+// Writes the report of a sound record in memory at a place of out, where it fits.
+pub fn report_record(content: Record, out: &mut [u8], at: usize) -> Result<usize, Refusal>
+    ensures { (R : theory.Record) → content ≡ stored R → Checked R → (result ≡ placing (report_of R) at out.old) × (out.new ≡ placed (report_of R) at out.old) }
 {
     let edits = content.edit_slice();
     let n = edits.len();
     let m = content.constraint_slice().len();
     let judged = judgement::judge(content);
     let lines = report_lines(edits, &judged);
-    place_report(&mut out[..], &[n as u64, m as u64], &lines[..n])
+    place_report(&[n as u64, m as u64], &lines[..n], &mut out[..], at)
 }
 
 // Writes the report of a text to the start of out. Refused, out stays as it was.
@@ -128,7 +133,7 @@ pub fn report_text(text: &[u8], out: &mut [u8]) -> Result<usize, Fault>
     ensures bytes { out.new ≡ reported_out (read_text text.now) out.old }
 {
     let content = text_reader::read_text(text)?;
-    let size = report_record(content, &mut out[..])?;
+    let size = report_record(content, &mut out[..], 0)?;
     Ok(size)
 }
 
@@ -138,7 +143,7 @@ pub fn refusal_line(number: u32, line: usize, out: &mut [u8]) -> Result<usize, R
     ensures bytes { out.new ≡ placed (refusal_line number line) 0 out.old }
 {
     let numbers = [u64::from(number), line as u64];
-    text_writer::place_form(REFUSAL_FORM, &numbers, &mut out[..])
+    text_writer::place_form(REFUSAL_FORM, &numbers, &mut out[..], 0)
 }
 
 // Writes what is printed of a text, its report or its refusal, to the start of out where it fits.
@@ -147,7 +152,7 @@ pub fn print_text(text: &[u8], out: &mut [u8]) -> Result<usize, Refusal>
     ensures bytes { out.new ≡ placed (printed (read_text text.now)) 0 out.old }
 {
     match text_reader::read_text(text) {
-        Ok(content) => report_record(content, &mut out[..]),
+        Ok(content) => report_record(content, &mut out[..], 0),
         Err(fault) => refusal_line(fault.refusal.number(), fault.line, &mut out[..]),
     }
 }

@@ -46,17 +46,6 @@ module _ (text out : List ℕ) where
   unfolding placing
   start-enough n p q = rw (le-leb (0 + length text) (length out) (omega arith), zero-add)
 
-  module _ {fits : Bool} (e : fits ≡ leb (length text) (length out)) where
-    pub start_none : fits ≡ false → (Err NoRoom ≡ placing text 0 out) × (out ≡ placed text 0 out)
-    start_none h = not-placed 0 (omega (arith, leb-false (length text) (length out) (sym e ∙ h)))
-
-    module _ (h : fits ≡ true) where
-      pub start-room : length text ≤ length out
-      start-room = leb-true (length text) (length out) (sym e ∙ h)
-
-      pub start-written : {r : ℕ} {after : List ℕ} → Written text out r after → (Ok r ≡ placing text 0 out) × (after ≡ placed text 0 out)
-      start-written w = is-placed 0 (omega (arith, start-room)) (w.0 ∙ sym (zero-add (length text))) (w.1 ∙ rw (zero-add (length text)))
-
 -- what is written ends inside the output
 pub placed-inside : (text out : List ℕ) (at : ℕ) {end : ℕ} {after : List ℕ} → Ok end ≡ placing text at out → after ≡ placed text at out → end ≤ length after
 unfolding placing placed

@@ -79,15 +79,20 @@ pub fn write_lines<T: Lined>(out: &mut [u8], elements: &[T]) -> usize
     at
 }
 
-// Writes a form with these numbers to the start of out where it fits. Refused, out stays as it was. Pub for the crates that print one line.
-pub fn place_form(form: &[u8], numbers: &[u64], out: &mut [u8]) -> Result<usize, Refusal>
-    ensures answer { result ≡ placing (fill form.now numbers.now) 0 out.old }
-    ensures bytes { out.new ≡ placed (fill form.now numbers.now) 0 out.old }
+// Writes a form with these numbers at a place of out, where it fits. Refused, out stays as it was. Pub for the crates that print one line.
+pub fn place_form(
+    form: &[u8],
+    numbers: &[u64],
+    out: &mut [u8],
+    at: usize,
+) -> Result<usize, Refusal>
+    ensures answer { result ≡ placing (fill form.now numbers.now) at out.old }
+    ensures bytes { out.new ≡ placed (fill form.now numbers.now) at out.old }
 {
-    if !text_forms::form_fits(form, numbers, out.len()) {
+    if out.len() < at || !text_forms::form_fits(form, numbers, out.len() - at) {
         return Err(Refusal::NoRoom);
     }
-    Ok(text_forms::write_form(&mut out[..], form, numbers))
+    Ok(at + text_forms::write_form(&mut out[at..], form, numbers))
 }
 
 // Whether the text of a record takes at most so many bytes.

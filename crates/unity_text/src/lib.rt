@@ -67,5 +67,6 @@ pub fn print_unity(text: &[u8], out: &mut [u8]) -> Result<usize, Refusal>
         b"mean=#/# least=#/# greatest=#/# won=# empty=#\n",
         &numbers,
         &mut out[..],
+        0,
     )
 }
