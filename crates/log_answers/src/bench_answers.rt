@@ -8,6 +8,7 @@ ghost use Rattle.log_answers.specs.bench_answers.Asks.{hides, hidden_line, hidde
 // Kept: `bench`, `printer`: what is asked of and where it is printed meet in a question alone; a struct of both would be made for each.
 
 use catalogue::{CELLS, Cell, Entry, PAGES, PLACES};
+use graph::links::Marks;
 use ledger::Bench;
 use log_forms::Printer;
 use pages_turner::Turner;
@@ -36,8 +37,8 @@ fn print_if_hidden(printer: &mut Printer<'_>, mark: u8, name: u16)
     }
 }
 
-// Kept: by index, here and for rows: the laws of printing number the elements (texts_from), and a zip would be taken apart to that.
-fn print_hidden_edits(printer: &mut Printer<'_>, edits: &[Edit], marks: &[u8; 128])
+// Kept: by index, here and for rows: an edit's line goes by its place (texts_from), and its mark, or its row, is said by that place as well.
+fn print_hidden_edits(printer: &mut Printer<'_>, edits: &[Edit], marks: &Marks)
     requires { length edits.now ≤ 127 }
     ensures { Printed (texts_from (hidden_line marks.now) 1 edits.now) printer.old printer.new }
 {
@@ -72,7 +73,7 @@ pub fn print_schedule(printer: &mut Printer<'_>, bench: &Bench)
     print_pages(printer, edits);
 }
 
-// Kept: fields by number, as document 01 has field numbers matched in the text.
+// Kept: fields by number, as the cells of an entry stand: a Field would be made from the number by a match of the same four.
 // The line of a cell by its field: of a chip's cell, or of a page's.
 #[tactic(auto, unfolding(crate::specs::bench_answers::Asks::cell_form, text_forms::specs::Spelling::bytes))]
 fn cell_form(owner: Owner, field: usize) -> &'static [u8]

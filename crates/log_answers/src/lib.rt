@@ -22,7 +22,7 @@ pub fn print_refusal(printer: &mut Printer<'_>, refusal: Refusal)
     ensures { Printed (refusal_line (number refusal) printer.old.line ∷ []) printer.old printer.new }
 {
     let numbers = [u64::from(refusal.number()), printer.line as u64];
-    printer.print(b"refused=# line=#\n", &numbers);
+    printer.print(text_report::REFUSAL_FORM, &numbers);
 }
 
 // Prints the text of a record.
@@ -38,7 +38,7 @@ pub fn print_record(printer: &mut Printer<'_>, content: &Record)
     ensures { Printed (record_text content.now) printer.old printer.new }
 {
     let numbers = [content.editcount as u64, content.constraintcount as u64];
-    printer.print(b"edits=# rules=#\n", &numbers);
+    printer.print(text_report::COUNTS_FORM, &numbers);
     print_text(printer, content);
 }
 

@@ -11,19 +11,20 @@ use Rattle.std.specs.Prelude.{Ok, Err}
 use Rattle.lists.proofs.Lists.{le-by}
 use Rattle.refusals.specs.declared.Refusal.TheVariants.{OutOfRange}
 use Rattle.log_commands.specs.Grammar.{turn_forward, turn_back}
+use Rattle.log_commands.specs.Groups.{turn_by}
 use Rattle.log_commands.specs.declared.Call.TheVariants.{Turn}
 use Rattle.log_commands.specs.declared.Command.TheVariants.{Call}
 
 -- the i32 that a number of pages is, forward and back
 module _ (n : ℕ) where
-  pub forward-far : (SFits w32 (pos n) → ⊥) → Err OutOfRange ≡ turn_forward n
+  forward-far : (SFits w32 (pos n) → ⊥) → Err OutOfRange ≡ turn_forward n
   unfolding turn_forward
   forward-far h =
       le-by n 2147483647
       (λ l. absurd (h (record { sfits = let m : n < 2147483648 = omega arith in m })))
       (λ l. rw (le-ltb n 2147483648 (omega arith)))
 
-  pub forward-near : {x : ℤ} → SFits w32 (pos n) × (x ≡ pos n) → Ok (Call (Turn (to_z w32 (of_z w32 x)))) ≡ turn_forward n
+  forward-near : {x : ℤ} → SFits w32 (pos n) × (x ≡ pos n) → Ok (Call (Turn (to_z w32 (of_z w32 x)))) ≡ turn_forward n
   unfolding turn_forward
   forward-near {x} (f, e) =
       let l : n < 2147483648 = f.sfits in
@@ -50,14 +51,14 @@ positive-wide : (n : ℕ) → n < 4294967296 → SFits w64 (pos n)
 positive-wide n h = record { sfits = let l : n < 9223372036854775808 = omega arith in l }
 
 module _ (n : ℕ) {z : ℤ} (e : z ≡ neg_ℤ (pos n)) where
-  pub back-far : (SFits w32 z → ⊥) → Err OutOfRange ≡ turn_back n
+  back-far : (SFits w32 z → ⊥) → Err OutOfRange ≡ turn_back n
   unfolding turn_back
   back-far h =
       le-by n 2147483648
       (λ l. absurd (h (rw e (negative_fits n l))))
       (λ l. rw (le-ltb n 2147483649 (omega arith)))
 
-  pub back-near : {x : ℤ} → SFits w32 z × (x ≡ z) → Ok (Call (Turn (to_z w32 (of_z w32 x)))) ≡ turn_back n
+  back-near : {x : ℤ} → SFits w32 z × (x ≡ z) → Ok (Call (Turn (to_z w32 (of_z w32 x)))) ≡ turn_back n
   unfolding turn_back
   back-near {x} (f, g) =
       let l : n ≤ 2147483648 = negative-near n (rw e at f) in
@@ -65,8 +66,34 @@ module _ (n : ℕ) {z : ℤ} (e : z ≡ neg_ℤ (pos n)) where
       let m : n < 2147483649 = omega arith in
       rw (q, lt-ltb n 2147483649 m) refl
 
+-- a turn by a number of pages that is an i32, and by another
+pub turn-near : (z : ℤ) {x : ℤ} → SFits w32 z × (x ≡ z) → Ok (Call (Turn (to_z w32 (of_z w32 x)))) ≡ turn_by z
+unfolding turn_by
+turn-near (pos n) f = forward-near n f
+turn-near (negsuc n) f = back-near (suc n) refl f
+
+pub turn-far : (z : ℤ) → (SFits w32 z → ⊥) → Err OutOfRange ≡ turn_by z
+unfolding turn_by
+turn-far (pos n) h = forward-far n h
+turn-far (negsuc n) h = back-far (suc n) refl h
+
+-- a turn by the opposite of a number is one back
+turned_back : (n : ℕ) → turn_by (neg_ℤ (pos n)) ≡ turn_back n
+unfolding turn_by turn_forward turn_back
+turned_back zero = refl
+turned_back (suc n) = refl
+
 -- the opposite of a number of 32 bits
-pub opposite : (n : ℕ) {x : ℤ} → n < 4294967296 → x ≡ pos n → to_z w64 (of_z w64 (pos 0 -ℤ to_z w64 (of_z w64 x))) ≡ neg_ℤ (pos n)
+opposite : (n : ℕ) {x : ℤ} → n < 4294967296 → x ≡ pos n → to_z w64 (of_z w64 (pos 0 -ℤ to_z w64 (of_z w64 x))) ≡ neg_ℤ (pos n)
 opposite n {x} h e =
     let p : to_z w64 (of_z w64 x) ≡ pos n = rw e (to_z-of_z (positive-wide n h)) in
     rw (p, less n) (to_z-of_z (negative-wide n h))
+
+-- a number of 32 bits as a number of pages, forward and back
+module _ (n : ℕ) (h : n < 4294967296) {x : ℤ} (e : x ≡ pos n) where
+  pub forward-said : turn_by (to_z w64 (of_z w64 x)) ≡ turn_forward n
+  unfolding turn_by
+  forward-said = rw (e, to_z-of_z (positive-wide n h)) refl
+
+  pub back-said : turn_by (to_z w64 (of_z w64 (pos 0 -ℤ to_z w64 (of_z w64 x)))) ≡ turn_back n
+  back-said = rw (opposite n h e) (turned_back n)

@@ -1,5 +1,5 @@
 -- Inner: the call log: parts of the grammar, and what the lines of the exchanged text make of it. Assumes nothing.
-use Rattle.std.specs.Prelude.{ℕ, cond, List, map, drop, Option, None, Result, Ok, Err}
+use Rattle.std.specs.Prelude.{ℕ, suc, ℤ, pos, negsuc, cond, List, map, drop, Option, None, Result, Ok, Err}
 use Prim.Native.String.{String}
 use Rattle.text_forms.specs.decimal.Decimal.{numeral_read}
 use Rattle.text_forms.specs.declared.decimal.Numeral.{Numeral}
@@ -10,8 +10,13 @@ use Rattle.text_lines.specs.declared.Line.{Line}
 use Rattle.text_lines.specs.Line.{shapes, fits_word}
 use Rattle.log_forms.specs.productions.Productions.{parse}
 use Rattle.log_forms.specs.productions.Words.{starting}
-use Rattle.log_commands.specs.Grammar.{adding, lending_to, lend_form, grammar}
+use Rattle.log_commands.specs.Grammar.{turn_forward, turn_back, adding, lending_to, lend_form, grammar}
 use Rattle.log_commands.specs.declared.Command.{Command}
+
+-- a turn by a signed number of pages
+unfoldable pub turn_by : ℤ → Result Command Refusal
+turn_by (pos n) = turn_forward n
+turn_by (negsuc n) = turn_back (suc n)
 
 -- a command, where the numbers of its form are read
 abbrev pub plain_said : Command → Result (List ℕ) Refusal → Result Command Refusal

@@ -7,8 +7,8 @@ ghost use Rattle.text_forms.specs.decimal.Decimal.{numeral_size};
 ghost use Rattle.text_forms.specs.Form.{taken};
 ghost use Rattle.text_lines.specs.Line.{line_read, line_limit};
 ghost use Rattle.log_forms.specs.productions.Words.{words_of};
-ghost use Rattle.log_commands.specs.Grammar.{turn_forward, turn_back, edit_cells_of, constraint_cells_of, adding, lending_to, command_read};
-ghost use Rattle.log_commands.specs.Groups.{plain_said, read_starting, line_adds, lent_number, lent_line_read};
+ghost use Rattle.log_commands.specs.Grammar.{edit_cells_of, constraint_cells_of, adding, lending_to, command_read};
+ghost use Rattle.log_commands.specs.Groups.{turn_by, plain_said, read_starting, line_adds, lent_number, lent_line_read};
 
 use log_forms::productions;
 use refusals::Refusal;
@@ -159,22 +159,11 @@ pub enum Command {
     Ask(Ask),
 }
 
-fn turn_forward(pages: u32) -> Result<Command, Refusal>
-    ensures { result ≡ turn_forward pages }
+// A turn by so many pages, back where the number is negative. It is wider than an i32, for the least of these has no opposite among them.
+fn turn_by(pages: i64) -> Result<Command, Refusal>
+    ensures { result ≡ turn_by pages }
 {
-    let Ok(by) = i32::try_from(pages) else {
-        return Err(Refusal::OutOfRange);
-    };
-    Ok(Command::Call(Call::Turn(by)))
-}
-
-// The least i32 has no opposite among the i32.
-fn turn_back(pages: u32) -> Result<Command, Refusal>
-    ensures { result ≡ turn_back pages }
-{
-    let Ok(by) = i32::try_from(-i64::from(pages)) else {
-        return Err(Refusal::OutOfRange);
-    };
+    let by = i32::try_from(pages).map_err(|_| Refusal::OutOfRange)?;
     Ok(Command::Call(Call::Turn(by)))
 }
 
@@ -211,11 +200,11 @@ fn read_turn(bytes: &[u8]) -> Result<Command, Refusal>
     match letter {
         b'-' => {
             let words = productions::read_words(b"do=turn pages=-#\n", bytes)?;
-            turn_back(words[0])
+            turn_by(-i64::from(words[0]))
         }
         _ => {
             let words = productions::read_words(b"do=turn pages=#\n", bytes)?;
-            turn_forward(words[0])
+            turn_by(i64::from(words[0]))
         }
     }
 }
@@ -256,7 +245,7 @@ fn read_show_or_suggest(bytes: &[u8]) -> Result<Command, Refusal>
     }
 }
 
-// Kept: an arm each, here and below: read_words(..).map(|words| ..) was tried, and each closure's clauses make its proof longer than the question mark does.
+// Kept: an arm each, here and below, with `?`: read_words(..).map(|words| ..) was tried, and the clauses of each closure make the proof longer.
 fn read_do(bytes: &[u8]) -> Result<Command, Refusal>
     ensures { result ≡ read_starting "do=" bytes.now }
 {
@@ -319,7 +308,7 @@ fn read_roll(bytes: &[u8]) -> Result<Command, Refusal>
     }
 }
 
-// Kept: a function of both this and `read_roll` would take both forms and what they mean to say no more.
+// Kept: beside `read_roll`: one function of both would take the letter's place, two forms, a command and a closure, for two arms each.
 fn read_row(bytes: &[u8]) -> Result<Command, Refusal>
     ensures { result ≡ read_starting "row=" bytes.now }
 {

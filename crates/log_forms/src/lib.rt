@@ -9,7 +9,7 @@ ghost use Rattle.log_forms.specs.Printed.{new_printer, after_text, Printed};
 
 use refusals::Refusal;
 
-// Kept: `at` is past the end after a text that did not fit, as with_text has it; an Option would lose that no later text is written.
+// Kept: `at` is past the end after a text that did not fit, as with_text has it: who runs a log compares it with a limit and with the room.
 // What is printed: the buffer, the place after what stands in it, past the end where a text did not fit, and the number of the line that is
 // answered.
 #[derive(Drop)]

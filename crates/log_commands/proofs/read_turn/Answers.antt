@@ -23,7 +23,7 @@ returns-in_err-words-in-45 c =
 
 pub returns-in_ok-words-in-45 : goal.returns-in_ok-words-in-45
 unfolding command_forms grammar shapes set_shapes rule_shapes set_form edit_form rule_form read_starting starting parse filter mem bytes starts_with is_mark spelling number_spelling slots letter_other letter_among ruled_out otherwise line-ends
-returns-in_ok-words-in-45 c = arm "do=turn pages=" c.args.bytes.now c.byte_at-letter.ensures 45 c.in-45.is refl c.in_ok-words-in-45.ensures c.turn_back.ensures
+returns-in_ok-words-in-45 c = arm "do=turn pages=" c.args.bytes.now c.byte_at-letter.ensures 45 c.in-45.is refl c.in_ok-words-in-45.ensures ?
 
 pub returns-in_err-words-in_default : goal.returns-in_err-words-in_default
 unfolding command_forms grammar shapes set_shapes rule_shapes set_form edit_form rule_form read_starting starting parse filter mem bytes starts_with is_mark spelling number_spelling slots letter_other letter_among ruled_out otherwise line-ends
@@ -33,4 +33,4 @@ returns-in_err-words-in_default c =
 
 pub returns-in_ok-words-in_default : goal.returns-in_ok-words-in_default
 unfolding command_forms grammar shapes set_shapes rule_shapes set_form edit_form rule_form read_starting starting parse filter mem bytes starts_with is_mark spelling number_spelling slots letter_other letter_among ruled_out otherwise line-ends
-returns-in_ok-words-in_default c = last "do=turn pages=" c.args.bytes.now c.byte_at-letter.ensures (bytes "-") c.in_default.in_default-own.rest refl c.in_ok-words-in_default.ensures c.turn_forward.ensures
+returns-in_ok-words-in_default c = last "do=turn pages=" c.args.bytes.now c.byte_at-letter.ensures (bytes "-") c.in_default.in_default-own.rest refl c.in_ok-words-in_default.ensures ?
