@@ -1,5 +1,5 @@
 -- Commands made of numbers. Assumes nothing.
-use mathlib.Core.Path.{◌≡◌, refl, ap}
+use mathlib.Core.Path.{◌≡◌, refl, ap, sym, ◌∙◌}
 use Prim.Native.Nat.{ℕ, zero, suc, ◌-◌, ◌≤◌, ◌<◌}
 use native.Mathlib.Omega.{arith}
 use lib.IntN.{ℤ, pos, negsuc, neg_ℤ, ◌-ℤ◌}
@@ -7,7 +7,9 @@ use borrow.Author.Tests.{lt-ltb, le-ltb}
 use mir.Syntax.{w32, w64}
 use mir.Val.{SFits, to_z, of_z}
 use mir.Facts.{to_z-of_z}
-use Rattle.std.specs.Prelude.{Ok, Err}
+use Rattle.std.specs.Prelude.{Result, Ok, Err, OkIff}
+use Rattle.std.specs.Result.{result_or}
+use Rattle.refusals.specs.declared.Refusal.{Refusal}
 use Rattle.lists.proofs.Lists.{le-by}
 use Rattle.refusals.specs.declared.Refusal.TheVariants.{OutOfRange}
 use Rattle.log_commands.specs.Grammar.{turn_forward, turn_back}
@@ -66,16 +68,29 @@ module _ (n : ℕ) {z : ℤ} (e : z ≡ neg_ℤ (pos n)) where
       let m : n < 2147483649 = omega arith in
       rw (q, lt-ltb n 2147483649 m) refl
 
--- a turn by a number of pages that is an i32, and by another
-pub turn-near : (z : ℤ) {x : ℤ} → SFits w32 z × (x ≡ z) → Ok (Call (Turn (to_z w32 (of_z w32 x)))) ≡ turn_by z
+fits_turn : (z : ℤ) {x : ℤ} → SFits w32 z × (x ≡ z) → Ok (Call (Turn (to_z w32 (of_z w32 x)))) ≡ turn_by z
 unfolding turn_by
-turn-near (pos n) f = forward-near n f
-turn-near (negsuc n) f = back-near (suc n) refl f
+fits_turn (pos n) f = forward-near n f
+fits_turn (negsuc n) f = back-near (suc n) refl f
 
-pub turn-far : (z : ℤ) → (SFits w32 z → ⊥) → Err OutOfRange ≡ turn_by z
+no_turn : (z : ℤ) → (SFits w32 z → ⊥) → Err OutOfRange ≡ turn_by z
 unfolding turn_by
-turn-far (pos n) h = forward-far n h
-turn-far (negsuc n) h = back-far (suc n) refl h
+no_turn (pos n) h = forward-far n h
+no_turn (negsuc n) h = back-far (suc n) refl h
+
+-- a turn by a number of pages that is an i32, and by another
+module _ {E : Type 0} (z : ℤ) (w : SFits w64 z) where
+  pub turn-near : (t : Result ℤ E) {m : Result ℤ Refusal} {x : ℤ} → OkIff t (SFits w32 (to_z w64 (of_z w64 z))) (to_z w64 (of_z w64 z)) → m ≡ result_or t (Err OutOfRange) → m ≡ Ok x
+      → Ok (Call (Turn (to_z w32 (of_z w32 x)))) ≡ turn_by z
+  turn-near (Ok y) {x = x} f e q =
+      let d : y ≡ x = cc in
+      fits_turn z (rw (d, to_z-of_z w) at f)
+  turn-near (Err y) f e q = let d : ⊥ = cc in absurd d
+
+  pub turn-far : (t : Result ℤ E) {m : Result ℤ Refusal} {r : Refusal} → OkIff t (SFits w32 (to_z w64 (of_z w64 z))) (to_z w64 (of_z w64 z)) → m ≡ result_or t (Err OutOfRange) → m ≡ Err r
+      → Err r ≡ turn_by z
+  turn-far (Ok y) f e q = let d : ⊥ = cc in absurd d
+  turn-far (Err y) {r = r} f e q = let d : r ≡ OutOfRange = cc in rw d (no_turn z (rw (to_z-of_z w) at f))
 
 -- a turn by the opposite of a number is one back
 turned_back : (n : ℕ) → turn_by (neg_ℤ (pos n)) ≡ turn_back n

@@ -163,7 +163,7 @@ pub enum Command {
 fn turn_by(pages: i64) -> Result<Command, Refusal>
     ensures { result ≡ turn_by pages }
 {
-    let by = i32::try_from(pages).map_err(|_| Refusal::OutOfRange)?;
+    let by = i32::try_from(pages).or(Err(Refusal::OutOfRange))?;
     Ok(Command::Call(Call::Turn(by)))
 }
 

@@ -1,5 +1,7 @@
 -- `read_turn` meets its contract. Assumes nothing.
-use mathlib.Core.Path.{refl}
+use mathlib.Core.Path.{refl, ◌∙◌}
+use borrow.Author.Rules.{rules}
+use lib.ListN.{get_or}
 use Rattle.std.proofs.lemmas.Result.{err_from_is_err_and}
 use Rattle.lists.specs.Lists.{filter, mem}
 use Rattle.text_forms.specs.Spelling.{bytes, starts_with, number_spelling}
@@ -13,6 +15,7 @@ use Rattle.log_forms.proofs.productions.Choosing.{letter_other, letter_among}
 use Rattle.log_commands.specs.Grammar.{command_forms, grammar}
 use Rattle.log_commands.specs.Groups.{read_starting}
 use Rattle.log_commands.proofs.Arms.{arm, last}
+use Rattle.log_commands.proofs.Numbers.{back-said, forward-said}
 use Rattle.log_commands.proofs.read_turn.Goals as goal
 
 pub returns-in_err-words-in-45 : goal.returns-in_err-words-in-45
@@ -23,7 +26,7 @@ returns-in_err-words-in-45 c =
 
 pub returns-in_ok-words-in-45 : goal.returns-in_ok-words-in-45
 unfolding command_forms grammar shapes set_shapes rule_shapes set_form edit_form rule_form read_starting starting parse filter mem bytes starts_with is_mark spelling number_spelling slots letter_other letter_among ruled_out otherwise line-ends
-returns-in_ok-words-in-45 c = arm "do=turn pages=" c.args.bytes.now c.byte_at-letter.ensures 45 c.in-45.is refl c.in_ok-words-in-45.ensures ?
+returns-in_ok-words-in-45 c = arm "do=turn pages=" c.args.bytes.now c.byte_at-letter.ensures 45 c.in-45.is refl c.in_ok-words-in-45.ensures (c.turn_by.ensures ∙ back-said (get_or c.in_ok-words-in-45.words 0 0) (search rules) c.from.ensures)
 
 pub returns-in_err-words-in_default : goal.returns-in_err-words-in_default
 unfolding command_forms grammar shapes set_shapes rule_shapes set_form edit_form rule_form read_starting starting parse filter mem bytes starts_with is_mark spelling number_spelling slots letter_other letter_among ruled_out otherwise line-ends
@@ -33,4 +36,4 @@ returns-in_err-words-in_default c =
 
 pub returns-in_ok-words-in_default : goal.returns-in_ok-words-in_default
 unfolding command_forms grammar shapes set_shapes rule_shapes set_form edit_form rule_form read_starting starting parse filter mem bytes starts_with is_mark spelling number_spelling slots letter_other letter_among ruled_out otherwise line-ends
-returns-in_ok-words-in_default c = last "do=turn pages=" c.args.bytes.now c.byte_at-letter.ensures (bytes "-") c.in_default.in_default-own.rest refl c.in_ok-words-in_default.ensures ?
+returns-in_ok-words-in_default c = last "do=turn pages=" c.args.bytes.now c.byte_at-letter.ensures (bytes "-") c.in_default.in_default-own.rest refl c.in_ok-words-in_default.ensures (c.turn_by-in_default.ensures ∙ forward-said (get_or c.in_ok-words-in_default.words 0 0) (search rules) c.from-in_default.ensures)
