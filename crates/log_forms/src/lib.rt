@@ -5,7 +5,7 @@ pub mod productions;
 
 ghost use Rattle.std.specs.Prelude.{◌≡◌, [], ◌∷◌};
 ghost use Rattle.text_forms.specs.Form.{fill};
-ghost use Rattle.log_forms.specs.Printed.{new_printer, after_text, Printed};
+ghost use Rattle.log_forms.specs.Printed.{after_text, Printed};
 
 use refusals::Refusal;
 
@@ -22,7 +22,10 @@ pub struct Printer<'a> {
 impl<'a> Printer<'a> {
     // At the start of a buffer. Pub for the crates that run a log.
     pub fn new(out: &'a mut [u8], line: usize) -> Printer<'a>
-        ensures { result ≡ new_printer out.entry line }
+        ensures same_reference { result.out.ghost_name ≡ out.entry.ghost_name }
+        ensures content { result.out.now ≡ out.old }
+        ensures start { result.at ≡ 0 }
+        ensures line { result.line ≡ line }
     {
         Printer { out, at: 0, line }
     }

@@ -1,4 +1,5 @@
 -- `run_lines` meets its contract. Assumes nothing.
+use mathlib.Core.Path.{sym, ◌∙◌}
 use native.Mathlib.Omega.{arith}
 use borrow.Author.Rules.{rules}
 use Rattle.stdio_log.proofs.Parts.{further, run-part-held, run-part-few, run-part-inside, run-part-same, up-to-start, up-to-next, up-to-end}
@@ -21,7 +22,7 @@ loop-from-preserved g c =
     let s = c.run_some-from.ensures in
     let x = further c.args.log.now c.loop-from.from _ (omega arith) c.loop-from-test.true s.stops in
     let f = run-part-few c.args.log.now c.loop-from.from _ _ (omega (arith, v.1, c.requires.few)) s.run c.loop-from.memory.held in
-    (x.1, omega (arith, f, v.1), λ R H. up-to-next _ R (v.2 R H) _ (omega (arith, v.1, c.requires.few)) s.run)
+    (x.1, omega (arith, f, v.1), λ R H. up-to-next _ R (rw (← c.new-printer.ensures.line) at (v.2 R H)) _ (omega (arith, v.1, c.requires.few)) s.run)
 
 pub returns-in_err-tell-clause-few : goal.returns-in_err-tell-clause-few
 returns-in_err-tell-clause-few g c =
@@ -33,4 +34,5 @@ returns-clause-run g c = λ R H. up-to-end _ R (c.loop-from.invariant.2 R H) c.l
 
 pub shape_of-memory-in-loop-from : goal.shape_of-memory-in-loop-from
 shape_of-memory-in-loop-from g c =
-    run-part-same c.args.log.now c.loop-from.from _ _ (omega (arith, c.loop-from.invariant.1, c.requires.few)) c.run_some-from.ensures.run c.loop-from.memory.held
+    sym c.new-printer.ensures.same_reference
+    ∙ run-part-same c.args.log.now c.loop-from.from _ _ (omega (arith, c.loop-from.invariant.1, c.requires.few)) c.run_some-from.ensures.run c.loop-from.memory.held
