@@ -1,4 +1,6 @@
 // The report of a text (document 01, "Text"), and the line of a refusal.
+// Kept: `at`, `out`: document 01 lends an output and a place in it, which is refused where it is past the end; a struct of both would be made
+// for each call.
 #![tactic(auto)]
 
 ghost use Rattle.std.specs.Prelude.{◌≡◌, ◌++◌, map, ◌≤◌, leb, length, take, get_or};

@@ -1,4 +1,6 @@
 // A record is written as a text, and a form where it fits (document 01, "Text").
+// Kept: `at`, `out`: document 01 lends an output and a place in it, which is refused where it is past the end; a struct of both would be made
+// for each call.
 #![tactic(auto)]
 
 ghost use Rattle.std.specs.Prelude.{◌≡◌, map, List, ℕ, ◌≤◌, leb, length};
