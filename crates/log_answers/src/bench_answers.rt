@@ -37,8 +37,8 @@ fn print_if_hidden(printer: &mut Printer<'_>, mark: u8, name: u16)
     }
 }
 
-// Kept: by index, here and for rows. A zip was tried: its invariant says the place again beside what is left of both, since a line goes by the
-// place of its edit (texts_from).
+// Kept: by index, here and for rows: a line goes by the place of its edit (texts_from). A zip has no place, so its invariant would count it, and
+// say what is left of both slices besides.
 fn print_hidden_edits(printer: &mut Printer<'_>, edits: &[Edit], marks: &Marks)
     requires { length edits.now ≤ 127 }
     ensures { Printed (texts_from (hidden_line marks.now) 1 edits.now) printer.old printer.new }
