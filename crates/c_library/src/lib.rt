@@ -16,8 +16,8 @@ use refusals::Refusal;
 use text_reader::Fault;
 use unity_table::{ElectionRow, RowFault};
 
-// Kept: C reads the answer, so that the number stands beside the values.
 // Number 0: how many bytes were written. 12: they do not fit, or the place for them is too short. Any other: the text is refused, at this line.
+// Kept: C reads the answer, so that the number stands beside the values.
 #[repr(C)]
 #[derive(Clone, Copy)]
 pub struct Reply {
@@ -55,9 +55,9 @@ impl From<Result<usize, Refusal>> for Reply {
     }
 }
 
-// Kept: C reads the answer, so that the number stands beside the values.
 // Number 0: mean, least and greatest share, how many elections are won, and how many have total 0. Any other: that of the refusal and the
 // faulty row, from 1; every other part is 0.
+// Kept: C reads the answer, so that the number stands beside the values.
 #[repr(C)]
 #[derive(Clone, Copy)]
 pub struct Unity {
@@ -195,8 +195,8 @@ pub fn catalogue_continue(kept: &[u8], log: &[u8], work: &mut [u8], out: &mut [u
     Reply::from(answered(logs, &mut work[..], &mut out[..]))
 }
 
-// Kept: alike with voting_count::is_sound in that one call is made of another's answer; one function of both would be given the two calls.
 // How united the benches are, from a table of election answers.
+// Kept: no twin: like `voting_count::is_sound` it is one call made of another's answer, but no function that it calls is called there.
 pub fn catalogue_unity(answers: &[ElectionRow]) -> Unity
     ensures { result ≡ unity_reply (unity_of (map weights_of answers.now)) }
 {

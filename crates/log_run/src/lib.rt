@@ -81,9 +81,9 @@ fn run_command(printer: &mut Printer<'_>, session: &mut Session, read: Result<Co
     }
 }
 
-// Kept: a line is found from a place in the bytes; an iterator over lines would hold the same place, and a row of turns is part of the walk.
 // A row of such lines, from the one at a place on, until one of another kind: the place of that. Only the turner moves, and the bench is opened at its
 // page after the last.
+// Kept: a line is found from a place in the bytes; an iterator over lines would hold the same place, and a row of turns is part of the walk.
 fn run_turns(
     printer: &mut Printer<'_>,
     turner: &mut Turner,
@@ -113,9 +113,9 @@ fn run_turns(
     from
 }
 
-// Kept: a place in the bytes, as in the row of turns, which moves it past several lines.
 // The run of lines of a log until what they print passes the limit, or the log ends: the place after these lines. The printer's line is the number of
 // the last one. Only a row of turns leaves the bench as it is until its end.
+// Kept: a place in the bytes, as in the row of turns, which moves it past several lines.
 pub fn run_some(printer: &mut Printer<'_>, session: &mut Session, log: &[u8], limit: usize) -> usize
     ensures stops { Stops (length log.now) limit printer.old.at result printer.new.at }
     ensures run { (D : Desk) → Holds D session.old → printer.old.line + length log.now ≤ most_lines

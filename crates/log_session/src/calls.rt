@@ -65,6 +65,7 @@ pub fn print_outcome(
 }
 
 // A line that lends.
+// Kept: two lines, as for a line about votes (`votes::print_vote`).
 pub fn run_lend(printer: &mut Printer<'_>, session: &mut Session, lend: Lend)
     ensures { (D : Desk) → Holds D session.old
         → Holds (lend_effect D lend).after session.new × Printed (printed_of (lend_effect D lend) printer.old.line) printer.old printer.new }

@@ -24,8 +24,8 @@ use log_forms::Printer;
 use log_lent::{Lending, lent_calls};
 use refusals::Refusal;
 
-// Kept: "Holds D", for the same reason as what is lent: the desk's calls are not to be had from the session.
 // One bench, and what is lent.
+// Kept: `Holds D`: as of what is lent, no view of a session gives the desk back: the desk has the calls of its bench, the session what they came to.
 #[derive(Drop)]
 pub struct Session {
     pub bench: Bench,

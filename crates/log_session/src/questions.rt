@@ -9,8 +9,8 @@ use log_answers::bench_answers;
 use log_commands::Ask;
 use log_forms::Printer;
 
-// Kept: `bench`, `printer`: as in `log_answers::bench_answers`.
 // What a question prints.
+// Kept: `bench`, `printer`: as in `log_answers::bench_answers`.
 pub fn print_ask(printer: &mut Printer<'_>, bench: &Bench, ask: Ask)
     ensures { (D : Desk) → bench.now ≡ bench_in D → Printed (ask_text ask D) printer.old printer.new }
 {

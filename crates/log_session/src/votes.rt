@@ -58,17 +58,20 @@ fn print_rule(printer: &mut Printer<'_>, row: ConstraintRow)
     printer.print(form, &[u64::from(row[0]), u64::from(row[2])]);
 }
 
+// The line of how many constraints are suggested.
+const RULES: &[u8] = b"rules=#\n";
+
 fn print_rules(printer: &mut Printer<'_>, suggested: Suggested)
     ensures { Printed (suggestion_text suggested) printer.old printer.new }
 {
     match suggested {
-        Suggested::Nothing => printer.print(b"rules=#\n", &[0]),
+        Suggested::Nothing => printer.print(RULES, &[0]),
         Suggested::One(row) => {
-            printer.print(b"rules=#\n", &[1]);
+            printer.print(RULES, &[1]);
             print_rule(printer, row);
         }
         Suggested::Two(row, next) => {
-            printer.print(b"rules=#\n", &[2]);
+            printer.print(RULES, &[2]);
             print_rule(printer, row);
             print_rule(printer, next);
         }
@@ -111,8 +114,8 @@ fn answer_vote(printer: &mut Printer<'_>, session: &Session, vote: Vote) -> Resu
     Ok(())
 }
 
-// Kept: two lines, as for a proposal. One function for both would take the answer as a closure, and its clause would have to say what that prints.
 // What a line about votes prints.
+// Kept: two lines, as for a proposal. One function for both would take the answer as a closure, and its clause would have to say what that prints.
 pub fn print_vote(printer: &mut Printer<'_>, session: &Session, vote: Vote)
     ensures { (D : Desk) → Kept D.lent session.now.lending → session.now.bench.multilog ≡ (bench_in D).multilog
         → Printed (printed_of (vote_effect D vote) printer.old.line) printer.old printer.new }
@@ -142,8 +145,8 @@ fn answer_proposal(
     Ok(())
 }
 
-// Kept: two lines, as for a line about votes.
 // What a line that makes a proposal prints.
+// Kept: two lines, as for a line about votes.
 pub fn print_proposal(printer: &mut Printer<'_>, session: &mut Session, asked: Proposing)
     ensures told { (D : Desk) → Kept D.lent session.old.lending
         → Kept (proposal_effect D asked).after.lent session.new.lending

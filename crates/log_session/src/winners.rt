@@ -12,8 +12,8 @@ use graph::indexes;
 use log_forms::Printer;
 use record::Record;
 
-// Kept: two answers and no enum: the line prints both, and their clauses are the theory's two tests.
 // Whether an edit must stand, and whether it can never. Neither: it is left open.
+// Kept: two answers and no enum: the line prints both, and their clauses are the theory's two tests.
 #[derive(Clone, Copy)]
 pub struct Verdict {
     pub must: bool,

@@ -15,7 +15,7 @@ use std::str;
 #[derive(Clone, Copy)]
 pub struct Failed;
 
-// Reading failed after so many bytes, which standard error was told already.
+// Reading failed after so many bytes, which standard error was told already. The number is for whoever uses what was read; no crate here does.
 #[derive(Clone, Copy)]
 pub struct ReadFailed {
     pub size: usize,
