@@ -44,18 +44,15 @@ impl Model for IndexTable {
     ghost invariant = { λ t. (length t.indexes ≡ name_limit) × ((x : ℕ) → get_or t.indexes x 0 < mark_limit) };
 }
 
-// The entry of a name in any table by name, 0 where it has none.
+// The entry of a name in any table by name, 0 where it has none. Pub for whoever keeps such a table; of the crates here `index_of` alone calls it.
 pub fn index_in(indexes: &[u8], name: usize) -> usize
     ensures { result ≡ get_or indexes.now name 0 }
 {
-    match indexes.get(name) {
-        Some(index) => usize::from(*index),
-        None => 0,
-    }
+    indexes.get(name).map_or(0, |index| usize::from(*index))
 }
 
 impl IndexTable {
-    // A table that a caller has filled.
+    // A table of indexes that were filled elsewhere, for whoever keeps indexes of their own; no crate here does.
     pub fn from_indexes(indexes: [u8; NAMES]) -> IndexTable
         requires { (x : ℕ) → get_or indexes x 0 < mark_limit }
         ensures { result ≡ indexes }
@@ -63,7 +60,7 @@ impl IndexTable {
         IndexTable { indexes }
     }
 
-    // The indexes as an array, for callers that keep it.
+    // The indexes as an array, for whoever keeps indexes of their own; no crate here does.
     pub fn indexes(&self) -> &[u8; NAMES]
         ensures is { result.now ≡ self.now }
         ensures size { length self.now ≡ name_limit }

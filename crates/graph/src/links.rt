@@ -1,6 +1,6 @@
 // Linked rows: closures, rings and single rows of a relation between the edits of a record, by index. Functions are pub for the crates
 // that judge records and bundles; these meet each `requires` by the way in which they link their rows.
-ghost use Rattle.std.specs.Prelude.{◌≡◌, Bool, true, false, List, ◌∷◌, ℕ, ◌+◌, ◌<◌, ◌≤◌, length, get_or, replicate};
+ghost use Rattle.std.specs.Prelude.{◌≡◌, Bool, true, false, ◌||◌, List, ◌∷◌, ℕ, ◌+◌, ◌<◌, ◌≤◌, length, get_or, replicate};
 ghost use Rattle.std.specs.Iterator.{at_most};
 ghost use Rattle.lists.specs.Lists.{mem, ◌among◌, ◌within◌, closure};
 ghost use Rattle.record.specs.Record.{Record, names, notafter};
@@ -24,7 +24,8 @@ use std::marker::Model;
 // Marks of the edits of a record and of INIT, one to each index.
 pub const MARKS: usize = EDITS + 1;
 
-// Kept: numbers and no truth values: document 01 names "an array of 128 marks", and pages of edits stand in one too.
+// Kept: numbers and no truth values: document 01 names "an array of 128 marks", and pages of edits stand in one too. A mark is 1 and no mark 0, as
+// the clauses have it (`marks_of`).
 pub type Marks = [u8; MARKS];
 
 // The keys of a record's rows: the right index, above the base of the rule. The specs of `links` have the same numbers.
@@ -35,6 +36,8 @@ pub const ENABLES: usize = MARKS;
 pub const NONCOMMUTING: usize = 2 * MARKS;
 
 // Linked rows in one array: the head of each key, then the link and then the left end of each row, of which a constraint has at most two.
+// Kept: one flat array: it is lent and given as a whole (`put_row`, `from_cells`, `cells`), and is one list to the clauses (`with_row`, `Safe`); an
+// array of heads and one of rows would be two of each. Links are places in it, since the rows of all keys share it and nothing is allocated.
 const ROW_LIMIT: usize = 2 * CONSTRAINTS;
 
 const LINKS_START: usize = 3 * MARKS;
@@ -43,7 +46,8 @@ const LEFTS_START: usize = LINKS_START + ROW_LIMIT;
 
 pub const ROWS: usize = LEFTS_START + ROW_LIMIT;
 
-// Links row j, counted from 0, before all others of its key. Any array is taken, and any place in it.
+// Links row j, counted from 0, before all others of its key. Any array is taken, and any place in it. Pub for whoever keeps linked rows of their
+// own; of the crates here `link_row` alone calls it.
 #[tactic(auto, unfolding(crate::specs::links::Links::head_at, crate::specs::links::Links::with_row))]
 pub fn put_row(cells: &mut [u16; ROWS], j: usize, key: usize, left: usize)
     requires row { j < row_limit }
@@ -124,7 +128,7 @@ impl Model for Rows {
 }
 
 impl Rows {
-    // Rows that a caller has linked in an array of its own.
+    // Rows that were linked in an array: by `Linking`, or by whoever keeps linked rows of their own; no crate here does.
     pub fn from_cells(cells: [u16; ROWS]) -> Rows
         requires { Safe cells }
         ensures { result ≡ cells }
@@ -132,7 +136,7 @@ impl Rows {
         Rows { cells }
     }
 
-    // The cells as an array, for callers that keep it.
+    // The cells as an array, for whoever keeps linked rows of their own; no crate here does.
     pub fn cells(&self) -> &[u16; ROWS]
         ensures is { result.now ≡ self.now }
         ensures safe { Safe self.now }
@@ -140,7 +144,8 @@ impl Rows {
         &self.cells
     }
 
-    // The first row of a key, counted from 1; 0 where there is none. Pub for all that walk along the rows of a key.
+    // The first row of a key, counted from 1; 0 where there is none. Pub for whoever walks along rows by their numbers; no other crate
+    // here does.
     // Kept: 0 for no row, as in `LinkedRow`.
     pub fn first_row(&self, key: usize) -> usize
         requires { key < key_limit }
@@ -186,7 +191,7 @@ impl Rows {
         w
     }
 
-    // Whether a row leads from a to b. Pub for `judgement_marks`, `voting_members` and `voting_drafts::pairs`.
+    // Whether a row leads from a to b. Pub for `voting_members`.
     pub fn leads_to(&self, base: usize, a: usize, b: usize) -> bool
         requires base { base ≤ noncommuting_base }
         requires low { b < mark_limit }
@@ -194,6 +199,16 @@ impl Rows {
             → a < length (names R) → b < length (names R) → result ≡ leads (name_at R a) (name_at R b) }
     {
         self.lefts(base + b).any(|left| left == a)
+    }
+
+    // Whether a row leads from a to b, or one from b to a. Pub for `judgement_marks` and `voting_drafts::pairs`.
+    pub fn leads_either_way(&self, base: usize, a: usize, b: usize) -> bool
+        requires base { base ≤ noncommuting_base }
+        requires low { (a < mark_limit) × (b < mark_limit) }
+        ensures { (leads : ℕ → ℕ → Bool) (R : Record) → Leads leads R base self.now
+            → a < length (names R) → b < length (names R) → result ≡ (leads (name_at R a) (name_at R b) || leads (name_at R b) (name_at R a)) }
+    {
+        self.leads_to(base, a, b) || self.leads_to(base, b, a)
     }
 
     // Whether some row of the key has a left with this mark. Pub for `judgement_marks` and `judgement_marks::schedules`.
@@ -249,26 +264,31 @@ fn mark(base: usize, rows: &Rows, marks: &mut Marks, x: usize)
     }
 }
 
+// States in a search beside the two marks: what comes before the edit is being placed; the edit is placed.
+const OPEN: u8 = 2;
+
+const PLACED: u8 = 3;
+
 // Places x after all that come before it in the set; true where a ring is met on the way.
 fn visit(rows: &Rows, states: &mut Marks, x: usize) -> bool
     requires { x < mark_limit }
     ensures { Visited rows.now states.old x result states.new }
 {
-    // Kept: states are numbers: 0 and 1 are the marks that their array is a copy of; an enum would convert 128 of them at each search.
+    // Kept: states are numbers: beside `OPEN` and `PLACED` the marks that their array is a copy of; an enum would convert 128 of them at each search.
     let v = states[x];
-    if v == 2 {
+    if v == OPEN {
         return true;
     }
     if v != 1 {
         return false;
     }
-    states[x] = 2;
+    states[x] = OPEN;
     for left in rows.lefts(x) {
         if visit(rows, states, left) {
             return true;
         }
     }
-    states[x] = 3;
+    states[x] = PLACED;
     false
 }
 
@@ -289,7 +309,8 @@ fn reverse_rows(rows: &Rows, reversed: &mut [ReversedRow; ROW_LIMIT], b: usize)
     ensures { Noting rows.now b reversed.old reversed.new }
 {
     let mut j = rows.first_row(b);
-    // Kept: what is noted of a row stands at the row's number, which a walk over left ends does not give.
+    // Kept: what is noted of a row stands at the row's number, which a walk over left ends does not give. Were each row linked at once instead, by
+    // `link_row(left, b)`, it would have to be shown that the rows linked so far leave a place, so that no row stands under two keys.
     while j != 0 {
         let row = rows.row(j);
         reversed[j - 1] = ReversedRow {

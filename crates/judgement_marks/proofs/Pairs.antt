@@ -22,13 +22,9 @@ module _ (R : Record) (a b : ℕ) where
   unfolding ordered
   ordered-never-right e = sym (or_r (notafter R a b || notafter R b a) _ (or_r (never R a) _ e))
 
-  pub ordered-row : notafter R a b ≡ true → true ≡ ordered R a b
+  pub ordered-rows : never R a ≡ false → never R b ≡ false → (notafter R a b || notafter R b a) ≡ ordered R a b
   unfolding ordered
-  ordered-row e = sym (or_l _ _ (or_l _ _ e))
-
-  pub ordered-back : never R a ≡ false → never R b ≡ false → notafter R a b ≡ false → notafter R b a ≡ ordered R a b
-  unfolding ordered
-  ordered-back p q r = sym (rw (p, q, r) (or-false (notafter R b a)))
+  ordered-rows p q = sym (rw (p, q) (or-false (notafter R a b || notafter R b a)))
 
 ordered-swap : (R : Record) (a b : ℕ) → ordered R a b ≡ false → ordered R b a ≡ false
 unfolding ordered

@@ -17,6 +17,9 @@ ghost use Rattle.judgement_marks.specs.Opened.{Opened};
 use graph::links::{ENABLES, Graph, MARKS, Marks, NONCOMMUTING, NOTAFTER, Rows};
 
 // Kept: `x < mark_limit`: as in `graph::links`, where a type of indexes was tried.
+// Kept: `Resolved R graph.now.rows`, `graph.now.count ≡ length (names R)`, `Reversed R reversed.now`, `mustmarks ≡ marks_of R (must R)`,
+// `nevermarks ≡ marks_of R (never R)`: premises of what is ensured. A graph is made of any record, stored with checked tables or not, and the
+// theory's record R is no part of its value: a type could say only that some R is there, not that it is the one a clause speaks of.
 
 // The edits that must stand. Pub for `judgement` and `voting_decisions`.
 pub fn must_marks(rows: &Rows) -> Marks
@@ -43,10 +46,7 @@ pub fn closes_ring(graph: &Graph, reversed: &Rows, old: &Marks, marks: Marks, x:
         → ((a b : ℕ) → enables R a b ≡ true → b among s → a among s) → s within names R → old.now ≡ marks_of R (λ y. mem y s) → ring R s ≡ false
         → marks ≡ marks_of R (λ y. mem y (needs R (name_at R x ∷ s))) → result ≡ ring R (needs R (name_at R x ∷ s)) }
 {
-    if graph.rows.any_row(ENABLES + x, old, 0) {
-        return graph.has_new_ring(old, marks);
-    }
-    if reversed.any_row(x, &marks, 1) {
+    if graph.rows.any_row(ENABLES + x, old, 0) || reversed.any_row(x, &marks, 1) {
         return graph.has_new_ring(old, marks);
     }
     false
@@ -113,6 +113,7 @@ pub fn never_marks(graph: &Graph, mustmarks: Marks) -> Marks
 }
 
 // Whether an order between the edits at a and b is recorded either way, or one of the two can never stand.
+// Kept: an `if` for each edit that can never stand: each has a law of its own, and with `||` its proof would take the two apart first.
 fn has_order(rows: &Rows, nevermarks: &Marks, a: usize, b: usize) -> bool
     requires { (a < mark_limit) × (b < mark_limit) }
     ensures { (R : Record) → Resolved R rows.now → a < length (names R) → b < length (names R)
@@ -124,10 +125,7 @@ fn has_order(rows: &Rows, nevermarks: &Marks, a: usize, b: usize) -> bool
     if nevermarks[b] == 1 {
         return true;
     }
-    if rows.leads_to(NOTAFTER, a, b) {
-        return true;
-    }
-    rows.leads_to(NOTAFTER, b, a)
+    rows.leads_either_way(NOTAFTER, a, b)
 }
 
 // Marks both edits of a pair that has no order.

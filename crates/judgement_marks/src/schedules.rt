@@ -13,6 +13,8 @@ use crate::row::Row;
 use graph::links::{ENABLES, Graph, MARKS, Marks, Rows};
 
 // Kept: `x < mark_limit`: as in `graph::links`, where a type of indexes was tried.
+// Kept: `Resolved R graph.now.rows`, `graph.now.count ≡ length (names R)`, `Reversed R reversed.now`, `mustmarks ≡ marks_of R (must R)`,
+// `Hides R hidden.now hiddens`: premises of what is ensured, as in the file of the crate: the theory's record R is no part of a value.
 
 // Whether the edit at x waits and none that waits comes before it.
 fn is_free(rows: &Rows, waits: &Marks, x: usize) -> bool

@@ -32,7 +32,8 @@ impl Refusal {
     }
 }
 
-// The number that an answer is printed with: 0 where nothing is refused.
+// The number of an answer, 0 where nothing is refused: for whoever prints it. The crates here take an answer apart and print its refusal's number;
+// their clauses speak of the definition of the same name.
 pub fn number_of<T>(answer: &Result<T, Refusal>) -> u32
     ensures { result ≡ number_of answer.now }
 {

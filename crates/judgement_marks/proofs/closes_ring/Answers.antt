@@ -8,10 +8,6 @@ pub returns-then-any_row : goal.returns-then-any_row
 returns-then-any_row c =
     λ R t g h q l cl k o calm m. c.has_new_ring.ensures R t _ g.notafters q (entering-known R t c.args.graph.now.rows c.args.old.now g c.args.x (omega arith) cl k o) o calm m
 
-pub returns-then-any_row-2 : goal.returns-then-any_row-2
-returns-then-any_row-2 c =
-    λ R t g h q l cl k o calm m. c.has_new_ring-then-any_row-2.ensures R t _ g.notafters q (entering-known R t c.args.graph.now.rows c.args.old.now g c.args.x (omega arith) cl k o) o calm m
-
 pub returns : goal.returns
 returns c =
-    λ R t g h q l cl k o calm m. sym (entering-calm R t c.args.graph.now.rows c.args.old.now g c.args.x (omega arith) cl k o (c.any_row.ensures.none c.if-any_row.false) c.args.reversed.now _ h m (c.any_row-2.ensures.none c.if-any_row-2.false) calm)
+    λ R t g h q l cl k o calm m. sym (entering-calm R t c.args.graph.now.rows c.args.old.now g c.args.x (omega arith) cl k o (c.any_row.ensures.none c.if-any_row.false) c.args.reversed.now _ h m (c.any_row-else-any_row.ensures.none c.if-any_row-2.false) calm)

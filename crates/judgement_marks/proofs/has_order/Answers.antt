@@ -1,6 +1,6 @@
 -- `has_order` meets its contract. Assumes nothing.
-use mathlib.Core.Path.{sym, ◌∙◌}
-use Rattle.judgement_marks.proofs.Pairs.{ordered-never, ordered-never-right, ordered-row, ordered-back}
+use mathlib.Core.Path.{◌∙◌}
+use Rattle.judgement_marks.proofs.Pairs.{ordered-never, ordered-never-right, ordered-rows}
 use Rattle.judgement_marks.proofs.Standing.{marked-on, marked-off}
 use Rattle.record.specs.Judgement.{never}
 use Rattle.record.specs.Record.{notafter}
@@ -14,11 +14,7 @@ pub returns-then-nevermarks-b-eq1 : goal.returns-then-nevermarks-b-eq1
 returns-then-nevermarks-b-eq1 c =
     λ R g la lb e. ordered-never-right R _ _ (marked-on R (never R) _ c.args.b e c.if-nevermarks-b-eq1.true)
 
-pub returns-then-leads_to : goal.returns-then-leads_to
-returns-then-leads_to c =
-    λ R g la lb e. ordered-row R _ _ (sym (c.leads_to.ensures (notafter R) R g.notafters la lb) ∙ c.if-leads_to.true)
-
 pub returns : goal.returns
 returns c =
-    λ R g la lb e. c.leads_to-2.ensures (notafter R) R g.notafters lb la
-    ∙ ordered-back R _ _ (marked-off R (never R) _ c.args.a e la c.if-nevermarks-a-eq1.false) (marked-off R (never R) _ c.args.b e lb c.if-nevermarks-b-eq1.false) (sym (c.leads_to.ensures (notafter R) R g.notafters la lb) ∙ c.if-leads_to.false)
+    λ R g la lb e. c.leads_either_way.ensures (notafter R) R g.notafters la lb
+    ∙ ordered-rows R _ _ (marked-off R (never R) _ c.args.a e la c.if-nevermarks-a-eq1.false) (marked-off R (never R) _ c.args.b e lb c.if-nevermarks-b-eq1.false)

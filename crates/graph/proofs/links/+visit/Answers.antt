@@ -4,11 +4,11 @@ use Rattle.graph.proofs.links.Reach.{unmarked-le}
 use Rattle.graph.proofs.links.Search.{visited-ring, visited-was, walking_start, walking-step, walking-ring, walking-end, walking-less}
 use Rattle.graph.proofs.links.+visit.Goals as goal
 
-pub returns-then-v-eq2 : goal.returns-then-v-eq2
-returns-then-v-eq2 t c = visited-ring c.args.rows.now c.args.states.now c.args.x c.if-v-eq2.true
+pub returns-then-v-eq-OPEN : goal.returns-then-v-eq-OPEN
+returns-then-v-eq-OPEN t c = visited-ring c.args.rows.now c.args.states.now c.args.x c.if-v-eq-OPEN.true
 
 pub returns-then-v-ne1 : goal.returns-then-v-ne1
-returns-then-v-ne1 t c = visited-was c.args.rows.now c.args.states.now c.args.x c.if-v-eq2.false c.if-v-ne1.true
+returns-then-v-ne1 t c = visited-was c.args.rows.now c.args.states.now c.args.x c.if-v-eq-OPEN.false c.if-v-ne1.true
 
 pub loop-left-init : goal.loop-left-init
 loop-left-init t c =
