@@ -19,6 +19,7 @@ use Rattle.lists.proofs.Union.{late, late-has, below-has}
 use Rattle.record_rows.specs.row.Row.{Row, same}
 use Rattle.record_rows.proofs.row.Compared.{same-eq, less_other, more-other}
 use Rattle.record_rows.specs.grounds.Ground.{Rows, alike, known, first_fault, ◌given◌, ◌orelse◌}
+use Rattle.std.proofs.lemmas.Bool.{and_left}
 
 pub orelse-none : (a b : ℕ) → a orelse b ≡ 0 → (a ≡ 0) × (b ≡ 0)
 orelse-none a b h =
@@ -77,18 +78,15 @@ module _ (k : ℕ) where
   abbrev pub clashes : List ℕ → Rows → Bool
   clashes row t = any (λ r. alike k row r && not (same row r)) t
 
-  both_false : (a b : Bool) → a ≡ false → (a && b) ≡ false
-  both_false a b e = rw e
-
   pub before-none : (row : List ℕ) (s : Rows) → late (take k) s (take k row) ≡ false → (known k row s ≡ false) × (clashes row s ≡ false)
   before-none row s h =
       let n : (r : List ℕ) → Has r s → alike k row r ≡ false = λ r m. more-other (take k row) (take k r) (late-has (take k) s (take k row) h r m) in
-      (any_none (alike k row) s n, any_none (λ r. alike k row r && not (same row r)) s (λ r m. both_false (alike k row r) (not (same row r)) (n r m)))
+      (any_none (alike k row) s n, any_none (λ r. alike k row r && not (same row r)) s (λ r m. and_left (alike k row r) (not (same row r)) (n r m)))
 
   pub above-none : (row : List ℕ) (s : Rows) → ((r : List ℕ) → Has r s → precedes (take k row) (take k r) ≡ true) → (known k row s ≡ false) × (clashes row s ≡ false)
   above-none row s h =
       let n : (r : List ℕ) → Has r s → alike k row r ≡ false = λ r m. less_other (take k row) (take k r) (h r m) in
-      (any_none (alike k row) s n, any_none (λ r. alike k row r && not (same row r)) s (λ r m. both_false (alike k row r) (not (same row r)) (n r m)))
+      (any_none (alike k row) s n, any_none (λ r. alike k row r && not (same row r)) s (λ r m. and_left (alike k row r) (not (same row r)) (n r m)))
 
   pub ascending-at : (J : Rows) (p : ℕ) → p < length J → Ascending (take k) J → Below (take k) (get_or J p []) (drop (suc p) J)
   ascending-at [] p h a = absurd (omega arith)
