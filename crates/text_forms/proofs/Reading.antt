@@ -19,6 +19,7 @@ use Rattle.text_forms.specs.Spelling.{Spelling, numeral_of}
 use Rattle.text_forms.specs.Form.{is_mark, spelling, more, taken, filled_of}
 use Rattle.text_forms.proofs.Lawful.{lawful}
 use Rattle.text_forms.proofs.Forms.{mark-taken, mark-missing, byte-taken, byte-missing}
+use Rattle.std.proofs.lemmas.List.{nil_from_length}
 
 -- numbers stored one after the other; those past the end are lost
 sets-out : (vs l : List ℕ) (i : ℕ) → length l ≤ i → sets l i vs ≡ l
@@ -83,10 +84,6 @@ unfolding taken
 left-over [] h = absurd (h refl)
 left-over (x ∷ s) h = refl
 
-length-zero-nil : (s : List ℕ) → length s ≡ 0 → s ≡ []
-length-zero-nil [] h = refl
-length-zero-nil (x ∷ s) h = absurd (omega arith)
-
 -- a spelled number that is there, or is not
 module _ (S : Spelling) (s : List ℕ) where
   numeral-missing : None ≡ numeral_of S s → S.size s ≡ 0
@@ -144,7 +141,7 @@ module _ (form s numbers rest : List ℕ) (i k : ℕ) (w : Reading form s number
     module _ (m : is_mark (get_or form i 0) ≡ false) where
       pub reading-no-byte : length rest ≡ 0 → None ≡ filled_of (taken form s)
       reading-no-byte l =
-          missing (rw (first_of, length-zero-nil rest l) (byte-missing (get_or form i 0) (drop (i + 1) form) m [] refl))
+          missing (rw (first_of, nil_from_length rest l) (byte-missing (get_or form i 0) (drop (i + 1) form) m [] refl))
 
       pub reading-other-byte : (x : ℕ) (xs : List ℕ) → rest ≡ x ∷ xs → x ≢ get_or form i 0 → None ≡ filled_of (taken form s)
       reading-other-byte x xs l d =
@@ -164,4 +161,4 @@ module _ (form s numbers rest : List ℕ) (i k : ℕ) (w : Reading form s number
 
     pub reading-end : length rest ≡ 0 → Some numbers ≡ filled_of (taken form s)
     unfolding taken
-    reading-end l = sym (w.all ∙ rw (drop_of_length-le form {i = i} h, length-zero-nil rest l))
+    reading-end l = sym (w.all ∙ rw (drop_of_length-le form {i = i} h, nil_from_length rest l))

@@ -14,11 +14,9 @@ use borrow.Author.Tests.{lt-ltb, le-ltb, ltb-false, eq-eqb, ne_eqb}
 use lib.Dec.{ltb}
 use lib.ListN.{length, get_or, take, drop, set, length-append, length-take, length-set}
 use lib.Seq.{drop-cons, drop-set-lt, get_or_at, get_or-set_same, get_or-take, length-take-le, lt-length-set, take_at, take-suc, take-take}
-use Rattle.lists.proofs.Lists.{by, le-by}
+use Rattle.lists.proofs.Lists.{by}
 use Rattle.text_forms.specs.decimal.Decimal.{digits_in, decimal, is_digit, digit_run, value_from, is_numeral, numeral_size, numeral_value, saturated, numeral_read}
-
-pub lt-or-le : (a b : ℕ) → (a < b) ⊎ (b ≤ a)
-lt-or-le a b = le-by b a inr inl
+use Rattle.std.proofs.lemmas.Bool.{cases_lt}
 
 -- any bound above n serves
 enough : (f g n : ℕ) → n < f → n < g → digits_in f n ≡ digits_in g n
@@ -26,7 +24,7 @@ unfolding digits_in
 enough zero g n hf hg = absurd (not-suc-le-zero hf)
 enough (suc f) zero n hf hg = absurd (not-suc-le-zero hg)
 enough (suc f) (suc g) n hf hg =
-    ⊎_elim (λ l. rw (lt-ltb n 10 l)) (λ l. rw (le-ltb n 10 l, enough f g (n / 10) (omega arith) (omega arith))) (lt-or-le n 10)
+    ⊎_elim (λ l. rw (lt-ltb n 10 l)) (λ l. rw (le-ltb n 10 l, enough f g (n / 10) (omega arith) (omega arith))) (cases_lt n 10)
 
 pub decimal-small : (n : ℕ) → n < 10 → decimal n ≡ (48 + n) ∷ []
 unfolding decimal digits_in
@@ -60,7 +58,7 @@ last-digit digits j rest h e =
       here ∙ ap (λ (s : List ℕ). get_or s j 0) (sym q) ∙ get_or_at (decimal (rest / 10)) (48 + rest % 10) [] 0 j k,
       inr (sym (take_at (decimal (rest / 10)) ((48 + rest % 10) ∷ []) j k) ∙ ap (take j) q ∙ take-take j (suc j) digits (omega arith)),
     ))
-    (lt-or-le rest 10)
+    (cases_lt rest 10)
   where
     here : get_or digits j 0 ≡ get_or (take (suc j) digits) j 0
     here = sym (get_or-take (suc j) digits j 0 (omega arith))
@@ -84,7 +82,7 @@ module _ (n : ℕ) (before : List ℕ) {rest : ℕ} {out : List ℕ} where
 
 -- a digit, or none
 pub digit-or-not : (c : ℕ) → ((48 ≤ c) × (c < 58)) ⊎ ((c < 48) ⊎ (58 ≤ c))
-digit-or-not c = ⊎_elim (λ l. inr (inl l)) (λ l. ⊎_elim (λ m. inl (l, m)) (λ m. inr (inr m)) (lt-or-le c 58)) (lt-or-le c 48)
+digit-or-not c = ⊎_elim (λ l. inr (inl l)) (λ l. ⊎_elim (λ m. inl (l, m)) (λ m. inr (inr m)) (cases_lt c 58)) (cases_lt c 48)
 
 pub run_on : (c : ℕ) (cs : List ℕ) → 48 ≤ c → c < 58 → digit_run (c ∷ cs) ≡ c ∷ digit_run cs
 unfolding digit_run
@@ -232,7 +230,7 @@ decimal-digits (suc k) n h =
     ⊎_elim
     (λ l. rw (decimal-small n l) (omega arith))
     (λ l. let m : n / 10 < 10 ^ suc k = div-lt n (10 ^ suc k) (rw (pow-suc 10 (suc k)) at h) in omega (arith, length-large n l, decimal-digits k (n / 10) m))
-    (lt-or-le n 10)
+    (cases_lt n 10)
   where
     div-lt : (n m : ℕ) → n < m * 10 → n / 10 < m
     div-lt n m h = omega arith

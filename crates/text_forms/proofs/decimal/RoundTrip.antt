@@ -12,7 +12,8 @@ use lib.ListN.{length, get_or, drop, length-append, get_or-append, take-append-d
 use Rattle.lists.specs.Lists.{mem}
 use Rattle.lists.proofs.Lists.{by, le-by}
 use Rattle.text_forms.specs.decimal.Decimal.{digits_in, decimal, digit_run, value_from, is_numeral, numeral_size, numeral_value, is_digit, saturated}
-use Rattle.text_forms.proofs.decimal.Laws.{lt-or-le, decimal-small, decimal-large, digit-or-not, run_on, run-off, run-prefix, value-snoc, numeral-more}
+use Rattle.text_forms.proofs.decimal.Laws.{decimal-small, decimal-large, digit-or-not, run_on, run-off, run-prefix, value-snoc, numeral-more}
+use Rattle.std.proofs.lemmas.Bool.{cases_lt}
 
 some : (f n : ℕ) → n < f → 0 < length (digits_in f n)
 unfolding digits_in
@@ -20,7 +21,7 @@ some zero n h = absurd (not-suc-le-zero h)
 some (suc f) n h =
     ⊎_elim (λ l. rw (lt-ltb n 10 l) (omega arith))
     (λ l. rw (le-ltb n 10 l, length-append) (omega arith))
-    (lt-or-le n 10)
+    (cases_lt n 10)
 
 head-digit : (f n : ℕ) → n < f → 1 ≤ n → 48 < get_or (digits_in f n) 0 0
 unfolding digits_in
@@ -28,7 +29,7 @@ head-digit zero n h p = absurd (not-suc-le-zero h)
 head-digit (suc f) n h p =
     ⊎_elim (λ l. rw (lt-ltb n 10 l) (omega arith))
     (λ l. rw (le-ltb n 10 l, get_or-append (digits_in f (n / 10)) ((48 + n % 10) ∷ []) 0 0 (some f (n / 10) (omega arith))) (head-digit f (n / 10) (omega arith) (omega arith)))
-    (lt-or-le n 10)
+    (cases_lt n 10)
 
 run-digits_in : (f n : ℕ) (rest : List ℕ) → n < f → digit_run (digits_in f n ++ rest) ≡ digits_in f n ++ digit_run rest
 unfolding digits_in
@@ -37,7 +38,7 @@ run-digits_in (suc f) n rest h =
     ⊎_elim (λ l. rw (lt-ltb n 10 l) (run_on (48 + n) rest (omega arith) (omega arith)))
     (λ l. rw (le-ltb n 10 l, append_assoc, append_assoc)
     (run-digits_in f (n / 10) ((48 + n % 10) ∷ rest) (omega arith) ∙ ap (λ (r : List ℕ). digits_in f (n / 10) ++ r) (run_on (48 + n % 10) rest (omega arith) (omega arith))))
-    (lt-or-le n 10)
+    (cases_lt n 10)
 
 value-one : (c : ℕ) → value_from 0 (c ∷ []) ≡ c - 48
 unfolding value_from
@@ -49,7 +50,7 @@ value-digits_in zero n h = absurd (not-suc-le-zero h)
 value-digits_in (suc f) n h =
     ⊎_elim (λ l. rw (lt-ltb n 10 l) (value-one (48 + n) ∙ omega arith))
     (λ l. rw (le-ltb n 10 l, value-snoc, value-digits_in f (n / 10) (omega arith)) (omega arith))
-    (lt-or-le n 10)
+    (cases_lt n 10)
 
 numeral-digits_in : (f n : ℕ) → n < f → is_numeral (digits_in f n) ≡ true
 unfolding digits_in
@@ -60,7 +61,7 @@ numeral-digits_in (suc f) n h =
     (numeral-more (digits_in f (n / 10) ++ ((48 + n % 10) ∷ []))
     (omega (arith, some f (n / 10) (omega arith), length-append (digits_in f (n / 10)) ((48 + n % 10) ∷ [])))
     (λ e. omega (arith, head-digit f (n / 10) (omega arith) (omega arith), get_or-append (digits_in f (n / 10)) ((48 + n % 10) ∷ []) 0 0 (some f (n / 10) (omega arith))))))
-    (lt-or-le n 10)
+    (cases_lt n 10)
 
 -- a text that starts with no digit
 abbrev pub Apart : List ℕ → Type 0
