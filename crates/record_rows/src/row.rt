@@ -1,8 +1,11 @@
 // Rows of numbers (document 01, "The record"): ranges of their cells, and the comparison of rows by their first cells.
 // The functions are pub for the crates of this workspace that walk tables.
-ghost use Rattle.std.specs.Prelude.{◌≡◌, ◌≤◌, length, take};
+ghost use Rattle.std.specs.Prelude.{◌≡◌, cond, Ok, Err, ◌≤◌, length, take};
+ghost use Rattle.refusals.specs.declared.Refusal.TheVariants.{OutOfRange};
 ghost use Rattle.lists.specs.Keyed.{precedes};
 ghost use Rattle.record_rows.specs.row.Row.{same, is_name, body_in_range, edit_in_range, is_side, constraint_in_range, edit_width, constraint_width};
+
+use refusals::Refusal;
 
 // The cells of a row, and bounds of names, benches, chip places and rules; specs/row/Row.antt has the same numbers.
 pub const EDIT_CELLS: usize = 5;
@@ -34,6 +37,17 @@ pub fn is_name(n: u32) -> bool
 {
     let bench = n / 256;
     (1 <= bench) & (bench <= BENCHES) & (1 <= n % 256)
+}
+
+// A number as the name that it is.
+pub fn name(n: u32) -> Result<u16, Refusal>
+    ensures { result ≡ cond (is_name n) (Ok n) (Err OutOfRange) }
+{
+    if is_name(n) {
+        Ok(n as u16)
+    } else {
+        Err(Refusal::OutOfRange)
+    }
 }
 
 #[tactic(auto, unfolding(crate::specs::row::Row::body_in_range))]

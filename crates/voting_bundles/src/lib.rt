@@ -57,10 +57,7 @@ fn small_of(lent: LentRecord, edit: u32) -> Result<Record, Refusal>
     ensures { Gives (lent_bundle_fault lent.entry.edits.now lent.entry.constraints.now edit) (stored (vote.bundle (decoded lent.entry.edits.now lent.entry.constraints.now) edit)) result }
 {
     let multilog = record_joining::lent(lent)?;
-    if !row::is_name(edit) {
-        return Err(Refusal::OutOfRange);
-    }
-    let name = edit as u16;
+    let name = row::name(edit)?;
     if !lookup::knows(multilog, name) {
         return Err(Refusal::Unknown);
     }

@@ -143,10 +143,7 @@ fn tally_for(edit: u32, poll: &Poll) -> Result<Tally, Refusal>
 {
     proposals_fault(&poll.proposals)?;
     voting_roll::fault(poll.roll)?;
-    if !row::is_name(edit) {
-        return Err(Refusal::OutOfRange);
-    }
-    let name = edit as u16;
+    let name = row::name(edit)?;
     if !is_known(&poll.proposals, name) {
         return Err(Refusal::Unknown);
     }

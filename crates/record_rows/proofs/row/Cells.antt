@@ -1,6 +1,6 @@
 -- Rows in range: their bounds, and that decoding and the row of what is decoded are inverse. Assumes nothing.
 use mathlib.Core.Path.{◌≡◌, refl, ap, sym, ◌∙◌}
-use mathlib.Core.Bool.{Bool, true, false, ◌&&◌}
+use mathlib.Core.Bool.{Bool, true, false, cond, ◌&&◌}
 use mathlib.Core.List.{[], ◌∷◌}
 use Prim.Native.Nat.{ℕ, zero, suc, ◌+◌, ◌≤◌, ◌<◌, ◌/◌, ◌%◌}
 use native.Mathlib.Omega.{arith}
@@ -9,6 +9,9 @@ use borrow.Author.Tests.{eqb-true, eq-eqb, leb-true, ltb-true}
 use lib.Dec.{leb, ltb, eqb}
 use lib.ListN.{length, drop, drop_of_length-le}
 use lib.Seq.{drop-cons}
+use Rattle.std.specs.Prelude.{Ok, Err}
+use Rattle.refusals.specs.declared.Refusal.{Refusal}
+use Rattle.refusals.specs.declared.Refusal.TheVariants.{OutOfRange}
 use Rattle.lists.proofs.Lists.{by, clash, and_l, and_r}
 use Rattle.record.specs.declared.Field.{Field}
 use Rattle.record.specs.declared.Field.TheVariants.{Id, Size, Erase, Page}
@@ -38,6 +41,18 @@ unfolding is_name
 name-small n e =
     let f : n / 256 < 9 = let h : n / 256 ≤ 8 = leb-true (n / 256) 8 (and_l (leb (n / 256) 8) (leb 1 (n % 256)) (and_r (leb 1 (n / 256)) (leb (n / 256) 8 && leb 1 (n % 256)) e)) in omega arith in
     (div-lt_iff_lt-mul {k = 256} {x = n} {y = 9} (omega arith)).0 f
+
+-- a number that is taken as a name, and one that is refused
+module _ (n : ℕ) where
+  pub name-taken : {x : ℕ} → Ok x ≡ cond (is_name n) (Ok n) (Err OutOfRange) → (is_name n ≡ true) × (x ≡ n)
+  name-taken {x} e =
+      by (is_name n) (λ t. let q : Ok x ≡ Ok n = rw t at e in let y : x ≡ n = cc in (t, y))
+      (λ f. let q : Ok x ≡ Err OutOfRange = rw f at e in let y : ⊥ = cc in absurd y)
+
+  pub name-refused : {r : Refusal} → Err r ≡ cond (is_name n) (Ok n) (Err OutOfRange) → (is_name n ≡ false) × (r ≡ OutOfRange)
+  name-refused {r} e =
+      by (is_name n) (λ t. let q : Err r ≡ Ok n = rw t at e in let y : ⊥ = cc in absurd y)
+      (λ f. let q : Err r ≡ Err OutOfRange = rw f at e in let y : r ≡ OutOfRange = cc in (f, y))
 
 pub name-not-zero : (n : ℕ) → is_name n ≡ true → n ≡ 0 → ⊥
 unfolding is_name
