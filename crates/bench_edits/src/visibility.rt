@@ -12,7 +12,7 @@ use refusals::Refusal;
 const STANDS: u8 = 1;
 
 // The edit named gets the mark of a hidden one, or of one that is shown.
-fn remarked(bench: &mut Bench, edit: u32, hides: bool) -> Result<CallResult, Refusal>
+fn with_mark(bench: &mut Bench, edit: u32, hides: bool) -> Result<CallResult, Refusal>
     ensures { Answers bench.old (mark_call hides edit) (told_outcome result bench.new) }
 {
     if !row::is_name(edit) {
@@ -42,11 +42,11 @@ fn remarked(bench: &mut Bench, edit: u32, hides: bool) -> Result<CallResult, Ref
 pub fn hide(bench: &mut Bench, edit: u32) -> Result<CallResult, Refusal>
     ensures { Answers bench.old (Call.hide edit) (told_outcome result bench.new) }
 {
-    remarked(bench, edit, true)
+    with_mark(bench, edit, true)
 }
 
 pub fn show(bench: &mut Bench, edit: u32) -> Result<CallResult, Refusal>
     ensures { Answers bench.old (Call.show edit) (told_outcome result bench.new) }
 {
-    remarked(bench, edit, false)
+    with_mark(bench, edit, false)
 }

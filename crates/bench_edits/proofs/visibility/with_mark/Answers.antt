@@ -14,8 +14,8 @@ use Rattle.bench.proofs.Moves.{told-refused, bench-record}
 use Rattle.bench.proofs.Scheduled.{change-made}
 use Rattle.bench_edits.specs.visibility.Named.{mark_call}
 use Rattle.bench_edits.proofs.visibility.Visible.{found, unfound, which, unnamed, unknown, marked-already, must-stands, mark_made}
-use Rattle.bench_edits.proofs.visibility.remarked.Goals as goal
-use Rattle.bench_edits.proofs.visibility.remarked.Goals.{else-hides-via-then-hides+else-planned-index-eq-STANDS, else-hides-via-else-hides}
+use Rattle.bench_edits.proofs.visibility.with_mark.Goals as goal
+use Rattle.bench_edits.proofs.visibility.with_mark.Goals.{else-hides-via-then-hides+else-planned-index-eq-STANDS, else-hides-via-else-hides}
 
 pub returns-then-not-is_name : goal.returns-then-not-is_name
 unfolding Answers
