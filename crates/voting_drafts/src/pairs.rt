@@ -28,10 +28,7 @@ fn is_unordered(c: Constraint, index: &IndexTable, rows: &Rows) -> bool
     }
     let a = index.index_of(usize::from(c.left));
     let b = index.index_of(usize::from(c.right));
-    if rows.leads_to(NOTAFTER, a, b) {
-        return false;
-    }
-    !rows.leads_to(NOTAFTER, b, a)
+    !rows.leads_either_way(NOTAFTER, a, b)
 }
 
 // The pairs with no order, in the table's order. Nothing is said of the rows past the count.

@@ -1,6 +1,6 @@
 -- The test of a pair by its indexes, and the pairs of a stored record. Assumes nothing.
 use mathlib.Core.Path.{◌≡◌, ap, ◌∙◌}
-use mathlib.Core.Bool.{Bool, true, false, not, ◌&&◌, ◌||◌}
+use mathlib.Core.Bool.{Bool, false, not, ◌&&◌, ◌||◌}
 use mathlib.Core.List.{List, ◌++◌}
 use Prim.Native.Nat.{ℕ, min, ◌≤◌, ◌<◌}
 use native.Mathlib.Omega.{arith}
@@ -48,12 +48,8 @@ module _ (R : Record) (c : Constraint) where
   pub other-rule : (c.rule ≡ 2 → ⊥) → false ≡ is_unordered R c
   other-rule h = rw (ne_eqb c.rule 2 h)
 
-  module _ (h : c.rule ≡ 2) where
-    pub order-forth : notafter R c.left c.right ≡ true → false ≡ is_unordered R c
-    order-forth e = rw (eq-eqb c.rule 2 h, e)
-
-    pub order-back : notafter R c.left c.right ≡ false → {b : Bool} → b ≡ notafter R c.right c.left → not b ≡ is_unordered R c
-    order-back e f = rw (eq-eqb c.rule 2 h, e, f)
+  pub order-rows : c.rule ≡ 2 → {b : Bool} → b ≡ (notafter R c.left c.right || notafter R c.right c.left) → not b ≡ is_unordered R c
+  order-rows h e = rw (eq-eqb c.rule 2 h, e)
 
 -- a constraint of a record has known ends
 module _ (R : Record) (w : WellFormed R) (c : Constraint) (m : Has c R.constraints) where
@@ -63,7 +59,7 @@ module _ (R : Record) (w : WellFormed R) (c : Constraint) (m : Has c R.constrain
   pub pair-right-known : c.right among names R
   pair-right-known = resolving.right-known w _ _ _ (in-has c R.constraints m)
 
-pub order-read : (R : Record) (x y a b : ℕ) {r : Bool} → r ≡ notafter R (name_at R a) (name_at R b) → name_at R a ≡ x → name_at R b ≡ y → r ≡ notafter R x y
+pub order-read : (R : Record) (x y a b : ℕ) {r : Bool} → r ≡ (notafter R (name_at R a) (name_at R b) || notafter R (name_at R b) (name_at R a)) → name_at R a ≡ x → name_at R b ≡ y → r ≡ (notafter R x y || notafter R y x)
 order-read R x y a b e f g = rw (f, g) at e
 
 -- the constraints of a stored record

@@ -1,24 +1,10 @@
 -- `pairs::is_unordered` meets its contract. Assumes nothing.
-use mathlib.Core.Path.{sym, ◌∙◌}
 use Rattle.record.specs.Record.{notafter}
-use Rattle.voting_drafts.proofs.pairs.Unordered.{index-low, index-name, other-rule, order-forth, order-back, order-read}
+use Rattle.voting_drafts.proofs.pairs.Unordered.{index-low, index-name, other-rule, order-rows, order-read}
 use Rattle.voting_drafts.proofs.pairs.is_unordered.Goals as goal
 
 pub returns-then-c-ne2 : goal.returns-then-c-ne2
 returns-then-c-ne2 c = λ R g f l r. other-rule R c.args.c c.if-c-ne2.true
-
-pub returns-then-leads_to : goal.returns-then-leads_to
-returns-then-leads_to c =
-    λ R g f l r.
-    let t = c.args.index.now in
-    let i = rw c.from.ensures at c.index_of-a.ensures.is in
-    let j = rw c.from-2.ensures at c.index_of-b.ensures.is in
-    let il = index-low R t f c.args.c.left l i in
-    let jl = index-low R t f c.args.c.right r j in
-    let n = index-name R t f c.args.c.left l i in
-    let m = index-name R t f c.args.c.right r j in
-    order-forth R c.args.c c.if-c-ne2.false
-    (sym (order-read R c.args.c.left c.args.c.right _ _ (c.leads_to.ensures (notafter R) R g.notafters il jl) n m) ∙ c.if-leads_to.true)
 
 pub returns : goal.returns
 returns c =
@@ -30,6 +16,4 @@ returns c =
     let jl = index-low R t f c.args.c.right r j in
     let n = index-name R t f c.args.c.left l i in
     let m = index-name R t f c.args.c.right r j in
-    order-back R c.args.c c.if-c-ne2.false
-    (sym (order-read R c.args.c.left c.args.c.right _ _ (c.leads_to.ensures (notafter R) R g.notafters il jl) n m) ∙ c.if-leads_to.false)
-    (order-read R c.args.c.right c.args.c.left _ _ (c.leads_to-2.ensures (notafter R) R g.notafters jl il) m n)
+    order-rows R c.args.c c.if-c-ne2.false (order-read R c.args.c.left c.args.c.right _ _ (c.leads_either_way.ensures (notafter R) R g.notafters il jl) n m)
