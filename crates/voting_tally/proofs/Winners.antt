@@ -1,7 +1,7 @@
 -- The winner of an election is the bundle of the group that wins. Assumes nothing.
 use mathlib.Core.Path.{◌≡◌, refl, sym, ap, subst}
 use mathlib.Core.Bool.{Bool, true, false}
-use mathlib.Core.List.{List, [], ◌∷◌, map}
+use mathlib.Core.List.{List, [], ◌∷◌}
 use mathlib.Core.Option.{Option, none, some}
 use Prim.Native.Nat.{ℕ, ◌*◌, ◌≤◌, ◌<◌}
 use native.Mathlib.Omega.{arith}
@@ -66,9 +66,6 @@ abbrev pub Won : ℕ → Bool → Group → Type 0
 Won whole b group = b ≡ ltb whole (2 * group.weight)
 
 module _ (tally : Tally) (l : List Ballot) (e : tally ≡ tally_of l) where
-  groups-of : take tally.count tally.groups ≡ map (group_in l) (bundles l)
-  groups-of = groups-taken tally l 0 e
-
   wins-is : (B : Record) (b : Bool) → Won tally.election.total b (group_in l B) → b ≡ wins l B
   unfolding wins
   wins-is B b h = rw (total-is tally l 0 e) at h
@@ -85,7 +82,7 @@ module _ (tally : Tally) (l : List Ballot) (e : tally ≡ tally_of l) where
           let k = winner-known l B a in
           let j = place B s in
           let q : j < length s = place_found B s k in
-          let m = rw (g, groups-of) at h in
+          let m = rw (g, groups-taken tally l 0 e) at h in
           let n : Won tally.election.total false (group_in l (get_or s j none_yet)) = rw (get_or-map (group_in l) s j none_yet) at (m j (group_in l none_yet) (omega arith) (omega (arith, length-map s (group_in l)))) in
           clash a (sym (wins-is B false (rw (place-stands B s k) at n)))
 
@@ -95,7 +92,7 @@ module _ (tally : Tally) (l : List Ballot) (e : tally ≡ tally_of l) where
   the-winner groups x g w i h q =
       let s = bundles l in
       let B = get_or s i none_yet in
-      let r : group_in l B ≡ x = rw (g, groups-of, get_or-map (group_in l) s i none_yet) at (q (group_in l none_yet)) in
+      let r : group_in l B ≡ x = rw (g, groups-taken tally l 0 e, get_or-map (group_in l) s i none_yet) at (q (group_in l none_yet)) in
       let a : wins l B ≡ true = sym (wins-is B true (subst (λ y. Won tally.election.total true y) (sym r) w)) in
       rw (winner-is l B a) (ap (λ y. Some y.bundle) (sym r))
 
