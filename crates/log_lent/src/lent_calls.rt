@@ -40,8 +40,8 @@ pub fn merge_lent(bench: &mut Bench, lending: &Lending, k: u32) -> Result<CallRe
     bench_edits::merge(bench, lending.record(place))
 }
 
-// Kept: one line each over an operation of `voting_count`, which are two: an election alone makes no bundle.
 // The election on an edit over records 1 to 8 and the roll, with its won bundle.
+// Kept: one line each over an operation of `voting_count`, which are two: an election alone makes no bundle.
 pub fn count_lent(lending: &Lending, edit: u32) -> Result<Counted, Refusal>
     ensures told { (L : Lent) → Kept L lending.now → count_told result ≡ count_of edit (proposals_of L) L.roll }
     ensures bundle { IfOk result (λ c. c.election.won ≡ is_some c.bundle) }
@@ -49,8 +49,8 @@ pub fn count_lent(lending: &Lending, edit: u32) -> Result<Counted, Refusal>
     voting_count::count(edit, &lending.poll())
 }
 
+// The answer of the election alone.
 // Kept: as the count.
-// Its answer alone.
 pub fn elect_lent(lending: &Lending, edit: u32) -> Result<ElectionResult, Refusal>
     ensures { (L : Lent) → Kept L lending.now → election_told result ≡ election_of edit (proposals_of L) L.roll }
 {

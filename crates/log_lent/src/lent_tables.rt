@@ -1,6 +1,7 @@
 // The nine lent tables of a kind, the edits or the constraints: one row more, other rows in the place of a table, and its rows.
 ghost use Rattle.std.specs.Prelude.{◌≡◌, [], cond, map, ℕ, ◌<◌, ◌≤◌, length};
 ghost use Rattle.refusals.specs.Numbers.{number_of};
+ghost use Rattle.record_rows.specs.row.Row.{edit_width};
 ghost use Rattle.record_rows.specs.grounds.Ground.{Rows};
 ghost use Rattle.log_lent.specs.Lent.{lent_records, is_lent, with, constraint_places, rows_fault, added, record_number};
 ghost use Rattle.log_lent.specs.lent_tables.Tables.{Tables};
@@ -11,6 +12,8 @@ use record_rows::element::Element;
 use refusals::Refusal;
 
 // The nine lent tables of a kind.
+// Kept: `CELLS ≤ edit_width`: a clause, since `new` has no kind of element of which a law could say it; as an invariant it was tried, and an element of
+// an array in a struct with such a field was lent to no method (`refill`).
 #[derive(Drop)]
 pub struct LentTables<const CELLS: usize, const PLACES: usize> {
     tables: [ArrayVec<[u32; CELLS], PLACES>; RECORDS],
@@ -21,7 +24,7 @@ fn refill<T: Element<CELLS>, const CELLS: usize, const PLACES: usize>(
     table: &mut ArrayVec<[u32; CELLS], PLACES>,
     elements: &[T],
 )
-    requires narrow { CELLS ≤ 5 }
+    requires narrow { CELLS ≤ edit_width }
     ensures { length elements.now ≤ PLACES → table.new.items ≡ map T.row_of elements.now }
 {
     table.clear();
@@ -32,7 +35,7 @@ fn refill<T: Element<CELLS>, const CELLS: usize, const PLACES: usize>(
 
 impl<const CELLS: usize, const PLACES: usize> LentTables<CELLS, PLACES> {
     pub fn new() -> Self
-        requires narrow { CELLS ≤ 5 }
+        requires narrow { CELLS ≤ edit_width }
         requires short { PLACES ≤ constraint_places }
         ensures { Tables (λ k. []) result.tables }
     {
@@ -56,7 +59,7 @@ impl<const CELLS: usize, const PLACES: usize> LentTables<CELLS, PLACES> {
 
     // Table k is these elements. No row is refused: an empty table has a place for each.
     pub fn replace<T: Element<CELLS>>(&mut self, k: u32, elements: &[T]) -> Result<(), Refusal>
-        requires narrow { CELLS ≤ 5 }
+        requires narrow { CELLS ≤ edit_width }
         ensures { (tables : ℕ → Rows) → Tables tables self.old.tables → length elements.now ≤ PLACES
             → (number_of result ≡ record_number k) × Tables (cond (is_lent k) (with k (map T.row_of elements.now) tables) tables) self.new.tables }
     {

@@ -9,7 +9,7 @@ mod lent_tables;
 ghost use Rattle.std.specs.Prelude.{◌≡◌, ◌<◌, ◌≤◌, length, take, MatchResult};
 ghost use Rattle.refusals.specs.Numbers.{number, number_of, Gives};
 ghost use Rattle.record.specs.Record as theory;
-ghost use Rattle.record.specs.Stored.{stored};
+ghost use Rattle.record.specs.Stored.{edit_limit, constraint_limit, stored};
 ghost use Rattle.voting_count.specs.Count.{lent};
 ghost use Rattle.log_lent.specs.Lent.{Lent, nothing_lent, lent_records, edit_places, constraint_places, roll_places, rows_fault, with_edit, with_constraint, with_record, record_number, seat_number, with_seat, without_roll, name_number, with_name, without_row};
 ghost use Rattle.log_lent.specs.Kept.{Kept};
@@ -35,8 +35,8 @@ const ROW_PLACES: usize = EDITS + 2;
 
 const ROLL_PLACES: usize = BENCHES + 1;
 
-// Kept: "Kept L": a desk's roll may be longer than the nine rows that are kept, so that no view of a Lending gives the desk back.
 // The tables of the nine records; the first rows of the roll; the row to be tested.
+// Kept: `Kept L`: a desk's roll may be longer than the nine rows that are kept, so that no view of a Lending gives the desk back.
 #[derive(Drop)]
 pub struct Lending {
     edits: LentTables<EDIT_CELLS, EDIT_PLACES>,
@@ -117,7 +117,7 @@ impl Lending {
     // Record k is this one.
     pub fn lend_record(&mut self, k: u32, multilog: Record) -> Result<(), Refusal>
         ensures { (L : Lent) (R : theory.Record) → Kept L self.old → multilog ≡ stored R
-            → length R.edits ≤ 127 → length R.constraints ≤ 512
+            → length R.edits ≤ edit_limit → length R.constraints ≤ constraint_limit
             → (number_of result ≡ record_number k) × Kept (with_record L k R) self.new }
     {
         self.edits.replace(k, multilog.edit_slice())?;
