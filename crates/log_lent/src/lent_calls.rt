@@ -90,6 +90,7 @@ fn row_named(multilog: &Record, name: u16) -> Option<EditRow>
 }
 
 // What two edits of a record suggest.
+// Kept: both names tested, then cast, and no `row::name` of each: with the case they are one ground of `suggest_fault`, and so one test.
 pub fn suggest_named(multilog: &Record, asked: Suggesting) -> Result<Suggested, Refusal>
     ensures { (R : theory.Record) → multilog.now ≡ stored R → Checked R → Gives (suggestion_fault R asked) (suggested_rules_in R asked) result }
 {
