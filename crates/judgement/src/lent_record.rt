@@ -13,7 +13,8 @@ use record::{Record, Schedule};
 use record_rows::row::LentRecord;
 use refusals::Refusal;
 
-// For each edit, INIT first: must, never, settled and its page with nothing hidden (0: not in it).
+// How many edits the record has, which tells whoever reads the arrays where they end (no crate here reads it); and for each edit, INIT first: must,
+// never, settled and its page with nothing hidden (0: not in it).
 // Kept: the arrays of `Judged` one by one: tried with a `Judged` inside, which crate benchmark_entry has to take apart in two steps, for the borrow
 // checker does not cover an array of an inner struct that is made part of a literal.
 #[derive(Clone, Copy)]

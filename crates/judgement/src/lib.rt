@@ -11,7 +11,7 @@ ghost use Rattle.lists.specs.Lists.{mem};
 ghost use Rattle.record.specs.Stored.{stored};
 ghost use Rattle.record.specs.Schedule as theory_schedule;
 ghost use Rattle.record.specs.Judgement as judgement;
-ghost use Rattle.graph.specs.links.Marks.{name_at, marks_of};
+ghost use Rattle.graph.specs.links.Marks.{name_at, marks_of, place_in, values_of};
 ghost use Rattle.judgement_marks.specs.schedules.Rows.{RowIs};
 ghost use Rattle.graph.specs.indexes.Fit.{Fit};
 ghost use Rattle.judgement.specs.Judged.{marked_edits, stored_schedule, judged_of};
@@ -21,6 +21,9 @@ use graph::links::{MARKS, Marks};
 use judgement_marks::row::Row;
 use judgement_marks::schedules;
 use record::{Record, Schedule};
+
+// Kept: `graph`, `mustmarks`: the two lines that begin most functions here. A struct of both would be made by one line and named at each use, and its
+// facts, which speak of the record R, would be premises of its methods as they are of the functions over the graph.
 
 // Marks by index, 0 for INIT and i for the i-th edit; the page of each edit with nothing hidden, 0 where it is not in the schedule.
 // Kept: four arrays, as document 01 has the marks ("an array of 128 marks, one to each edit").
@@ -78,7 +81,7 @@ pub fn needs(multilog: Record, index: usize) -> Marks
     judgement_marks::needs_marks(&graph.rows, mustmarks, known)
 }
 
-// A row of indexes as edits, without INIT, which comes first in every schedule.
+// A row of indexes as edits, without INIT, which comes first in every schedule. An index of 0 after the first ends it; a schedule's row has none.
 fn edits_of(multilog: Record, row: Row) -> Schedule
     ensures { (R : theory.Record) (hidden : List ℕ) → multilog ≡ stored R → Fit R → RowIs R row (theory_schedule.schedule R hidden) → result ≡ stored_schedule R hidden }
 {
@@ -102,6 +105,16 @@ pub fn schedule(multilog: Record, hidden: Marks) -> Schedule
     let mustmarks = judgement_marks::must_marks(&graph.rows);
     let row = schedules::schedule_row(&graph, mustmarks, &hidden);
     edits_of(multilog, row)
+}
+
+// The page of each edit with nothing hidden, 0 where it is not in the schedule.
+pub fn pages(multilog: Record) -> Marks
+    ensures { (R : theory.Record) → multilog ≡ stored R → Fit R → result ≡ values_of R (place_in (theory_schedule.schedule R [])) }
+{
+    let graph = indexes::resolved(multilog);
+    let mustmarks = judgement_marks::must_marks(&graph.rows);
+    let row = schedules::schedule_row(&graph, mustmarks, &[0; MARKS]);
+    schedules::page_values(row)
 }
 
 // Whether a record is sound, the edits that must stand, and its bench schedule.

@@ -2,24 +2,21 @@
 // and the schedule's unordered pairs are ordered. Functions are pub for the crates of this workspace that make proposals.
 #![tactic(auto)]
 
-ghost use Rattle.std.specs.Prelude.{◌≡◌, true, List, [], ◌∷◌, Ok, ℕ};
+ghost use Rattle.std.specs.Prelude.{◌≡◌, true, List, ◌∷◌, Ok, ℕ};
 ghost use Rattle.record.specs.declared.Constraint.{Constraint};
 ghost use Rattle.record.specs.Record as theory;
 ghost use Rattle.record.specs.Stored.{stored};
-ghost use Rattle.record.specs.Schedule.{schedule};
 ghost use Rattle.record.specs.Judgement.{sound};
 ghost use Rattle.lists.specs.Keyed.{Ascending, united};
 ghost use Rattle.record_tables.specs.Table.{constraint_key};
 ghost use Rattle.record_tables.specs.Checked.{Checked};
-ghost use Rattle.graph.specs.links.Marks.{place_in, values_of};
 ghost use Rattle.graph.specs.indexes.Fit.{Fit};
 ghost use Rattle.voting.specs.Proposal as proposal;
 ghost use Rattle.record_joining.specs.insertion.Insertion.{table_of};
 ghost use Rattle.voting_decisions.specs.Decisions.{Paged, decided, only_constraints};
 
 use graph::indexes;
-use graph::links::{MARKS, Marks};
-use judgement_marks::schedules;
+use graph::links::Marks;
 use record::{CONSTRAINTS, Constraint, EDITS, Record};
 use record_joining::insertion::Constraints;
 use refusals::Refusal;
@@ -27,16 +24,6 @@ use voting_drafts::{pairs, ranking};
 
 // So many constraints leave a place for a decision on each edit.
 const UNDECIDED: usize = CONSTRAINTS - EDITS;
-
-// The page of each edit with nothing hidden.
-fn pages(multilog: Record) -> Marks
-    ensures { (R : theory.Record) → multilog ≡ stored R → Fit R → result ≡ values_of R (place_in (schedule R [])) }
-{
-    let graph = indexes::resolved(multilog);
-    let mustmarks = judgement_marks::must_marks(&graph.rows);
-    let row = schedules::schedule_row(&graph, mustmarks, &[0; MARKS]);
-    schedules::page_values(row)
-}
 
 // The decision on an edit by its page.
 // Kept: a rule is its number, as in the record, and the theory's decision (decided) has it.
@@ -103,7 +90,7 @@ pub fn finished(multilog: Record) -> Result<Constraints, Refusal>
     ensures { (R : theory.Record) → multilog ≡ stored R → Checked R → sound R ≡ true → result ≡ table_of (proposal.finished R).constraints }
 {
     let index = indexes::index_table(multilog);
-    let paged = pages(multilog);
+    let paged = judgement::pages(multilog);
     let table = decided_table(multilog, &paged)?;
     let pairs = pairs::unordered_pairs(multilog);
     ranking::with_orders(

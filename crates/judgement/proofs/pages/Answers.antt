@@ -1,7 +1,7 @@
 -- `pages` meets its contract. Assumes nothing.
 use mathlib.Core.List.{[]}
 use Rattle.judgement.proofs.Judging.{none-hides}
-use Rattle.voting_decisions.proofs.pages.Goals as goal
+use Rattle.judgement.proofs.pages.Goals as goal
 
 pub returns : goal.returns
 returns c = λ R e f.
