@@ -36,7 +36,7 @@ pub fn started(both: Record, old: Record) -> Result<Constraints, Refusal>
     let pairs = pairs::unordered_pairs(both);
     ranking::with_orders(
         Constraints::of(both),
-        &pairs.rows[..pairs.count],
+        pairs.slice(),
         |name| settled_rank(&index, &settled, name),
     )
 }

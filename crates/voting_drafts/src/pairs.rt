@@ -13,17 +13,31 @@ ghost use Rattle.voting.specs.Proposal.{unordered};
 use graph::indexes;
 use graph::indexes::IndexTable;
 use graph::links::{NOTAFTER, Rows};
-use record::{CONSTRAINTS, Constraint, Record};
-use record_joining::insertion::Constraints;
+use record::{CONSTRAINTS, Constraint, NONCOMMUTING, Record};
+
+// Noncommuting pairs; nothing is said of the rows past the count.
+#[derive(Clone, Copy)]
+pub struct Pairs {
+    pub rows: [Constraint; CONSTRAINTS],
+    pub count: usize,
+}
+
+impl Pairs {
+    // The pairs, without what stands after them.
+    pub fn slice(&self) -> &[Constraint]
+        ensures { result.now ≡ take self.now.count self.now.rows }
+    {
+        &self.rows[..self.count.min(CONSTRAINTS)]
+    }
+}
 
 // Whether a constraint is a noncommuting pair with no order; an order is a direct row.
-// Kept: a rule is its number, as in the record, and the theory compares it with 2.
 fn is_unordered(c: Constraint, index: &IndexTable, rows: &Rows) -> bool
     ensures { (R : theory.Record) → Resolved R rows.now
         → Indexed R index.now → c.left among names R → c.right among names R
         → result ≡ (eqb c.rule 2 && not (notafter R c.left c.right || notafter R c.right c.left)) }
 {
-    if c.rule != 2 {
+    if c.rule != NONCOMMUTING {
         return false;
     }
     let a = index.index_of(usize::from(c.left));
@@ -31,8 +45,8 @@ fn is_unordered(c: Constraint, index: &IndexTable, rows: &Rows) -> bool
     !rows.leads_either_way(NOTAFTER, a, b)
 }
 
-// The pairs with no order, in the table's order. Nothing is said of the rows past the count.
-pub fn unordered_pairs(multilog: Record) -> Constraints
+// The pairs with no order, in the table's order.
+pub fn unordered_pairs(multilog: Record) -> Pairs
     ensures few { result.count ≤ constraint_limit }
     ensures pairs { (R : theory.Record) → multilog ≡ stored R → Fit R → take result.count result.rows ≡ unordered R }
 {
@@ -44,7 +58,7 @@ pub fn unordered_pairs(multilog: Record) -> Constraints
         |c| is_unordered(c, &index, &graph.rows),
         &mut rows,
     );
-    Constraints {
+    Pairs {
         rows,
         count: count.min(CONSTRAINTS),
     }

@@ -8,23 +8,23 @@ ghost use Rattle.voting.specs.Proposal.{before};
 ghost use Rattle.record_joining.specs.insertion.Insertion.{table_of};
 ghost use Rattle.voting_drafts.specs.ranking.Ranking.{flat_map, rank_order, pair_order};
 
-use record::Constraint;
+use record::{Constraint, NOTAFTER};
 use record_joining::insertion::Constraints;
 use refusals::Refusal;
 
 // The constraint "a notafter b".
-// Kept: a rule is its number, as in the record, and the theory's constraint (before) has it.
 pub fn notafter(a: u16, b: u16) -> Constraint
     ensures { result ≡ before a b }
 {
     Constraint {
         left: a,
-        rule: 0,
+        rule: NOTAFTER,
         right: b,
     }
 }
 
 // The table joined by the order of a pair by its ranks.
+// Kept: that the rows are in order is a premise here and below, as in `Constraints::insert`.
 fn order_row(table: Constraints, c: Constraint, a: u8, b: u8) -> Result<Constraints, Refusal>
     ensures { (t : List Constraint) → Ok table ≡ table_of t → Ascending constraint_key t → result ≡ table_of (united constraint_key t (rank_order a b c.left c.right)) }
 {

@@ -24,4 +24,4 @@ returns c =
     let g : Settles Q index marks = record { formed = i.formed; indexed = c.index_table-index.ensures Q f i; marked = c.settleds-settled.ensures Q f i } in
     c.with_orders.ensures U.constraints (λ x. settled_rank marks (get_or index x 0)) (λ x r p. search (rules, tests)) (c.of.ensures U e k.constraintplaces) k.constraintorder
     ∙ ap (λ (l : List Constraint). table_of (united constraint_key U.constraints l))
-    (ap (flat_map (pair_order (λ x. settled_rank marks (get_or index x 0)))) (c.unordered_pairs-pairs.ensures.pairs U e (checked-fit U k)) ∙ firsts-by-rank Q index marks g (unordered U))
+    (ap (flat_map (pair_order (λ x. settled_rank marks (get_or index x 0)))) (c.slice.ensures ∙ c.unordered_pairs-pairs.ensures.pairs U e (checked-fit U k)) ∙ firsts-by-rank Q index marks g (unordered U))

@@ -3,8 +3,8 @@ use Rattle.record.specs.Record.{notafter}
 use Rattle.voting_drafts.proofs.pairs.Unordered.{index-low, index-name, other-rule, order-rows, order-read}
 use Rattle.voting_drafts.proofs.pairs.is_unordered.Goals as goal
 
-pub returns-then-c-ne2 : goal.returns-then-c-ne2
-returns-then-c-ne2 c = λ R g f l r. other-rule R c.args.c c.if-c-ne2.true
+pub returns-then-c-ne-NONCOMMUTING : goal.returns-then-c-ne-NONCOMMUTING
+returns-then-c-ne-NONCOMMUTING c = λ R g f l r. other-rule R c.args.c c.if-c-ne-NONCOMMUTING.true
 
 pub returns : goal.returns
 returns c =
@@ -16,4 +16,4 @@ returns c =
     let jl = index-low R t f c.args.c.right r j in
     let n = index-name R t f c.args.c.left l i in
     let m = index-name R t f c.args.c.right r j in
-    order-rows R c.args.c c.if-c-ne2.false (order-read R c.args.c.left c.args.c.right _ _ (c.leads_either_way.ensures (notafter R) R g.notafters il jl) n m)
+    order-rows R c.args.c c.if-c-ne-NONCOMMUTING.false (order-read R c.args.c.left c.args.c.right _ _ (c.leads_either_way.ensures (notafter R) R g.notafters il jl) n m)
