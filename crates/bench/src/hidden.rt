@@ -16,6 +16,7 @@ use record::{EDITS, Record};
 use record_tables::lookup;
 
 // The index of a written edit, INIT's being 0.
+// Kept: the place is compared with the greatest: of records that are not checked, which it takes too, `place_of` says nothing.
 pub fn edit_index(multilog: Record, name: u32) -> Option<usize>
     ensures low { IfSome result (λ index. index < 128) }
     ensures is { (R : theory.Record) → multilog ≡ stored R → Checked R → result ≡ index_in name (written R) }

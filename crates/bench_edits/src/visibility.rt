@@ -15,6 +15,7 @@ const STANDS: u8 = 1;
 fn with_mark(bench: &mut Bench, edit: u32, hides: bool) -> Result<CallResult, Refusal>
     ensures { Answers bench.old (mark_call hides edit) (told_outcome result bench.new) }
 {
+    // Kept: tested and not taken by `row::name`: an edit's index is asked for by the number that a call has.
     if !row::is_name(edit) {
         return Err(Refusal::OutOfRange);
     }

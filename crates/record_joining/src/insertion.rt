@@ -14,6 +14,7 @@ use refusals::Refusal;
 
 // Rows past the count hold a filler.
 // Kept: an array with its count, as in a record: it is copied out of one and into one whole, with its fillers, which an ArrayVec has not.
+// Kept: no invariant says that the rows are in order: `of` takes any record, whose rows may be in none. So it is a premise of what inserts.
 #[derive(Clone, Copy)]
 pub struct Constraints {
     pub rows: [Constraint; CONSTRAINTS],

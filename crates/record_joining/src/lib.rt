@@ -58,6 +58,7 @@ pub fn add_constraint(joined: Record, row: ConstraintRow) -> Result<Record, Refu
 }
 
 // The rows of a table, those past its count empty.
+// Kept: as `record_union`'s elements of rows, the other way.
 fn rows_of<const CELLS: usize, const PLACES: usize, T: Element<CELLS>>(
     elements: &[T],
 ) -> [[u32; CELLS]; PLACES]

@@ -19,6 +19,7 @@ pub trait Element<const CELLS: usize>: Copy {
     ghost element_of: { Row → Self };
 
     // What stands in the rows past a count.
+    // Kept: not Default's: this is a value, which the laws of tables name; Default says `is_default` of a value, a relation.
     ghost filler: { Self };
 
     // How many cells the key has, and how many elements a record has places for.

@@ -15,6 +15,8 @@ use record_rows::row::{CONSTRAINT_CELLS, EDIT_CELLS, LentRecord};
 use std::array;
 
 // The elements that rows are, and the filler after them.
+// Kept: here and in `record_joining::rows_of`: a function of a slice, a closure and a filler for both would be handed a closure whose result is of a
+// type that it does not capture, which the borrow checker refuses where the type is a parameter.
 fn elements_of<const CELLS: usize, const PLACES: usize, T: Element<CELLS>>(
     t: &[[u32; CELLS]],
 ) -> [T; PLACES]
@@ -49,6 +51,8 @@ pub fn decode(lent: LentRecord) -> Record
 }
 
 // The next element of a union: of the record's own table, of the joining one, or, with its own row, of both.
+// Kept: a value, known by an equation (chosen) from which the invariant of `unite` goes on. One match of both slices in the loop would have four arms
+// and three paths in one of them, and each that stores an element would owe the invariant by itself.
 #[derive(Clone, Copy)]
 pub enum Choice<T> {
     Own(T),
@@ -79,6 +83,7 @@ fn choose<const CELLS: usize, T: Element<CELLS>>(own: &[T], joining: &[T]) -> Op
 }
 
 // What comes after the first element.
+// Kept: `&l[1..]` asks that there is one, which `unite` would have to know of what `choose` gave.
 fn after_first<T>(l: &[T]) -> &[T]
     ensures { result.now ≡ drop 1 l.now }
 {
@@ -89,6 +94,7 @@ fn after_first<T>(l: &[T]) -> &[T]
 }
 
 // The union of two tables, as far as it has places, and how many elements it has.
+// Kept: an array with its count, as in the record that both become.
 fn unite<const CELLS: usize, const PLACES: usize, T: Element<CELLS>>(
     own: &[T],
     joining: &[T],

@@ -36,6 +36,8 @@ pub struct Poll<'a> {
 }
 
 // What an election comes to, and the won bundle; none while it is open.
+// Kept: `won` stands beside the bundle, for an election that is answered without its bundle (`election`) says it too. That both agree follows from
+// the two clauses of `count` and is a clause where it is used (`log_lent`); as a field of this struct it would be a third place for it.
 #[derive(Clone, Copy)]
 pub struct Counted {
     pub election: ElectionResult,
@@ -69,6 +71,7 @@ fn vote_of(proposal: Record, name: u16) -> Cast
 }
 
 // The fault of the first faulty row of the proposals, by bench.
+// Kept: that there is none (`Faultless`) is a premise below: a type for it would hold the same eight loans under a second name.
 fn proposals_fault(proposals: &LentProposals) -> Result<(), Refusal>
     ensures { number_of result ≡ first_given (proposal_fault (lent proposals.now)) benches }
 {
@@ -103,7 +106,7 @@ fn is_known(proposals: &LentProposals, name: u16) -> bool
 }
 
 // Whether a proposal is sound, where its rows have no fault.
-// Kept: no twin but in shape, one call inside another.
+// Kept: `judgement::sound` and `record_union::decode` are what it shares with other functions; what is left is one call inside the other.
 fn is_sound(proposal: LentRecord) -> bool
     ensures { lent_fault empty_tables proposal.entry.edits.now proposal.entry.constraints.now ≡ 0 → result ≡ sound (decoded proposal.entry.edits.now proposal.entry.constraints.now) }
 {

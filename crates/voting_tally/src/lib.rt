@@ -96,6 +96,8 @@ impl Tally {
         &self.groups[..self.count.min(BENCHES)]
     }
 
+    // Kept: a premise names the ballots so far, here and below: many lists of ballots come to one tally, so that no view gives the list. The sum of
+    // eight votes is at most eight times 65535, 524280.
     fn add_silent(&mut self, weight: u16)
         ensures { (l : List Ballot) → self.old ≡ tally_of l → total l ≤ 524280 → self.new ≡ tally_of (l ++ (record { weight = weight; vote = none } ∷ [])) }
     {
