@@ -26,14 +26,16 @@ const CHUNK_SIZE: usize = 65536;
 // Answers are printed when they pass the limit, so that there is room for one answer more (`answer_limit`).
 const LIMIT: usize = 28672;
 
-// So many bytes are read at most, and there are no more lines.
-const MOST: usize = 4611686018427387904;
+// So many bytes are read at most, and there are no more lines (`most_lines`).
+const MOST: usize = 1 << 62;
 
 // The system's number of the error that bytes are no text.
 const EILSEQ: i32 = 84;
 
-// Kept: a `while`, since a run moves the place past several lines; `callable` is a clause, for one memory is run with two closures (`continued`).
 // Runs lines and tells their answers.
+// Kept: a `while`, since a run moves the place past several lines; `callable`, since no bound says of a closure that it may be called with every
+// part of the answers; `memory` and `tell`: of a struct that lends both each clause would have to say, too, that it lends the same memory after as
+// before, as `Printed` says of a printer's buffer.
 fn run_lines<T: Fn(&[u8]) -> Result<(), Failed>>(
     memory: &mut Memory,
     log: &[u8],
@@ -55,8 +57,8 @@ fn run_lines<T: Fn(&[u8]) -> Result<(), Failed>>(
     Ok(())
 }
 
-// Kept: `callable`, as above.
 // The whole lines of the first bytes of a chunk are run, and what waits moves to the front; how many bytes it has.
+// Kept: `callable`, `memory` and `tell`, as above.
 fn feed<T: Fn(&[u8]) -> Result<(), Failed>>(
     memory: &mut Memory,
     chunk: &mut [u8],
@@ -88,8 +90,8 @@ fn read_piece(
     stdio::read_some(rt, file, &mut chunk[rest..])
 }
 
-// Kept: a `while`, since how many reads it takes is not known before; `callable`, as above.
 // A file, piece by piece: how many bytes of it are left at the front of the chunk, a last line without its end.
+// Kept: a `while`, since how many reads it takes is not known before; `callable`, `memory` and `tell`, as above.
 fn read_all<T: Fn(&[u8]) -> Result<(), Failed>>(
     rt: &impl Eprint,
     file: &mut impl Read,
@@ -98,7 +100,6 @@ fn read_all<T: Fn(&[u8]) -> Result<(), Failed>>(
     tell: &T,
 ) -> Result<usize, Failed>
     requires callable { T.IsAlwaysCallable tell.now }
-    requires few { memory.old.line ≤ most_lines }
     requires chunk_room { kept_bytes < length chunk.old }
     ensures { IfOk result (λ rest. (rest ≤ length chunk.new) × (memory.new.line + rest ≤ most_lines)
         × ((R : Run) → Ran R memory.old → Streaming R memory.new (take rest chunk.new))) }
@@ -116,8 +117,8 @@ fn read_all<T: Fn(&[u8]) -> Result<(), Failed>>(
     Ok(rest)
 }
 
-// Kept: `callable`, as above.
 // A whole file, its last line without an end too.
+// Kept: `callable`, `memory` and `tell`, as above.
 fn replayed<T: Fn(&[u8]) -> Result<(), Failed>>(
     rt: &impl Eprint,
     file: &mut impl Read,
@@ -125,9 +126,7 @@ fn replayed<T: Fn(&[u8]) -> Result<(), Failed>>(
     tell: &T,
 ) -> Result<(), Failed>
     requires callable { T.IsAlwaysCallable tell.now }
-    requires few { memory.old.line ≤ most_lines }
-    ensures few { OnOk result (memory.new.line ≤ most_lines) }
-    ensures run { (R : Run) → Ran R memory.old → OnOk result (Streamed R memory.new) }
+    ensures { (R : Run) → Ran R memory.old → OnOk result (Streamed R memory.new) }
 {
     let mut chunk = [0u8; CHUNK_SIZE];
     let rest = read_all(rt, file, memory, &mut chunk, tell)?;
@@ -167,10 +166,8 @@ pub fn replay_input(rt: &(impl Input + Print + Eprint)) {
 
 // Opens a file for reading. std takes a path only as text, so one that is no UTF-8 is refused.
 fn open_read<R: Files>(rt: &R, path: &[u8]) -> io::Result<R::File> {
-    match str::from_utf8(path) {
-        Ok(text) => File::open(rt, text),
-        Err(_) => Err(Error::from_raw_os_error(EILSEQ)),
-    }
+    let text = str::from_utf8(path).map_err(|_| Error::from_raw_os_error(EILSEQ))?;
+    File::open(rt, text)
 }
 
 // Runs the log on standard input after the log that was kept in a file. Public for the programs. It ends as the run without a file does.

@@ -1,4 +1,6 @@
 // What is in memory between two parts of a log: what the lines so far have come to, and room for the answers to the next ones.
+ghost use Rattle.std.specs.Prelude.{◌≤◌};
+ghost use Rattle.log_run.specs.Log.{most_lines};
 ghost use Rattle.stdio_log.specs.Held.{Held};
 
 use log_session::Session;
@@ -6,13 +8,14 @@ use log_session::Session;
 const OUTPUT_SIZE: usize = 65536;
 
 // The session, the number of the last line that was run, and the buffer for answers. The numbers of the desk fit, so that no answer is longer than
-// `answer_limit`.
+// `answer_limit`, and more lines than `most_lines` are not run.
 #[derive(Drop)]
 pub struct Memory {
     pub session: Session,
     pub line: usize,
     pub out: [u8; OUTPUT_SIZE],
     ghost held: { ∥ Held session ∥₁ },
+    ghost few: { line ≤ most_lines },
 }
 
 impl Memory {

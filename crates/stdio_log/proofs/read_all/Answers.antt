@@ -4,7 +4,7 @@ use Rattle.stdio_log.proofs.Streams.{streaming-start, streaming-next}
 use Rattle.stdio_log.proofs.read_all.Goals as goal
 
 pub loop-chunk-init : goal.loop-chunk-init
-loop-chunk-init g c = (omega arith, omega arith, omega (arith, c.requires.few), λ R H. streaming-start H)
+loop-chunk-init g c = (omega arith, omega arith, omega (arith, c.args.memory.now.few), λ R H. streaming-start H)
 
 pub feed-requires-clause-inside : goal.feed-requires-clause-inside
 feed-requires-clause-inside g c = omega (arith, c.in_ok-size.ensures.0, c.read_piece.auto.chunk)

@@ -6,7 +6,7 @@ use Rattle.stdio_log.proofs.replayed.Goals as goal
 pub run_lines-requires-clause-few : goal.run_lines-requires-clause-few
 run_lines-requires-clause-few g c = part-few _ _ _ _ c.in_ok-rest.ensures.1
 
-pub returns-clause-run : goal.returns-clause-run
-returns-clause-run g c = λ R H.
+pub returns : goal.returns
+returns g c = λ R H.
     let S = c.in_ok-rest.ensures.2 R H in
     on_ok_weaker c.run_lines.result (λ t. streaming-end c.read_all.new.chunk c.in_ok-rest.rest S t) (c.run_lines.ensures.run _ S.ran)

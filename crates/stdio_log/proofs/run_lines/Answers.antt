@@ -10,7 +10,12 @@ loop-from-init g c = (omega arith, omega arith, λ R H. up-to-start _ R H)
 
 pub invariant_of-memory : goal.invariant_of-memory
 invariant_of-memory g c =
-    record { held = run-part-held c.args.log.now c.loop-from.from _ _ (omega (arith, c.loop-from.invariant.1, c.requires.few)) c.run_some-from.ensures.run c.loop-from.memory.held }
+    let v = c.loop-from.invariant in
+    let s = c.run_some-from.ensures in
+    record {
+      held = run-part-held c.args.log.now c.loop-from.from _ _ (omega (arith, v.1, c.requires.few)) s.run c.loop-from.memory.held;
+      few = omega (arith, v.1, c.requires.few, run-part-few c.args.log.now c.loop-from.from _ _ (omega (arith, v.1, c.requires.few)) s.run c.loop-from.memory.held);
+    }
 
 pub shared_ref_as_front-tell : goal.shared_ref_as_front-tell
 shared_ref_as_front-tell g c =
