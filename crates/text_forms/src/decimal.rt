@@ -3,6 +3,9 @@ ghost use Rattle.std.specs.Prelude.{◌≡◌, ◌≤◌, length, not, position}
 ghost use Rattle.text_forms.specs.decimal.Decimal.{decimal, is_digit, digit_run, value_from, numeral_read, saturated};
 ghost use Rattle.text_forms.specs.decimal.Written.{Written};
 
+// The least number that does not fit 32 bits.
+const CUTOFF: u64 = u32::MAX as u64 + 1;
+
 // The numeral that a text starts with: how many bytes it takes, at least one, and its value, cut off at 2^32.
 #[derive(Clone, Copy)]
 pub struct Numeral {
@@ -11,6 +14,7 @@ pub struct Numeral {
 }
 
 // How many bytes n takes.
+// Kept: tried with `map_or`, the check finds no proof of the one goal that both cases then are; of a match it has a goal for each.
 pub fn number_length(n: u64) -> usize
     ensures { result ≡ length (decimal n) }
 {
@@ -55,7 +59,7 @@ fn digits_value(digits: &[u8]) -> u64
 {
     let mut value = 0u64;
     for digit in digits {
-        value = (value * 10 + u64::from(digit - b'0')).min(4294967296);
+        value = (value * 10 + u64::from(digit - b'0')).min(CUTOFF);
     }
     value
 }

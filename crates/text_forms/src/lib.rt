@@ -7,7 +7,7 @@
 
 pub mod decimal;
 
-ghost use Rattle.std.specs.Prelude.{◌≡◌, ◌≤◌, [], ◌∷◌, ◌++◌, leb, length, get_or, set};
+ghost use Rattle.std.specs.Prelude.{◌≡◌, ◌≤◌, [], ◌∷◌, ◌++◌, leb, length, set};
 ghost use Rattle.text_forms.specs.decimal.Decimal.{decimal};
 ghost use Rattle.text_forms.specs.decimal.Written.{Written};
 ghost use Rattle.text_forms.specs.Spelling.{name_spelling, answer_spelling, numeral_of};
@@ -16,7 +16,12 @@ ghost use Rattle.text_forms.specs.Fit.{room_after};
 
 use crate::decimal::Numeral;
 
+// How many numbers of a form are kept, the first ones. Pub for `log_forms`, which reads lines by forms.
+pub const NUMBERS: usize = 8;
+
 // The spelling of an edit's name.
+// Kept: these three hand on to a number's, since in the definitions too a name has a spelling of its own (`name_spelling`) that is a number's now;
+// it stands once in length, writer and reader, so that names could be spelled otherwise by these alone (docs/DECISIONS.md, 28).
 fn name_length(n: u64) -> usize
     ensures { result ≡ length (name_spelling.write n) }
 {
@@ -27,7 +32,7 @@ fn write_name(out: &mut [u8], n: u64) -> usize
     requires { length (name_spelling.write n) ≤ length out.old }
     ensures { Written (name_spelling.write n) out.old result out.new }
 {
-    decimal::write_number(&mut out[..], n)
+    decimal::write_number(out, n)
 }
 
 fn read_name(bytes: &[u8]) -> Option<Numeral>
@@ -47,7 +52,7 @@ fn write_answer(out: &mut [u8], n: u64) -> usize
     requires { length (answer_spelling.write n) ≤ length out.old }
     ensures { Written (answer_spelling.write n) out.old result out.new }
 {
-    write_word(&mut out[..], answer_word(n))
+    write_word(out, answer_word(n))
 }
 
 fn read_answer(bytes: &[u8]) -> Option<Numeral>
@@ -86,9 +91,9 @@ fn write_mark(out: &mut [u8], mark: u8, n: u64) -> usize
     ensures { Written ((spelling mark).write n) out.old result out.new }
 {
     match mark {
-        b'?' => write_answer(&mut out[..], n),
-        b'@' => write_name(&mut out[..], n),
-        _ => decimal::write_number(&mut out[..], n),
+        b'?' => write_answer(out, n),
+        b'@' => write_name(out, n),
+        _ => decimal::write_number(out, n),
     }
 }
 
@@ -103,25 +108,18 @@ fn read_mark(mark: u8, bytes: &[u8]) -> Option<Numeral>
     }
 }
 
-// Kept: beside `byte_at` of `text_lines`, as is said there.
-// A number that is not there is 0.
-fn number_at(numbers: &[u64], k: usize) -> u64
-    ensures { result ≡ get_or numbers.now k 0 }
-{
-    numbers.get(k).copied().unwrap_or(0)
-}
-
 // What is left of a room after the form with these numbers, where it fits. Pub for the crates that count lines.
+// Kept: `form` and `numbers` are two here and below: a form is a constant and its numbers are made for one call, so a struct of both would be made
+// at each call, and the clauses, which name both as `fill form numbers`, would be no shorter.
 pub fn form_fit(room: usize, form: &[u8], numbers: &[u64]) -> Option<usize>
     ensures { result ≡ room_after room (length (fill form.now numbers.now)) }
 {
     let mut left = room;
-    let mut k = 0;
+    let mut rest = numbers.iter();
     for c in form {
         if is_mark(*c) {
-            let n = number_at(numbers, k);
+            let n = rest.next().copied().unwrap_or(0);
             left = left.checked_sub(mark_length(*c, n))?;
-            k += 1;
         } else {
             left = left.checked_sub(1)?;
         }
@@ -154,7 +152,7 @@ pub fn write_worded(out: &mut [u8], word: &[u8], n: u64) -> usize
     requires { length (word.now ++ decimal n) ≤ length out.old }
     ensures { Written (word.now ++ decimal n) out.old result out.new }
 {
-    let at = write_word(&mut out[..], word);
+    let at = write_word(out, word);
     at + decimal::write_number(&mut out[at..], n)
 }
 
@@ -163,23 +161,22 @@ pub fn write_ended(out: &mut [u8], word: &[u8], n: u64) -> usize
     requires { length ((word.now ++ decimal n) ++ (10 ∷ [])) ≤ length out.old }
     ensures { Written ((word.now ++ decimal n) ++ (10 ∷ [])) out.old result out.new }
 {
-    let at = write_worded(&mut out[..], word, n);
+    let at = write_worded(out, word, n);
     at + write_word(&mut out[at..], b"\n")
 }
 
-// Writes the form with these numbers to the start of out, and answers how many bytes that took. Pub for `log_forms` and
+// Writes the form with these numbers to the start of out, and answers how many bytes that took. Pub for `text_writer` and
 // `text_report`, which have seen that it fits.
 pub fn write_form(out: &mut [u8], form: &[u8], numbers: &[u64]) -> usize
     requires { length (fill form.now numbers.now) ≤ length out.old }
     ensures { Written (fill form.now numbers.now) out.old result out.new }
 {
     let mut at = 0;
-    let mut k = 0;
+    let mut rest = numbers.iter();
     for c in form {
         if is_mark(*c) {
-            let n = number_at(numbers, k);
+            let n = rest.next().copied().unwrap_or(0);
             at += write_mark(&mut out[at..], *c, n);
-            k += 1;
         } else {
             out[at] = *c;
             at += 1;
@@ -188,22 +185,23 @@ pub fn write_form(out: &mut [u8], form: &[u8], numbers: &[u64]) -> usize
     at
 }
 
-// Kept: tested and then indexed, as in crate catalogue: a proof learns no element that was written through get_mut.
 // In place, since a copy that is read right after a single number was stored waits for it.
-fn store(numbers: &mut [u64; 8], k: usize, n: u64)
+// Kept: tested and then indexed, as in crate catalogue: a proof learns no element that was written through get_mut.
+fn store(numbers: &mut [u64; NUMBERS], k: usize, n: u64)
     requires { length numbers.old ≡ 8 }
     ensures { numbers.new ≡ set numbers.old k n }
 {
-    if k < 8 {
+    if k < NUMBERS {
         numbers[k] = n;
     }
 }
 
 // The numbers with which the form gives these bytes, where it does, cut off at 2^32. Places past the form's own numbers hold 0.
-pub fn read_form(form: &[u8], bytes: &[u8]) -> Option<[u64; 8]>
+// Kept: `k` is counted by hand, since the form's marks move it on and its other bytes do not.
+pub fn read_form(form: &[u8], bytes: &[u8]) -> Option<[u64; NUMBERS]>
     ensures { result ≡ filled_of (taken form.now bytes.now) }
 {
-    let mut numbers = [0u64; 8];
+    let mut numbers = [0u64; NUMBERS];
     let mut rest = bytes;
     let mut k = 0;
     for c in form {
