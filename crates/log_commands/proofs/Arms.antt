@@ -23,7 +23,7 @@ use Rattle.log_forms.specs.productions.Productions.{Production, parse}
 use Rattle.log_forms.specs.productions.Words.{starting, words_of}
 use Rattle.log_forms.proofs.productions.Choosing as choosing
 use Rattle.log_commands.specs.Grammar.{grammar, command_read}
-use Rattle.log_commands.specs.Groups.{plain_said, read_starting}
+use Rattle.log_commands.specs.Groups.{plain_said, number_said, read_starting}
 use Rattle.log_commands.specs.declared.Command.{Command}
 
 -- of the forms that start so, those that the letter after it leaves
@@ -48,10 +48,19 @@ others-of : (productions : List (Production (Result Command Refusal))) (s : List
 others-of [] s h e n q = clash h refl
 others-of (production ∷ rest) s h e n q = choosing.other-production Err s production rest h e n q
 
+abbrev pub of_number : (ℕ → Result Command Refusal) → Result ℕ Refusal → Result Command Refusal
+of_number meaning (Ok n) = meaning n
+of_number meaning (Err refusal) = Err refusal
+
 -- what a form without numbers says
 plain-said-made : (command : Command) (w : Result (List ℕ) Refusal) → plain_said command w ≡ choosing.made Err w (λ n. Ok command)
 plain-said-made command (Ok words) = refl
 plain-said-made command (Err refusal) = refl
+
+-- what a form with one number says
+number-made : (meaning : ℕ → Result Command Refusal) (w : Result (List ℕ) Refusal) → of_number meaning (number_said w) ≡ choosing.made Err w (λ n. meaning (n 0))
+number-made meaning (Ok words) = refl
+number-made meaning (Err refusal) = refl
 
 module _ (p : String) (s : List ℕ) {x : ℕ} (e : x ≡ choosing.letter_after (bytes p) s) {r : Result Command Refusal} where
   -- the letter leaves one form
@@ -66,6 +75,13 @@ module _ (p : String) (s : List ℕ) {x : ℕ} (e : x ≡ choosing.letter_after 
       let w = words_of (taken (choosing.first_form (left_by p letter)) s) in
       arm letter l h refl (q ∙ plain-said-made command w ∙ ap (choosing.made Err w) (sym m))
 
+  pub number-arm : (letter : ℕ) → x ≡ letter → choosing.is_one (left_by p letter) ≡ true → (meaning : ℕ → Result Command Refusal)
+      → choosing.first_meaning Err (left_by p letter) ≡ (λ n. meaning (n 0))
+      → {v : Result ℕ Refusal} → v ≡ number_said (words_of (taken (choosing.first_form (left_by p letter)) s)) → r ≡ of_number meaning v → r ≡ read_starting p s
+  number-arm letter l h meaning m q t =
+      let w = words_of (taken (choosing.first_form (left_by p letter)) s) in
+      arm letter l h refl (t ∙ ap (of_number meaning) q ∙ number-made meaning w ∙ ap (choosing.made Err w) (sym m))
+
   -- or some
   pub part : (letter : ℕ) → x ≡ letter → r ≡ parse Err (left_by p letter) s → r ≡ read_starting p s
   unfolding read_starting
@@ -76,6 +92,13 @@ module _ (p : String) (s : List ℕ) {x : ℕ} (e : x ≡ choosing.letter_after 
       → r ≡ choosing.made Err w (choosing.first_meaning Err (left_without p keys)) → r ≡ read_starting p s
   unfolding read_starting
   last keys o h q t = choosing.others-arm Err (bytes p) s e (starting p grammar) keys o h q t
+
+  pub number-last : (keys : List ℕ) → choosing.Others keys x → choosing.is_one (left_without p keys) ≡ true → (meaning : ℕ → Result Command Refusal)
+      → choosing.first_meaning Err (left_without p keys) ≡ (λ n. meaning (n 0))
+      → {v : Result ℕ Refusal} → v ≡ number_said (words_of (taken (choosing.first_form (left_without p keys)) s)) → r ≡ of_number meaning v → r ≡ read_starting p s
+  number-last keys o h meaning m q t =
+      let w = words_of (taken (choosing.first_form (left_without p keys)) s) in
+      last keys o h refl (t ∙ ap (of_number meaning) q ∙ number-made meaning w ∙ ap (choosing.made Err w) (sym m))
 
   pub no-form : (keys : List ℕ) → choosing.Others keys x → r ≡ parse Err (left_without p keys) s → r ≡ read_starting p s
   unfolding read_starting

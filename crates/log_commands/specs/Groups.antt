@@ -1,5 +1,5 @@
 -- Inner: the call log: parts of the grammar, and what the lines of the exchanged text make of it. Assumes nothing.
-use Rattle.std.specs.Prelude.{ℕ, suc, ℤ, pos, negsuc, cond, List, map, drop, Option, None, Result, Ok, Err}
+use Rattle.std.specs.Prelude.{ℕ, suc, ℤ, pos, negsuc, cond, List, map, drop, get_or, Option, None, Result, Ok, Err}
 use Prim.Native.String.{String}
 use Rattle.text_forms.specs.decimal.Decimal.{numeral_read}
 use Rattle.text_forms.specs.declared.decimal.Numeral.{Numeral}
@@ -22,6 +22,11 @@ turn_by (negsuc n) = turn_back (suc n)
 abbrev pub plain_said : Command → Result (List ℕ) Refusal → Result Command Refusal
 plain_said command (Ok words) = Ok command
 plain_said command (Err refusal) = Err refusal
+
+-- the number of a form that has one
+abbrev pub number_said : Result (List ℕ) Refusal → Result ℕ Refusal
+number_said (Ok words) = Ok (get_or words 0 0)
+number_said (Err refusal) = Err refusal
 
 -- by the forms that start so
 unfoldable pub read_starting : String → List ℕ → Result Command Refusal

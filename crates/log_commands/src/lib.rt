@@ -8,7 +8,7 @@ ghost use Rattle.text_forms.specs.Form.{taken};
 ghost use Rattle.text_lines.specs.Line.{line_read, line_limit};
 ghost use Rattle.log_forms.specs.productions.Words.{words_of};
 ghost use Rattle.log_commands.specs.Grammar.{edit_cells_of, constraint_cells_of, adding, lending_to, command_read};
-ghost use Rattle.log_commands.specs.Groups.{turn_by, plain_said, read_starting, line_adds, lent_number, lent_line_read};
+ghost use Rattle.log_commands.specs.Groups.{turn_by, plain_said, number_said, read_starting, line_adds, lent_number, lent_line_read};
 
 use log_forms::productions;
 use refusals::Refusal;
@@ -16,8 +16,9 @@ use text_forms::decimal;
 use text_forms::decimal::Numeral;
 use text_lines::Line;
 
-// Kept: cells by name, for the grammar's table names them (specs/Grammar.antt).
 // A row of edits.
+// Kept: cells by name: the table of forms in specs/Grammar.antt gives each number of a form its cell by name, so a reader sees there which of them is
+// the chip. With the row itself the table would give `n 1 ∷ n 2 ∷ n 3 ∷ n 4 ∷ n 5 ∷ []`, and which number is which cell would be read elsewhere.
 #[derive(Clone, Copy)]
 pub struct EditCells {
     pub name: u32,
@@ -55,8 +56,8 @@ impl From<EditCells> for [u32; 5] {
     }
 }
 
-// Kept: cells by name, as of a row of edits.
 // A row of constraints.
+// Kept: cells by name, as of a row of edits: `left`, `rule` and `right` in place of `n 1 ∷ n 2 ∷ n 3 ∷ []`.
 #[derive(Clone, Copy)]
 pub struct ConstraintCells {
     pub left: u32,
@@ -94,8 +95,8 @@ pub struct Proposing {
     pub keep: bool,
 }
 
-// Kept: the case as the number that a caller gives; another is refused as out of range.
 // Constraints for two edits.
+// Kept: the case as the number that a caller gives; another is refused as out of range.
 #[derive(Clone, Copy)]
 pub struct Suggesting {
     pub first: u32,
@@ -175,6 +176,14 @@ fn read_plain(form: &[u8], bytes: &[u8], command: Command) -> Result<Command, Re
     Ok(command)
 }
 
+// The number of a form that has one.
+fn read_number(form: &[u8], bytes: &[u8]) -> Result<u32, Refusal>
+    ensures { result ≡ number_said (words_of (taken form.now bytes.now)) }
+{
+    let words = productions::read_words(form, bytes)?;
+    Ok(words[0])
+}
+
 // The forms that start so, by the letter after it; so below.
 fn read_ask(bytes: &[u8]) -> Result<Command, Refusal>
     ensures { result ≡ read_starting "ask=" bytes.now }
@@ -198,14 +207,8 @@ fn read_turn(bytes: &[u8]) -> Result<Command, Refusal>
 {
     let letter = text_lines::byte_at(bytes, 14);
     match letter {
-        b'-' => {
-            let words = productions::read_words(b"do=turn pages=-#\n", bytes)?;
-            turn_by(-i64::from(words[0]))
-        }
-        _ => {
-            let words = productions::read_words(b"do=turn pages=#\n", bytes)?;
-            turn_by(i64::from(words[0]))
-        }
+        b'-' => turn_by(-i64::from(read_number(b"do=turn pages=-#\n", bytes)?)),
+        _ => turn_by(i64::from(read_number(b"do=turn pages=#\n", bytes)?)),
     }
 }
 
@@ -215,10 +218,7 @@ fn read_turn_or_test(bytes: &[u8]) -> Result<Command, Refusal>
     let letter = text_lines::byte_at(bytes, 4);
     match letter {
         b'u' => read_turn(bytes),
-        b'e' => {
-            let words = productions::read_words(b"do=test lent=#\n", bytes)?;
-            Ok(Command::Vote(Vote::Test(words[0])))
-        }
+        b'e' => Ok(Command::Vote(Vote::Test(read_number(b"do=test lent=#\n", bytes)?))),
         _ => Err(Refusal::NotInForm),
     }
 }
@@ -228,10 +228,7 @@ fn read_show_or_suggest(bytes: &[u8]) -> Result<Command, Refusal>
 {
     let letter = text_lines::byte_at(bytes, 4);
     match letter {
-        b'h' => {
-            let words = productions::read_words(b"do=show edit=#\n", bytes)?;
-            Ok(Command::Call(Call::Show(words[0])))
-        }
+        b'h' => Ok(Command::Call(Call::Show(read_number(b"do=show edit=#\n", bytes)?))),
         b'u' => {
             let words = productions::read_words(b"do=suggest first=# second=# case=#\n", bytes)?;
             let suggesting = Suggesting {
@@ -245,30 +242,19 @@ fn read_show_or_suggest(bytes: &[u8]) -> Result<Command, Refusal>
     }
 }
 
-// Kept: an arm each, here and below, with `?`: read_words(..).map(|words| ..) was tried, and the clauses of each closure make the proof longer.
+// Kept: a form of several numbers has an arm with `?`, here and below: read_words(..).map(|words| ..) was tried, and the clauses of each closure make
+// the proof longer.
 fn read_do(bytes: &[u8]) -> Result<Command, Refusal>
     ensures { result ≡ read_starting "do=" bytes.now }
 {
     let letter = text_lines::byte_at(bytes, 3);
     match letter {
-        b'm' => {
-            let words = productions::read_words(b"do=merge lent=#\n", bytes)?;
-            Ok(Command::Call(Call::Merge(words[0])))
-        }
-        b'h' => {
-            let words = productions::read_words(b"do=hide edit=#\n", bytes)?;
-            Ok(Command::Call(Call::Hide(words[0])))
-        }
+        b'm' => Ok(Command::Call(Call::Merge(read_number(b"do=merge lent=#\n", bytes)?))),
+        b'h' => Ok(Command::Call(Call::Hide(read_number(b"do=hide edit=#\n", bytes)?))),
         b's' => read_show_or_suggest(bytes),
         b't' => read_turn_or_test(bytes),
-        b'a' => {
-            let words = productions::read_words(b"do=adopt edit=#\n", bytes)?;
-            Ok(Command::Call(Call::Adopt(words[0])))
-        }
-        b'e' => {
-            let words = productions::read_words(b"do=elect edit=#\n", bytes)?;
-            Ok(Command::Vote(Vote::Elect(words[0])))
-        }
+        b'a' => Ok(Command::Call(Call::Adopt(read_number(b"do=adopt edit=#\n", bytes)?))),
+        b'e' => Ok(Command::Vote(Vote::Elect(read_number(b"do=elect edit=#\n", bytes)?))),
         b'b' => {
             let words = productions::read_words(b"do=bundle edit=# lent=#\n", bytes)?;
             Ok(Command::Vote(Vote::Bundle(words[0], words[1])))
@@ -287,10 +273,7 @@ fn read_do(bytes: &[u8]) -> Result<Command, Refusal>
             };
             Ok(Command::Propose(proposing))
         }
-        b'w' => {
-            let words = productions::read_words(b"do=winner edit=#\n", bytes)?;
-            Ok(Command::Vote(Vote::Winner(words[0])))
-        }
+        b'w' => Ok(Command::Vote(Vote::Winner(read_number(b"do=winner edit=#\n", bytes)?))),
         _ => Err(Refusal::NotInForm),
     }
 }
@@ -308,17 +291,14 @@ fn read_roll(bytes: &[u8]) -> Result<Command, Refusal>
     }
 }
 
-// Kept: beside `read_roll`: one function of both would take the letter's place, two forms, a command and a closure, for two arms each.
+// Kept: beside `read_roll`: `read_plain`, `read_words` and `read_number` are what both share; what is left is two forms and two commands each.
 fn read_row(bytes: &[u8]) -> Result<Command, Refusal>
     ensures { result ≡ read_starting "row=" bytes.now }
 {
     let letter = text_lines::byte_at(bytes, 4);
     match letter {
         b'n' => read_plain(b"row=none\n", bytes, Command::Lend(Lend::NoRow)),
-        _ => {
-            let words = productions::read_words(b"row=#\n", bytes)?;
-            Ok(Command::Lend(Lend::RowName(words[0])))
-        }
+        _ => Ok(Command::Lend(Lend::RowName(read_number(b"row=#\n", bytes)?))),
     }
 }
 
@@ -329,14 +309,8 @@ fn read_rows(bytes: &[u8], number: usize) -> Result<Command, Refusal>
 {
     let letter = text_lines::byte_at(bytes, number + 6);
     match letter {
-        b'n' => {
-            let words = productions::read_words(b"lent=# rows=none\n", bytes)?;
-            Ok(Command::Lend(Lend::NoRows(words[0])))
-        }
-        b'b' => {
-            let words = productions::read_words(b"lent=# rows=bench\n", bytes)?;
-            Ok(Command::Lend(Lend::BenchRows(words[0])))
-        }
+        b'n' => Ok(Command::Lend(Lend::NoRows(read_number(b"lent=# rows=none\n", bytes)?))),
+        b'b' => Ok(Command::Lend(Lend::BenchRows(read_number(b"lent=# rows=bench\n", bytes)?))),
         _ => Err(Refusal::NotInForm),
     }
 }
@@ -371,6 +345,8 @@ fn read_added(bytes: &[u8]) -> Result<Command, Refusal>
 }
 
 // The record's number that a line begins with.
+// Kept: `starts_with` and the rest from 5: `strip_prefix` would drop the 5 here, but `read_lent_line` counts on from it, so that one of the two places
+// would have the word's length and the other not.
 fn lent_number(bytes: &[u8]) -> Option<Numeral>
     ensures { result ≡ lent_number bytes.now }
 {
@@ -399,6 +375,8 @@ fn read_lent_line(bytes: &[u8]) -> Result<Command, Refusal>
 }
 
 // Rows of numbers are tried before lines of the exchanged text.
+// Kept: a match of the answer in each of two arms: only these two go on to a line. One match below them both would need the other two arms to return
+// before it.
 fn read_lent(bytes: &[u8]) -> Result<Command, Refusal>
     requires { length bytes.now ≤ line_limit }
     ensures { result ≡ read_starting "lent=# " bytes.now }
@@ -449,8 +427,7 @@ pub fn read_command(bytes: &[u8]) -> Result<Command, Refusal>
     }
     let third = text_lines::byte_at(bytes, 2);
     match third {
-        b'i' => read_added(bytes),
-        b'f' => read_added(bytes),
+        b'i' | b'f' => read_added(bytes),
         b'n' => read_lent(bytes),
         b'=' => read_do(bytes),
         b'k' => read_ask(bytes),

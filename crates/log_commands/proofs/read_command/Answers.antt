@@ -1,5 +1,6 @@
 -- `read_command` meets its contract. Assumes nothing.
 use mathlib.Core.Path.{refl}
+use mathlib.Core.Logic.{inl, inr}
 use Rattle.lists.specs.Lists.{filter, mem}
 use Rattle.text_forms.specs.Spelling.{bytes, starts_with, number_spelling}
 use Rattle.text_forms.specs.Form.{is_mark, spelling}
@@ -20,11 +21,13 @@ returns-then-bytes-gt-LINE_LIMIT c = command-long c.args.bytes.now c.if-bytes-gt
 
 pub returns-in-105 : goal.returns-in-105
 unfolding command_forms grammar shapes set_shapes rule_shapes set_form edit_form rule_form read_starting starting parse filter mem bytes starts_with is_mark spelling number_spelling slots letter_other letter_among ruled_out otherwise line-ends
-returns-in-105 c = group c.args.bytes.now c.if-bytes-gt-LINE_LIMIT.false c.byte_at-third.ensures 105 c.in-105.is (added-kept c.args.bytes.now c.if-bytes-gt-LINE_LIMIT.false c.byte_at-third.ensures 105 c.in-105.is c.read_added.ensures)
-
-pub returns-in-102 : goal.returns-in-102
-unfolding command_forms grammar shapes set_shapes rule_shapes set_form edit_form rule_form read_starting starting parse filter mem bytes starts_with is_mark spelling number_spelling slots letter_other letter_among ruled_out otherwise line-ends
-returns-in-102 c = group c.args.bytes.now c.if-bytes-gt-LINE_LIMIT.false c.byte_at-third.ensures 102 c.in-102.is (added-kept c.args.bytes.now c.if-bytes-gt-LINE_LIMIT.false c.byte_at-third.ensures 102 c.in-102.is c.read_added-in-102.ensures)
+returns-in-105 c =
+    let short = c.if-bytes-gt-LINE_LIMIT.false in
+    let letter = c.byte_at-third.ensures in
+    elim c.in-105.is [
+      | inl e ↦ group c.args.bytes.now short letter 102 e (added-kept c.args.bytes.now short letter 102 e c.read_added.ensures)
+      | inr e ↦ group c.args.bytes.now short letter 105 e (added-kept c.args.bytes.now short letter 105 e c.read_added.ensures)
+    ]
 
 pub returns-in-110 : goal.returns-in-110
 unfolding command_forms grammar shapes set_shapes rule_shapes set_form edit_form rule_form read_starting starting parse filter mem bytes starts_with is_mark spelling number_spelling slots letter_other letter_among ruled_out otherwise line-ends
@@ -48,4 +51,8 @@ returns-in-119 c = group c.args.bytes.now c.if-bytes-gt-LINE_LIMIT.false c.byte_
 
 pub returns-in_default : goal.returns-in_default
 unfolding command_forms grammar shapes set_shapes rule_shapes set_form edit_form rule_form read_starting starting parse filter mem bytes starts_with is_mark spelling number_spelling slots letter_other letter_among ruled_out otherwise line-ends
-returns-in_default c = other-group c.args.bytes.now c.if-bytes-gt-LINE_LIMIT.false c.byte_at-third.ensures (bytes "wlk=nfi") c.in_default.in_default-own.rest refl
+returns-in_default c =
+    let o = c.in_default.in_default-own.rest in
+    let none = o.0.0.0.0.0.1 in
+    other-group c.args.bytes.now c.if-bytes-gt-LINE_LIMIT.false c.byte_at-third.ensures (bytes "wlk=nfi")
+    (((((((tt, λ z. none (inr z)), λ z. none (inl z)), o.0.0.0.0.1), o.0.0.0.1), o.0.0.1), o.0.1), o.1) refl

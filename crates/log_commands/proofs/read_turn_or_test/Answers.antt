@@ -1,5 +1,6 @@
 -- `read_turn_or_test` meets its contract. Assumes nothing.
 use mathlib.Core.Path.{refl}
+use Rattle.std.specs.Prelude.{Ok}
 use Rattle.std.proofs.lemmas.Result.{err_from_is_err_and}
 use Rattle.lists.specs.Lists.{filter, mem}
 use Rattle.text_forms.specs.Spelling.{bytes, starts_with, number_spelling}
@@ -12,18 +13,20 @@ use Rattle.log_forms.specs.productions.Words.{starting}
 use Rattle.log_forms.proofs.productions.Choosing.{letter_other, letter_among}
 use Rattle.log_commands.specs.Grammar.{command_forms, grammar}
 use Rattle.log_commands.specs.Groups.{read_starting}
-use Rattle.log_commands.proofs.Arms.{arm, part, no-form}
+use Rattle.log_commands.specs.declared.Vote.TheVariants.{Test}
+use Rattle.log_commands.specs.declared.Command.TheVariants.{Vote}
+use Rattle.log_commands.proofs.Arms.{number-arm, part, no-form}
 use Rattle.log_commands.proofs.read_turn_or_test.Goals as goal
 
-pub returns-in_err-words-in-101 : goal.returns-in_err-words-in-101
+pub returns-in_err-read_number-in-101 : goal.returns-in_err-read_number-in-101
 unfolding command_forms grammar shapes set_shapes rule_shapes set_form edit_form rule_form read_starting starting parse filter mem bytes starts_with is_mark spelling number_spelling slots letter_other letter_among ruled_out otherwise line-ends
-returns-in_err-words-in-101 c =
+returns-in_err-read_number-in-101 c =
     let p = err_from_is_err_and c.from_residual.result c.from_residual.ensures.1 in
-    rw (p.1, p.2) (arm "do=t" c.args.bytes.now c.byte_at-letter.ensures 101 c.in-101.is refl c.in_err-words-in-101.ensures refl)
+    rw (p.1, p.2) (number-arm "do=t" c.args.bytes.now c.byte_at-letter.ensures 101 c.in-101.is refl (λ n. Ok (Vote (Test n))) refl c.in_err-read_number-in-101.ensures refl)
 
-pub returns-in_ok-words-in-101 : goal.returns-in_ok-words-in-101
+pub returns-in_ok-read_number-in-101 : goal.returns-in_ok-read_number-in-101
 unfolding command_forms grammar shapes set_shapes rule_shapes set_form edit_form rule_form read_starting starting parse filter mem bytes starts_with is_mark spelling number_spelling slots letter_other letter_among ruled_out otherwise line-ends
-returns-in_ok-words-in-101 c = arm "do=t" c.args.bytes.now c.byte_at-letter.ensures 101 c.in-101.is refl c.in_ok-words-in-101.ensures refl
+returns-in_ok-read_number-in-101 c = number-arm "do=t" c.args.bytes.now c.byte_at-letter.ensures 101 c.in-101.is refl (λ n. Ok (Vote (Test n))) refl c.in_ok-read_number-in-101.ensures refl
 
 pub returns-in-117 : goal.returns-in-117
 unfolding command_forms grammar shapes set_shapes rule_shapes set_form edit_form rule_form read_starting starting parse filter mem bytes starts_with is_mark spelling number_spelling slots letter_other letter_among ruled_out otherwise line-ends
