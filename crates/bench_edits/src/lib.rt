@@ -33,7 +33,7 @@ pub fn joined_bench(
     Ok(bench::reschedule(bench, union, hidden, planned.schedule, election))
 }
 
-// Kept: a call of the ledger with rows and a join of its own; what the three share is `joined_bench`.
+// Kept: three calls of the ledger, each with rows and a join of its own; what they share is `joined_bench`.
 pub fn add_edit(bench: &mut Bench, row: EditRow) -> Result<CallResult, Refusal>
     ensures { Answers bench.old (Call.add_edit row) (told_outcome result bench.new) }
 {
@@ -41,7 +41,7 @@ pub fn add_edit(bench: &mut Bench, row: EditRow) -> Result<CallResult, Refusal>
     joined_bench(bench, joined, bench::no_election())
 }
 
-// Kept: a call of the ledger with rows and a join of its own; what the three share is `joined_bench`.
+// Kept: as `add_edit`.
 pub fn add_constraint(bench: &mut Bench, row: ConstraintRow) -> Result<CallResult, Refusal>
     ensures { Answers bench.old (Call.add_constraint row) (told_outcome result bench.new) }
 {
@@ -49,7 +49,7 @@ pub fn add_constraint(bench: &mut Bench, row: ConstraintRow) -> Result<CallResul
     joined_bench(bench, joined, bench::no_election())
 }
 
-// Kept: a call of the ledger with rows and a join of its own; what the three share is `joined_bench`.
+// Kept: as `add_edit`.
 pub fn merge(bench: &mut Bench, lent: LentRecord) -> Result<CallResult, Refusal>
     ensures { Answers bench.old (Call.merge lent.entry.edits.now lent.entry.constraints.now) (told_outcome result bench.new) }
 {

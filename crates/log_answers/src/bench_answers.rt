@@ -1,6 +1,7 @@
 // What a bench is asked in a call log: its hidden edits, its schedule, its catalogue, its journal and its page.
 ghost use Rattle.std.specs.Prelude.{◌≡◌, cond, [], ◌∷◌, ◌≤◌, length, take};
 ghost use Rattle.lists.specs.Lists.{filter};
+ghost use Rattle.record.specs.Stored.{edit_limit};
 ghost use Rattle.log_forms.specs.Printed.{Printed, texts_from};
 ghost use Rattle.log_answers.specs.Answers.{answer_line};
 ghost use Rattle.log_answers.specs.bench_answers.Asks.{hides, hidden_line, hidden_text, page_line, schedule_text, cell_form, cell_line, cells_text, is_present, entry_text, catalogue_text, row_text, row_at, journal_text, page_text};
@@ -40,7 +41,7 @@ fn print_if_hidden(printer: &mut Printer<'_>, mark: u8, name: u16)
 // Kept: by index, here and for rows: a line goes by the place of its edit (texts_from). A zip has no place, so its invariant would count it, and
 // say what is left of both slices besides.
 fn print_hidden_edits(printer: &mut Printer<'_>, edits: &[Edit], marks: &Marks)
-    requires { length edits.now ≤ 127 }
+    requires { length edits.now ≤ edit_limit }
     ensures { Printed (texts_from (hidden_line marks.now) 1 edits.now) printer.old printer.new }
 {
     for (i, edit) in edits.iter().enumerate() {
@@ -74,8 +75,8 @@ pub fn print_schedule(printer: &mut Printer<'_>, bench: &Bench)
     print_pages(printer, edits);
 }
 
-// Kept: fields by number, as the cells of an entry stand: a Field would be made from the number by a match of the same four.
 // The line of a cell by its field: of a chip's cell, or of a page's.
+// Kept: fields by number, as the cells of an entry stand: a Field would be made from the number by a match of the same four.
 #[tactic(auto, unfolding(crate::specs::bench_answers::Asks::cell_form, text_forms::specs::Spelling::bytes))]
 fn cell_form(owner: Owner, field: usize) -> &'static [u8]
     ensures { result.now ≡ cell_form owner field }
@@ -152,7 +153,7 @@ fn print_row(printer: &mut Printer<'_>, page: usize, edit: &Edit, row: &Entry)
 }
 
 fn print_rows(printer: &mut Printer<'_>, edits: &[Edit], rows: &[Entry; PAGES])
-    requires { length edits.now ≤ 127 }
+    requires { length edits.now ≤ edit_limit }
     ensures { Printed (texts_from (row_at rows.now) 1 edits.now) printer.old printer.new }
 {
     for (i, edit) in edits.iter().enumerate() {
@@ -163,7 +164,7 @@ fn print_rows(printer: &mut Printer<'_>, edits: &[Edit], rows: &[Entry; PAGES])
 // The edits of the open pages.
 fn open_edits(edits: &[Edit; EDITS], opened: usize) -> &[Edit]
     ensures edits { result.now ≡ take opened edits.now }
-    ensures short { length result.now ≤ 127 }
+    ensures short { length result.now ≤ edit_limit }
 {
     &edits[..opened.min(EDITS)]
 }

@@ -25,9 +25,9 @@ pub fn print_refusal(printer: &mut Printer<'_>, refusal: Refusal)
     printer.print(text_report::REFUSAL_FORM, &numbers);
 }
 
+// Prints the text of a record.
 // Kept: two lines over a writer of its own; a function of both would take the writer as a closure, and its clause would have to say what that
 // writes.
-// Prints the text of a record.
 pub fn print_text(printer: &mut Printer<'_>, content: &Record)
     ensures { Printed (text_of (record_of content.now) ∷ []) printer.old printer.new }
 {
@@ -44,8 +44,8 @@ pub fn print_record(printer: &mut Printer<'_>, content: &Record)
     print_text(printer, content);
 }
 
-// Kept: as the text.
 // Prints the report of a sound record.
+// Kept: as the text.
 pub fn print_report(printer: &mut Printer<'_>, content: &Record)
     ensures { (R : theory.Record) → content.now ≡ stored R → Checked R → Printed (report_of R ∷ []) printer.old printer.new }
 {

@@ -9,9 +9,9 @@ ghost use Rattle.log_forms.specs.Printed.{after_text, Printed};
 
 use refusals::Refusal;
 
-// Kept: `at` is past the end after a text that did not fit, as with_text has it: who runs a log compares it with a limit and with the room.
 // What is printed: the buffer, the place after what stands in it, past the end where a text did not fit, and the number of the line that is
 // answered.
+// Kept: `at` is past the end after a text that did not fit, as with_text has it: who runs a log compares it with a limit and with the room.
 #[derive(Drop)]
 pub struct Printer<'a> {
     pub out: &'a mut [u8],

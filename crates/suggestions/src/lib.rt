@@ -22,7 +22,8 @@ pub enum Advice {
 }
 
 // The rows of a suggestion, in table order.
-// Kept: no Option, for there are none, one or two, and two Options would have a second row without a first.
+// Kept: no Option, for there are none, one or two, and two Options would have a second row without a first. The kit's
+// `ArrayVec` of two is no Copy, and each arm of `rows` would fill it by pushes, where it now gives the rows as a value.
 #[derive(Clone, Copy, PartialEq, Eq)]
 pub enum Suggested {
     Nothing,
@@ -30,8 +31,8 @@ pub enum Suggested {
     Two(ConstraintRow, ConstraintRow),
 }
 
-#[tactic(auto, unfolding(crate::specs::Suggest::after_table))]
 // B after A by one author: what A and B do.
+#[tactic(auto, unfolding(crate::specs::Suggest::after_table))]
 fn after(first: Body, second: Body) -> Advice
     ensures { result ≡ after_table (kind_of first) (kind_of second) (eqb (field_named first) (field_named second)) }
 {
@@ -46,8 +47,8 @@ fn after(first: Body, second: Body) -> Advice
     }
 }
 
-#[tactic(auto, unfolding(crate::specs::Suggest::concurrent_table))]
 // Whether concurrent edits are noncommuting: what A and B do.
+#[tactic(auto, unfolding(crate::specs::Suggest::concurrent_table))]
 fn concurrent(first: Body, second: Body) -> bool
     ensures { result ≡ concurrent_table (kind_of first) (kind_of second) (eqb (field_named first) (field_named second)) }
 {
