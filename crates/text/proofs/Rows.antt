@@ -17,6 +17,7 @@ use Rattle.record_tables.specs.Table.{empty_tables, names_of, edit_kind, constra
 use Rattle.text_lines.specs.Line.{fits_word, edit_line, constraint_line}
 use Rattle.text_lines.specs.Row.{is_edit_row, is_constraint_row}
 use Rattle.text.specs.Text.{edit_fault, constraint_fault, joined_lines, rows_text}
+use Rattle.text_lines.proofs.RoundTrip.{cell-fits}
 
 -- a row in range whose value fits 32 bits has a line of its own
 small : (n m : ℕ) → n < m → m ≤ 4294967296 → fits_word n ≡ true
@@ -72,12 +73,6 @@ constraint-in-form row h =
     rw (eq-eqb (length row) 3 r.wide, a, lt-ltb (cell row 1) 3 b.1)
 
 -- and a row in form has a value that fits
-cell-fits : (l : List ℕ) (i : ℕ) → all fits_word l ≡ true → fits_word (get_or l i 0) ≡ true
-unfolding all
-cell-fits [] i a = refl
-cell-fits (x ∷ l) zero a = and_l (fits_word x) (all fits_word l) a
-cell-fits (x ∷ l) (suc i) a = cell-fits l i (and_r (fits_word x) (all fits_word l) a)
-
 pub value-fits : (row : Row) → is_edit_row row ≡ true → fits_word (cell row 4) ≡ true
 unfolding is_edit_row
 value-fits row h = cell-fits row 4 (and_l (all fits_word row) _ (and_r (eqb (length row) 5) _ h))

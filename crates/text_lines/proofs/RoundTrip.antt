@@ -118,8 +118,8 @@ found (g ∷ hs) h rest ns p q k l a =
     as-other g (hs ++ (h ∷ rest)) (fill h.form ns) (taken-other g.form h.form ns p (and_l _ (others hs h.form) q))
     ∙ found hs h rest ns p (and_r (differ g.form h.form) _ q) k l a
 
-fits-cell : (ns : List ℕ) (i : ℕ) → all fits_word ns ≡ true → fits_word (get_or ns i 0) ≡ true
-fits-cell ns i h = lt-ltb (get_or ns i 0) 4294967296 (cell-small ns i h)
+pub cell-fits : (ns : List ℕ) (i : ℕ) → all fits_word ns ≡ true → fits_word (get_or ns i 0) ≡ true
+cell-fits ns i h = lt-ltb (get_or ns i 0) 4294967296 (cell-small ns i h)
 
 fits-two : (a b : ℕ) → fits_word a ≡ true → fits_word b ≡ true → all fits_word (a ∷ b ∷ []) ≡ true
 unfolding all
@@ -175,13 +175,13 @@ read-edit-cells : (n k p f v : ℕ) → all fits_word (n ∷ k ∷ p ∷ f ∷ v
 read-edit-cells n zero p f v a h l u =
     let row = n ∷ 0 ∷ p ∷ f ∷ v ∷ [] in
     rw (eqb-true f 0 (and_l (eqb f 0) (eqb v 0) u), eqb-true v 0 (and_r (eqb f 0) (eqb v 0) u), fill-same (edit_form 0 0) (n ∷ p ∷ 0 ∷ []) (n ∷ p ∷ []) (three-same (n ∷ p ∷ []) (omega arith)))
-    (read-insert n p (fits-cell row 0 a) (fits-cell row 2 a))
+    (read-insert n p (cell-fits row 0 a) (cell-fits row 2 a))
 read-edit-cells n (suc zero) p f v a h l u =
-    let row = n ∷ 1 ∷ p ∷ f ∷ v ∷ [] in read-set-line n p f v l (fits-cell row 0 a) (fits-cell row 2 a) (fits-cell row 4 a)
+    let row = n ∷ 1 ∷ p ∷ f ∷ v ∷ [] in read-set-line n p f v l (cell-fits row 0 a) (cell-fits row 2 a) (cell-fits row 4 a)
 read-edit-cells n (suc (suc zero)) p f v a h l u =
     let row = n ∷ 2 ∷ p ∷ f ∷ v ∷ [] in
     rw (eqb-true f 0 (and_l (eqb f 0) (eqb v 0) u), eqb-true v 0 (and_r (eqb f 0) (eqb v 0) u), fill-same (edit_form 2 0) (n ∷ p ∷ 0 ∷ []) (n ∷ p ∷ []) (three-same (n ∷ p ∷ []) (omega arith)))
-    (read-remove n p (fits-cell row 0 a) (fits-cell row 2 a))
+    (read-remove n p (cell-fits row 0 a) (cell-fits row 2 a))
 read-edit-cells n (suc (suc (suc k))) p f v a h l u = absurd (omega arith)
 
 read_short : (s : List ℕ) → length s ≤ line_limit → line_read s ≡ read_by shapes s
@@ -225,7 +225,7 @@ constraint-line-read row h =
     ∙ three row (and_l (eqb (length row) 3) _ h) (λ n k p e. read-row n k p row e a x)
   where
     read-row : (n k p : ℕ) (row : List ℕ) → row ≡ n ∷ k ∷ p ∷ [] → all fits_word row ≡ true → get_or row 1 0 < 3 → read_by shapes (constraint_line row) ≡ Ok (Constraint row)
-    read-row n k p row e a x = rw (e, constraint-line-cells n k p) (read-rule-line n k p (rw e at x) (fits-cell (n ∷ k ∷ p ∷ []) 0 (rw e at a)) (fits-cell (n ∷ k ∷ p ∷ []) 2 (rw e at a)))
+    read-row n k p row e a x = rw (e, constraint-line-cells n k p) (read-rule-line n k p (rw e at x) (cell-fits (n ∷ k ∷ p ∷ []) 0 (rw e at a)) (cell-fits (n ∷ k ∷ p ∷ []) 2 (rw e at a)))
 
 -- What a line says gives the line.
 abbrev pub line_text : Line → List ℕ
@@ -314,7 +314,7 @@ unfolding edit_line
 edit-says kind field b d x y z = record {
   plain = edit-plain kind field;
   text = λ ns l. fill-same (edit_form kind field) (get_or ns 0 0 ∷ get_or ns 1 0 ∷ get_or ns 2 0 ∷ []) ns (three-same ns (omega (arith, edit-slots kind field)));
-  row = λ ns l a. edit-row (get_or ns 0 0) kind (get_or ns 1 0) field (get_or ns 2 0) (fits-cell ns 0 a) b (fits-cell ns 1 a) d (fits-cell ns 2 a) x y (z ns l);
+  row = λ ns l a. edit-row (get_or ns 0 0) kind (get_or ns 1 0) field (get_or ns 2 0) (cell-fits ns 0 a) b (cell-fits ns 1 a) d (cell-fits ns 2 a) x y (z ns l);
 }
 
 rule-says : (rule : ℕ) → fits_word rule ≡ true → ltb rule 3 ≡ true → Says (rule_shape rule)
@@ -322,7 +322,7 @@ unfolding constraint_line
 rule-says rule b x = record {
   plain = rule-plain rule;
   text = λ ns l. fill-same (rule_form rule) (get_or ns 0 0 ∷ get_or ns 1 0 ∷ []) ns (two-same ns (omega (arith, rule-slots rule)));
-  row = λ ns l a. constraint-row (get_or ns 0 0) rule (get_or ns 1 0) (fits-cell ns 0 a) b (fits-cell ns 1 a) x;
+  row = λ ns l a. constraint-row (get_or ns 0 0) rule (get_or ns 1 0) (cell-fits ns 0 a) b (cell-fits ns 1 a) x;
 }
 
 -- insert and remove leave the value's place empty
