@@ -375,8 +375,8 @@ fn read_lent_line(bytes: &[u8]) -> Result<Command, Refusal>
 }
 
 // Rows of numbers are tried before lines of the exchanged text.
-// Kept: a match of the answer in each of two arms: only these two go on to a line. One match below them both would need the other two arms to return
-// before it.
+// Kept: a match of the answer in each of two arms: only these two go on to a line. As functions the rows would be two and the match a third, each with
+// a definition of what it gives, in place of two matches.
 fn read_lent(bytes: &[u8]) -> Result<Command, Refusal>
     requires { length bytes.now ≤ line_limit }
     ensures { result ≡ read_starting "lent=# " bytes.now }
