@@ -90,14 +90,15 @@ fn row_named(multilog: &Record, name: u16) -> Option<EditRow>
 }
 
 // What two edits of a record suggest.
-// Kept: both names tested, then cast, and no `row::name` of each: with the case they are one ground of `suggest_fault`, and so one test.
 pub fn suggest_named(multilog: &Record, asked: Suggesting) -> Result<Suggested, Refusal>
     ensures { (R : theory.Record) → multilog.now ≡ stored R → Checked R → Gives (suggestion_fault R asked) (suggested_rules_in R asked) result }
 {
-    if !row::is_name(asked.first) || !row::is_name(asked.second) || 1 < asked.case {
+    let name = row::name(asked.first)?;
+    let other = row::name(asked.second)?;
+    if 1 < asked.case {
         return Err(Refusal::OutOfRange);
     }
-    let first = row_named(multilog, asked.first as u16).ok_or(Refusal::Unknown)?;
-    let second = row_named(multilog, asked.second as u16).ok_or(Refusal::Unknown)?;
+    let first = row_named(multilog, name).ok_or(Refusal::Unknown)?;
+    let second = row_named(multilog, other).ok_or(Refusal::Unknown)?;
     suggestions::suggest(first, second, asked.case)
 }
