@@ -5,7 +5,7 @@ ghost use Rattle.lists.specs.Lists.{mem, ◌among◌, ◌within◌};
 ghost use Rattle.record.specs.Record as theory;
 ghost use Rattle.record.specs.Record.{written};
 ghost use Rattle.record.specs.Stored.{stored};
-ghost use Rattle.graph.specs.links.Marks.{marks_of};
+ghost use Rattle.graph.specs.links.Marks.{mark_limit, marks_of};
 ghost use Rattle.record_tables.specs.Checked.{Checked};
 ghost use Rattle.bench.specs.hidden.Marks.{index_in, mark_named};
 
@@ -18,7 +18,7 @@ use record_tables::lookup;
 // The index of a written edit, INIT's being 0.
 // Kept: the place is compared with the greatest: of records that are not checked, which it takes too, `place_of` says nothing.
 pub fn edit_index(multilog: Record, name: u32) -> Option<usize>
-    ensures low { IfSome result (λ index. index < 128) }
+    ensures low { IfSome result (λ index. index < mark_limit) }
     ensures is { (R : theory.Record) → multilog ≡ stored R → Checked R → result ≡ index_in name (written R) }
 {
     let name = u16::try_from(name).ok()?;

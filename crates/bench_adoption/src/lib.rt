@@ -17,9 +17,8 @@ pub fn adopt(bench: &mut Bench, edit: u32, poll: &Poll) -> Result<CallResult, Re
     let counted = voting_count::count(edit, poll)?;
     let Some(bundle) = counted.bundle else {
         return Ok(CallResult {
-            undone: 0,
-            redone: 0,
             election: counted.election,
+            ..bench::plain_result()
         });
     };
     let joined = record_joining::merge_record(bench.multilog, bundle);
