@@ -1,11 +1,13 @@
 -- Laws of tests: either answer, and the answers of `&&` and `||` taken apart and put together. Assumes nothing.
 use mathlib.Core.Path.{◌≡◌, refl, sym}
-use mathlib.Core.Bool.{Bool, true, false, cond, ◌&&◌, ◌||◌, or-true}
+use mathlib.Core.Bool.{Bool, true, false, cond, ◌&&◌, ◌||◌}
 use mir.Val.{bool_byte}
 use Prim.Native.Nat.{ℕ, ◌≤◌, ◌<◌}
 use native.Mathlib.Omega.{arith}
 use lib.Dec.{eqb, leb}
 use borrow.Author.Tests.{eqb-true, eqb-false, leb-true, leb-false}
+use Rattle.std.proofs.lemmas.Bool.{and_parts, or_parts}
+pub use Rattle.std.proofs.lemmas.Bool.{and_from as and_i, or_left as or_l, or_right as or_r}
 
 -- either answer of a test, with the equation
 pub by {ℓ} : {P : Type ℓ} (b : Bool) → (b ≡ true → P) → (b ≡ false → P) → P
@@ -22,33 +24,20 @@ pub le-by {ℓ} : {P : Type ℓ} (x y : ℕ) → (x ≤ y → P) → (y < x → 
 le-by x y f g = by (leb x y) (λ e. f (leb-true x y e)) (λ e. g (leb-false x y e))
 
 pub and_l : (a b : Bool) → (a && b) ≡ true → a ≡ true
-and_l true b h = refl
-and_l false b h = h
+and_l a b h = (and_parts a b h).0
 
 pub and_r : (a b : Bool) → (a && b) ≡ true → b ≡ true
-and_r true b h = h
-and_r false b h = clash h refl
-
-pub and_i : (a b : Bool) → a ≡ true → b ≡ true → (a && b) ≡ true
-and_i a b p q = rw p q
+and_r a b h = (and_parts a b h).1
 
 pub or-by {ℓ} : {P : Type ℓ} (a b : Bool) → (a || b) ≡ true → (a ≡ true → P) → (b ≡ true → P) → P
 or-by true b h f g = f refl
 or-by false b h f g = g h
 
-pub or_l : (a b : Bool) → a ≡ true → (a || b) ≡ true
-or_l a b p = rw p
-
-pub or_r : (a b : Bool) → b ≡ true → (a || b) ≡ true
-or_r a b p = rw p (or-true a)
-
 pub or-no-l : (a b : Bool) → (a || b) ≡ false → a ≡ false
-or-no-l true b h = clash refl h
-or-no-l false b h = refl
+or-no-l a b h = (or_parts a b h).0
 
 pub or-no-r : (a b : Bool) → (a || b) ≡ false → b ≡ false
-or-no-r true b h = clash refl h
-or-no-r false b h = h
+or-no-r a b h = (or_parts a b h).1
 
 -- two tests that mean the same are equal
 pub same_by : (a b : Bool) → (a ≡ true → b ≡ true) → (b ≡ true → a ≡ true) → a ≡ b
