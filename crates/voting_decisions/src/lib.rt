@@ -17,7 +17,7 @@ ghost use Rattle.voting_decisions.specs.Decisions.{Paged, decided, only_constrai
 
 use graph::indexes;
 use graph::links::Marks;
-use record::{CONSTRAINTS, Constraint, EDITS, Record};
+use record::{CONSTRAINTS, Constraint, EDITS, ENABLES, Record};
 use record_joining::insertion::Constraints;
 use refusals::Refusal;
 use voting_drafts::{pairs, ranking};
@@ -26,7 +26,6 @@ use voting_drafts::{pairs, ranking};
 const UNDECIDED: usize = CONSTRAINTS - EDITS;
 
 // The decision on an edit by its page.
-// Kept: a rule is its number, as in the record, and the theory's decision (decided) has it.
 fn decision(name: u16, page: u8) -> Constraint
     ensures { result ≡ decided name page }
 {
@@ -35,12 +34,13 @@ fn decision(name: u16, page: u8) -> Constraint
     }
     Constraint {
         left: name,
-        rule: 1,
+        rule: ENABLES,
         right: 0,
     }
 }
 
 // The table joined by the decisions on all edits.
+// Kept: a record and its pages are two arguments here and below: `Paged` names the rest of a schedule, which no field of a struct of both would give.
 fn with_decisions(
     table: Constraints,
     multilog: Record,
@@ -95,7 +95,7 @@ pub fn finished(multilog: Record) -> Result<Constraints, Refusal>
     let pairs = pairs::unordered_pairs(multilog);
     ranking::with_orders(
         table,
-        &pairs.rows[..pairs.count],
+        pairs.slice(),
         |name| paged[index.index_of(usize::from(name))],
     )
 }

@@ -43,4 +43,4 @@ returns c =
     c.with_orders.ensures d (rank_of index paged) (λ x r p. search (rules, tests)) (c.in_ok-table.ensures R w.0 _ e k g)
     (ascending-united constraint_key R.constraints (decisions (0 ∷ w.0) (written R)) k.constraintorder)
     ∙ ap (λ (l : List Constraint). table_of (united constraint_key d l))
-    (ap (flat_map (pair_order (rank_of index paged))) (c.unordered_pairs-pairs.ensures.pairs R e i) ∙ orders-by-page R w.0 _ _ g i.paired) ∙ ap table_of (finished-is R w.0 w.1)
+    (ap (flat_map (pair_order (rank_of index paged))) (c.slice.ensures ∙ c.unordered_pairs-pairs.ensures.pairs R e i) ∙ orders-by-page R w.0 _ _ g i.paired) ∙ ap table_of (finished-is R w.0 w.1)
