@@ -5,7 +5,7 @@ ghost use Rattle.std.specs.Prelude.{◌≡◌, eqb};
 ghost use Rattle.record_rows.specs.row.Row.{edit_row};
 ghost use Rattle.suggestions.specs.Suggest.{after_table, concurrent_table, kind_of, field_named, advised, rows_of, given, suggested};
 
-use record::{Body, Edit};
+use record::{Body, ENABLES, Edit, NONCOMMUTING, NOTAFTER};
 use record_rows::element::Element;
 use record_rows::row;
 use record_rows::row::{ConstraintRow, EditRow};
@@ -79,15 +79,16 @@ fn advise(kind: u32, a: Edit, b: Edit) -> Advice
     }
 }
 
-// Kept: rules by their numbers: they are cells of rows as a caller would lend them.
+// Rules are cells of rows as a caller would lend them.
 fn rows(advice: Advice, a: u32, b: u32) -> Suggested
     ensures { result ≡ given (rows_of advice a b) }
 {
+    let notafter = [a, u32::from(NOTAFTER), b];
     match advice {
         Advice::Nothing => Suggested::Nothing,
-        Advice::Notafter => Suggested::One([a, 0, b]),
-        Advice::NotafterEnables => Suggested::Two([a, 0, b], [a, 1, b]),
-        Advice::Noncommuting => Suggested::One([a.min(b), 2, a.max(b)]),
+        Advice::Notafter => Suggested::One(notafter),
+        Advice::NotafterEnables => Suggested::Two(notafter, [a, u32::from(ENABLES), b]),
+        Advice::Noncommuting => Suggested::One([a.min(b), u32::from(NONCOMMUTING), a.max(b)]),
     }
 }
 
