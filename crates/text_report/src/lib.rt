@@ -76,6 +76,7 @@ fn line_at(edits: &[Edit], judged: &Judged, i: usize) -> ReportLine
 }
 
 // The lines of edits, and zeros after them.
+// Kept: `length edits.now ≤ edit_limit`: the answer is an array of that length, and a slice has no limit by its type.
 fn report_lines(edits: &[Edit], judged: &Judged) -> [ReportLine; EDITS]
     requires { length edits.now ≤ edit_limit }
     ensures { (take (length edits.now) result ≡ report_lines judged.now 1 edits.now) × (length result ≡ edit_limit) }
