@@ -16,6 +16,7 @@ use graph::links::{NOTAFTER, Rows};
 use record::{CONSTRAINTS, Constraint, NONCOMMUTING, Record};
 
 // Noncommuting pairs; nothing is said of the rows past the count.
+// Kept: an array with its count: `voting::select` writes over the first rows of an array and gives their number.
 #[derive(Clone, Copy)]
 pub struct Pairs {
     pub rows: [Constraint; CONSTRAINTS],
@@ -24,6 +25,7 @@ pub struct Pairs {
 
 impl Pairs {
     // The pairs, without what stands after them.
+    // Kept: as the slices of a record.
     pub fn slice(&self) -> &[Constraint]
         ensures { result.now ≡ take self.now.count self.now.rows }
     {
