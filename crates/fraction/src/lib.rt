@@ -33,6 +33,7 @@ fn least_common_multiple(a: u64, b: u64) -> Option<u64>
 
 impl Fraction {
     // 0 over 0. Pub for `c_library`, which answers it where a table is refused.
+    // Kept: it is a fraction and no Option: `lowest_terms` gives it of 0 and 0, and C has 0 and 0 in the two fields (`no_fraction`).
     pub const NONE: Fraction = Fraction {
         numerator: 0,
         denominator: 0,

@@ -1,8 +1,8 @@
 // Forms (document 01, "Text"): quoted texts in which `#` stands for a number, `@` for an edit's name and `?` for yes or no, read and
 // written. Public for the crates of this workspace that read and write lines; what they lend is long enough, so the writers require it.
-// Kept: a writer is lent the rest of the output and answers how many bytes it wrote. Its clause (`Written`) then speaks of these bytes alone; a
-// struct of output and place has to say besides what stands before the place, and that it holds the same reference, as a line of the log does
-// once (`Printed` of `log_forms`), and here each word of a line would.
+// Kept: a writer is lent the rest of the output and answers how many bytes it wrote: document 01 lends a line's writer "the output's part from the
+// given place". Its clause (`Written`) then speaks of these bytes alone; a struct of output and place has to say besides what stands before the
+// place, and that it holds the same reference, as a line of the log does once (`Printed` of `log_forms`), and here each word of a line would.
 #![tactic(auto)]
 
 pub mod decimal;

@@ -20,7 +20,9 @@ use refusals::Refusal;
 use std::marker::Model;
 use text_lines::{Line, Lines};
 
-// Why a text is refused, and the line, counted from 1.
+// Why a text is refused, and the line, counted from 1; 0 where there is none.
+// Kept: 0 and no Option: the definitions say line 0 of a refusal at none (`without_line`), and what prints a fault or answers one to C writes this
+// number as it is.
 // Kept: beside `unity_table::RowFault`: C reads `line` of the one and `row` of the other, and a row of a lent table is no line; one struct with a
 // `place` would not say which, and would spare no clause: each has one definition that reads it (FaultIs, answer_told), and no function takes both.
 #[derive(Clone, Copy)]
@@ -40,8 +42,8 @@ impl From<Refusal> for Fault {
     }
 }
 
-// Kept: `above` and `row` are two here and below, as in `record_tables`.
 // Whether a row is new and the rows above it take every place.
+// Kept: `above` and `row` are two here and below, as in `record_tables`.
 fn no_place<const CELLS: usize, T: Element<CELLS>>(
     above: &[[u32; CELLS]],
     row: &[u32; CELLS],
@@ -76,7 +78,9 @@ fn row_fault<const CELLS: usize, T: Element<CELLS>>(
 }
 
 // The rows of a text as they are read: the first edits and constraints of two tables, as many as are counted, and the marks of the edits' names.
-// Kept: tables with their counts, as in `record::Record`, since nothing may be allocated; a clause sees the rows that are counted, and no more.
+// Kept: arrays with their counts, no `ArrayVec`: it would spare the counts, `take` in the view, `size` and `few` in the invariant, but not that there
+// is a place, which `push` asks for as the index does now and only the ground of the whole row gives (`more_room`); and it would bring the kit's
+// crate under all that read a text, of which the log's lent tables alone need it.
 #[derive(Drop)]
 struct RowsRead {
     edits: [EditRow; EDITS],

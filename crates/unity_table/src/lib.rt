@@ -10,7 +10,7 @@ use refusals::Refusal;
 
 const ELECTION_LIMIT: usize = 200;
 // Eight benches of the greatest weight.
-const TOTAL_LIMIT: u64 = 524280;
+const TOTAL_LIMIT: u64 = 8 * u16::MAX as u64;
 
 // A row of a lent table: the weight of the greatest group, the silent weight and the whole roll's total.
 pub type ElectionRow = [u32; 3];
@@ -60,9 +60,8 @@ pub struct Unity {
     pub empty: usize,
 }
 
-// Kept: beside text_reader::Fault, which says a line: C has a row in Unity and a line in Reply, and a table needs no crate of texts, from
-// which one struct of both would come.
 // Why a table is refused: the ground of its first faulty row, and that row, from 1.
+// Kept: beside `text_reader::Fault`, which says a line: C has a row in Unity and a line in Reply.
 #[derive(Clone, Copy)]
 pub struct RowFault {
     pub refusal: Refusal,
@@ -76,11 +75,13 @@ fn extreme(none: bool, before: bool, known: Fraction, share: Fraction) -> Fracti
     if none || before { share } else { known }
 }
 
-// Kept: no Option: of no share the least and the greatest are 0/1, which is what is answered.
+// The answers so far: how many, the sum of their shares over the least common denominator, and how many shares that are.
+// Kept: no Option for the least and the greatest: that there is none is what `entered == 0` says already, which the mean needs, so an Option would
+// hold it twice; and the state's definition (`summed`) has the two definitions that are answered, 0/1 of no share (`least_fraction`,
+// `greatest_fraction`), where it would need a test before each.
 // Kept: `held.Left self`, `held.Room self`: with Left in the type its three clauses would go, and the three steps below would each have to
 // ask that what they make is the state after one answer more, which with_answer shows only once all is tested. Room stays: not every state
 // has a place left.
-// The answers so far: how many, the sum of their shares over the least common denominator, and how many shares that are.
 #[derive(Clone, Copy)]
 pub struct Summed {
     pub rows: usize,
