@@ -88,9 +88,8 @@ fn read_rule_as(rule: u32, bytes: &[u8]) -> Result<Line, Refusal>
     Ok(Line::Constraint([left, rule, right]))
 }
 
-// Kept: beside `number_at` of `text_forms`: one generic function for bytes and numbers would be handed the 0 that stands past the end, at each of
-// the twenty places that call one of the two.
 // The byte at a place of a text, 0 past its end. Pub for the reader of logs.
+// Kept: no generic function for this and the number of a judgement's row in `text_report`: that one widens its byte to the number that a form has.
 pub fn byte_at(bytes: &[u8], i: usize) -> u8
     ensures { result ≡ get_or bytes.now i 0 }
 {
@@ -98,6 +97,8 @@ pub fn byte_at(bytes: &[u8], i: usize) -> u8
 }
 
 // Where the number ends that starts at a place; there if none does. Pub for the reader of logs.
+// Kept: no `map_or`: the two cases of a match are two goals, each answered by a law (`number-ends`, `not-there`); of `map_or` both are one goal,
+// which the proof would have to split again.
 pub fn number_end(bytes: &[u8], from: usize) -> usize
     ensures { (result ≡ from + numeral_size (drop from bytes.now)) × (result ≤ from + length bytes.now) }
 {
@@ -172,6 +173,8 @@ pub fn read_line(bytes: &[u8]) -> Result<Line, Refusal>
 }
 
 // The words of a form between its numbers, by field and rule.
+// Kept: from here on a line is written word by word, by the pieces of the forms above, and its length counted with theirs, where
+// `text_forms::write_form` would write the same bytes from the form itself: this is for speed (docs/DECISIONS.md, 46).
 fn field_word(field: u32) -> &'static [u8]
     ensures { result.now ≡ field_word field }
 {
@@ -255,7 +258,7 @@ fn write_pair(out: &mut [u8], first: &[u8], m: u64, second: &[u8], n: u64) -> us
     requires { length ((first.now ++ decimal m) ++ ((second.now ++ decimal n) ++ (10 ∷ []))) ≤ length out.old }
     ensures { Written ((first.now ++ decimal m) ++ ((second.now ++ decimal n) ++ (10 ∷ []))) out.old result out.new }
 {
-    let at = text_forms::write_worded(&mut out[..], first, m);
+    let at = text_forms::write_worded(out, first, m);
     at + text_forms::write_ended(&mut out[at..], second, n)
 }
 
@@ -265,7 +268,7 @@ fn write_setting(out: &mut [u8], set: Setting) -> usize
     ensures { Written (fill (drop 6 (set_form set.field)) (set.place ∷ set.value ∷ [])) out.old result out.new }
 {
     write_pair(
-        &mut out[..],
+        out,
         b" do=set chip=",
         set.place,
         field_word(set.field),
@@ -277,7 +280,7 @@ fn write_set(out: &mut [u8], name: u64, set: Setting) -> usize
     requires { length (fill (set_form set.field) (name ∷ set.place ∷ set.value ∷ [])) ≤ length out.old }
     ensures { Written (fill (set_form set.field) (name ∷ set.place ∷ set.value ∷ [])) out.old result out.new }
 {
-    let at = text_forms::write_worded(&mut out[..], b"edit=", name);
+    let at = text_forms::write_worded(out, b"edit=", name);
     at + write_setting(&mut out[at..], set)
 }
 
@@ -290,9 +293,9 @@ pub fn write_edit_line(out: &mut [u8], row: [u32; 5]) -> usize
     let place = u64::from(row[2]);
     let kind = row[1];
     match kind {
-        0 => write_pair(&mut out[..], b"edit=", name, b" do=insert chip=", place),
+        0 => write_pair(out, b"edit=", name, b" do=insert chip=", place),
         1 => write_set(
-            &mut out[..],
+            out,
             name,
             Setting {
                 field: row[3],
@@ -300,7 +303,7 @@ pub fn write_edit_line(out: &mut [u8], row: [u32; 5]) -> usize
                 value: u64::from(row[4]),
             },
         ),
-        _ => write_pair(&mut out[..], b"edit=", name, b" do=remove chip=", place),
+        _ => write_pair(out, b"edit=", name, b" do=remove chip=", place),
     }
 }
 
@@ -311,7 +314,7 @@ pub fn write_constraint_line(out: &mut [u8], row: [u32; 3]) -> usize
 {
     let left = u64::from(row[0]);
     let right = u64::from(row[2]);
-    write_pair(&mut out[..], b"left=", left, rule_word(row[1]), right)
+    write_pair(out, b"left=", left, rule_word(row[1]), right)
 }
 
 // The place of the first byte 10.
@@ -322,6 +325,7 @@ fn end_place(bytes: &[u8]) -> Option<usize>
 }
 
 // Where the line ends that starts at `from`: past its byte 10, or at the end of the text.
+// Kept: no `map_or`, as above: the laws are `end-found` and `end-missing`.
 pub fn line_end(bytes: &[u8], from: usize) -> usize
     ensures { result ≡ from + length (first_line (drop from bytes.now)) }
 {

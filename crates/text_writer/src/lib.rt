@@ -1,6 +1,5 @@
 // A record is written as a text, and a form where it fits (document 01, "Text").
-// Kept: `at`, `out`: document 01 lends an output and a place in it, which is refused where it is past the end; a struct of both would be made
-// for each call.
+// Kept: `at`, `out`: as document 01 lends them, an output and a place in it, which is refused where it is past the end.
 #![tactic(auto)]
 
 ghost use Rattle.std.specs.Prelude.{◌≡◌, map, List, ℕ, ◌≤◌, leb, length};
@@ -40,7 +39,7 @@ impl Lined for Edit {
     }
 
     fn write_line(self, out: &mut [u8]) -> usize {
-        text_lines::write_edit_line(&mut out[..], self.row())
+        text_lines::write_edit_line(out, self.row())
     }
 }
 
@@ -54,7 +53,7 @@ impl Lined for Constraint {
     }
 
     fn write_line(self, out: &mut [u8]) -> usize {
-        text_lines::write_constraint_line(&mut out[..], self.row())
+        text_lines::write_constraint_line(out, self.row())
     }
 }
 
@@ -93,6 +92,7 @@ pub fn place_form(form: &[u8], numbers: &[u64], out: &mut [u8], at: usize) -> Re
 }
 
 // Whether the text of a record takes at most so many bytes.
+// Kept: tried with `is_some_and`, the check finds no proof of the one goal that both cases then are; of a match it has a goal for each.
 fn text_fits(content: &Record, room: usize) -> bool
     ensures { result ≡ leb (length (text_of (record_of content.now))) room }
 {
@@ -107,7 +107,7 @@ fn write_rows(out: &mut [u8], content: &Record) -> usize
     requires { length (text_of (record_of content.now)) ≤ length out.old }
     ensures { part.Written (text_of (record_of content.now)) out.old result out.new }
 {
-    let at = write_lines(&mut out[..], content.edit_slice());
+    let at = write_lines(out, content.edit_slice());
     at + write_lines(&mut out[at..], content.constraint_slice())
 }
 
