@@ -85,6 +85,7 @@ fn print_test(printer: &mut Printer<'_>, sound: bool)
 }
 
 // The election's answer; of one that is won the bundle.
+// Kept: that `won` and the bundle agree is a premise, as `voting_count::Counted` says.
 fn print_winner(printer: &mut Printer<'_>, edit: u32, counted: &Counted)
     ensures { (P : Proposals) (roll : List RollRow) → count_told (Ok counted.now) ≡ count_of edit P roll → counted.now.election.won ≡ is_some counted.now.bundle
         → Printed (winner_text edit (count_told (Ok counted.now))) printer.old printer.new }
