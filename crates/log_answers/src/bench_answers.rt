@@ -7,6 +7,8 @@ ghost use Rattle.log_answers.specs.Answers.{answer_line};
 ghost use Rattle.log_answers.specs.bench_answers.Asks.{hides, hidden_line, hidden_text, page_line, schedule_text, cell_form, cell_line, cells_text, is_present, entry_text, catalogue_text, row_text, row_at, journal_text, page_text};
 
 // Kept: `bench`, `printer`: what is asked of and where it is printed meet in a question alone; a struct of both would be made for each.
+// Kept: `length edits.now ≤ edit_limit`: a slice has no limit by its type, and marks and rows are read at the places of its edits; `edit_slice` and
+// `open_edits` give slices within it.
 
 use catalogue::{CELLS, Cell, Entry, PAGES, PLACES};
 use graph::links::Marks;
@@ -22,18 +24,21 @@ pub enum Owner {
     Page,
 }
 
+// The mark of an edit that is hidden.
+const HIDES: u8 = 1;
+
 // How many of these marks hide an edit.
 fn count_hidden(marks: &[u8]) -> usize
     ensures { result ≡ length (filter hides marks.now) }
 {
-    marks.iter().filter(|mark| **mark == 1).count()
+    marks.iter().filter(|mark| **mark == HIDES).count()
 }
 
 // The line of an edit that is hidden.
 fn print_if_hidden(printer: &mut Printer<'_>, mark: u8, name: u16)
     ensures { Printed (cond (hides mark) (answer_line "edit=@\n" (name ∷ [])) []) printer.old printer.new }
 {
-    if mark == 1 {
+    if mark == HIDES {
         printer.print(b"edit=@\n", &[u64::from(name)]);
     }
 }
