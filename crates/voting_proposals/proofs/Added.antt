@@ -44,9 +44,6 @@ module _ (R : Record) (k : Checked R) where
       either true = refl
       either false = refl
 
-  nonzero : (x : ℕ) → x among written R → eqb x 0 ≡ false
-  nonzero x h = not-init (checked-wellformed R k) x h
-
   known : (x : ℕ) → x among written R → mem x (names R) ≡ true
   known x h = written-names R x h
 
@@ -78,8 +75,8 @@ module _ (R : Record) (k : Checked R) (c : Constraint) where
   added-sides (inr a) = (known R k c.left a.0, rw a.2 (init-known R))
 
   added-allowed : Added R c → pair_not_allowed c.left c.rule c.right ≡ false
-  added-allowed (inl a) = rw a.1 (order-allowed c.left c.right (nonzero R k c.left a.0) (nonzero R k c.right a.2))
-  added-allowed (inr a) = rw (a.1, a.2) (required-allowed c.left (nonzero R k c.left a.0))
+  added-allowed (inl a) = rw a.1 (order-allowed c.left c.right (not-init (checked-wellformed R k) c.left a.0) (not-init (checked-wellformed R k) c.right a.2))
+  added-allowed (inr a) = rw (a.1, a.2) (required-allowed c.left (not-init (checked-wellformed R k) c.left a.0))
 
 module _ (R : Record) (k : Checked R) (l : List Constraint) (f : (c : Constraint) → Has c l → Added R c) where
   either {ℓ} : {P : Type ℓ} (c : Constraint) → Has c (united constraint_key R.constraints l) → (Has c R.constraints → P) → (Added R c → P) → P
