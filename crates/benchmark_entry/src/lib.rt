@@ -1,4 +1,8 @@
 // What the benchmark calls (benchmark/): a judgement, a schedule, a merge and an election on lent tables, as numbers.
+// Kept: `constraints`, `edits`: the two tables of a record apart, as C lends them to the symbols of `benchmark_entry_c`, which are these functions under
+// the same clauses.
+// Kept: an answer is made by a match in the one function that gives it. A `From` for each would be four impls, each with a clause, called once;
+// `c_library` has one for its `Reply`, which several functions make.
 #![tactic(auto)]
 
 ghost use Rattle.std.specs.Prelude.{◌≡◌};
@@ -12,8 +16,6 @@ use voting::RollRow;
 use voting_count::Poll;
 
 // The marks of a record's edits.
-// Kept: `constraints`, `edits`: C lends the two tables of a record apart.
-
 // Kept: a number beside the values, which C reads.
 #[repr(C)]
 #[derive(Clone, Copy)]
@@ -135,6 +137,8 @@ pub fn measure_merge(
 }
 
 // Benches 1 to 8, each of weight 1.
+// Kept: the rows written out: they are a constant, and `array::from_fn` could not give one. Made in the call they would be made within the time that
+// the benchmark measures.
 const EQUAL_SEATS: [RollRow; 8] = [
     RollRow {
         bench: 1,
