@@ -9,15 +9,14 @@ use native.Mathlib.Omega.{arith}
 use borrow.Author.Tests.{eq-eqb, ne_eqb, le-ltb, ltb-true, not-true}
 use lib.Dec.{eqb}
 use lib.ListN.{length, get_or, take, drop, length-drop, get_or-eq_default}
-use lib.Seq.{drop-drop, get_or-drop}
+use lib.Seq.{drop-drop}
 use Rattle.lists.specs.Lists.{all}
 use Rattle.lists.proofs.Lists.{by, le-by, and_l, and_r}
 use Rattle.text_forms.specs.decimal.Decimal.{numeral_size, numeral_value, saturated, numeral_read}
 use Rattle.text_forms.specs.declared.decimal.Numeral.{Numeral}
-use Rattle.text_forms.proofs.decimal.Parts.{part_to_end}
 use Rattle.text_forms.proofs.decimal.Laws.{number_short}
 use Rattle.text_lines.proofs.Says.{word-fits, word-same, word-large, word-refused}
-use Rattle.text_lines.proofs.Signs.{no-numeral, the-size, the-value, some-size}
+use Rattle.text_lines.proofs.Signs.{no-numeral, the-size, the-value, some-size, first-at}
 use Rattle.text_forms.proofs.decimal.RoundTrip.{saturated-test, saturated-same}
 use Rattle.text_forms.specs.Spelling.{bytes, starts_with, number_spelling}
 use Rattle.text_forms.specs.Form.{is_mark, spelling, more, begins_with, taken}
@@ -35,6 +34,7 @@ use Rattle.log_forms.proofs.productions.Choosing.{letter_after, letter_leaves, l
 use Rattle.log_commands.specs.Grammar.{adding, lending_to, add_form, lend_form}
 use Rattle.log_commands.specs.Groups.{line_adds, line_lends, lent_number, lent_line_read}
 use Rattle.log_commands.specs.declared.Command.{Command}
+use Rattle.std.proofs.lemmas.List.{take_rest}
 
 -- a shape says a row, of the first three numbers
 abbrev Fair : Shape → Type 0
@@ -112,7 +112,7 @@ module _ (s : List ℕ) where
 
   pub lent-begun : {r : Answer Numeral} → pointwise eqb (bytes "lent=") (take 5 s) ≡ true → r ≡ numeral_read (take (length s - 5) (drop 5 s)) → r ≡ lent_number s
   unfolding lent_number bytes
-  lent-begun h q = q ∙ rw (sym (word-starts (bytes "lent=") s) ∙ h, part_to_end 5 s)
+  lent-begun h q = q ∙ rw (sym (word-starts (bytes "lent=") s) ∙ h, take_rest s 5)
 
 -- words that are refused, but not as out of form
 pub refused-other : {r : Refusal} → (r ≡ NotInForm → ⊥) → ◌≡◌ {A = Result (List ℕ) Refusal} (Err r) (Err NotInForm) → ⊥
@@ -134,9 +134,6 @@ begins-other c (x ∷ t) h = ne_eqb c x (λ e. h (sym e))
 begins-so : (c : ℕ) (t : List ℕ) → get_or t 0 0 ≡ suc c → begins_with (suc c) t ≡ true
 begins-so c [] h = absurd (omega arith)
 begins-so c (x ∷ t) h = eq-eqb (suc c) x (sym h)
-
-first-at : (n : ℕ) (s : List ℕ) → get_or s n 0 ≡ get_or (drop n s) 0 0
-first-at n s = let e : n + 0 ≡ n = omega arith in sym (get_or-drop n s 0 0 ∙ ap (λ (k : ℕ). get_or s k 0) e)
 
 letter-inside : (s : List ℕ) (n : ℕ) {c : ℕ} → get_or s n 0 ≡ suc c → n + 1 ≤ length s
 letter-inside s n e = le-by (length s) n (λ h. absurd (omega (arith, get_or-eq_default s 0 {n = n} h))) (λ h. omega arith)
@@ -247,7 +244,7 @@ module _ (s : List ℕ) where
             let start = 5 + lent.size + 1 in
             let u : length (drop start s) ≤ line_limit = omega (arith, length-drop start s) in
             q
-            ∙ rw (part_to_end start s, line-short (drop start s) u)
+            ∙ rw (take_rest s start, line-short (drop start s) u)
             (ap (λ (n : ℕ). line_lends n (read_by shapes (drop start s))) value_is ∙ lends-saturated (numeral_value after) (read_by shapes (drop start s)))
             ∙ sym (lends-read s (drop start s) (numeral_value after) line_taken)
 

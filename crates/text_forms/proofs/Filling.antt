@@ -10,13 +10,14 @@ use lib.Dec.{leb}
 use lib.ListN.{length, get_or, take, drop, set, length-append, length-drop, drop_of_length-le, take-append-drop}
 use lib.Seq.{drop-cons, drop-drop, length-take-le, take-append-add, drop-append-add, take-append_seam, drop-append_seam, set_split}
 use Rattle.text_forms.specs.decimal.Written.{Written}
-use Rattle.text_forms.proofs.decimal.Parts.{part_to_end, part-written}
+use Rattle.text_forms.proofs.decimal.Parts.{part-written}
 use Rattle.text_forms.specs.Form.{is_mark, spelling, fill}
 use Rattle.std.proofs.Common.{Some, None, Option, MatchOption, option_copied, Bor, Iter}
 use Rattle.std.specs.Prelude.{unwrap_or}
 use Rattle.text_forms.specs.Fit.{room_after}
 use Rattle.text_forms.proofs.Fits.{room-short, room-whole, room-both}
 use Rattle.text_forms.proofs.Forms.{fill-mark, fill-byte, fill-wide}
+use Rattle.std.proofs.lemmas.List.{take_rest}
 
 -- the first of the numbers that are left, 0 where there is none, and those after it
 none-left : (l : List ℕ) → length l ≡ 0 → (0 ≡ get_or l 0 0) × (l ≡ drop 1 l)
@@ -136,7 +137,7 @@ module _ (form ns before : List ℕ) where
     -- a mark's writer is lent the part from `at` on
     pub mark-fits : {n : ℕ} → i < length form → is_mark (get_or form i 0) ≡ true → n ≡ get_or others 0 0
         → length ((spelling (get_or form i 0)).write n) ≤ length (take (length out - at) (drop at out))
-    mark-fits h m q = rw (part_to_end at out, q, length-drop) (omega (arith, mark-room h m))
+    mark-fits h m q = rw (take_rest out at, q, length-drop) (omega (arith, mark-room h m))
 
     pub writing-mark : {n r : ℕ} {after next : List ℕ} → i < length form → is_mark (get_or form i 0) ≡ true → n ≡ get_or others 0 0
         → Written ((spelling (get_or form i 0)).write n) (take (length out - at) (drop at out)) r after

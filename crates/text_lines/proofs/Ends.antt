@@ -14,8 +14,8 @@ use lib.Seq.{drop-cons, drop-drop}
 use Rattle.lists.specs.Lists.{mem}
 use Rattle.lists.proofs.Lists.{by, or-no-l, or-no-r}
 use Rattle.text_forms.proofs.Forms.{Ended}
-use Rattle.text_forms.proofs.decimal.Parts.{part_to_end}
 use Rattle.text_lines.specs.Lines.{joined, lines, first_line}
+use Rattle.std.proofs.lemmas.List.{take_rest}
 
 -- the search for an end
 abbrev ends : ℕ → Bool
@@ -49,13 +49,13 @@ module _ (s : List ℕ) (from : ℕ) where
   module _ (h : from < length s) where
     pub end-found : {place : ℕ} → Some place ≡ position ends (take (length s - from) (drop from s)) → (from + place + 1 ≡ from + length (first_line (drop from s))) × (from + place < length s)
     end-found {place} e =
-        let q : Some place ≡ position ends (drop from s) = rw (part_to_end from s) at e in
+        let q : Some place ≡ position ends (drop from s) = rw (take_rest s from) at e in
         let r = end-some (drop from s) q in
         (omega (arith, r.0), omega (arith, r.1, length-drop from s))
 
     pub end-missing : None ≡ position ends (take (length s - from) (drop from s)) → length s ≡ from + length (first_line (drop from s))
     end-missing e =
-        let q : None ≡ position ends (drop from s) = rw (part_to_end from s) at e in
+        let q : None ≡ position ends (drop from s) = rw (take_rest s from) at e in
         omega (arith, end-none (drop from s) q, length-drop from s)
 
 -- the lines are the first line and the lines of the rest

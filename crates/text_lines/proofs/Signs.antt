@@ -16,13 +16,13 @@ use Rattle.lists.proofs.Lists.{by, is-by, clash, and_l, and_r, or-by}
 use Rattle.text_forms.specs.decimal.Decimal.{numeral_size, numeral_value, numeral_read, saturated}
 use Rattle.std.specs.Prelude.{Some, None}
 use Rattle.text_forms.specs.declared.decimal.Numeral.{Numeral}
-use Rattle.text_forms.proofs.decimal.Parts.{part_to_end}
 use Rattle.text_forms.proofs.decimal.Laws.{number_short}
 use Rattle.text_forms.proofs.decimal.RoundTrip.{size-nothing}
 use Rattle.text_forms.specs.Spelling.{bytes}
 use Rattle.text_forms.specs.Form.{is_mark, spelling, more, begins_with, taken}
 use Rattle.text_forms.proofs.Lawful.{lawful}
 use Rattle.text_forms.proofs.Forms.{mark-taken, mark-missing, byte-taken, byte-missing, plain}
+use Rattle.std.proofs.lemmas.List.{take_rest}
 
 -- where the beginning of a form ends in a text, if it starts at a place
 unfoldable pub line-ends : List ℕ → ℕ → List ℕ → ℕ
@@ -75,14 +75,14 @@ module _ (x : ℕ) (form : List ℕ) (at : ℕ) (s : List ℕ) where
       byte-taken x form m (drop at s) b ∙ e)
       (λ (b : begins_with x (drop at s) ≡ false). byte-missing x form m (drop at s) b)
 
-here : (at : ℕ) (s : List ℕ) → get_or s at 0 ≡ get_or (drop at s) 0 0
-here at s = let e : at + 0 ≡ at = omega arith in sym (get_or-drop at s 0 0 ∙ ap (λ (n : ℕ). get_or s n 0) e)
+pub first-at : (at : ℕ) (s : List ℕ) → get_or s at 0 ≡ get_or (drop at s) 0 0
+first-at at s = let e : at + 0 ≡ at = omega arith in sym (get_or-drop at s 0 0 ∙ ap (λ (n : ℕ). get_or s n 0) e)
 
 -- the law: a form with another byte after the beginning does not take the text
 otherwise-none : (beginning form : List ℕ) (at : ℕ) (s : List ℕ) → otherwise beginning (get_or s (line-ends beginning at s) 0) form ≡ true → taken form (drop at s) ≡ none
 unfolding otherwise line-ends
 otherwise-none [] [] at s h = clash h refl
-otherwise-none [] (x ∷ form) at s h = refused x form (drop at s) (rw (here at s) at h)
+otherwise-none [] (x ∷ form) at s h = refused x form (drop at s) (rw (first-at at s) at h)
 otherwise-none (y ∷ beginning) [] at s h = clash h refl
 otherwise-none (y ∷ beginning) (x ∷ form) at s h =
     by (is_mark y)
@@ -182,13 +182,13 @@ module _ (s : List ℕ) (from : ℕ) where
 
   pub not-there : None ≡ numeral_read (take (length s - from) (drop from s)) → (from ≡ from + numeral_size (drop from s)) × (from ≤ from + length s)
   not-there h =
-      let e : None ≡ numeral_read (drop from s) = rw (part_to_end from s) at h in
+      let e : None ≡ numeral_read (drop from s) = rw (take_rest s from) at h in
       let z : numeral_size (drop from s) ≡ 0 = no-numeral (drop from s) e in
       (omega arith, omega arith)
 
   module _ {numeral : Numeral} (q : Some numeral ≡ numeral_read (take (length s - from) (drop from s))) where
     number_size : numeral.size ≡ numeral_size (drop from s)
-    number_size = let e : Some numeral ≡ numeral_read (drop from s) = rw (part_to_end from s) at q in the-size (drop from s) e
+    number_size = let e : Some numeral ≡ numeral_read (drop from s) = rw (take_rest s from) at q in the-size (drop from s) e
 
     pub number-inside : from ≤ length s → from + numeral.size ≤ length s
     number-inside h = omega (arith, number_size, number_short (drop from s), length-drop from s)

@@ -10,10 +10,11 @@ use lib.Dec.{leb}
 use lib.ListN.{length, take, drop, length-take, length-drop, length-append}
 use Rattle.lists.proofs.Lists.{by}
 use Rattle.text_forms.specs.decimal.Written.{Written}
-use Rattle.text_forms.proofs.decimal.Parts.{part-written, part_to_end}
+use Rattle.text_forms.proofs.decimal.Parts.{part-written}
 use Rattle.std.specs.Prelude.{Ok, Err}
 use Rattle.refusals.specs.declared.Refusal.TheVariants.{NoRoom}
 use Rattle.text_writer.specs.Placed.{placed, placing}
+use Rattle.std.proofs.lemmas.List.{take_rest}
 
 module _ (text out : List ℕ) where
   module _ (at : ℕ) where
@@ -35,7 +36,7 @@ module _ (text out : List ℕ) where
         enough = omega (arith, leb-true (length text) (length out - at) (sym e ∙ h))
 
         pub has_room : length text ≤ length (take (length out - at) (drop at out))
-        has_room = rw (part_to_end at out, length-drop) (omega (arith, enough))
+        has_room = rw (take_rest out at, length-drop) (omega (arith, enough))
 
         module _ {r : ℕ} {after : List ℕ} (w : Written text (take (length out - at) (drop at out)) r after) where
           pub written-there : (Ok (at + r) ≡ placing text at out) × (take at out ++ (after ++ drop (length out - at) (drop at out)) ≡ placed text at out)

@@ -6,6 +6,7 @@ use native.Mathlib.Omega.{arith}
 use lib.ListN.{length, take, drop, length-append, length-drop, drop_of_length-le}
 use lib.Seq.{take_all, take_at, drop_at, drop-drop}
 use Rattle.text_forms.specs.decimal.Written.{Written}
+use Rattle.std.proofs.lemmas.List.{take_rest}
 
 -- what was written at the start of the part from a place on, said of the whole
 pub part-written : (at : ℕ) (xs ys w : List ℕ) → at + length w ≤ length xs → ys ≡ w ++ drop (length w) (take (length xs - at) (drop at xs))
@@ -13,10 +14,6 @@ pub part-written : (at : ℕ) (xs ys w : List ℕ) → at + length w ≤ length 
 part-written at xs ys w h e =
     let l : length (drop at xs) ≤ length xs - at = omega (arith, length-drop at xs) in
     rw (e, take_all (length xs - at) (drop at xs) l, drop_of_length-le (drop at xs) {i = length xs - at} l, drop-drop (length w) at xs, append-nil)
-
--- a part from a place to the end
-pub part_to_end : (at : ℕ) (xs : List ℕ) → take (length xs - at) (drop at xs) ≡ drop at xs
-part_to_end at xs = take_all (length xs - at) (drop at xs) (omega (arith, length-drop at xs))
 
 -- two texts, one after the other: what they leave of a lent part
 module _ (s before : List ℕ) {at : ℕ} {out : List ℕ} (u : Written s before at out) where
@@ -27,7 +24,7 @@ module _ (s before : List ℕ) {at : ℕ} {out : List ℕ} (u : Written s before
   second-room t h =
       let l : length (s ++ t) ≡ length s + length t = length-append s t in
       let o = out-length (omega arith) in
-      rw (part_to_end at out, length-drop) (omega (arith, u.0))
+      rw (take_rest out at, length-drop) (omega (arith, u.0))
 
   pub inside : length s ≤ length before → at ≤ length out
   inside h = omega (arith, u.0, out-length h)

@@ -1,10 +1,10 @@
 -- `read_form` meets its contract. Assumes nothing.
 use Rattle.std.proofs.Common.{sym, ◌∙◌, arith}
-use Rattle.text_forms.proofs.decimal.Parts.{part_to_end}
 use borrow.Author.Tests.{eqb-true, eqb-false}
 use Rattle.text_forms.proofs.Reading.{reading-start, reading-no-mark, mark-inside, reading-mark, reading-no-byte, reading-other-byte, reading-byte, reading-long, reading-end}
 use Rattle.text_forms.proofs.read_form.Goals as goal
 use Rattle.text_forms.proofs.read_form.Goals.{then-is_mark+in_ok-numeral, else-is_mark+in_ok-first+else-first-c}
+use Rattle.std.proofs.lemmas.List.{take_rest}
 
 pub loop-c-init : goal.loop-c-init
 loop-c-init c = reading-start c.args.form.now c.args.bytes.now
@@ -39,7 +39,7 @@ pub loop-c-preserved : goal.loop-c-preserved
 loop-c-preserved c =
     let l = c.loop-c in
     elim c.if-is_mark.branch [
-      | then-is_mark+in_ok-numeral w ↦ rw (w.rest-is, w.k-is, part_to_end w.in_ok-numeral.numeral.size l.rest.now) (reading-mark c.args.form.now c.args.bytes.now l.numbers l.rest.now l.c-index l.k l.invariant c.loop-c-test.true (sym c.is_mark.ensures ∙ w.if-is_mark.true) w.in_ok-numeral.ensures (w.numbers-is ∙ w.store.ensures))
+      | then-is_mark+in_ok-numeral w ↦ rw (w.rest-is, w.k-is, take_rest l.rest.now w.in_ok-numeral.numeral.size) (reading-mark c.args.form.now c.args.bytes.now l.numbers l.rest.now l.c-index l.k l.invariant c.loop-c-test.true (sym c.is_mark.ensures ∙ w.if-is_mark.true) w.in_ok-numeral.ensures (w.numbers-is ∙ w.store.ensures))
       | else-is_mark+in_ok-first+else-first-c w ↦ rw (w.numbers-is, w.rest-is, w.k-is) (reading-byte c.args.form.now c.args.bytes.now l.numbers l.rest.now l.c-index l.k l.invariant c.loop-c-test.true (sym c.is_mark.ensures ∙ w.if-is_mark.false) w.in_ok-first.first.now w.in_ok-first.others.now w.in_ok-first.ensures.cases.0 w.if-first-c.false)
     ]
 
