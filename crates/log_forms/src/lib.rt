@@ -38,6 +38,7 @@ impl<'a> Printer<'a> {
     }
 
     // Prints a form with these numbers, where it fits.
+    // Kept: `form`, `numbers`: as in `text_forms`.
     pub fn print(&mut self, form: &[u8], numbers: &[u64])
         ensures { Printed (fill form.now numbers.now ∷ []) self.old self.new }
     {

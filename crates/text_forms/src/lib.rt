@@ -109,7 +109,7 @@ fn read_mark(mark: u8, bytes: &[u8]) -> Option<Numeral>
 }
 
 // What is left of a room after the form with these numbers, where it fits. Pub for the crates that count lines.
-// Kept: `form` and `numbers` are two here and below: a form is a constant and its numbers are made for one call, so a struct of both would be made
+// Kept: `form`, `numbers`: a form is a constant and its numbers are made for one call, so a struct of both would be made
 // at each call, and the clauses, which name both as `fill form numbers`, would be no shorter.
 pub fn form_fit(room: usize, form: &[u8], numbers: &[u64]) -> Option<usize>
     ensures { result ≡ room_after room (length (fill form.now numbers.now)) }

@@ -81,6 +81,7 @@ pub fn write_lines<T: Lined>(out: &mut [u8], elements: &[T]) -> usize
 }
 
 // Writes a form with these numbers at a place of out, where it fits. Refused, out stays as it was. Pub for the crates that print one line.
+// Kept: `form`, `numbers`: as in `text_forms`.
 pub fn place_form(form: &[u8], numbers: &[u64], out: &mut [u8], at: usize) -> Result<usize, Refusal>
     ensures answer { result ≡ placing (fill form.now numbers.now) at out.old }
     ensures bytes { out.new ≡ placed (fill form.now numbers.now) at out.old }
