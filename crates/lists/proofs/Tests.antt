@@ -49,3 +49,8 @@ same_by false false f g = refl
 pub byte-bit : (b : Bool) → bool_byte b ≡ cond {A = ℕ} b 1 0
 byte-bit true = refl
 byte-bit false = refl
+
+-- and that number read again
+pub bit_is : (b : Bool) → eqb (cond b 1 0) 1 ≡ b
+bit_is true = refl
+bit_is false = refl

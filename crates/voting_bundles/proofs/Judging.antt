@@ -26,6 +26,7 @@ use Rattle.lists.proofs.Front.{filter-length}
 use Rattle.voting_bundles.specs.Bundles.{lent_bundle_fault, refused_bundle, bundle_answer}
 use Rattle.record_rows.proofs.grounds.Grounds.{orelse-none}
 use Rattle.graph.specs.indexes.Fit.{Fit}
+use Rattle.lists.proofs.Tests.{bit_is}
 
 -- what is filtered out of ascending names ascends
 above : (x : ℕ) (l : List ℕ) → ((y : ℕ) → y among l → x < y) → ascending l ≡ true → ascending (x ∷ l) ≡ true
@@ -59,10 +60,6 @@ bundle-fit R f e =
     }
 
 -- the edits one by one: their marks stand after INIT's
-bit_is : (b : Bool) → eqb (cond b 1 0) 1 ≡ b
-bit_is true = refl
-bit_is false = refl
-
 each-marked : (test : ℕ → Bool) (l : List ℕ) → list_all (λ mark. eqb mark 1) (map (λ x. cond (test x) 1 0) l) ≡ all test l
 unfolding all
 each-marked test [] = refl

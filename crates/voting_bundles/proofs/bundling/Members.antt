@@ -1,6 +1,6 @@
 -- A bundle's edits and constraints by the marks of its members. Assumes nothing.
-use mathlib.Core.Path.{◌≡◌, refl, ◌∙◌}
-use mathlib.Core.Bool.{Bool, true, false, cond}
+use mathlib.Core.Path.{◌≡◌, ◌∙◌}
+use mathlib.Core.Bool.{Bool}
 use mathlib.Core.List.{List, [], ◌∷◌, ◌++◌, map}
 use mathlib.Core.Logic.{inl, inr}
 use Prim.Native.Nat.{ℕ}
@@ -11,10 +11,9 @@ use Rattle.record.specs.declared.Edit.{Edit}
 use Rattle.record.specs.declared.Constraint.{Constraint}
 use Rattle.record.specs.declared.Record as declared
 use Rattle.lists.specs.Lists.{mem, index_of, filter, ◌among◌, Has}
-use Rattle.record.specs.Record.{Record, name_of, names, written, has}
+use Rattle.record.specs.Record.{Record, name_of, names, written}
 use Rattle.record.specs.Stored.{padded, stored, edit_limit, constraint_limit, filler_edit, filler_constraint}
 use Rattle.lists.proofs.Lists.{mem_index, mem-head, mem-tail}
-use Rattle.record.proofs.Records.{has-head, has-tail}
 use Rattle.graph.specs.links.Marks.{marks_of}
 use Rattle.graph.proofs.links.Names.{get_or-place, place-known}
 use Rattle.graph.proofs.links.Marks.{marks-at}
@@ -23,10 +22,8 @@ use Rattle.graph.specs.indexes.Indexed.{Indexed}
 use Rattle.graph.proofs.indexes.Resolving.{left-known, right-known}
 use Rattle.voting.specs.Bundle.{members, between, bundle}
 use Rattle.voting_bundles.proofs.equality.Equal.{edits-kept, constraints-kept}
-
-bit_is : (b : Bool) → eqb (cond b 1 0) 1 ≡ b
-bit_is true = refl
-bit_is false = refl
+use Rattle.lists.proofs.Tests.{bit_is}
+use Rattle.voting.proofs.Joined.{in-has}
 
 -- the mark of an edit, at its index
 pub mark_of : (R : Record) (m table marks : List ℕ) → Indexed R table → marks ≡ marks_of R (λ y. mem y m)
@@ -51,11 +48,6 @@ name-known d [] h = absurd h
 name-known d (x ∷ l) (inl e) = rw e (mem-head x.name (map name_of l))
 name-known d (x ∷ l) (inr h) = mem-tail d.name x.name (map name_of l) (name-known d l h)
 
-row-known : (c : Constraint) (l : List Constraint) → Has c l → has c.left c.rule c.right l ≡ true
-row-known c [] h = absurd h
-row-known c (x ∷ l) (inl e) = rw e (has-head x l)
-row-known c (x ∷ l) (inr h) = has-tail c.left c.rule c.right x l (row-known c l h)
-
 module _ (r : declared.Record) (R : Record) (q : r ≡ stored R) (f : Fit R) where
   pub edit-known : (d : Edit) → Has d (take r.editcount r.edits) → d.name among names R
   unfolding names written
@@ -63,7 +55,7 @@ module _ (r : declared.Record) (R : Record) (q : r ≡ stored R) (f : Fit R) whe
 
   pub ends-known : (c : Constraint) → Has c (take r.constraintcount r.constraints) → (c.left among names R) × (c.right among names R)
   ends-known c h =
-      let s = row-known c R.constraints (rw (constraints-kept r R q) at h) in
+      let s = in-has c R.constraints (rw (constraints-kept r R q) at h) in
       (left-known f.formed c.left c.rule c.right s, right-known f.formed c.left c.rule c.right s)
 
 -- what is selected over a table that holds the filler is stored
