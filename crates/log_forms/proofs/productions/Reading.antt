@@ -10,7 +10,6 @@ use lib.ListN.{length, get_or, take, replicate}
 use lib.Seq.{take_all}
 use Rattle.lists.specs.Lists.{all}
 use Rattle.lists.proofs.Lists.{by, and_l, and_r}
-use Rattle.lists.proofs.Arrays.{take-map}
 use Rattle.lists.proofs.Front.{all-broken}
 use Rattle.text_forms.specs.decimal.Decimal.{saturated}
 use Rattle.text_forms.proofs.decimal.RoundTrip.{saturated-test, saturated-same}
@@ -23,6 +22,7 @@ use Rattle.refusals.specs.declared.Refusal.TheVariants.{NotInForm}
 use Rattle.text_lines.proofs.Says.{word-fits, word-same, word-large, word-refused}
 use Rattle.text_lines.specs.Line.{fits_word, word_read}
 use Rattle.log_forms.specs.productions.Words.{words_kept, eight_of, words_of}
+use Rattle.std.proofs.lemmas.List.{take-map}
 
 -- numbers read as words one by one
 module _ {R : ℕ → ℕ → Type 0} (f : (n w : ℕ) → R n w → Ok w ≡ word_read n) where
