@@ -45,6 +45,8 @@ impl Model for IndexTable {
 }
 
 // The entry of a name in any table by name, 0 where it has none. Pub for whoever keeps such a table; of the crates here `index_of` alone calls it.
+// Kept: with a twin in `text_report` (`number_at`): a table of indexes gives places, and marks give numbers to print; one function of both would be
+// converted at each use.
 pub fn index_in(indexes: &[u8], name: usize) -> usize
     ensures { result ≡ get_or indexes.now name 0 }
 {

@@ -21,6 +21,8 @@ use std::marker::Model;
 // Kept: `base ≤ noncommuting_base`: any base is taken; an enum of the three rules would ask more, and would not name the relation of a
 // bundle's members, which stands above 0.
 
+// Kept: `a`, `b`: the two edits that a question is about; they meet in it alone, and a struct of both would be made for each.
+
 // Marks of the edits of a record and of INIT, one to each index.
 pub const MARKS: usize = EDITS + 1;
 

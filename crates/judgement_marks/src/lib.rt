@@ -21,7 +21,9 @@ use graph::links::{ENABLES, Graph, MARKS, Marks, NONCOMMUTING, NOTAFTER, Rows};
 // `nevermarks ≡ marks_of R (never R)`: premises of what is ensured. A graph is made of any record, stored with checked tables or not, and the
 // theory's record R is no part of its value: a type could say only that some R is there, not that it is the one a clause speaks of.
 
-// The edits that must stand. Pub for `judgement` and `voting_decisions`.
+// Kept: `a`, `b`: as in `graph::links`.
+
+// The edits that must stand. Pub for `judgement`.
 pub fn must_marks(rows: &Rows) -> Marks
     ensures { (R : Record) → Resolved R rows.now → result ≡ marks_of R (must R) }
 {

@@ -207,7 +207,7 @@ fn scheduled_marks(graph: &Graph, reversed: &Rows, mustmarks: &Marks, hidden: &M
     all
 }
 
-// The bench schedule. Pub for `judgement` and `voting_decisions`.
+// The bench schedule. Pub for `judgement`.
 pub fn schedule_row(graph: &Graph, mustmarks: Marks, hidden: &Marks) -> Row
     ensures { (R : Record) (hiddens : List ℕ) → Resolved R graph.now.rows → graph.now.count ≡ length (names R)
         → mustmarks ≡ marks_of R (must R) → Hides R hidden.now hiddens → RowIs R result (schedule R hiddens) }
@@ -217,8 +217,8 @@ pub fn schedule_row(graph: &Graph, mustmarks: Marks, hidden: &Marks) -> Row
     ordered_row(graph, &reversed, marks)
 }
 
-// The page of each edit. From the end, so that where a row had a repeat its first place would count. Pub for `judgement` and `voting_decisions`,
-// which have it of a schedule.
+// The page of each edit. From the end, so that where a row had a repeat its first place would count. Pub for `judgement`, which has
+// it of a schedule.
 pub fn page_values(row: Row) -> Marks
     ensures { (R : Record) (list : List ℕ) → distinct (names R) ≡ true → length (names R) ≤ mark_limit → RowIs R row list → result ≡ values_of R (place_in list) }
 {

@@ -51,6 +51,7 @@ impl Lined for ReportLine {
 }
 
 // A number of a judgement by index, 0 past the last.
+// Kept: with a twin in `graph::indexes` (`index_in`), which gives places and no numbers to print.
 fn number_at(row: &[u8], index: usize) -> u64
     ensures { result ≡ get_or row.now index 0 }
 {
