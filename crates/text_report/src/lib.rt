@@ -1,6 +1,5 @@
 // The report of a text (document 01, "Text"), and the line of a refusal.
-// Kept: `at`, `out`: document 01 lends an output and a place in it, which is refused where it is past the end; a struct of both would be made
-// for each call.
+// Kept: `at`, `out`: as document 01 lends them, an output and a place in it, which is refused where it is past the end.
 #![tactic(auto)]
 
 ghost use Rattle.std.specs.Prelude.{◌≡◌, ◌++◌, map, ◌≤◌, leb, length, take, get_or};
@@ -46,12 +45,12 @@ impl Lined for ReportLine {
 
     #[tactic(auto, unfolding(crate::specs::Report::report_form, text_forms::specs::Spelling::bytes))]
     fn write_line(self, out: &mut [u8]) -> usize {
-        text_forms::write_form(&mut out[..], REPORT_FORM, &self.numbers)
+        text_forms::write_form(out, REPORT_FORM, &self.numbers)
     }
 }
 
 // A number of a judgement by index, 0 past the last.
-// Kept: with a twin in `graph::indexes` (`index_in`), which gives places and no numbers to print.
+// Kept: beside `byte_at` of `text_lines` and `index_in` of `graph::indexes`: it is widened here, once for four uses, to what a form's numbers are.
 fn number_at(row: &[u8], index: usize) -> u64
     ensures { result ≡ get_or row.now index 0 }
 {
@@ -78,6 +77,9 @@ fn line_at(edits: &[Edit], judged: &Judged, i: usize) -> ReportLine
 
 // The lines of edits, and zeros after them.
 // Kept: `length edits.now ≤ edit_limit`: the answer is an array of that length, and a slice has no limit by its type.
+// Kept: an array of all lines, cut to the edits: it is walked twice, to see that all fit and to write them (`lines_fit`, `write_lines`), by the two
+// functions that write the rows of a text, whose elements have a line by themselves; an edit has one only beside the judgement.
+// Kept: beside `record_joining::rows_of` and `record_union::elements_of`: here an element is made of its place too, there of a row alone.
 fn report_lines(edits: &[Edit], judged: &Judged) -> [ReportLine; EDITS]
     requires { length edits.now ≤ edit_limit }
     ensures { (take (length edits.now) result ≡ report_lines judged.now 1 edits.now) × (length result ≡ edit_limit) }
@@ -86,6 +88,9 @@ fn report_lines(edits: &[Edit], judged: &Judged) -> [ReportLine; EDITS]
 }
 
 // Whether a report takes at most so many bytes.
+// Kept: `counts`, `lines`: the three clauses read them as the two parts of one text, and a struct of both would be made by `report_record` alone,
+// only to be taken apart.
+// Kept: tried with `is_some_and`, the check finds no proof of the one goal that both cases then are; of a match it has a goal for each.
 fn report_fits(counts: &[u64], lines: &[ReportLine], room: usize) -> bool
     ensures { result ≡ leb (length (fill counts_form counts.now ++ joined_lines (map line_text lines.now))) room }
 {
@@ -99,7 +104,7 @@ fn write_report(out: &mut [u8], counts: &[u64], lines: &[ReportLine]) -> usize
     requires { length (fill counts_form counts.now ++ joined_lines (map line_text lines.now)) ≤ length out.old }
     ensures { part.Written (fill counts_form counts.now ++ joined_lines (map line_text lines.now)) out.old result out.new }
 {
-    let at = text_forms::write_form(&mut out[..], COUNTS_FORM, counts);
+    let at = text_forms::write_form(out, COUNTS_FORM, counts);
     at + text_writer::write_lines(&mut out[at..], lines)
 }
 
@@ -128,7 +133,7 @@ pub fn report_record(content: Record, out: &mut [u8], at: usize) -> Result<usize
     let m = content.constraint_slice().len();
     let judged = judgement::judge(content);
     let lines = report_lines(edits, &judged);
-    place_report(&[n as u64, m as u64], &lines[..n], &mut out[..], at)
+    place_report(&[n as u64, m as u64], &lines[..n], out, at)
 }
 
 // Writes the report of a text to the start of out. Refused, out stays as it was.
@@ -137,7 +142,7 @@ pub fn report_text(text: &[u8], out: &mut [u8]) -> Result<usize, Fault>
     ensures bytes { out.new ≡ reported_out (read_text text.now) out.old }
 {
     let content = text_reader::read_text(text)?;
-    let size = report_record(content, &mut out[..], 0)?;
+    let size = report_record(content, out, 0)?;
     Ok(size)
 }
 
@@ -147,7 +152,7 @@ pub fn refusal_line(number: u32, line: usize, out: &mut [u8]) -> Result<usize, R
     ensures bytes { out.new ≡ placed (refusal_line number line) 0 out.old }
 {
     let numbers = [u64::from(number), line as u64];
-    text_writer::place_form(REFUSAL_FORM, &numbers, &mut out[..], 0)
+    text_writer::place_form(REFUSAL_FORM, &numbers, out, 0)
 }
 
 // Writes what is printed of a text, its report or its refusal, to the start of out where it fits.
@@ -156,7 +161,7 @@ pub fn print_text(text: &[u8], out: &mut [u8]) -> Result<usize, Refusal>
     ensures bytes { out.new ≡ placed (printed (read_text text.now)) 0 out.old }
 {
     match text_reader::read_text(text) {
-        Ok(content) => report_record(content, &mut out[..], 0),
-        Err(fault) => refusal_line(fault.refusal.number(), fault.line, &mut out[..]),
+        Ok(content) => report_record(content, out, 0),
+        Err(fault) => refusal_line(fault.refusal.number(), fault.line, out),
     }
 }
