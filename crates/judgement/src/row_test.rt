@@ -82,13 +82,11 @@ fn all_fit(multilog: Record, table: &IndexTable, places: &[usize; MARKS]) -> boo
 pub fn is_schedule(multilog: Record, row: &[u32]) -> bool
     ensures { (R : theory.Record) → multilog ≡ stored R → Fit R → result ≡ sound_row R row.now }
 {
-    if row.is_empty() {
-        return false;
-    }
-    if row[0] != 0 {
+    if !row.starts_with(&[0]) {
         return false;
     }
     let table = indexes::index_table(multilog);
+    // Kept: a match: `is_some_and` was tried, and what `all_fit` ensures was not found in what is known of the closure's answer.
     match seat_row(&table, row) {
         Some(places) => all_fit(multilog, &table, &places),
         None => false,

@@ -5,7 +5,8 @@ use mathlib.Core.List.{List, [], ◌∷◌}
 use Prim.Native.Nat.{ℕ, zero, suc, ◌<◌}
 use native.Mathlib.Omega.{arith}
 use lib.Dec.{eqb, ltb}
-use lib.ListN.{length, get_or}
+use lib.ListN.{length, take, get_or}
+use lib.Pointwise.{pointwise}
 use lib.Seq.{take_all}
 use borrow.Author.Tests.{ltb-true, lt-ltb, eq-eqb, ne_eqb}
 use Rattle.record.specs.declared.Constraint.{Constraint}
@@ -99,25 +100,23 @@ module _ (R : Record) (f : Fit R) (table row places : List ℕ) (t : Indexed R t
   fitting-told l e false w =
       sym (all-broken fitting l (length l) w.0 filler_constraint w.1 (omega arith) (sym (told-fits l e w.0 filler_constraint w.1 false (w.2 filler_constraint)))) ∙ ap (all fitting) (take_all (length l) l (omega arith) ∙ e)
 
--- the whole test
-pub empty-not : (R : Record) (row : List ℕ) → length row ≡ 0 → false ≡ sound_row R row
+-- the whole test: the library's test of the number at the start of a row
+pub init-starts : (row : List ℕ) → pointwise eqb (0 ∷ []) (take 1 row) ≡ starts_with_init row
+init-starts [] = refl
+init-starts (x ∷ row) = starts x
+  where
+    starts : (x : ℕ) → (eqb 0 x && true) ≡ eqb x 0
+    starts zero = refl
+    starts (suc x) = rw (ne_eqb 0 (suc x) (λ h. omega (arith, h)), ne_eqb (suc x) 0 (λ h. omega (arith, h)))
+
+pub start-not : (R : Record) (row : List ℕ) → starts_with_init row ≡ false → false ≡ sound_row R row
 unfolding sound_row
-empty-not R [] e = refl
-empty-not R (x ∷ row) e = absurd (omega arith)
+start-not R row e = rw e
 
-pub start-not : (R : Record) (row : List ℕ) → (length row ≡ 0 → ⊥) → (get_or row 0 0 ≡ 0 → ⊥) → false ≡ sound_row R row
-unfolding sound_row
-start-not R [] n m = absurd (n refl)
-start-not R (x ∷ row) n m = rw (ne_eqb x 0 m)
-
-starts_is : (row : List ℕ) → (length row ≡ 0 → ⊥) → get_or row 0 0 ≡ 0 → starts_with_init row ≡ true
-starts_is [] n e = absurd (n refl)
-starts_is (x ∷ row) n e = eq-eqb x 0 e
-
-module _ (R : Record) (row : List ℕ) (n : length row ≡ 0 → ⊥) (e : get_or row 0 0 ≡ 0) where
+module _ (R : Record) (row : List ℕ) (e : starts_with_init row ≡ true) where
   pub seats-not : false ≡ known_apart R row → false ≡ sound_row R row
   unfolding sound_row known_apart
-  seats-not h = rw (starts_is row n e) (sym (none (all (λ x. mem x (names R)) row) _ _ (sym h)))
+  seats-not h = rw e (sym (none (all (λ x. mem x (names R)) row) _ _ (sym h)))
     where
       none : (a b c : Bool) → (a && b) ≡ false → (a && (b && c)) ≡ false
       none true true c h = absurd (let z : ◌≡◌ {A = ℕ} 0 1 = cc in omega arith)
@@ -126,7 +125,7 @@ module _ (R : Record) (row : List ℕ) (n : length row ≡ 0 → ⊥) (e : get_o
 
   pub seats-then : (b : Bool) → true ≡ known_apart R row → b ≡ all (λ c. fits row c.left c.rule c.right) R.constraints → b ≡ sound_row R row
   unfolding sound_row known_apart
-  seats-then b h q = rw (starts_is row n e, q) (sym (both (all (λ x. mem x (names R)) row) _ _ (sym h)))
+  seats-then b h q = rw (e, q) (sym (both (all (λ x. mem x (names R)) row) _ _ (sym h)))
     where
       both : (a b c : Bool) → (a && b) ≡ true → (a && (b && c)) ≡ c
       both true true c h = refl
