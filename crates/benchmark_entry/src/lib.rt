@@ -12,7 +12,7 @@ use graph::links::{MARKS, Marks};
 use judgement::lent_record;
 use judgement::lent_record::Judgement;
 use record_rows::row::{ConstraintRow, EditRow, LentRecord};
-use voting::RollRow;
+use voting::{BENCHES, RollRow};
 use voting_count::Poll;
 
 // The marks of a record's edits.
@@ -139,7 +139,7 @@ pub fn measure_merge(
 // Benches 1 to 8, each of weight 1.
 // Kept: the rows written out: they are a constant, and `array::from_fn` could not give one. Made in the call they would be made within the time that
 // the benchmark measures.
-const EQUAL_SEATS: [RollRow; 8] = [
+const EQUAL_SEATS: [RollRow; BENCHES] = [
     RollRow {
         bench: 1,
         weight: 1,
