@@ -50,7 +50,7 @@ pub fn print_unity(text: &[u8], out: &mut [u8]) -> Result<usize, Refusal>
     let unity = match text_unity(text) {
         Ok(unity) => unity,
         Err(fault) => {
-            return text_report::refusal_line(fault.refusal.number(), fault.row, &mut out[..]);
+            return text_report::refusal_line(fault.refusal.number(), fault.row, out);
         }
     };
     let numbers = [
@@ -66,7 +66,7 @@ pub fn print_unity(text: &[u8], out: &mut [u8]) -> Result<usize, Refusal>
     text_writer::place_form(
         b"mean=#/# least=#/# greatest=#/# won=# empty=#\n",
         &numbers,
-        &mut out[..],
+        out,
         0,
     )
 }
