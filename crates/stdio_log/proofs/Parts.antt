@@ -6,7 +6,7 @@ use mathlib.Core.Logic.{∥∥₁_elim, ∥∥₁_map}
 use native.Mathlib.Bridge.{le_prop}
 use native.Mathlib.Omega.{arith}
 use lib.ListN.{length, take, drop, length-drop}
-use lib.Seq.{drop-drop, take_all}
+use lib.Seq.{drop-drop}
 use Rattle.text_lines.specs.Lines.{lines}
 use Rattle.text_lines.proofs.Ends.{no_lines}
 use Rattle.log_forms.specs.declared.Printer.{Printer}
@@ -21,14 +21,12 @@ use Rattle.log_run.proofs.Runs.{prefixed, after_both, run-after}
 use Rattle.stdio_log.specs.declared.memory.Memory.{Memory}
 use Rattle.stdio_log.specs.Held.{Held}
 use Rattle.stdio_log.specs.Streaming.{Ran}
-
-part-is : (s : List ℕ) (from : ℕ) → take (length s - from) (drop from s) ≡ drop from s
-part-is s from = take_all (length s - from) (drop from s) (omega (arith, length-drop from s))
+use Rattle.std.proofs.lemmas.List.{take_rest}
 
 -- how far the lines of a part were run
 pub further : (s : List ℕ) (from limit : ℕ) {start next at : ℕ} → start ≤ limit → from < length s → Stops (length (take (length s - from) (drop from s))) limit start next at → (0 < next) × (from + next ≤ length s)
 further s from limit low h p =
-    let l : length (take (length s - from) (drop from s)) ≡ length s - from = ap length (part-is s from) ∙ length-drop from s in
+    let l : length (take (length s - from) (drop from s)) ≡ length s - from = ap length (take_rest s from) ∙ length-drop from s in
     let f = p.forward low (omega arith) in
     let i = p.inside in
     (f, omega arith)
@@ -52,7 +50,7 @@ RunPart log from session before next later after limit = (D : Desk) → Holds D 
     → Running (take (length log - from) (drop from log)) D before next later after limit
 
 part-size : (log : List ℕ) (from : ℕ) → length (take (length log - from) (drop from log)) ≡ length log - from
-part-size log from = ap length (part-is log from) ∙ length-drop from log
+part-size log from = ap length (take_rest log from) ∙ length-drop from log
 
 -- a part of a session whose answers fit
 module _ (log : List ℕ) (from next limit : ℕ) {session later : Session} {before after : Printer} (few : before.line + (length log - from) ≤ most_lines) (p : RunPart log from session before next later after limit) where
@@ -90,9 +88,9 @@ module _ (log : List ℕ) (R : Run) where
         let r = A.run in
         let c = A.counted in
         let P = p r.desk A.holds (omega (arith, part-size log from)) in
-        let d : drop next part ≡ drop (from + next) log = ap (drop next) (part-is log from) ∙ drop-drop next from log in
+        let d : drop next part ≡ drop (from + next) log = ap (drop next) (take_rest log from) ∙ drop-drop next from log in
         let q : run_lines (begun r.desk before.line) (lines (drop from log)) ≡ run_lines P.run (lines (drop (from + next) log)) =
-        ap (λ (s : List ℕ). run_lines (begun r.desk before.line) (lines s)) (sym (part-is log from)) ∙ P.rest ∙ ap (λ (s : List ℕ). run_lines P.run (lines s)) d in
+        ap (λ (s : List ℕ). run_lines (begun r.desk before.line) (lines s)) (sym (take_rest log from)) ∙ P.rest ∙ ap (λ (s : List ℕ). run_lines P.run (lines s)) d in
         let b : run_lines (begun r.desk r.count) (lines (drop from log)) ≡ run_lines (begun r.desk before.line) (lines (drop from log)) =
         ap (λ (i : ℕ). run_lines (begun r.desk i) (lines (drop from log))) (sym c) in
         record {
