@@ -115,7 +115,7 @@ pub fn catalogue_report(text: &[u8], out: &mut [u8]) -> Reply
     ensures { (result ≡ reported_reply (read_text text.now) out.old)
         × (out.new ≡ reported_out (read_text text.now) out.old) }
 {
-    Reply::from(text_report::report_text(text, &mut out[..]))
+    Reply::from(text_report::report_text(text, out))
 }
 
 // A text read and written back, at the start of out.
@@ -124,7 +124,7 @@ fn rewrite(text: &[u8], out: &mut [u8]) -> Result<usize, Fault>
         × (out.new ≡ rewritten_out (read_text text.now) out.old) }
 {
     let content = text_reader::read_text(text)?;
-    let size = text_writer::write_text(content, &mut out[..], 0)?;
+    let size = text_writer::write_text(content, out, 0)?;
     Ok(size)
 }
 
@@ -133,7 +133,7 @@ pub fn catalogue_rewrite(text: &[u8], out: &mut [u8]) -> Reply
     ensures { (result ≡ rewritten_reply (read_text text.now) out.old)
         × (out.new ≡ rewritten_out (read_text text.now) out.old) }
 {
-    Reply::from(rewrite(text, &mut out[..]))
+    Reply::from(rewrite(text, out))
 }
 
 // A log that was kept, and the lines that follow it.
@@ -164,7 +164,7 @@ fn answered(logs: Logs, work: &mut [u8], out: &mut [u8]) -> Result<usize, Refusa
         × (out.new ≡ answered_out (answers_after logs.entry.kept.now logs.entry.log.now) work.old out.old)
         × (work.new ≡ (worked logs.entry.kept.now logs.entry.log.now work.old).bytes) }
 {
-    let size = log_size(logs, &mut work[..]);
+    let size = log_size(logs, work);
     if work.len() < size || out.len() < size {
         return Err(Refusal::NoRoom);
     }
@@ -181,7 +181,7 @@ pub fn catalogue_replay(log: &[u8], work: &mut [u8], out: &mut [u8]) -> Reply
         × (work.new ≡ (worked [] log.now work.old).bytes) }
 {
     let logs = Logs { kept: &[], log };
-    Reply::from(answered(logs, &mut work[..], &mut out[..]))
+    Reply::from(answered(logs, work, out))
 }
 
 // The answers to the lines that follow a kept log, which is how a bench is kept between calls.
@@ -192,7 +192,7 @@ pub fn catalogue_continue(kept: &[u8], log: &[u8], work: &mut [u8], out: &mut [u
         × (work.new ≡ (worked kept.now log.now work.old).bytes) }
 {
     let logs = Logs { kept, log };
-    Reply::from(answered(logs, &mut work[..], &mut out[..]))
+    Reply::from(answered(logs, work, out))
 }
 
 // How united the benches are, from a table of election answers.
