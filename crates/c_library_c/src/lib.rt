@@ -23,7 +23,7 @@ pub extern "C" fn catalogue_report(text: &[u8], out: &mut [u8]) -> Reply
     ensures { (result ≡ reported_reply (read_text text.now) out.old)
         × (out.new ≡ reported_out (read_text text.now) out.old) }
 {
-    c_library::catalogue_report(text, &mut out[..])
+    c_library::catalogue_report(text, out)
 }
 
 #[unsafe(no_mangle)]
@@ -31,7 +31,7 @@ pub extern "C" fn catalogue_rewrite(text: &[u8], out: &mut [u8]) -> Reply
     ensures { (result ≡ rewritten_reply (read_text text.now) out.old)
         × (out.new ≡ rewritten_out (read_text text.now) out.old) }
 {
-    c_library::catalogue_rewrite(text, &mut out[..])
+    c_library::catalogue_rewrite(text, out)
 }
 
 #[unsafe(no_mangle)]
@@ -41,7 +41,7 @@ pub extern "C" fn catalogue_replay(log: &[u8], work: &mut [u8], out: &mut [u8]) 
         × (out.new ≡ answered_out (answers_to log.now) work.old out.old)
         × (work.new ≡ (worked [] log.now work.old).bytes) }
 {
-    c_library::catalogue_replay(log, &mut work[..], &mut out[..])
+    c_library::catalogue_replay(log, work, out)
 }
 
 #[unsafe(no_mangle)]
@@ -56,7 +56,7 @@ pub extern "C" fn catalogue_continue(
         × (out.new ≡ answered_out (answers_after kept.now log.now) work.old out.old)
         × (work.new ≡ (worked kept.now log.now work.old).bytes) }
 {
-    c_library::catalogue_continue(kept, log, &mut work[..], &mut out[..])
+    c_library::catalogue_continue(kept, log, work, out)
 }
 
 #[unsafe(no_mangle)]
