@@ -11,7 +11,6 @@ use Rattle.record.specs.declared.Edit.{Edit}
 use Rattle.record.specs.declared.Record as declared
 use Rattle.record.specs.declared.Schedule.{Schedule}
 use Rattle.lists.specs.Lists.{mem}
-use Rattle.lists.proofs.Arrays.{take-map}
 use Rattle.record.specs.Record.{Record, name_of, written}
 use Rattle.record.specs.Stored.{stored, edit_named, filler_edit}
 use Rattle.record.specs.Schedule.{schedule}
@@ -40,6 +39,7 @@ use Rattle.ledger.proofs.Valid.{Valid, start-valid, fed-valid}
 use Rattle.ledger.proofs.Undone.{from-valid, step-refused, step-accepted}
 use Rattle.bench.specs.Changes.{refused_with, open_at, turn_reply, Opens, KeepsEdits, pages_of, Reschedules}
 use Rattle.bench.proofs.Pages.{names-named, named-agree, pages-written, pages-room, open-written, last-room}
+use Rattle.std.proofs.lemmas.List.{take-map}
 
 -- a call that the ledger refuses with this number
 pub refused-is : (L : Ledger) (bench : Bench) (call : Call) (n : ℕ) → bench ≡ bench_of L → judge L call ≡ n → (n ≡ 0 → ⊥) → refused_with bench n ≡ outcome (step L call)

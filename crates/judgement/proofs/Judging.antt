@@ -12,11 +12,11 @@ use Rattle.record.specs.Judgement.{sound, must, never, settled}
 use Rattle.lists.proofs.Lists.{same_by, filter-mem, mem-filter}
 use Rattle.graph.specs.links.Marks.{name_at, values_of, marks_of, place_in}
 use Rattle.graph.proofs.links.Names.{get_or-among, place-get_or, ascending-distinct}
-use Rattle.graph.proofs.links.Marks.{zeros-get}
 use Rattle.judgement_marks.specs.schedules.Rows.{Hides}
 use Rattle.graph.specs.indexes.Fit.{Fit}
 use Rattle.judgement.specs.Judged.{marked_edits, judged_of}
 use Rattle.judgement.specs.declared.Judged.{Judged}
+use Rattle.lists.proofs.Arrays.{get_or-zeros}
 
 pub sound-ring : (R : Record) (b : Bool) → b ≡ ring R (musts R) → not b ≡ sound R
 unfolding sound
@@ -33,7 +33,7 @@ marked-hides R f marks y l =
 
 pub none-hides : (R : Record) → Hides R (replicate 128 0) []
 unfolding mem
-none-hides R y l = rw (zeros-get 128 y)
+none-hides R y l = rw (get_or-zeros 128 y)
 
 -- past the edits stands INIT
 pub name-past : (R : Record) (i : ℕ) → length (names R) ≤ i → name_at R 0 ≡ name_at R i

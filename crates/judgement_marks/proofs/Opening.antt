@@ -16,12 +16,13 @@ use Rattle.graph.specs.links.Marks.{name_at, marks_of}
 use Rattle.graph.specs.links.Links.{left_at, FirstRow, NextRow}
 use Rattle.graph.specs.links.Reach.{On}
 use Rattle.graph.proofs.links.Names.{get_or-place, place-get_or}
-use Rattle.graph.proofs.links.Marks.{zeros-get, marks-are}
+use Rattle.graph.proofs.links.Marks.{marks-are}
 use Rattle.graph.proofs.links.Links.{Along, along-start, along-step}
 use Rattle.graph.proofs.links.Reach.{on-set}
 use Rattle.graph.specs.links.Resolved.{Resolved}
 use Rattle.judgement_marks.specs.Opened.{Opened}
 use Rattle.judgement_marks.proofs.Pairs.{open-left, open-right, open-pair-by}
+use Rattle.lists.proofs.Arrays.{get_or-zeros}
 
 -- a mark after one more was set
 set-by {ℓ} : {P : Type ℓ} (m : List ℕ) (x y : ℕ) → On (set m x 1) y → (y ≡ x → P) → (On m y → P) → P
@@ -121,8 +122,8 @@ pub record Openings (R : Record) (b : ℕ) (m : List ℕ) : Type 0 where
 
 pub openings-start : (R : Record) → Openings R 0 (replicate 128 0)
 openings-start R = record {
-  bits = λ y. omega (arith, zeros-get 128 y);
-  sound = λ y o. absurd (omega (arith, zeros-get 128 y, o));
+  bits = λ y. omega (arith, get_or-zeros 128 y);
+  sound = λ y o. absurd (omega (arith, get_or-zeros 128 y, o));
   complete = λ x y h o l. absurd (omega arith);
 }
 

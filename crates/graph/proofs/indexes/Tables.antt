@@ -17,9 +17,9 @@ use Rattle.record_tables.proofs.Tables.{stored_back}
 use Rattle.lists.proofs.Lists.{is-by, get_or-mapped}
 use Rattle.graph.specs.links.Marks.{name_at, place_in}
 use Rattle.graph.proofs.links.Names.{get_or-among, place-snoc, later-not, ascending-distinct}
-use Rattle.graph.proofs.links.Marks.{zeros-get}
 use Rattle.graph.specs.indexes.Fit.{Fit}
 use Rattle.graph.specs.indexes.Indexed.{Indexed}
+use Rattle.lists.proofs.Arrays.{get_or-zeros}
 
 pub length-names : (R : Record) → length (names R) ≡ suc (length R.edits)
 unfolding names written
@@ -51,7 +51,7 @@ Indexing R table k = (x : ℕ) → get_or table x 0 ≡ place_in (take k (names 
 
 pub indexing-start : (R : Record) → Indexing R (replicate 2304 0) 1
 unfolding names place_in mem index_of
-indexing-start R x = is-by x 0 (λ e. rw (e, zeros-get 2304 0)) (λ e. rw (ne_eqb x 0 e, zeros-get 2304 x))
+indexing-start R x = is-by x 0 (λ e. rw (e, get_or-zeros 2304 0)) (λ e. rw (ne_eqb x 0 e, get_or-zeros 2304 x))
 
 pub indexing-step : (R : Record) → Fit R → (table : List ℕ) (k name : ℕ) → length table ≡ 2304 → k < length (names R) → name ≡ name_at R k
     → Indexing R table k → Indexing R (set table name k) (k + 1)

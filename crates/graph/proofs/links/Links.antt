@@ -14,7 +14,7 @@ use Rattle.record.specs.Record.{Record, names}
 use Rattle.graph.specs.links.Marks.{name_at}
 use Rattle.graph.specs.links.Links.{last_row, head_at, link_at, left_at, with_row, Safe, Growing, FirstRow, NextRow, LinkedByKey, NoRow, SomeRow, Leads}
 use Rattle.graph.proofs.links.Names.{place-get_or}
-use Rattle.graph.proofs.links.Marks.{zeros-get}
+use Rattle.lists.proofs.Arrays.{get_or-zeros}
 
 module _ (keys : List ℕ) (k : ℕ) where
   last-le : (p : ℕ) → last_row keys k p ≤ p
@@ -160,7 +160,7 @@ pub record Linking (keys lefts rows : List ℕ) (j : ℕ) : Type 0 where
 
 pub linking-start : (keys lefts : List ℕ) → Linking keys lefts (replicate 2432 0) 0
 unfolding last_row head_at
-linking-start keys lefts = record { head = λ k l. zeros-get 2432 k; link = λ i l. absurd (omega arith); left = λ i l. absurd (omega arith) }
+linking-start keys lefts = record { head = λ k l. get_or-zeros 2432 k; link = λ i l. absurd (omega arith); left = λ i l. absurd (omega arith) }
 
 pub linking-step : (keys lefts rows : List ℕ) (j key v : ℕ) → length rows ≡ 2432 → j < 1024 → key < 384 → get_or keys j 0 ≡ key → get_or lefts j 0 ≡ v
     → Linking keys lefts rows j → Linking keys lefts (with_row rows j key v) (j + 1)
@@ -183,9 +183,9 @@ pub growing-start : Growing (replicate 2432 0) 0
 unfolding head_at link_at left_at
 growing-start = record {
   size = refl;
-  head = λ k h. omega (arith, zeros-get 2432 k);
-  link = λ i h. omega (arith, zeros-get 2432 (384 + i));
-  left = λ i h. omega (arith, zeros-get 2432 (1408 + i));
+  head = λ k h. omega (arith, get_or-zeros 2432 k);
+  link = λ i h. omega (arith, get_or-zeros 2432 (384 + i));
+  left = λ i h. omega (arith, get_or-zeros 2432 (1408 + i));
 }
 
 pub growing-step : (rows : List ℕ) (j key v : ℕ) → j < 1024 → key < 384 → v < 128 → Growing rows j → Growing (with_row rows j key v) (j + 1)

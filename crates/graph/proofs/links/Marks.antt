@@ -17,9 +17,6 @@ use Rattle.graph.specs.links.Marks.{name_at, values_of, marks_of}
 use Rattle.graph.specs.links.Reach.{On, Off}
 use Rattle.graph.proofs.links.Names.{get_or-among}
 
-pub zeros-get : (c y : ℕ) → ◌≡◌ {A = ℕ} (get_or (replicate c 0) y 0) 0
-zeros-get c y = get_or-zeros c y
-
 -- a bound on all values stays, wherever one below it is set
 pub set_below : (l : List ℕ) (i v b : ℕ) → v < b → ((q : ℕ) → get_or l q 0 < b) → (q : ℕ) → get_or (set l i v) q 0 < b
 set_below l i v b k f q =
@@ -28,7 +25,7 @@ set_below l i v b k f q =
     (λ e. rw (get_or-set_other l i q v 0 e) (f q))
 
 past_end : (f : ℕ → ℕ) (l : List ℕ) (c y : ℕ) → length l ≤ y → get_or (map f l ++ replicate c 0) y 0 ≡ 0
-past_end f [] c y h = zeros-get c y
+past_end f [] c y h = get_or-zeros c y
 past_end f (x ∷ l) c zero h = absurd (omega arith)
 past_end f (x ∷ l) c (suc y) h = past_end f l c y (omega arith)
 
@@ -62,7 +59,7 @@ pub record Filled (R : Record) (value : ℕ → ℕ) (x : ℕ) (r : List ℕ) : 
   pub past : (y : ℕ) → x ≤ y → get_or r y 0 ≡ 0
 
 pub filled-start : (R : Record) (value : ℕ → ℕ) → Filled R value 0 (replicate 128 0)
-filled-start R value = record { done = λ y h. absurd (omega arith); past = λ y h. zeros-get 128 y }
+filled-start R value = record { done = λ y h. absurd (omega arith); past = λ y h. get_or-zeros 128 y }
 
 pub filled-step : (R : Record) (value : ℕ → ℕ) (x : ℕ) (r : List ℕ) (v : ℕ) → x < length r → v ≡ value (name_at R x) → Filled R value x r
     → Filled R value (x + 1) (set r x v)
@@ -132,7 +129,7 @@ marks-same R p q few h = values_same R _ _ few (λ x i. ap (λ b. cond b 1 0) (h
 
 pub none-marked : (R : Record) → length (names R) ≤ 128 → replicate 128 0 ≡ marks_of R (λ y. mem y [])
 unfolding marks_of mem
-none-marked R few = values-are R _ (replicate 128 0) few refl (λ y h. zeros-get 128 y) (λ y h. zeros-get 128 y)
+none-marked R few = values-are R _ (replicate 128 0) few refl (λ y h. get_or-zeros 128 y) (λ y h. get_or-zeros 128 y)
 
 -- ones for all, and zeros after them
 pub all-filled : (R : Record) (n : ℕ) (ones : List ℕ) → length (names R) ≤ 128 → n ≡ length (names R) → length ones ≡ n → ((y : ℕ) → y < n → get_or ones y 0 ≡ 1)
@@ -143,4 +140,4 @@ all-filled R n ones few e size one =
     values-are R (λ y. cond (mem y (names R)) 1 0) (ones ++ zeros) few
     (rw (length-append, size, length-replicate {A = ℕ} (128 - n) 0) (omega (arith, e)))
     (λ y h. rw (get_or_append_left ones zeros 0 y (omega (arith, e, size)), get_or-among (names R) y h) (one y (omega (arith, e))))
-    (λ y h. get_or-append_right ones zeros n y 0 size (omega (arith, e)) ∙ zeros-get (128 - n) (y - n))
+    (λ y h. get_or-append_right ones zeros n y 0 size (omega (arith, e)) ∙ get_or-zeros (128 - n) (y - n))

@@ -16,11 +16,11 @@ use Rattle.lists.proofs.Lists.{by, clash, is-by, mem_index, snoc-by, all_in, in_
 use Rattle.record.proofs.Records.{init-known}
 use Rattle.graph.specs.links.Marks.{name_at}
 use Rattle.graph.proofs.links.Names.{get_or-among, get_or-place, place-get_or, later-not, ascending-distinct, place-known, place-unknown}
-use Rattle.graph.proofs.links.Marks.{zeros-get}
 use Rattle.graph.specs.indexes.Fit.{Fit}
 use Rattle.graph.specs.indexes.Indexed.{Indexed}
 use Rattle.graph.proofs.indexes.Tables.{names-few}
 use Rattle.judgement.specs.row_test.Seats.{Seated, known_apart}
+use Rattle.lists.proofs.Arrays.{get_or-zeros}
 
 init-place : (R : Record) → index_of 0 (names R) ≡ 0
 unfolding names index_of
@@ -58,7 +58,7 @@ pub record Seating (R : Record) (row places : List ℕ) (q : ℕ) : Type 0 where
 
 pub seating-start : (R : Record) (row : List ℕ) → Seating R row (replicate 128 0) 0
 unfolding mem distinct position_of
-seating-start R row = record { known = λ x h. clash h refl; apart = refl; seats = λ y l. zeros-get 128 y }
+seating-start R row = record { known = λ x h. clash h refl; apart = refl; seats = λ y l. get_or-zeros 128 y }
 
 module _ (R : Record) (f : Fit R) (row places : List ℕ) (q : ℕ) (h : q < length row) where
   -- a name that is not known

@@ -14,9 +14,10 @@ use Rattle.record.specs.Record.{Record, names}
 use Rattle.lists.proofs.Lists.{is-by, get_or-mapped}
 use Rattle.graph.specs.links.Marks.{name_at, values_of, place_in}
 use Rattle.graph.proofs.links.Names.{place_same}
-use Rattle.graph.proofs.links.Marks.{zeros-get, values-are}
+use Rattle.graph.proofs.links.Marks.{values-are}
 use Rattle.judgement_marks.specs.declared.row.Row.{Row}
 use Rattle.judgement_marks.specs.schedules.Rows.{RowIs}
+use Rattle.lists.proofs.Arrays.{get_or-zeros}
 
 -- the page of x among the rows from k on
 unfoldable pub page_from : List ℕ → ℕ → ℕ → ℕ
@@ -40,7 +41,7 @@ module _ (R : Record) (d : distinct (names R) ≡ true) (few : length (names R) 
   paging-start =
       let l : length list ≤ row.count = omega (arith, list_length) in
       let e : drop row.count list ≡ [] = drop_of_length-le list l in
-      record { done = λ y h. rw e (zeros-get 128 y); past = λ y h. zeros-get 128 y }
+      record { done = λ y h. rw e (get_or-zeros 128 y); past = λ y h. get_or-zeros 128 y }
 
   pub paging-step : (pages : List ℕ) (k : ℕ) → length pages ≡ 128 → k < row.count → Paging R list pages (k + 1) → Paging R list (set pages (get_or row.indexes k 0) k) k
   unfolding page_from mem index_of

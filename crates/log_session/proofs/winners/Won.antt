@@ -47,6 +47,7 @@ use Rattle.log_forms.proofs.Printing.{printed-both}
 use Rattle.log_answers.specs.Answers.{answer_line, stored_text, bit}
 use Rattle.log_session.specs.declared.winners.Verdict.{Verdict}
 use Rattle.log_session.specs.votes.Votes.{election_line, won_text, winner_text}
+use Rattle.lists.proofs.Tests.{bit_is}
 
 -- what holds of every vote holds of the winner
 pub winner-holds : (Q : Record → Type 0) (l : List Ballot) (held : ℕ → Record) (e : ℕ) (rows : List RollRow)
@@ -181,16 +182,11 @@ marked-at R test marks e index q p i =
     let n : index ≡ index_of e (names R) = p ∙ place-known e (names R) i in
     rw (q, n) (marks-at R test (index_of e (names R)) (mem_index e (names R) i) ∙ ap (λ (y : ℕ). cond (test y) 1 0) (get_or-place e (names R) i))
 
--- a mark is 1 where the test holds
-one-where : (b : Bool) → eqb (cond b 1 0) 1 ≡ b
-one-where true = refl
-one-where false = refl
-
 pub verdict-is : (R : Record) (e : ℕ) → e among names R → {index : ℕ} → index ≡ place_in (names R) e → {ms ns : List ℕ} → ms ≡ marks_of R (must R) → ns ≡ marks_of R (never R)
     → ◌≡◌ {A = Verdict} (record { must = eqb (get_or ms index 0) 1; never = eqb (get_or ns index 0) 1 }) (record { must = must R e; never = never R e })
 verdict-is R e i {index} p {ms} {ns} q r =
-    let x = ap (λ (n : ℕ). eqb n 1) (marked-at R (must R) ms e index q p i) ∙ one-where (must R e) in
-    let y = ap (λ (n : ℕ). eqb n 1) (marked-at R (never R) ns e index r p i) ∙ one-where (never R e) in
+    let x = ap (λ (n : ℕ). eqb n 1) (marked-at R (must R) ms e index q p i) ∙ bit_is (must R e) in
+    let y = ap (λ (n : ℕ). eqb n 1) (marked-at R (never R) ns e index r p i) ∙ bit_is (never R e) in
     λ k. record { must = x k; never = y k }
 
 -- the bundle that is given of a counted election that is won

@@ -1,11 +1,11 @@
 -- `indexes::index_table` meets its contract. Assumes nothing.
 use Rattle.std.proofs.Common.{arith, rules, refl, ◌+◌, ◌∙◌, length, length-set, ap}
 use Rattle.graph.proofs.indexes.Tables.{length-names, indexing-start, indexing-end, stored-edits, table-turn}
-use Rattle.graph.proofs.links.Marks.{zeros-get}
 use Rattle.graph.proofs.indexes.index_table.Goals as goal
+use Rattle.lists.proofs.Arrays.{get_or-zeros}
 
 pub invariant_of-table : goal.invariant_of-table
-invariant_of-table c = (search rules, λ x. omega (arith, zeros-get 2304 x))
+invariant_of-table c = (search rules, λ x. omega (arith, get_or-zeros 2304 x))
 
 pub loop-i-init : goal.loop-i-init
 loop-i-init c = (refl, λ R e f. indexing-start R)

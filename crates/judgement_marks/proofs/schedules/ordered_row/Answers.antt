@@ -4,16 +4,17 @@ use mathlib.Core.Path.{◌≡◌, refl, ◌∙◌}
 use lib.ListN.{length, length-set}
 use Rattle.std.proofs.Common.{arith, rules}
 use Rattle.judgement_marks.proofs.schedules.Ordering.{ordering-start, ordering-step, ordering-stop, ordering-end, held_below}
-use Rattle.graph.proofs.links.Marks.{zeros-get, set_below}
+use Rattle.graph.proofs.links.Marks.{set_below}
 use Rattle.record.specs.Record.{names}
 use Rattle.judgement_marks.proofs.schedules.ordered_row.Goals as goal
+use Rattle.lists.proofs.Arrays.{get_or-zeros}
 
 pub loop-count-init : goal.loop-count-init
 loop-count-init c = (
   omega arith,
   refl,
   search rules,
-  λ q. omega (arith, zeros-get 128 q),
+  λ q. omega (arith, get_or-zeros 128 q),
   omega arith,
   λ R t g f q sub e. (ordering-start R t sub g.notafters.apart g.notafters.few c.args.graph.now.count q _ e, λ y h. absurd (omega arith)),
 )
