@@ -60,6 +60,7 @@ pub fn turn(bench: &mut Bench, by: i32) -> Result<CallResult, Refusal>
 }
 
 // What a call without an election tells of one. Pub for the crates of the other calls.
+// Kept: no derived Default: its promise is one of each field, and here it is one equation with what the ledger tells.
 pub fn no_election() -> ElectionResult
     ensures { election_told (Ok result) ≡ no_election }
 {

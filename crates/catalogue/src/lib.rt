@@ -128,6 +128,7 @@ pub struct Moved {
     pub redone: usize,
 }
 
+// Kept: `schedule`, `opened`: a bench has them apart, the open page in its turner; a struct of both would be made for each call.
 impl View {
     // No entry is present, and no page is open.
     pub fn empty() -> View

@@ -25,6 +25,7 @@ pub enum Refusal {
 }
 
 impl Refusal {
+    // Kept: no `From<Refusal> for u32`: of a conversion a relation is promised, and each clause about a number cites this equation.
     pub fn number(self) -> u32
         ensures { result ≡ number self }
     {
