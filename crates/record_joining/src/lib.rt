@@ -23,7 +23,7 @@ use std::array;
 pub fn lent(lent: LentRecord) -> Result<Record, Refusal>
     ensures { Gives (lent_fault empty_tables lent.entry.edits.now lent.entry.constraints.now) (stored (decoded lent.entry.edits.now lent.entry.constraints.now)) result }
 {
-    record_refusal::lent_fault(lent)?;
+    record_union::refusal::lent_fault(lent)?;
     Ok(record_union::decode(lent))
 }
 
@@ -31,7 +31,7 @@ pub fn lent(lent: LentRecord) -> Result<Record, Refusal>
 pub fn merge(joined: Record, lent: LentRecord) -> Result<Record, Refusal>
     ensures { (R : theory.Record) → joined ≡ stored R → Checked R → Gives (lent_fault R lent.entry.edits.now lent.entry.constraints.now) (stored (unite R (decoded lent.entry.edits.now lent.entry.constraints.now))) result }
 {
-    record_refusal::fault(joined, lent)?;
+    record_union::refusal::fault(joined, lent)?;
     let joining = record_union::decode(lent);
     Ok(record_union::union(joined, joining))
 }
@@ -40,7 +40,7 @@ pub fn merge(joined: Record, lent: LentRecord) -> Result<Record, Refusal>
 pub fn add_edit(joined: Record, row: EditRow) -> Result<Record, Refusal>
     ensures { (R : theory.Record) → joined ≡ stored R → Checked R → Gives (add_edit_fault R row) (stored (unite R (decoded (row ∷ []) []))) result }
 {
-    record_refusal::edit_add_fault(joined, row)?;
+    record_union::refusal::edit_add_fault(joined, row)?;
     let joining = record_union::decode(LentRecord {
         edits: &[row],
         constraints: &[],
@@ -52,7 +52,7 @@ pub fn add_edit(joined: Record, row: EditRow) -> Result<Record, Refusal>
 pub fn add_constraint(joined: Record, row: ConstraintRow) -> Result<Record, Refusal>
     ensures { (R : theory.Record) → joined ≡ stored R → Checked R → Gives (add_constraint_fault R row) (stored (unite R (decoded [] (row ∷ [])))) result }
 {
-    record_refusal::constraint_add_fault(joined, row)?;
+    record_union::refusal::constraint_add_fault(joined, row)?;
     let more = Constraints::of(joined).insert(Constraint::of(&row))?;
     Ok(more.in_record(joined))
 }

@@ -21,7 +21,7 @@ use record_rows::row;
 use record_rows::row::{ConstraintRow, EditRow, NAMES};
 use refusals::Refusal;
 
-// Whether a row is above the row before it. Pub for `record_refusal` and `text_reader`, which walk the rows.
+// Whether a row is above the row before it. Pub for `record_union::refusal` and `text_reader`, which walk the rows.
 // Kept: `above` and `row` are two here and below, for a row that is read from a text stands in no table yet.
 pub fn follows<const CELLS: usize, T: Element<CELLS>>(
     above: &[[u32; CELLS]],
@@ -35,7 +35,7 @@ pub fn follows<const CELLS: usize, T: Element<CELLS>>(
     }
 }
 
-// Whether the key of a row stands above it. Pub for `record_refusal` and `text_reader`, which walk the rows.
+// Whether the key of a row stands above it. Pub for `record_union::refusal` and `text_reader`, which walk the rows.
 pub fn is_repeated<const CELLS: usize, T: Element<CELLS>>(
     above: &[[u32; CELLS]],
     row: &[u32; CELLS],
@@ -73,7 +73,7 @@ fn is_decision(left: u32, rule: u32, right: u32) -> bool
     ((rule == 1) & (right == 0)) | ((rule == 0) & (left == right))
 }
 
-// The lowest of 5, 6 and 7 that holds of a row, by the marks of the edits that it knows. Pub for `record_refusal`.
+// The lowest of 5, 6 and 7 that holds of a row, by the marks of the edits that it knows. Pub for `record_union::refusal`.
 // Kept: marks are lent as a slice, here and below, since MarksNames determines no list of names that a view could give.
 pub fn marked_further(row: &ConstraintRow, marks: &[u8], adding: bool) -> Result<(), Refusal>
     ensures { number_of result ≡ marked_further marks.now adding row.now }
@@ -131,7 +131,7 @@ pub fn mark_rows(t: &[EditRow]) -> [u8; NAMES]
     marks_of(t, |row| row[0] as usize)
 }
 
-// The marks of edits in range. Pub for `record_refusal`.
+// The marks of edits in range. Pub for `record_union::refusal`.
 pub fn mark_edits(edits: &[Edit]) -> [u8; NAMES]
     ensures { all (λ e. edit_in_range (edit_row e)) edits.now ≡ true → MarksNames result (map name_of edits.now) }
 {

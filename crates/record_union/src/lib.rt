@@ -2,6 +2,8 @@
 // The functions are pub for the crates of this workspace that join records.
 #![tactic(auto)]
 
+pub mod refusal;
+
 ghost use Rattle.std.specs.Prelude.{◌≡◌, map, ◌≤◌, get_or, length, drop};
 ghost use Rattle.record.specs.Record as theory;
 ghost use Rattle.record.specs.Stored.{padded, stored, edit_limit, constraint_limit};

@@ -76,7 +76,7 @@ fn proposals_fault(proposals: &LentProposals) -> Result<(), Refusal>
     ensures { number_of result ≡ first_given (proposal_fault (lent proposals.now)) benches }
 {
     for proposal in proposals {
-        record_refusal::lent_fault(*proposal)?;
+        record_union::refusal::lent_fault(*proposal)?;
     }
     Ok(())
 }

@@ -1,4 +1,4 @@
--- `table_fault` meets its contract. Assumes nothing.
+-- `refusal::table_fault` meets its contract. Assumes nothing.
 use mathlib.Core.Path.{◌≡◌, refl, sym, ap, ◌∙◌}
 use mathlib.Core.Bool.{not, cond}
 use mathlib.Core.List.{map}
@@ -11,9 +11,9 @@ use Rattle.refusals.specs.Numbers.{number, number_of}
 use Rattle.refusals.proofs.Numbers.{number-positive}
 use Rattle.record_rows.proofs.grounds.Walks.{joins-room}
 use Rattle.record_rows.proofs.grounds.Loop.{row-is, state-start, state-end, state-outside, state-joins, state-further, state-late, state-place, state-on}
-use Rattle.record_refusal.proofs.TableKinds.{elements_of}
+use Rattle.record_union.proofs.refusal.TableKinds.{elements_of}
 use Rattle.lists.proofs.Tests.{byte-bit}
-use Rattle.record_refusal.proofs.table_fault.Goals as goal
+use Rattle.record_union.proofs.refusal.table_fault.Goals as goal
 
 pub loop-i-init : goal.loop-i-init
 loop-i-init g c =

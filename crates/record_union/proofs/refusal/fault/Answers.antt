@@ -1,10 +1,10 @@
--- `fault` meets its contract. Assumes nothing.
+-- `refusal::fault` meets its contract. Assumes nothing.
 use mathlib.Core.Path.{◌≡◌, refl, ◌∙◌}
 use borrow.Author.Rules.{rules}
 use Rattle.refusals.specs.Numbers.{number, number_of}
 use Rattle.refusals.proofs.Numbers.{number-positive}
 use Rattle.record_tables.proofs.Tables.{lent-first, lent-second}
-use Rattle.record_refusal.proofs.fault.Goals as goal
+use Rattle.record_union.proofs.refusal.fault.Goals as goal
 
 pub returns-in_err-edit_fault : goal.returns-in_err-edit_fault
 returns-in_err-edit_fault c = λ R e k.

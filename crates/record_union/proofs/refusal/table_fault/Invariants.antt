@@ -1,7 +1,7 @@
 use Prim.Native.Nat.{◌≤◌}
 use lib.ListN.{length}
 use Rattle.record_rows.proofs.grounds.Loop.{State}
-use Rattle.record_refusal.proofs.table_fault.Given as goal
+use Rattle.record_union.proofs.refusal.table_fault.Given as goal
 
 abbrev pub invariant-loop-i : goal.invariant-loop-i
 invariant-loop-i g l =

@@ -1,4 +1,4 @@
--- `constraint_fault` meets its contract. Assumes nothing.
+-- `refusal::constraint_fault` meets its contract. Assumes nothing.
 use mathlib.Core.Path.{◌≡◌, ap, ◌∙◌}
 use mathlib.Core.List.{map}
 use Prim.Native.Nat.{ℕ}
@@ -9,7 +9,7 @@ use Rattle.record_tables.specs.Table.{constraint_further}
 use Rattle.record_tables.specs.Checked.{marked_further}
 use Rattle.record_tables.proofs.Further.{further_is}
 use Rattle.record_tables.proofs.Elements.{constraint-rows-ascend}
-use Rattle.record_refusal.proofs.constraint_fault.Goals as goal
+use Rattle.record_union.proofs.refusal.constraint_fault.Goals as goal
 
 pub returns : goal.returns
 returns c = λ names k o.

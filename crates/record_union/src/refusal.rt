@@ -1,7 +1,5 @@
 // The ground of the first faulty row of tables that join a record (document 01, "What is turned away"): one walk through the record's table and the
 // lent rows, both in order. The functions are pub for the crates of this workspace that unite records.
-#![tactic(auto)]
-
 ghost use Rattle.std.specs.Prelude.{◌≡◌, List, map, ℕ, take};
 ghost use Rattle.record.specs.Record as theory;
 ghost use Rattle.record.specs.Stored.{record_of, stored};

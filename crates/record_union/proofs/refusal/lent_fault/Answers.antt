@@ -3,7 +3,7 @@ use mathlib.Core.Path.{◌∙◌}
 use Rattle.record_tables.specs.Table.{empty_tables}
 use Rattle.record_tables.proofs.Tables.{empty-stored}
 use Rattle.record_tables.proofs.Records.{empty-checked}
-use Rattle.record_refusal.proofs.lent_fault.Goals as goal
+use Rattle.record_union.proofs.refusal.lent_fault.Goals as goal
 
 pub returns : goal.returns
 returns c = c.fault.ensures empty_tables (c.empty.ensures ∙ empty-stored) empty-checked

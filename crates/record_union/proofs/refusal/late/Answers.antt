@@ -1,11 +1,11 @@
--- `late` meets its contract. Assumes nothing.
+-- `refusal::late` meets its contract. Assumes nothing.
 use mathlib.Core.Path.{◌≡◌, sym, ap, ◌∙◌}
 use borrow.Author.Rules.{rules}
 use Rattle.std.proofs.lemmas.List.{take_rest}
 use Rattle.refusals.specs.Numbers.{number, number_of}
 use Rattle.record_rows.proofs.grounds.Loop.{late-again, late-once}
-use Rattle.record_refusal.proofs.TableKinds.{elements_of}
-use Rattle.record_refusal.proofs.late.Goals as goal
+use Rattle.record_union.proofs.refusal.TableKinds.{elements_of}
+use Rattle.record_union.proofs.refusal.late.Goals as goal
 
 pub returns-then-is_repeated : goal.returns-then-is_repeated
 returns-then-is_repeated g c = λ a.
