@@ -14,7 +14,7 @@ mod words;
 
 use fault::Fault;
 use rules::imports::Traits;
-use rules::{dead, dependencies, documents, names, specs};
+use rules::{dead, dependencies, documents, names, specs, tried};
 use source::Source;
 use std::fs;
 use std::io;
@@ -73,6 +73,7 @@ fn faults(tree: &Tree, sources: &[Source]) -> Vec<Fault> {
     found.extend(specs::faults(sources));
     found.extend(names::faults(sources));
     found.extend(documents::faults(tree, sources, &spans));
+    found.extend(tried::faults(tree));
     found.sort();
     found
 }

@@ -23,6 +23,7 @@ pub fn faults(sources: &[Source], edits: &[Edit], spans: &[Span]) -> Vec<Fault> 
                 Language::Antt if told.contains(declared.name) => None,
                 Language::Antt => antt_wrong(source, declared, &uses),
                 Language::Rattle if code_told(source, declared, spans) => None,
+                Language::Rattle if declared.is_inner() => method_wrong(sources, source, declared),
                 Language::Rattle => code_wrong(sources, source, declared, &uses),
             };
             if let Some(wrong) = wrong.filter(|_| !edited(source, declared, edits)) {
@@ -34,10 +35,12 @@ pub fn faults(sources: &[Source], edits: &[Edit], spans: &[Span]) -> Vec<Fault> 
     found
 }
 
-/// Whether something has to use it. C, the system or the kit may: the kit takes the public names of a function's proof.
+/// Whether something has to use it. C, the system or the kit may: the kit takes the public names of a function's proof. Of what lies within another
+/// declaration a public method has to be called; that it is public tells it from a trait's.
 fn may_die(source: &Source, declared: &Declaration) -> bool {
     let taken = declared.entry || declared.public && source.proves_function;
-    !taken && !declared.is_inner()
+    let method = declared.kind == Kind::Member && declared.public;
+    !taken && (method || !declared.is_inner())
 }
 
 /// Whether a must-fail edit of the crate names it.
@@ -77,14 +80,14 @@ fn here(source: &Source, declared: &Declaration, name: &str) -> bool {
     outside.any(|word| named(word.text) && !fixity(word.start))
 }
 
-/// Code is named in a document with its crate; a type or a trait also without.
+/// Code is named in a document with its crate; a type, a trait or a method also without.
 fn code_told(source: &Source, declared: &Declaration, spans: &[Span]) -> bool {
     let named = |text: &str| {
         let end = text.find(|c: char| !c.is_ascii_alphanumeric() && c != '_' && c != ':');
         let mut path = text[..end.unwrap_or(text.len())].split("::");
         path.next() == Some(source.crate_name) && path.last() == Some(declared.name)
     };
-    let typed = matches!(declared.kind, Kind::Type | Kind::Trait);
+    let typed = matches!(declared.kind, Kind::Type | Kind::Trait | Kind::Member);
     let bare = |text: &str| typed && text == declared.name;
     spans.iter().any(|span| named(span.text) || bare(span.text))
 }
@@ -115,6 +118,23 @@ fn code_wrong(
         (false, false) => Some(DEAD),
         (false, true) => (declared.public && declared.kind == Kind::Function).then_some(OWN),
     }
+}
+
+/// What is wrong with a public method: nothing calls one of its name.
+fn method_wrong(
+    sources: &[Source],
+    source: &Source,
+    declared: &Declaration,
+) -> Option<&'static str> {
+    let calls = |other: &Source| {
+        let outside = |start: usize| other.path != source.path || !declared.range.contains(&start);
+        let mut words = other
+            .words
+            .iter()
+            .filter(|word| !word.contract && word.joint != Joint::None && outside(word.start));
+        other.language == Language::Rattle && words.any(|word| word.text == declared.name)
+    };
+    (!sources.iter().any(calls)).then_some(DEAD)
 }
 
 #[cfg(test)]
@@ -237,8 +257,22 @@ mod tests {
     }
 
     #[test]
-    fn members_are_left_alone() {
-        let text = "impl S {\n    pub fn f() {\n    }\n}\npub trait T {\n    fn g();\n}\n";
+    fn a_method_is_used_by_a_call() {
+        let text = "impl S {\n    pub fn f() {\n    }\n\n    fn g() {\n    }\n}\n";
+        let method = ("crates/a/src/lib.rt", text);
+        let found = ["crates/a/src/lib.rt:2: f is used nowhere, and no document names it"];
+        assert_eq!(whats(&[method]), found);
+        let call = |text| ("crates/b/src/lib.rt", text);
+        assert!(whats(&[method, call("fn main() {\n    s.f()\n}\n")]).is_empty());
+        assert!(whats(&[method, call("fn main() {\n    S::f()\n}\n")]).is_empty());
+        assert_eq!(whats(&[method, call("fn main() {\n    f()\n}\n")]), found);
+        assert!(whats(&[method, ("docs/A.md", "`a::S::f`")]).is_empty());
+        assert!(whats(&[method, ("docs/A.md", "`f`")]).is_empty());
+    }
+
+    #[test]
+    fn members_of_traits_are_left_alone() {
+        let text = "impl U for S {\n    fn f() {\n    }\n}\npub trait T {\n    fn g();\n}\n";
         assert_eq!(
             whats(&[("crates/a/src/lib.rt", text)]),
             ["crates/a/src/lib.rt:5: T is used nowhere, and no document names it"]

@@ -123,7 +123,8 @@ fn use_faults(tree: &Tree, entry: &Entry, touched: &Touched) -> Vec<String> {
     if !idle.is_empty() {
         wrong.push(format!("{name} lists {}, named nowhere", idle.join(", ")));
     }
-    for named in touched.named.iter().filter(|named| tree.has(&format!("crates/{named}"))) {
+    let listable = |named: &&&str| KIT.contains(*named) || tree.has(&format!("crates/{named}"));
+    for named in touched.named.iter().filter(listable) {
         if entry.listed.iter().filter(|listed| *listed == named).count() != 1 {
             wrong.push(format!("{name} names {named} and does not list it once"));
         }
@@ -226,6 +227,8 @@ mod tests {
     fn named_and_not_listed() {
         let found = whats(&[("crates.txt", "low:\nhigh: io\n"), LOW, HIGH]);
         assert_eq!(found, ["crates.txt:2: high names low and does not list it once"]);
+        let found = whats(&[("crates.txt", "low:\nhigh: low\n"), LOW, HIGH]);
+        assert_eq!(found, ["crates.txt:2: high names io and does not list it once"]);
     }
 
     #[test]

@@ -19,17 +19,22 @@ const ANY: [&str; 3] = ["FN", "LABEL", "NAME"];
 /// The documents whose names have to be declared.
 const OF_NAMES: [&str; 2] = ["docs/PROMISES.md", "docs/OPERATIONS.md"];
 
+/// Those that tell what names were, too.
+const OF_THE_PAST: [&str; 3] = ["docs/DESIGN-PASS.md", "docs/LANDINGS.md", "docs/PORT.md"];
+
 pub fn faults(tree: &Tree, sources: &[Source], spans: &[Span]) -> Vec<Fault> {
     let declared = Declared::of(tree, sources);
     let mut found = paths(tree);
     found.extend(spans.iter().filter_map(|span| declared.function(span)));
-    found.extend(
-        spans
-            .iter()
-            .filter(|span| OF_NAMES.contains(&span.path))
-            .filter_map(|span| declared.name(span)),
-    );
+    let of_today = spans.iter().filter(|span| !tells_others(tree, span.path));
+    found.extend(of_today.filter_map(|span| declared.name(span)));
     found
+}
+
+/// Whether a document tells of what was, or stands beside a Rust program and tells of it.
+fn tells_others(tree: &Tree, document: &str) -> bool {
+    let home = document.rsplit_once('/').map_or("", |(home, _)| home);
+    OF_THE_PAST.contains(&document) || tree.has(&format!("{home}/src"))
 }
 
 /// The paths of the documents that lead nowhere.
@@ -66,25 +71,31 @@ fn leads(tree: &Tree, home: &str, path: &str) -> bool {
     tree.has(path) || tree.has(&format!("crates/{path}")) || tree.has(&format!("{home}/{path}"))
 }
 
+#[derive(Default)]
 struct Declared<'a> {
     crates: BTreeSet<&'a str>,
     /// `CRATE::NAME` of the code, a module or what one declares, and `CRATE::TYPE::NAME` of a member.
     code: HashSet<String>,
     /// All names of code and antt, of crates and of must-fail edits.
     names: HashSet<&'a str>,
+    /// What the sources name, as those of the kit and of modules.
+    words: HashSet<&'a str>,
 }
 
 impl<'a> Declared<'a> {
     fn of(tree: &'a Tree, sources: &'a [Source]) -> Declared<'a> {
-        let mut declared =
-            Declared { crates: BTreeSet::new(), code: HashSet::new(), names: HashSet::new() };
+        let mut declared = Declared::default();
         for source in sources {
             declared.crates.insert(source.crate_name);
             if let Some(module) =
                 source.path.strip_suffix(".rt").and_then(|path| path.rsplit('/').next())
             {
                 declared.code.insert(format!("{}::{module}", source.crate_name));
+                declared.words.insert(module);
             }
+            declared.words.extend(source.words.iter().map(|word| word.text));
+            let items = source.imports.iter().flat_map(|import| &import.items);
+            declared.words.extend(items.map(|item| item.name));
             for found in &source.declarations {
                 declared.names.insert(found.name);
                 if source.language == Language::Rattle {
@@ -110,15 +121,20 @@ impl<'a> Declared<'a> {
             .unwrap_or(span.text.len());
         let (crate_name, rest) = span.text[..end].split_once("::")?;
         let name = behind_modules(rest);
-        let known = self.code.contains(&format!("{crate_name}::{name}"));
-        (self.crates.contains(crate_name) && !known)
-            .then(|| fault(span, format!("{crate_name} has no {name}")))
+        let modules = rest[..rest.len() - name.len()].split("::").filter(|part| !part.is_empty());
+        let unknown = |name: &&str| !self.code.contains(&format!("{crate_name}::{name}"));
+        let unknown = modules.chain([name]).find(unknown)?;
+        self.crates
+            .contains(crate_name)
+            .then(|| fault(span, format!("{crate_name} has no {unknown}")))
     }
 
-    /// A name of several words that nothing declares.
+    /// A name of several words that nothing declares or, where the document need not have it declared, that no source names.
     fn name(&self, span: &Span) -> Option<Fault> {
-        (is_name(span.text) && !self.names.contains(span.text))
-            .then(|| fault(span, format!("{} is declared nowhere", span.text)))
+        let named = self.words.contains(span.text) || PARTS.contains(&span.text);
+        let known = self.names.contains(span.text) || named && !OF_NAMES.contains(&span.path);
+        let known = known || !is_name(span.text);
+        (!known).then(|| fault(span, format!("{} is declared nowhere", span.text)))
     }
 }
 
@@ -155,7 +171,8 @@ mod tests {
                 "crates/a/src/lib.rt",
                 "pub fn f() {\n}\n\nimpl S {\n    fn has_m(&self) {\n    }\n}\n\npub trait T {\n    fn of_t();\n}\n",
             ),
-            ("crates/a/proofs/A.antt", "pub f-is : A\n"),
+            ("crates/a/src/part.rt", ""),
+            ("crates/a/proofs/A.antt", "use Rattle.std.proofs.B.{kit-law}\n\npub f-is : A\n"),
             ("crates/a/must-fail/off_by_one.edit", ""),
             ("check/src/main.rs", ""),
             ("runs/x.log", ""),
@@ -185,6 +202,7 @@ mod tests {
     fn functions_are_there() {
         assert!(whats("docs/A.md", "`a::f` `a::part::f(x: u8)` `std::g`").is_empty());
         assert_eq!(whats("docs/A.md", "`a::g(x)`"), ["docs/A.md:1: a has no g"]);
+        assert_eq!(whats("docs/A.md", "`a::gone::f`"), ["docs/A.md:1: a has no gone"]);
     }
 
     #[test]
@@ -202,7 +220,14 @@ mod tests {
     #[test]
     fn names_are_declared() {
         assert!(whats("docs/PROMISES.md", "`f-is` `word` `off_by_one` `a = b-c`").is_empty());
-        assert!(whats("docs/A.md", "`f-was`").is_empty());
+        for document in ["docs/A.md", "README.md", "docs/PROMISES.md"] {
+            assert_eq!(whats(document, "`f-was` `f-is`").len(), 1);
+        }
+        for document in ["docs/PORT.md", "check/README.md"] {
+            assert!(whats(document, "`f-was`").is_empty());
+        }
+        assert!(whats("docs/A.md", "`must-fail` `kit-law`").is_empty());
+        assert_eq!(whats("docs/PROMISES.md", "`kit-law`").len(), 1);
         assert_eq!(whats("docs/PROMISES.md", "`f-was` `fOf` `off_by_two`").len(), 3);
     }
 }

@@ -99,7 +99,8 @@ impl<'a> Used<'a> {
         names.extend(
             inserted.iter().flat_map(|text| words(text, Language::Antt)).map(|word| word.text),
         );
-        names.extend(source.imports.iter().filter_map(|import| import.path.split('.').next()));
+        let others = source.imports.iter().filter(|import| !import.module);
+        names.extend(others.filter_map(|import| import.path.split('.').next()));
         let sections: Vec<&str> = names.iter().map(|name| name.trim_matches(HOLE)).collect();
         names.extend(sections);
         Used { names }
@@ -190,6 +191,14 @@ mod tests {
             "crates/a/src/lib.rt:3: b is brought in and not used",
         ];
         assert_eq!(whats(&[("crates/a/src/lib.rt", text)]), expected);
+    }
+
+    #[test]
+    fn of_modules() {
+        let code = |text| ("crates/a/src/lib.rt", text);
+        assert!(whats(&[code("use b;\nfn f() {\n    b::g()\n}\n")]).is_empty());
+        let expected = ["crates/a/src/lib.rt:1: b is brought in and not used"];
+        assert_eq!(whats(&[code("use b;\nfn f() {\n    g()\n}\n")]), expected);
     }
 
     #[test]

@@ -6,3 +6,4 @@ pub mod documents;
 pub mod imports;
 pub mod names;
 pub mod specs;
+pub mod tried;
