@@ -28,7 +28,7 @@ usage: tidy [--named | --names | --fix]
 Run at the top of the repository. Prints PATH:LINE: WHAT for each fault and ends with 1 if there is one.
 
   --named  print crates.txt as it should be: each crate with the crates that it uses
-  --names  print the public names that several crates declare, with their places
+  --names  print the public names that are declared twice, with their places
   --fix    take the names out that a file brings in and does not use
 ";
 
