@@ -26,33 +26,15 @@ abbrev pub advice_between : ℕ → Body → Body → Advice
 advice_between zero a b = after_table (kind_of a) (kind_of b) (eqb (field_named a) (field_named b))
 advice_between (suc kind) a b = cond (concurrent_table (kind_of a) (kind_of b) (eqb (field_named a) (field_named b))) Noncommuting Nothing
 
--- of an edit's row, what its body does, and whether two name one field
-pub row-kind : (e : Edit) → cell (edit_row e) 1 ≡ kind_of e.body
+-- of an edit's row, what its body does, its place and its field
+row-cells : (e : Edit) → (cell (edit_row e) 1 ≡ kind_of e.body) × (cell (edit_row e) 2 ≡ place_of e.body) × (cell (edit_row e) 3 ≡ field_named e.body)
 unfolding edit_row
-row-kind e = go e.body
+row-cells e = go e.body
   where
-    go : (b : Body) → cell (e.name ∷ body_cells b) 1 ≡ kind_of b
-    go (Insert place) = refl
-    go (Set place field value) = refl
-    go (Remove place) = refl
-
-pub row-place : (e : Edit) → cell (edit_row e) 2 ≡ place_of e.body
-unfolding edit_row
-row-place e = go e.body
-  where
-    go : (b : Body) → cell (e.name ∷ body_cells b) 2 ≡ place_of b
-    go (Insert place) = refl
-    go (Set place field value) = refl
-    go (Remove place) = refl
-
-pub row-field : (e : Edit) → cell (edit_row e) 3 ≡ field_named e.body
-unfolding edit_row
-row-field e = go e.body
-  where
-    go : (b : Body) → cell (e.name ∷ body_cells b) 3 ≡ field_named b
-    go (Insert place) = refl
-    go (Set place field value) = refl
-    go (Remove place) = refl
+    go : (b : Body) → (cell (e.name ∷ body_cells b) 1 ≡ kind_of b) × (cell (e.name ∷ body_cells b) 2 ≡ place_of b) × (cell (e.name ∷ body_cells b) 3 ≡ field_named b)
+    go (Insert place) = (refl, refl, refl)
+    go (Set place field value) = (refl, refl, refl)
+    go (Remove place) = (refl, refl, refl)
 
 abbrev pub apart_and_together : Edit → Edit → Bool
 apart_and_together a b = not (eqb a.name b.name) && eqb (place_of a.body) (place_of b.body)
@@ -60,8 +42,8 @@ apart_and_together a b = not (eqb a.name b.name) && eqb (place_of a.body) (place
 -- the same of edits as the code has them
 pub advised-edits : (kind : ℕ) (a b : Edit) → advised kind (edit_row a) (edit_row b) ≡ cond (apart_and_together a b) (advice_between kind a.body b.body) Nothing
 unfolding advised advice_of edit_row
-advised-edits zero a b = rw (row-kind a, row-kind b, row-place a, row-place b, row-field a, row-field b)
-advised-edits (suc kind) a b = rw (row-kind a, row-kind b, row-place a, row-place b, row-field a, row-field b)
+advised-edits zero a b = let u = row-cells a in let v = row-cells b in rw (u.0, v.0, u.1, v.1, u.2, v.2)
+advised-edits (suc kind) a b = let u = row-cells a in let v = row-cells b in rw (u.0, v.0, u.1, v.1, u.2, v.2)
 
 -- Concurrent edits suggest the same whichever is named first.
 table-swapped : (a b : ℕ) (f : Bool) → concurrent_table a b f ≡ concurrent_table b a f
