@@ -13,6 +13,9 @@ const FOLDERS: [&str; 10] =
 /// The folders of a crate. Before them `crates/` may be left out.
 const PARTS: [&str; 4] = ["must-fail", "proofs", "specs", "src"];
 
+/// What the names of sources, documents and edits end with.
+const FILES: [&str; 6] = ["antt", "edit", "h", "md", "rs", "rt"];
+
 /// Words that stand for any name.
 const ANY: [&str; 3] = ["FN", "LABEL", "NAME"];
 
@@ -28,7 +31,23 @@ pub fn faults(tree: &Tree, sources: &[Source], spans: &[Span]) -> Vec<Fault> {
     found.extend(spans.iter().filter_map(|span| declared.function(span)));
     let of_today = spans.iter().filter(|span| !tells_others(tree, span.path));
     found.extend(of_today.filter_map(|span| declared.name(span)));
+    let past = |span: &&Span| OF_THE_PAST.contains(&span.path);
+    let files = spans.iter().filter(|span| !past(span) && is_file(span.text));
+    let gone = files.filter(|span| !stands(tree, span));
+    found.extend(gone.map(|span| fault(span, format!("{} is not there", span.text))));
     found
+}
+
+/// Whether it is the name of a source, a document or an edit, without its folder.
+fn is_file(text: &str) -> bool {
+    let Some((name, end)) = text.split_once('.') else { return false };
+    let plain = name.chars().all(|c| c.is_ascii_alphanumeric() || "-_".contains(c));
+    plain && !name.is_empty() && !ANY.contains(&name) && FILES.contains(&end)
+}
+
+/// Whether a file of this name is there, in any folder.
+fn stands(tree: &Tree, span: &Span) -> bool {
+    tree.iter().any(|(path, _)| path.rsplit('/').next() == Some(span.text))
 }
 
 /// Whether a document tells of what was, or stands beside a Rust program and tells of it.
@@ -196,6 +215,9 @@ mod tests {
         );
         assert_eq!(whats("docs/A.md", "b/proofs/A.antt, a/specs/A.antt").len(), 2);
         assert_eq!(whats("docs/A.md", "`crates/b`"), ["docs/A.md:1: crates/b is not there"]);
+        let files = "`A.antt` `main.rs` `NAME.edit` `other.log` `B.antt` `GONE.md`";
+        let gone = ["docs/A.md:1: B.antt is not there", "docs/A.md:1: GONE.md is not there"];
+        assert_eq!(whats("docs/A.md", files), gone);
     }
 
     #[test]
