@@ -148,11 +148,16 @@ impl<'a> Declared<'a> {
             .then(|| fault(span, format!("{crate_name} has no {unknown}")))
     }
 
-    /// A name of several words that nothing declares or, where the document need not have it declared, that no source names.
+    /// A name of several words that nothing declares or, where the document need not have it declared, that no source names. Where it has to, a name of
+    /// one word is at least one of a source's.
     fn name(&self, span: &Span) -> Option<Fault> {
+        let strict = OF_NAMES.contains(&span.path);
         let named = self.words.contains(span.text) || PARTS.contains(&span.text);
-        let known = self.names.contains(span.text) || named && !OF_NAMES.contains(&span.path);
-        let known = known || !is_name(span.text);
+        let known = self.names.contains(span.text)
+            || match is_name(span.text) {
+                true => named && !strict,
+                false => named || !strict || !is_word(span.text),
+            };
         (!known).then(|| fault(span, format!("{} is declared nowhere", span.text)))
     }
 }
@@ -167,6 +172,10 @@ fn behind_modules(path: &str) -> &str {
 
 fn fault(span: &Span, what: String) -> Fault {
     Fault::new(span.path, span.line, what)
+}
+
+fn is_word(text: &str) -> bool {
+    1 < text.len() && text.chars().all(char::is_alphabetic)
 }
 
 /// Whether a hyphen, an underscore or a capital joins words to one name.
@@ -188,7 +197,7 @@ mod tests {
             (path, text),
             (
                 "crates/a/src/lib.rt",
-                "pub fn f() {\n}\n\nimpl S {\n    fn has_m(&self) {\n    }\n}\n\npub trait T {\n    fn of_t();\n}\n",
+                "pub fn f() {\n    has\n}\n\nimpl S {\n    fn has_m(&self) {\n    }\n}\n\npub trait T {\n    fn of_t();\n}\n",
             ),
             ("crates/a/src/part.rt", ""),
             ("crates/a/proofs/A.antt", "use Rattle.std.proofs.B.{kit-law}\n\npub f-is : A\n"),
@@ -241,7 +250,7 @@ mod tests {
 
     #[test]
     fn names_are_declared() {
-        assert!(whats("docs/PROMISES.md", "`f-is` `word` `off_by_one` `a = b-c`").is_empty());
+        assert!(whats("docs/PROMISES.md", "`f-is` `has` `off_by_one` `a = b-c`").is_empty());
         for document in ["docs/A.md", "README.md", "docs/PROMISES.md"] {
             assert_eq!(whats(document, "`f-was` `f-is`").len(), 1);
         }
@@ -249,7 +258,8 @@ mod tests {
             assert!(whats(document, "`f-was`").is_empty());
         }
         assert!(whats("docs/A.md", "`must-fail` `kit-law`").is_empty());
-        assert_eq!(whats("docs/PROMISES.md", "`kit-law`").len(), 1);
+        assert_eq!(whats("docs/PROMISES.md", "`kit-law` `gone` `f` `x`").len(), 2);
+        assert!(whats("docs/A.md", "`gone`").is_empty());
         assert_eq!(whats("docs/PROMISES.md", "`f-was` `fOf` `off_by_two`").len(), 3);
     }
 }
