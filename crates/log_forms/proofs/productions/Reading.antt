@@ -3,20 +3,18 @@ use mathlib.Core.Path.{◌≡◌, refl, ap, sym, ◌∙◌}
 use mathlib.Core.Bool.{true, false}
 use mathlib.Core.List.{List, [], ◌∷◌, ◌++◌, map, map-append}
 use mathlib.Core.Option.{Option, none, some}
-use Prim.Native.Nat.{ℕ}
+use Prim.Native.Nat.{ℕ, ◌+◌, ◌≤◌, ◌<◌}
+use native.Mathlib.Numerals.{add-one}
 use native.Mathlib.Omega.{arith}
 use borrow.Author.Tests.{ltb-true}
-use lib.ListN.{length, get_or, take, replicate}
-use lib.Seq.{take_all}
+use lib.ListN.{length, get_or, take, drop, set, replicate, length-set, drop_of_length-le}
+use lib.Seq.{drop-cons, take_all, take-suc, take-suc-set}
 use Rattle.lists.specs.Lists.{all}
 use Rattle.lists.proofs.Lists.{by, and_l, and_r}
-use Rattle.lists.proofs.Front.{all-broken}
 use Rattle.text_forms.specs.decimal.Decimal.{saturated}
 use Rattle.text_forms.proofs.decimal.RoundTrip.{saturated-test, saturated-same}
 use Rattle.text_forms.specs.Form.{filled_of}
-use Rattle.std.specs.Prelude.{Some, None, Result, Ok, Err, IfOk, IfErr}
-use Rattle.std.specs.Array.{AllZipBelow}
-use Rattle.std.specs.List.{AllZip, IsAmong}
+use Rattle.std.specs.Prelude.{Some, None, Ok, Err}
 use Rattle.refusals.specs.declared.Refusal.{Refusal}
 use Rattle.refusals.specs.declared.Refusal.TheVariants.{NotInForm}
 use Rattle.text_lines.proofs.Says.{word-fits, word-same, word-large, word-refused}
@@ -24,29 +22,39 @@ use Rattle.text_lines.specs.Line.{fits_word, word_read}
 use Rattle.log_forms.specs.productions.Words.{words_kept, eight_of, words_of}
 use Rattle.std.proofs.lemmas.List.{take-map}
 
--- numbers read as words one by one
-module _ {R : ℕ → ℕ → Type 0} (f : (n w : ℕ) → R n w → Ok w ≡ word_read n) where
-  words-each : (numbers words : List ℕ) → AllZip R numbers words → (all fits_word numbers ≡ true) × (words ≡ numbers)
-  unfolding all
-  words-each [] [] z = (refl, refl)
-  words-each [] (w ∷ words) z = absurd z
-  words-each (n ∷ numbers) [] z = absurd z
-  words-each (n ∷ numbers) (w ∷ words) z =
-      let q = words-each numbers words z.1 in
-      let h = f n w z.0 in
-      (rw (word-fits n h, q.0) refl, rw (word-same n h, q.1) refl)
+-- numbers kept as words while each fits 32 bits
+pub record KeptSoFar (numbers words : List ℕ) (i : ℕ) : Type 0 where
+  pub all_but : all fits_word numbers ≡ all fits_word (drop i numbers)
+  pub same : take i words ≡ take i numbers
+  pub words-size : length words ≡ 8
+  pub numbers-size : length numbers ≡ 8
 
-pub words-read : {R : ℕ → ℕ → Type 0} {F : Type 0} {E : Refusal → ℕ → F → F → Type 0} (numbers : List ℕ) (k : ℕ) (result : Result (List ℕ) Refusal)
-    → IfOk result (λ words. AllZipBelow R numbers words k) → IfErr result (λ r. (n : ℕ) × IsAmong numbers n × (p : F) × (q : F) × E r n p q)
-    → ((n w : ℕ) → R n w → Ok w ≡ word_read n) → ((r : Refusal) (n : ℕ) (p q : F) → E r n p q → Err r ≡ word_read n) → result ≡ words_kept numbers
-unfolding words_kept
-words-read numbers k (Ok words) ok err f g = let q = words-each f numbers words ok.whole in rw (q.0, q.1) refl
-words-read numbers k (Err r) ok err f g =
-    let h = g r err.0 err.2 err.3 err.4 in
-    let m = err.1 in
-    let e : fits_word (get_or numbers m.0 err.0) ≡ false = rw (← m.1.1) (word-large err.0 h) in
-    let q : all fits_word numbers ≡ false = rw (take_all (length numbers) numbers (omega arith)) at (all-broken fits_word numbers (length numbers) m.0 err.0 m.1.0 (omega arith) e) in
-    rw (q, word-refused err.0 h) refl
+module _ (numbers : List ℕ) where
+  pub kept-start : length numbers ≡ 8 → KeptSoFar numbers (replicate 8 0) 0
+  kept-start h = record { all_but = refl; same = refl; words-size = refl; numbers-size = h }
+
+  module _ (words : List ℕ) (i : ℕ) (w : KeptSoFar numbers words i) (h : i < length numbers) where
+    next-number : drop i numbers ≡ get_or numbers i 0 ∷ drop (i + 1) numbers
+    next-number = rw add-one (drop-cons numbers i 0 h)
+
+    pub kept_next : {n : ℕ} → Ok n ≡ word_read (get_or numbers i 0) → KeptSoFar numbers (set words i n) (i + 1)
+    unfolding all
+    kept_next {n} e = record {
+      all_but = w.all_but ∙ rw (next-number, word-fits (get_or numbers i 0) e);
+      same = rw (add-one, take-suc-set words i n (omega (arith, w.words-size, w.numbers-size)), take-suc numbers i 0 h, w.same, word-same (get_or numbers i 0) e);
+      words-size = length-set words i n ∙ w.words-size;
+      numbers-size = w.numbers-size;
+    }
+
+    pub kept-large : {r : Refusal} → Err r ≡ word_read (get_or numbers i 0) → Err r ≡ words_kept numbers
+    unfolding words_kept all
+    kept-large e = rw (w.all_but, next-number, word-large (get_or numbers i 0) e) (ap Err (word-refused (get_or numbers i 0) e))
+
+  pub kept-end : (words : List ℕ) (i : ℕ) → KeptSoFar numbers words i → length numbers ≤ i → Ok words ≡ words_kept numbers
+  unfolding words_kept all
+  kept-end words i w h =
+      let e : words ≡ numbers = sym (take_all i words (omega (arith, w.words-size, w.numbers-size))) ∙ w.same ∙ take_all i numbers h in
+      rw (w.all_but, drop_of_length-le numbers {i = i} h, e)
 
 -- numbers cut off at 2^32 say the same
 saturated-all : (ns : List ℕ) → all fits_word (map saturated ns) ≡ all fits_word ns
