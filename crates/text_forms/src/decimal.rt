@@ -25,10 +25,20 @@ pub fn number_length(n: u64) -> usize
 }
 
 // Writes n to the start of out, its last digit first, and answers how many bytes that took. Pub for `text_forms`, which has seen that it fits.
+// Kept: one digit and two apart from the loop, which counts the digits first: without that a line of answers took a tenth to a fifth more time.
 pub fn write_number(out: &mut [u8], n: u64) -> usize
     requires { length (decimal n) ≤ length out.old }
     ensures { Written (decimal n) out.old result out.new }
 {
+    if n < 10 {
+        out[0] = b'0' + n as u8;
+        return 1;
+    }
+    if n < 100 {
+        out[0] = b'0' + (n / 10) as u8;
+        out[1] = b'0' + (n % 10) as u8;
+        return 2;
+    }
     let size = number_length(n);
     let mut rest = n;
     for i in (0..size).rev() {

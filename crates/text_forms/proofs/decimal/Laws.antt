@@ -16,6 +16,7 @@ use lib.ListN.{length, get_or, take, drop, set, length-append, length-take, leng
 use lib.Seq.{drop-cons, drop-set-lt, get_or_at, get_or-set_same, get_or-take, length-take-le, lt-length-set, take_at, take-suc, take-take}
 use Rattle.lists.proofs.Lists.{by}
 use Rattle.text_forms.specs.decimal.Decimal.{digits_in, decimal, is_digit, digit_run, value_from, is_numeral, numeral_size, numeral_value, saturated, numeral_read}
+use Rattle.text_forms.specs.decimal.Written.{Written}
 use Rattle.std.proofs.lemmas.Bool.{cases_lt}
 
 -- any bound above n serves
@@ -36,6 +37,26 @@ decimal-large n h = rw (le-ltb n 10 h, enough n (suc (n / 10)) (n / 10) (omega a
 
 pub length-large : (n : ℕ) → 10 ≤ n → length (decimal n) ≡ length (decimal (n / 10)) + 1
 length-large n h = rw (decimal-large n h, length-append)
+
+-- n of one digit, and of two
+pub one-room : (n : ℕ) → n < 10 → length (decimal n) ≡ 1
+one-room n h = ap length (decimal-small n h)
+
+pub one-digit : (n : ℕ) (before : List ℕ) → length (decimal n) ≤ length before → n < 10 → Written (decimal n) before 1 (set before 0 (48 + n))
+one-digit n [] h l = absurd (omega (arith, one-room n l))
+one-digit n (b ∷ bs) h l = rw (decimal-small n l) (refl, refl)
+
+decimal-two : (n : ℕ) → 10 ≤ n → n < 100 → decimal n ≡ (48 + n / 10) ∷ (48 + n % 10) ∷ []
+decimal-two n h l = decimal-large n h ∙ rw (decimal-small (n / 10) (omega arith)) refl
+
+pub two-room : (n : ℕ) → 10 ≤ n → n < 100 → length (decimal n) ≡ 2
+two-room n h l = ap length (decimal-two n h l)
+
+pub two-digits : (n : ℕ) (before : List ℕ) → length (decimal n) ≤ length before → 10 ≤ n → n < 100
+    → Written (decimal n) before 2 (set (set before 0 (48 + n / 10)) 1 (48 + n % 10))
+two-digits n [] h m l = absurd (omega (arith, two-room n m l))
+two-digits n (b ∷ []) h m l = absurd (omega (arith, two-room n m l))
+two-digits n (b ∷ (c ∷ bs)) h m l = rw (decimal-two n m l) (refl, refl)
 
 -- n is written from its last digit on: the i digits that are left spell rest, and what stands after them is done
 pub record Writing (n : ℕ) (before : List ℕ) (i rest : ℕ) (out : List ℕ) : Type 0 where

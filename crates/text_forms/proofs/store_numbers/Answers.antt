@@ -1,13 +1,13 @@
--- `read_form` meets its contract. Assumes nothing.
+-- `store_numbers` meets its contract. Assumes nothing.
 use Rattle.std.proofs.Common.{sym, ◌∙◌, arith}
 use borrow.Author.Tests.{eqb-true, eqb-false}
 use Rattle.text_forms.proofs.Reading.{reading-start, reading-no-mark, mark-inside, reading-mark, reading-no-byte, reading-other-byte, reading-byte, reading-long, reading-end}
-use Rattle.text_forms.proofs.read_form.Goals as goal
-use Rattle.text_forms.proofs.read_form.Goals.{then-is_mark+in_ok-numeral, else-is_mark+in_ok-first+else-first-c}
+use Rattle.text_forms.proofs.store_numbers.Goals as goal
+use Rattle.text_forms.proofs.store_numbers.Goals.{then-is_mark+in_ok-numeral, else-is_mark+in_ok-first+else-first-c}
 use Rattle.std.proofs.lemmas.List.{take_rest}
 
 pub loop-c-init : goal.loop-c-init
-loop-c-init c = reading-start c.args.form.now c.args.bytes.now
+loop-c-init c = rw c.requires (reading-start c.args.form.now c.args.bytes.now)
 
 pub returns-in_err-numeral : goal.returns-in_err-numeral
 returns-in_err-numeral c =
