@@ -8,12 +8,14 @@ use native.Mathlib.Omega.{arith}
 use lib.ListN.{length, get_or, set, replicate, length-set}
 use lib.Seq.{get_or-set_same, get_or-set_other}
 use borrow.Author.Tests.{not-true}
+use Rattle.std.specs.Prelude.{Some}
 use Rattle.lists.specs.Lists.{index_of}
 use Rattle.record.specs.Record.{Record, names, has}
 use Rattle.record.specs.Judgement.{never, ordered, serialised}
 use Rattle.lists.proofs.Lists.{by, clash, is-by, mem_index}
 use Rattle.graph.specs.links.Marks.{name_at, marks_of}
-use Rattle.graph.specs.links.Links.{left_at, FirstRow, NextRow}
+use Rattle.graph.specs.declared.links.Lefts.{Lefts}
+use Rattle.graph.specs.links.Links.{left_at, FirstRow, NextRow, Walks}
 use Rattle.graph.specs.links.Reach.{On}
 use Rattle.graph.proofs.links.Names.{get_or-place, place-get_or}
 use Rattle.graph.proofs.links.Marks.{marks-are}
@@ -38,9 +40,11 @@ pub record Part (R : Record) (keys rows m : List ℕ) (b j : ℕ) (m' : List ℕ
   pub sound : (y : ℕ) → On m' y → On m y ⊎ ((y < length (names R)) × (serialised R (name_at R y) ≡ false))
   pub along : Along keys (256 + b) j (λ i. ordered R (name_at R (left_at rows i)) (name_at R b) ≡ false → On m' (left_at rows i) × On m' b)
 
-pub record Opening (rows nevers m : List ℕ) (b j : ℕ) (m' : List ℕ) : Type 0 where
+-- the same whatever the record is
+pub record Opening (rows nevers m : List ℕ) (b : ℕ) (w : Lefts) (m' : List ℕ) : Type 0 where
+  pub same : w.rows.now ≡ rows
   pub size : length m' ≡ 128
-  pub part : (R : Record) (g : Resolved R rows) → b < length (names R) → nevers ≡ marks_of R (never R) → Part R g.pairs.keys rows m b j m'
+  pub part : (R : Record) (g : Resolved R rows) → b < length (names R) → nevers ≡ marks_of R (never R) → Part R g.pairs.keys rows m b w.row m'
 
 module _ (rows : List ℕ) (R : Record) (g : Resolved R rows) (m : List ℕ) (b : ℕ) (l : b < length (names R)) (j j' : ℕ) (m₁ : List ℕ)
     (h : 0 < j) (e : NextRow rows j j') (k : Part R g.pairs.keys rows m b j m₁) where
@@ -76,35 +80,39 @@ module _ (rows : List ℕ) (R : Record) (g : Resolved R rows) (m : List ℕ) (b 
             (λ q. (on-set (set m₁ a 1) b a lb (get_or-set_same m₁ a 1 0 la), get_or-set_same (set m₁ a 1) b 1 0 lb)) k.along;
       }
 
-module _ (rows nevers : List ℕ) where
-  pub opening-start : (m : List ℕ) (b j : ℕ) → length m ≡ 128 → b < 128 → FirstRow rows (256 + b) j → Opening rows nevers m b j m
-  opening-start m b j size l e = record {
+module _ {rows nevers m : List ℕ} {b : ℕ} where
+  pub opening-start : {w : Lefts} → length m ≡ 128 → b < 128 → FirstRow rows (256 + b) w.row → w.rows.now ≡ rows → Opening rows nevers m b w m
+  opening-start {w} size l e same = record {
+    same = same;
     size = size;
     part = λ R g k n. record {
       bits = λ q. q;
       kept = λ y q. q;
       sound = λ y q. inl q;
-      along = along-start g.pairs.keys rows g.pairs.linked (256 + b) j _ (omega arith) e;
+      along = along-start g.pairs.keys rows g.pairs.linked (256 + b) w.row _ (omega arith) e;
     };
   }
 
-  pub opening-step : (m : List ℕ) (b j j' : ℕ) (m₁ m₂ : List ℕ) → 0 < j → NextRow rows j j' → length m₂ ≡ 128
-      → ((R : Record) → Resolved R rows → left_at rows (j - 1) < length (names R) → b < length (names R) → nevers ≡ marks_of R (never R)
-      → m₂ ≡ cond (ordered R (name_at R (left_at rows (j - 1))) (name_at R b)) m₁ (set (set m₁ (left_at rows (j - 1)) 1) b 1))
-      → Opening rows nevers m b j m₁ → Opening rows nevers m b j' m₂
-  opening-step m b j j' m₁ m₂ h e size f w = record {
-    size = size;
-    part = λ R g l n. let k = w.part R g l n in
-        let q = f R g (left-row rows R g m b l j j' m₁ h e k).0 l n in
-        by (ordered R (name_at R (left_at rows (j - 1))) (name_at R b))
-        (λ o. rw (q, o) (part_same rows R g m b l j j' m₁ h e k o))
-        (λ o. rw (q, o) (part-more rows R g m b l j j' m₁ h e k w.size o));
-  }
+  pub opening-step : {a : ℕ} {w w' : Lefts} {m₁ m₂ : List ℕ} → Walks w.rows.now w.row (Some a) w'.rows.now w'.row → length m₂ ≡ 128
+      → ((R : Record) → Resolved R rows → a < length (names R) → b < length (names R) → nevers ≡ marks_of R (never R)
+      → m₂ ≡ cond (ordered R (name_at R a) (name_at R b)) m₁ (set (set m₁ a 1) b 1))
+      → Opening rows nevers m b w m₁ → Opening rows nevers m b w' m₂
+  opening-step {w} {w'} {m₁} d size f o =
+      let h = rw o.same at d.1 in
+      let f = rw h.1.0 at f in record {
+        same = d.0 ∙ o.same;
+        size = size;
+        part = λ R g l n. let k = o.part R g l n in
+            let q = f R g (left-row rows R g m b l w.row w'.row m₁ h.0 h.2 k).0 l n in
+            by (ordered R (name_at R (left_at rows (w.row - 1))) (name_at R b))
+            (λ z. rw (q, z) (part_same rows R g m b l w.row w'.row m₁ h.0 h.2 k z))
+            (λ z. rw (q, z) (part-more rows R g m b l w.row w'.row m₁ h.0 h.2 k o.size z));
+      }
 
-  pub opening-end : (m : List ℕ) (b j : ℕ) (m' : List ℕ) → j ≡ 0 → Opening rows nevers m b j m'
+  pub opening-end : {w : Lefts} {m' : List ℕ} → w.row ≡ 0 → Opening rows nevers m b w m'
       → (R : Record) → Resolved R rows → b < length (names R) → nevers ≡ marks_of R (never R) → Opened R b m m'
-  opening-end m b j m' e w R g l n =
-      let k = w.part R g l n in record {
+  opening-end e o R g l n =
+      let k = o.part R g l n in record {
         bits = k.bits;
         kept = k.kept;
         sound = k.sound;

@@ -6,8 +6,10 @@ use Prim.Native.Nat.{ℕ, ◌+◌, ◌-◌, ◌≤◌, ◌<◌}
 use native.Mathlib.Omega.{arith}
 use lib.ListN.{length, get_or, set, length-set}
 use lib.Seq.{get_or-set_same, get_or-set_other}
+use Rattle.std.specs.Prelude.{Some}
 use Rattle.lists.proofs.Lists.{clash, is-by}
-use Rattle.graph.specs.links.Links.{left_at, FirstRow, NextRow, LinkedByKey}
+use Rattle.graph.specs.declared.links.Lefts.{Lefts}
+use Rattle.graph.specs.links.Links.{left_at, FirstRow, Walks, LinkedByKey}
 use Rattle.graph.specs.links.Reach.{On, Off}
 use Rattle.graph.specs.links.Search.{Is, Present, Rising, Follows, Above, NoRank, Same, Told, Visited, VisitedNew}
 use Rattle.graph.proofs.links.Marks.{on-by}
@@ -51,10 +53,11 @@ pub record RowsVisited (keys rows s : List ℕ) (x j : ℕ) (s' : List ℕ) : Ty
   pub path : (y : ℕ) → Is s' 2 y → Is s 2 y
   pub placed : (p : ℕ → Bool) → Follows keys rows s p → ((y : ℕ) → Is s 3 y → p y ≡ true) → (y : ℕ) → Is s' 3 y → p y ≡ true
 
-pub record Walking (rows s : List ℕ) (x j : ℕ) (s' : List ℕ) : Type 0 where
+pub record Walking (rows s : List ℕ) (x : ℕ) (w : Lefts) (s' : List ℕ) : Type 0 where
+  pub along : w.rows.now ≡ rows
   pub same : Same s s'
   pub was : Is s 2 x
-  pub walk : (keys : List ℕ) → LinkedByKey keys rows → ((y : ℕ) → get_or s y 0 ≤ 3) → Atop keys rows s x → RowsVisited keys rows s x j s'
+  pub walk : (keys : List ℕ) → LinkedByKey keys rows → ((y : ℕ) → get_or s y 0 ≤ 3) → Atop keys rows s x → RowsVisited keys rows s x w.row s'
 
 module _ (keys rows : List ℕ) where
   rising-back : {s t : List ℕ} → Same s t → (rank : ℕ → ℕ) → Rising keys rows t rank → Rising keys rows s rank
@@ -80,9 +83,9 @@ module _ (keys rows : List ℕ) where
       is-by y x (λ q. rw q (omega arith))
       (λ q. let z = a (λ w. omega (arith, w, o)) rank (rising-back (same-go s x l o) rank r) y (rw (get_or-set_other s x y 2 0 q) at h) in omega arith)
 
-module _ (rows : List ℕ) where
-  pub visited-ring : (s : List ℕ) (x : ℕ) → Is s 2 x → Visited rows s x true s
-  visited-ring s x e = record {
+module _ {rows : List ℕ} {x : ℕ} where
+  pub visited-ring : {s : List ℕ} → Is s 2 x → Visited rows s x true s
+  visited-ring {s} e = record {
     same = same-states-refl s;
     told = λ keys lk four a. record {
       ring = λ h rank r. let z = a (λ q. omega (arith, q, e)) rank r x e in omega arith;
@@ -90,8 +93,8 @@ module _ (rows : List ℕ) where
     };
   }
 
-  pub visited-was : (s : List ℕ) (x : ℕ) → (Is s 2 x → ⊥) → (Is s 1 x → ⊥) → Visited rows s x false s
-  visited-was s x a b = record {
+  pub visited-was : {s : List ℕ} → (Is s 2 x → ⊥) → (Is s 1 x → ⊥) → Visited rows s x false s
+  visited-was {s} a b = record {
     same = same-states-refl s;
     told = λ keys lk four t. record {
       ring = λ e. clash e refl;
@@ -99,48 +102,54 @@ module _ (rows : List ℕ) where
     };
   }
 
-  pub walking_start : (s : List ℕ) (x j : ℕ) → x < length s → x < 128 → FirstRow rows x j → Walking rows (set s x 2) x j (set s x 2)
-  walking_start s x j l u e = record {
+  pub walking_start : (s : List ℕ) {w : Lefts} → x < length s → x < 128 → FirstRow rows x w.row → w.rows.now ≡ rows → Walking rows (set s x 2) x w (set s x 2)
+  walking_start s {w} l u e same = record {
+    along = same;
     same = same-states-refl (set s x 2);
     was = get_or-set_same s x 2 0 l;
     walk = λ keys lk four t. record {
-      along = along-start keys rows lk x j _ (omega arith) e;
+      along = along-start keys rows lk x w.row _ (omega arith) e;
       path = λ y h. h;
       placed = λ p g r. r;
     };
   }
 
-  pub walking-step : (s : List ℕ) (x j j' : ℕ) (s₁ s₂ : List ℕ) (r : Bool) → 0 < j → NextRow rows j j' → r ≡ false
-      → Walking rows s x j s₁ → Visited rows s₁ (left_at rows (j - 1)) r s₂ → Walking rows s x j' s₂
-  walking-step s x j j' s₁ s₂ r h e nay w v = record {
-    same = same_then w.same v.same;
-    was = w.was;
-    walk = λ keys lk four t. let k = w.walk keys lk four t in
-        let d = (v.told keys lk (w.same.four four) (walk-above keys rows s x j s₁ h w.same w.was t k)).done nay in record {
-          along = along-step keys rows lk x j j' (λ i. Present s (left_at rows i) → Is s₁ 3 (left_at rows i)) (λ i. Present s (left_at rows i) → Is s₂ 3 (left_at rows i)) h e
-              (λ i f o. v.same.kept _ (f o)) (λ o. d.here (λ n. o (w.same.gone _ n))) k.along;
-          path = λ y u. k.path y (d.path y u);
-          placed = λ p g o. d.placed p (follows_on keys rows w.same p g) (k.placed p g o);
-        };
-  }
+  pub walking-step : {left : ℕ} {w w' : Lefts} {s s₁ s₂ : List ℕ} {r : Bool} → Walks w.rows.now w.row (Some left) w'.rows.now w'.row → r ≡ false
+      → Walking rows s x w s₁ → Visited rows s₁ left r s₂ → Walking rows s x w' s₂
+  walking-step {w} {w'} {s} {s₁} {s₂} d nay g k =
+      let h = rw g.along at d.1 in
+      let v = rw h.1.0 at k in record {
+        along = d.0 ∙ g.along;
+        same = same_then g.same v.same;
+        was = g.was;
+        walk = λ keys lk four t. let k = g.walk keys lk four t in
+            let d = (v.told keys lk (g.same.four four) (walk-above keys rows s x w.row s₁ h.0 g.same g.was t k)).done nay in record {
+              along = along-step keys rows lk x w.row w'.row (λ i. Present s (left_at rows i) → Is s₁ 3 (left_at rows i)) (λ i. Present s (left_at rows i) → Is s₂ 3 (left_at rows i)) h.0 h.2
+                  (λ i f o. v.same.kept _ (f o)) (λ o. d.here (λ n. o (g.same.gone _ n))) k.along;
+              path = λ y u. k.path y (d.path y u);
+              placed = λ p q o. d.placed p (follows_on keys rows g.same p q) (k.placed p q o);
+            };
+      }
 
-  pub walking-ring : (s : List ℕ) (x j : ℕ) (s₁ s₂ : List ℕ) (r : Bool) → x < length s → Is s 1 x → 0 < j → r ≡ true
-      → Walking rows (set s x 2) x j s₁ → Visited rows s₁ (left_at rows (j - 1)) r s₂ → Visited rows s x true s₂
-  walking-ring s x j s₁ s₂ r l o h yea w v =
+  pub walking-ring : {left : ℕ} {w : Lefts} (w' : Lefts) {s s₁ s₂ : List ℕ} {r : Bool} → x < length s → Is s 1 x → Walks w.rows.now w.row (Some left) w'.rows.now w'.row → r ≡ true
+      → Walking rows (set s x 2) x w s₁ → Visited rows s₁ left r s₂ → Visited rows s x true s₂
+  walking-ring {w} w' {s} {s₁} l o d yea g k =
+      let h = rw g.along at d.1 in
+      let v = rw h.1.0 at k in
       let a = same-go s x l o in
-      let u = same_then a w.same in record {
+      let u = same_then a g.same in record {
         same = same_then u v.same;
         told = λ keys lk four t. let f = a.four four in
             let n = atop-start keys rows s x l o t in
-            let k = w.walk keys lk f n in record {
-              ring = λ z rank g. (v.told keys lk (w.same.four f) (walk-above keys rows (set s x 2) x j s₁ h w.same w.was n k)).ring yea rank (rising-on keys rows u rank g);
+            let k = g.walk keys lk f n in record {
+              ring = λ z rank q. (v.told keys lk (g.same.four f) (walk-above keys rows (set s x 2) x w.row s₁ h.0 g.same g.was n k)).ring yea rank (rising-on keys rows u rank q);
               done = λ z. clash refl z;
             };
       }
 
-  pub walking-end : (s : List ℕ) (x j : ℕ) (s' : List ℕ) → x < length s → Is s 1 x → j ≡ 0
-      → Walking rows (set s x 2) x j s' → Visited rows s x false (set s' x 3)
-  walking-end s x j s' l o e w =
+  pub walking-end : {v : Lefts} {s s' : List ℕ} → x < length s → Is s 1 x → v.row ≡ 0
+      → Walking rows (set s x 2) x v s' → Visited rows s x false (set s' x 3)
+  walking-end {s} {s'} l o e w =
       let a = same-go s x l o in
       let l' : x < length s' = omega (arith, w.same.size, length-set s x 2) in record {
         same = same_then a (same_then w.same (same_set s' x 3 l' (λ z. omega (arith, w.same.gone x z, w.was)) (λ z. refl) (omega arith) (omega arith)));
@@ -162,8 +171,8 @@ module _ (rows : List ℕ) where
       }
 
   -- fewer wait than at the start
-  pub walking-less : (s : List ℕ) (x j : ℕ) (s' : List ℕ) → x < length s → Is s 1 x → Walking rows (set s x 2) x j s' → unmarked s < unmarked s'
-  walking-less s x j s' l o w =
+  pub walking-less : (s : List ℕ) {v : Lefts} {s' : List ℕ} → x < length s → Is s 1 x → Walking rows (set s x 2) x v s' → unmarked s < unmarked s'
+  walking-less s {s'} l o w =
       let a = same_then (same-go s x l o) w.same in
       unmarked-less s' s x a.size (omega (arith, a.size)) (λ e. omega (arith, w.same.wait x e, w.was)) o a.wait
 

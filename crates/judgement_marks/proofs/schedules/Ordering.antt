@@ -4,6 +4,7 @@ use mathlib.Core.Bool.{Bool, true, false, not, ◌&&◌, or-true, or-false, and-
 use mathlib.Core.List.{List, [], ◌∷◌, ◌++◌, map, map-append}
 use mathlib.Core.Option.{none, some}
 use Rattle.std.specs.Prelude.{Option, Some, None, MatchOption, IfSome}
+use Rattle.graph.specs.declared.links.Lefts.{Lefts}
 use Prim.Native.Nat.{ℕ, zero, suc, ◌+◌, ◌-◌, ◌≤◌, ◌<◌}
 use native.Mathlib.Omega.{arith}
 use native.Mathlib.Numerals.{add-one}
@@ -16,7 +17,7 @@ use Rattle.record.specs.Record.{Record, names, notafter}
 use Rattle.record.specs.Schedule.{ready, order}
 use Rattle.lists.proofs.Lists.{by, clash, is-by, le-by, and_l, and_r, and_i, same_by, mem-append, any-by, any-in, no-any, mem_index, grown-some, grown-none}
 use Rattle.graph.specs.links.Marks.{name_at, marks_of}
-use Rattle.graph.specs.links.Links.{left_at, FirstRow, NextRow, NoRow, SomeRow}
+use Rattle.graph.specs.links.Links.{left_at, FirstRow, Walks, NoRow, SomeRow}
 use Rattle.graph.specs.links.Reach.{On, Off}
 use Rattle.graph.proofs.links.Names.{get_or-among, get_or-place, place-get_or, place_same}
 use Rattle.graph.proofs.links.Marks.{marks-size, marks-low, marks-on, on-marks, marks-are, marks-same}
@@ -85,28 +86,36 @@ module _ (R : Record) (test later : ℕ → Bool) (waits : List ℕ) (x : ℕ) (
   held_below r h l f k y u =
       by (notafter R (name_at R x) (name_at R y)) (λ z. k y (omega arith) z u) (λ z. still-held y (omega arith) (λ w. omega arith) z (f y (omega arith)))
 
--- the walk along those that come after x stands at row j: of the passed ones F holds below the best
-pub record Freeing (reversed : List ℕ) (F : ℕ → Type 0) (x j best : ℕ) : Type 0 where
+-- the walk along those that come after x: of the ones that are passed F holds below the best
+pub record Freeing (reversed : List ℕ) (F : ℕ → Type 0) (x : ℕ) (w : Lefts) (best : ℕ) : Type 0 where
+  pub same : w.rows.now ≡ reversed
   pub under : best ≤ x
-  pub along : Looking reversed x (λ i. left_at reversed i < best → F (left_at reversed i)) j
+  pub along : Looking reversed x (λ i. left_at reversed i < best → F (left_at reversed i)) w.row
 
-module _ (reversed : List ℕ) (F : ℕ → Type 0) (x : ℕ) where
-  pub freeing-start : (j : ℕ) → x < 128 → FirstRow reversed x j → Freeing reversed F x j x
-  freeing-start j h e = record { under = omega arith; along = looking-start reversed x (λ i. left_at reversed i < x → F (left_at reversed i)) j (omega arith) e }
-
-  pub freeing_step : (j j' best best' : ℕ) → 0 < j → NextRow reversed j j' → best' ≤ best → (left_at reversed (j - 1) < best' → F (left_at reversed (j - 1)))
-      → Freeing reversed F x j best → Freeing reversed F x j' best'
-  freeing_step j j' best best' h e b f w = record {
-    under = omega (arith, w.under);
-    along = looking-step reversed x (λ i. left_at reversed i < best → F (left_at reversed i)) (λ i. left_at reversed i < best' → F (left_at reversed i)) j j' h e (λ i p k. p (omega arith)) f w.along;
+module _ {reversed : List ℕ} {F : ℕ → Type 0} {x : ℕ} where
+  pub freeing-start : {w : Lefts} → x < 128 → FirstRow reversed x w.row → w.rows.now ≡ reversed → Freeing reversed F x w x
+  freeing-start {w} h e same = record {
+    same = same;
+    under = omega arith;
+    along = looking-start reversed x (λ i. left_at reversed i < x → F (left_at reversed i)) w.row (omega arith) e;
   }
 
-  pub freeing-end : (j best : ℕ) → j ≡ 0 → Freeing reversed F x j best → (R : Record) (y : ℕ) → Reversed R reversed → distinct (names R) ≡ true → x < length (names R)
+  pub freeing_step : {y best best' : ℕ} {w w' : Lefts} → Walks w.rows.now w.row (Some y) w'.rows.now w'.row → best' ≤ best → (y < best' → F y)
+      → Freeing reversed F x w best → Freeing reversed F x w' best'
+  freeing_step {best} {best'} {w} {w'} d b f o =
+      let h = rw o.same at d.1 in
+      let f = rw h.1.0 at f in record {
+        same = d.0 ∙ o.same;
+        under = omega (arith, o.under);
+        along = looking-step reversed x (λ i. left_at reversed i < best → F (left_at reversed i)) (λ i. left_at reversed i < best' → F (left_at reversed i)) w.row w'.row h.0 h.2 (λ i p k. p (omega arith)) f o.along;
+      }
+
+  pub freeing-end : {w : Lefts} {best : ℕ} → w.row ≡ 0 → Freeing reversed F x w best → (R : Record) (y : ℕ) → Reversed R reversed → distinct (names R) ≡ true → x < length (names R)
       → y < length (names R) → notafter R (name_at R x) (name_at R y) ≡ true → y < best → F y
-  freeing-end j best q w R y g d l k e h =
+  freeing-end q o R y g d l k e h =
       let r = g.row_of (name_at R x) (name_at R y) e in
       let z : left_at reversed r.row ≡ y = r.left ∙ place-get_or (names R) y d k in
-      rw z at ((w.along g.keys g.linked).passed r.row (omega arith) r.low (omega (arith, r.key, place-get_or (names R) x d l)) (omega arith))
+      rw z at ((o.along g.keys g.linked).passed r.row (omega arith) r.low (omega (arith, r.key, place-get_or (names R) x d l)) (omega arith))
 
 -- the first of a list that passes, by places
 module _ (p : ℕ → Bool) where

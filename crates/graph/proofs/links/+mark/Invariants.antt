@@ -1,4 +1,3 @@
-use Rattle.std.proofs.Common.{◌≡◌}
 use Rattle.graph.proofs.links.Reach.{Going, unmarked}
 use Rattle.graph.proofs.links.+mark.Given as goal
 
@@ -8,4 +7,4 @@ decreases-mark l = unmarked l.marks.now
 abbrev pub invariant-loop-left : goal.invariant-loop-left
 invariant-loop-left l =
     (goal.iterator-loop-left).can_next l.left-iterator × (goal.iterator-loop-left).is_finite l.left-iterator
-    × (l.left-iterator.rows.now ≡ l.rows) × Going l.base l.rows l.initial.marks l.x l.left-iterator.row l.marks
+    × Going l.base l.rows l.initial.marks l.x l.left-iterator l.marks

@@ -1,4 +1,3 @@
-use Rattle.std.proofs.Common.{◌≡◌}
 use Rattle.judgement_marks.specs.schedules.Rows.{HeldBack}
 use Rattle.judgement_marks.proofs.schedules.Ordering.{Freeing}
 use Rattle.judgement_marks.proofs.schedules.lowest_freed.Given as goal
@@ -6,4 +5,4 @@ use Rattle.judgement_marks.proofs.schedules.lowest_freed.Given as goal
 abbrev pub invariant-loop-y : goal.invariant-loop-y
 invariant-loop-y l =
     (goal.iterator-loop-y).can_next l.y-iterator × (goal.iterator-loop-y).is_finite l.y-iterator
-    × (l.y-iterator.rows.now ≡ l.reversed) × Freeing l.reversed (HeldBack l.rows l.waits) l.x l.y-iterator.row l.best
+    × Freeing l.reversed (HeldBack l.rows l.waits) l.x l.y-iterator l.best
