@@ -10,6 +10,7 @@ use lib.Dec.{eqb}
 use lib.ListN.{length, take, drop, take-append-drop, length-map}
 use lib.Seq.{take-append-le, drop-append-le, take-append-add, drop-append-add, length-take-le, take-take}
 use Rattle.lists.proofs.Lists.{by}
+use Rattle.text_lines.specs.Line.{line_limit}
 use Rattle.text_lines.specs.Lines.{joined, lines}
 use Rattle.stream.specs.Pieces.{last_end, ended, unended, kept_bytes, waiting, Stream, no_input, fed_piece, fed_pieces, stream_lines, input_of}
 
@@ -225,7 +226,7 @@ module _ (F : Stream) (s : List ℕ) (h : Follows F s) where
   -- what waits and then something, and the whole line that it is of
   waits-lines : (q : List ℕ) → cut (lines (F.waits ++ q)) ≡ cut (lines (unended s ++ q))
   unfolding waiting
-  waits-lines q = ap (λ (w : List ℕ). cut (lines (w ++ q))) h.line-waits ∙ cut-lines 101 (unended s) q (unended-none s)
+  waits-lines q = ap (λ (w : List ℕ). cut (lines (w ++ q))) h.line-waits ∙ cut-lines line_limit (unended s) q (unended-none s)
 
   all_lines : (q : List ℕ) → cut (F.told ++ lines (F.waits ++ q)) ≡ cut (lines (s ++ q))
   all_lines q =
