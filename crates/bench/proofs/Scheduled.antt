@@ -1,6 +1,6 @@
 -- The schedule that is made from the marks of hidden edits is that of the hidden edits. Assumes nothing.
-use mathlib.Core.Path.{◌≡◌, refl, sym, ap, ◌∙◌}
-use mathlib.Core.Bool.{Bool, true, false, cond}
+use mathlib.Core.Path.{◌≡◌, sym, ap, ◌∙◌}
+use mathlib.Core.Bool.{Bool, cond}
 use mathlib.Core.List.{List, map}
 use Prim.Native.Nat.{ℕ}
 use lib.Dec.{eqb}
@@ -24,17 +24,14 @@ use Rattle.catalogue.specs.Chips.{schedule_of}
 use Rattle.voting.specs.Tally.{Election}
 use Rattle.ledger.specs.declared.Bench.{Bench}
 use Rattle.ledger.specs.Bench.{Outcome}
+use Rattle.lists.proofs.Tests.{bit_is}
 use Rattle.bench.specs.Changes.{pages_of, Changes, Reschedules}
 
 -- a mark is 1 just where the test holds
 marked-is : (R : Record) (test : ℕ → Bool) (x : ℕ) → x among names R → eqb (get_or (marks_of R test) (index_of x (names R)) 0) 1 ≡ test x
 marked-is R test x i =
     ap (λ (n : ℕ). eqb n 1) (marks-at R test (index_of x (names R)) (mem_index x (names R) i) ∙ ap (λ (y : ℕ). cond (test y) 1 0) (get_or-place x (names R) i))
-    ∙ bit (test x)
-  where
-    bit : (b : Bool) → eqb (cond b 1 0) 1 ≡ b
-    bit true = refl
-    bit false = refl
+    ∙ bit_is (test x)
 
 marked-hidden : (R : Record) (h : List ℕ) → h within written R → (x : ℕ) → mem x (marked_edits R (marks_of R (λ y. mem y h))) ≡ mem x h
 unfolding marked_edits

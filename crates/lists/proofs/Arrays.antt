@@ -1,18 +1,13 @@
 -- Laws of the elements of an array by place. Assumes nothing.
 use mathlib.Core.Path.{◌≡◌, refl, sym, ◌∙◌}
-use mathlib.Core.List.{List, [], ◌∷◌}
-use Prim.Native.Nat.{ℕ, zero, suc, ◌≤◌, ◌<◌, min}
+use mathlib.Core.List.{List}
+use Prim.Native.Nat.{ℕ, zero, suc, ◌≤◌, min}
 use native.Mathlib.Nat.{min-eq_left, min-eq_right}
 use native.Mathlib.Omega.{arith}
 use lib.ListN.{length, take, get_or, replicate}
 use lib.Seq.{take_all}
+pub use Rattle.std.proofs.lemmas.List.{get_or_default as get_or-any}
 use Rattle.lists.proofs.Tests.{le-by}
-
--- below the length the default is not read
-pub get_or-any : {A : Type 0} (l : List A) (i : ℕ) (d e : A) → i < length l → get_or l i d ≡ get_or l i e
-get_or-any [] i d e h = absurd (omega arith)
-get_or-any (x ∷ l) zero d e h = refl
-get_or-any (x ∷ l) (suc i) d e h = get_or-any l i d e (omega arith)
 
 -- an array of fillers
 pub get_or-filled : {A : Type 0} (filler : A) (n i : ℕ) → get_or (replicate n filler) i filler ≡ filler

@@ -4,15 +4,12 @@ use mathlib.Core.Bool.{Bool, true, false, ◌&&◌}
 use mathlib.Core.List.{List, [], ◌∷◌, ◌++◌, append-nil}
 use Prim.Native.Nat.{ℕ, ◌+◌, ◌≤◌, ◌<◌}
 use native.Mathlib.Omega.{arith}
-use native.Mathlib.Numerals.{add-one}
 use lib.ListN.{length, take, get_or}
-use lib.Seq.{take-suc, length-take-le, get_or-take}
+use lib.Seq.{length-take-le, get_or-take}
+pub use Rattle.std.proofs.lemmas.List.{take_more}
 use Rattle.lists.specs.Lists.{all, filter}
 use Rattle.lists.proofs.Tests.{by, clash}
 use Rattle.lists.proofs.Logic.{all-has, has-get_or}
-
-pub take_more : {A : Type 0} (a : List A) (i : ℕ) (d : A) → i < length a → take (i + 1) a ≡ take i a ++ (get_or a i d ∷ [])
-take_more a i d h = rw (add-one i) (take-suc a i d h)
 
 module _ {A : Type 0} (f : A → Bool) where
   pub all_append : (s t : List A) → all f (s ++ t) ≡ (all f s && all f t)

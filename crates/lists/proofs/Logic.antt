@@ -25,6 +25,11 @@ has-mapped f b [] h g = absurd h
 has-mapped f b (x ∷ l) (inl e) g = g x (inl refl) e
 has-mapped f b (x ∷ l) (inr h) g = has-mapped f b l h (λ a m e. g a (inr m) e)
 
+-- a list that is mapped and mapped back
+pub map-back : {A B : Type 0} (f : A → B) (g : B → A) (l : List A) → ((x : A) → Has x l → g (f x) ≡ x) → map g (map f l) ≡ l
+map-back f g [] h = refl
+map-back f g (x ∷ l) h = let p : g (f x) ≡ x = h x (inl refl) in let q : map g (map f l) ≡ l = map-back f g l (λ y m. h y (inr m)) in cc
+
 pub has-append-by {ℓ} : {A : Type 0} {P : Type ℓ} (x : A) (s t : List A) → Has x (s ++ t) → (Has x s → P) → (Has x t → P) → P
 has-append-by x [] t h f g = g h
 has-append-by x (y ∷ s) t (inl e) f g = f (inl e)

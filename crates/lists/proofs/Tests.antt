@@ -5,7 +5,7 @@ use mir.Val.{bool_byte}
 use Prim.Native.Nat.{ℕ, ◌≤◌, ◌<◌}
 use native.Mathlib.Omega.{arith}
 use lib.Dec.{eqb, leb}
-use borrow.Author.Tests.{eqb-true, eqb-false, leb-true, leb-false}
+use borrow.Author.Tests.{eqb-true, eqb-false, eq-eqb, leb-true, leb-false}
 use Rattle.std.proofs.lemmas.Bool.{and_parts, or_parts}
 pub use Rattle.std.proofs.lemmas.Bool.{and_from as and_i, or_left as or_l, or_right as or_r}
 
@@ -45,6 +45,9 @@ same_by true b f g = sym (f refl)
 same_by false true f g = g refl
 same_by false false f g = refl
 
+pub eqb-swapped : (x y : ℕ) → eqb x y ≡ eqb y x
+eqb-swapped x y = same_by (eqb x y) (eqb y x) (λ e. eq-eqb y x (sym (eqb-true x y e))) (λ e. eq-eqb x y (sym (eqb-true y x e)))
+
 -- the number of a truth value
 pub byte-bit : (b : Bool) → bool_byte b ≡ cond {A = ℕ} b 1 0
 byte-bit true = refl
@@ -54,3 +57,7 @@ byte-bit false = refl
 pub bit_is : (b : Bool) → eqb (cond b 1 0) 1 ≡ b
 bit_is true = refl
 bit_is false = refl
+
+pub bit-on : (b : Bool) → ◌≡◌ {A = ℕ} (cond b 1 0) 1 → b ≡ true
+bit-on true e = refl
+bit-on false e = absurd (omega arith)

@@ -59,7 +59,7 @@ pub trait Element<const CELLS: usize>: Copy {
 
 impl Element<5> for Edit {
     ghost use Rattle.std.specs.Prelude.{[], ◌∷◌};
-    ghost use Rattle.record.specs.Stored.{filler_edit};
+    ghost use Rattle.record.specs.Stored.{edit_limit, filler_edit};
     ghost use Rattle.record_rows.specs.row.Row.{edit_row, edit_in_range, edit_of};
     ghost use Rattle.record_rows.specs.element.Laws.{edit-narrow, edit-wide, edit-keyed};
 
@@ -77,7 +77,7 @@ impl Element<5> for Edit {
 
     const KEY: usize = 1;
 
-    ghost PLACES = { 127 };
+    ghost PLACES = { edit_limit };
 
     const PLACES: usize = EDITS;
 
@@ -132,7 +132,7 @@ impl Element<5> for Edit {
 
 impl Element<3> for Constraint {
     ghost use Rattle.std.specs.Prelude.{[], ◌∷◌};
-    ghost use Rattle.record.specs.Stored.{filler_constraint};
+    ghost use Rattle.record.specs.Stored.{constraint_limit, filler_constraint};
     ghost use Rattle.record_rows.specs.row.Row.{constraint_row, constraint_in_range, constraint_of};
     ghost use Rattle.record_rows.specs.element.Laws.{constraint-narrow, constraint-wide, constraint-keyed};
 
@@ -150,7 +150,7 @@ impl Element<3> for Constraint {
 
     const KEY: usize = 3;
 
-    ghost PLACES = { 512 };
+    ghost PLACES = { constraint_limit };
 
     const PLACES: usize = CONSTRAINTS;
 

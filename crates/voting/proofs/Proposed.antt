@@ -57,21 +57,18 @@ module _ {M Q : Record} (j : Joinable M Q) (v : WellFormed M) (w : WellFormed Q)
     lower = λ a b h. or-by (has a 2 b M.constraints) (has a 2 b Q.constraints) (sym (has-unite j a 2 b) ∙ h) (p.lower a b) (q.lower a b);
   }
 
-  unite-formed : WellFormed (unite M Q)
-  unite-formed = unite-well-formed j v w
-
   -- a row "b notafter a" joins two edits of the union
   first_ends : (c : Constraint) → Has c (firsts Q (unordered (unite M Q))) → (c.left among written (unite M Q)) × (c.rule ≡ 0) × (c.right among written (unite M Q))
   first_ends c h =
       firsts-by Q (unordered (unite M Q)) c h
       (λ d m o. let u = (unordered-from (unite M Q) d m).0 in
-      let l = unite-formed.left d.left 2 d.right u in
-      let r = right-written unite-formed d.left 2 d.right u (λ z. omega arith) in
+      let l = (unite-well-formed j v w).left d.left 2 d.right u in
+      let r = right-written (unite-well-formed j v w) d.left 2 d.right u (λ z. omega arith) in
       ⊎_elim (λ (e : c ≡ before d.left d.right). rw e (l, refl, r)) (λ (e : c ≡ before d.right d.left). rw e (r, refl, l)) o)
 
   pub started-well-formed : WellFormed (started M Q)
   unfolding started
-  started-well-formed = with-well-formed (unite M Q) _ unite-formed (λ a k b h. let r = first_ends (con a k b) (has_in a k b _ h) in (r.0, inl r.2))
+  started-well-formed = with-well-formed (unite M Q) _ (unite-well-formed j v w) (λ a k b h. let r = first_ends (con a k b) (has_in a k b _ h) in (r.0, inl r.2))
 
   pub started-paired : Paired (started M Q)
   unfolding started

@@ -6,23 +6,21 @@ use Prim.Native.Nat.{ℕ, ◌+◌, ◌<◌}
 use native.Mathlib.Omega.{arith}
 use lib.Dec.{eqb, leb, ltb}
 use lib.ListN.{length, take, drop, get_or, length-append, take-append-drop}
-use borrow.Author.Tests.{eqb-true, eqb-false, eq-eqb, ne_eqb, ltb-true, leb-true, leb-false, le-leb, lt-ltb, le-ltb}
+use borrow.Author.Tests.{ltb-true, leb-true, leb-false, le-leb, lt-ltb, le-ltb}
 use Rattle.std.specs.List.{list_any}
 use Rattle.lists.specs.Lists.{all, mem, distinct}
 use Rattle.lists.proofs.Lists.{by, clash}
 use Rattle.voting.specs.declared.RollRow.{RollRow}
 use Rattle.lists.proofs.Front.{all_append, take_more}
 use Rattle.record_rows.specs.grounds.Ground.{◌given◌}
+use Rattle.lists.proofs.Tests.{eqb-swapped}
 use Rattle.voting_roll.specs.Roll.{roll_bench, is_bench, roll_faulty, row_faulty}
-
-turned : (a b : ℕ) → eqb a b ≡ eqb b a
-turned a b = by (eqb a b) (λ e. e ∙ sym (eq-eqb b a (sym (eqb-true a b e)))) (λ e. e ∙ sym (ne_eqb b a (λ q. eqb-false a b e (sym q))))
 
 -- a bench among the rows
 pub bench-some : (bench : ℕ) (rows : List RollRow) → list_any (λ row. eqb row.bench bench) rows ≡ mem bench (map roll_bench rows)
 unfolding mem
 bench-some bench [] = refl
-bench-some bench (x ∷ rows) = rw (turned x.bench bench, bench-some bench rows)
+bench-some bench (x ∷ rows) = rw (eqb-swapped x.bench bench, bench-some bench rows)
 
 mem-more : (x : ℕ) (rows : List RollRow) (row : RollRow) → mem x (map roll_bench (rows ++ (row ∷ []))) ≡ (mem x (map roll_bench rows) || eqb x row.bench)
 unfolding mem
@@ -33,7 +31,7 @@ distinct_more : (rows : List RollRow) (row : RollRow) → distinct (map roll_ben
 unfolding distinct mem
 distinct_more [] row = refl
 distinct_more (x ∷ rows) row =
-    rw (mem-more x.bench rows row, distinct_more rows row, turned row.bench x.bench)
+    rw (mem-more x.bench rows row, distinct_more rows row, eqb-swapped row.bench x.bench)
     (parted (mem x.bench (map roll_bench rows)) (eqb x.bench row.bench) (distinct (map roll_bench rows)) (mem row.bench (map roll_bench rows)))
   where
     parted : (a e d m : Bool) → (not (a || e) && (d && not m)) ≡ ((not a && d) && not (e || m))

@@ -9,8 +9,8 @@ use std::fmt::Write;
 /// Names that still have two meanings, a definition's and a law's most of them. No other may.
 const STILL: &str =
     "Agree Each Faultless Follows Joins Same Won Writing any-by any-no back earlier enabler \
-    found group held index_in itself judged last line_text lines more new no_line placed \
-    taken turn unknown waiting written";
+    group held index_in itself judged last line_text lines more new no_line placed \
+    taken turn waiting written";
 
 #[derive(Clone, Copy, PartialEq, Eq, PartialOrd, Ord)]
 enum Sort {

@@ -10,7 +10,7 @@ use borrow.Author.Tests.{eq-eqb, ne_eqb, not-true}
 use Rattle.lists.specs.Lists.{filter, mem, index_of, ◌among◌, ◌within◌}
 use Rattle.record.specs.Record.{names, written}
 use Rattle.record.specs.Judgement.{must}
-use Rattle.lists.proofs.Lists.{by, clash, or_r, same_by, mem_index, mem-head, cons-within, filter-mem, mem-filter}
+use Rattle.lists.proofs.Lists.{by, clash, or_r, same_by, mem_index, mem-head, mem-other, cons-within, filter-mem, mem-filter}
 use Rattle.record_rows.specs.row.Row.{is_name}
 use Rattle.record_rows.specs.grounds.Ground.{◌given◌, ◌orelse◌}
 use Rattle.record_rows.proofs.grounds.Grounds.{orelse-first, orelse-second, orelse-assoc}
@@ -31,6 +31,7 @@ use Rattle.ledger.specs.Bench.{Outcome, bench_of, outcome}
 use Rattle.ledger.proofs.Valid.{Valid, shown-within}
 use Rattle.bench.specs.Changes.{Changes}
 use Rattle.bench.proofs.Moves.{accepted-is, bench-record, bench-hidden}
+use Rattle.lists.proofs.Tests.{bit-on}
 use Rattle.bench_edits.specs.visibility.Named.{name_fault, mark_call}
 
 -- the mark of an edit against the mark that a call gives it
@@ -39,10 +40,6 @@ same-mark true true = refl
 same-mark true false = refl
 same-mark false true = refl
 same-mark false false = refl
-
-mem-other : (x y : ℕ) (h : List ℕ) → (y ≡ x → ⊥) → mem y (x ∷ h) ≡ mem y h
-unfolding mem
-mem-other x y h n = rw (ne_eqb y x n)
 
 shown-same : (x : ℕ) (h : List ℕ) → mem x (shown x h) ≡ false
 unfolding shown
@@ -96,8 +93,8 @@ mark-judge L x true = orelse-assoc (2 given not (is_name x)) (5 given not (mem x
 mark-judge L x false = orelse-assoc (2 given not (is_name x)) (5 given not (mem x (written L.multilog))) (9 given not (mem x L.hidden))
 
 -- what the look-up found
-pub found : (o : Option ℕ) (x i : ℕ) (l : List ℕ) → o ≡ index_in x l → o ≡ Some i → (mem x l ≡ true) × (i ≡ suc (index_of x l))
-found o x i l f e =
+pub found-is : (o : Option ℕ) (x i : ℕ) (l : List ℕ) → o ≡ index_in x l → o ≡ Some i → (mem x l ≡ true) × (i ≡ suc (index_of x l))
+found-is o x i l f e =
     by (mem x l)
     (λ (m : mem x l ≡ true). let z : Some i ≡ Some (suc (index_of x l)) = sym e ∙ f ∙ rw m in (m, cc))
     (λ (m : mem x l ≡ false). let z : Some i ≡ None = sym e ∙ f ∙ rw m in cc)
@@ -112,17 +109,14 @@ which (Some i) refusal w z = cc
 
 -- by the edit's name alone
 module _ (L : Ledger) (x : ℕ) (hides : Bool) where
+  by-name : {k : ℕ} → k ≡ name_fault L.multilog x → (k ≡ 0 → ⊥) → k ≡ judge L (mark_call hides x)
+  by-name f z = f ∙ sym (mark-judge L x hides ∙ orelse-first (name_fault L.multilog x) _ (λ q. z (f ∙ q)))
+
   pub unnamed : is_name x ≡ false → 2 ≡ judge L (mark_call hides x)
   unnamed n = let f : 2 ≡ name_fault L.multilog x = rw n in by-name f (λ z. omega arith)
-    where
-      by-name : {k : ℕ} → k ≡ name_fault L.multilog x → (k ≡ 0 → ⊥) → k ≡ judge L (mark_call hides x)
-      by-name f z = f ∙ sym (mark-judge L x hides ∙ orelse-first (name_fault L.multilog x) _ (λ q. z (f ∙ q)))
 
-  pub unknown : is_name x ≡ true → mem x (written L.multilog) ≡ false → 5 ≡ judge L (mark_call hides x)
-  unknown n m = let f : 5 ≡ name_fault L.multilog x = rw (n, m) in by-name f (λ z. omega arith)
-    where
-      by-name : {k : ℕ} → k ≡ name_fault L.multilog x → (k ≡ 0 → ⊥) → k ≡ judge L (mark_call hides x)
-      by-name f z = f ∙ sym (mark-judge L x hides ∙ orelse-first (name_fault L.multilog x) _ (λ q. z (f ∙ q)))
+  pub unknown-refused : is_name x ≡ true → mem x (written L.multilog) ≡ false → 5 ≡ judge L (mark_call hides x)
+  unknown-refused n m = let f : 5 ≡ name_fault L.multilog x = rw (n, m) in by-name f (λ z. omega arith)
 
 -- a known edit, with the index that the code found
 module _ (L : Ledger) (v : Valid L) (bench : Bench) (e : bench ≡ bench_of L) (x i : ℕ) (hides : Bool) (m : ℕ) (c : m ≡ cond hides 1 0)
@@ -149,16 +143,12 @@ module _ (L : Ledger) (v : Valid L) (bench : Bench) (e : bench ≡ bench_of L) (
       sym (judged ∙ rw b)
 
   module _ (musts : List ℕ) (h : musts ≡ marks_of L.multilog (must L.multilog)) where
-    one : (b : Bool) → ◌≡◌ {A = ℕ} (cond b 1 0) 1 → b ≡ true
-    one true z = refl
-    one false z = absurd (omega arith)
-
     must-is : get_or musts i 0 ≡ cond (must L.multilog x) 1 0
     must-is = mark-is musts (must L.multilog) h
 
     pub must-stands : hides ≡ true → get_or musts i 0 ≡ 1 → 9 ≡ judge L (mark_call hides x)
     must-stands t q =
-        let s : must L.multilog x ≡ true = one (must L.multilog x) (sym must-is ∙ q) in
+        let s : must L.multilog x ≡ true = bit-on (must L.multilog x) (sym must-is ∙ q) in
         let b : Bars ≡ true = rw (t, s) in
         sym (judged ∙ rw b)
 

@@ -1,7 +1,7 @@
 -- A table without a faulty row: its rows are in range, it ascends without repeats, has a place for each row once it has joined, and has no other body for a known key.
 -- And a table by itself that is so has no faulty row. Assumes nothing.
 use mathlib.Core.Path.{◌≡◌, refl}
-use mathlib.Core.Bool.{Bool, true, false, not, ◌&&◌}
+use mathlib.Core.Bool.{Bool, true, false, not, ◌&&◌, and-false}
 use mathlib.Core.Logic.{inl, inr}
 use mathlib.Core.List.{[], ◌∷◌, ◌++◌, append_assoc, append-nil}
 use Prim.Native.Nat.{◌≤◌, ◌<◌}
@@ -125,17 +125,13 @@ module _ (K : TableKind) where
       front_below [] b = tt
       front_below (y ∷ s) b = (b.0, front_below s b.1)
 
-  none : (b : Bool) → (b && false) ≡ false
-  none true = refl
-  none false = refl
-
   alone-row : (above : Rows) (r : Row) → K.in_range r ≡ true → K.further r ≡ 0 → Ascending (take K.key) above → late (take K.key) above (take K.key r) ≡ false → length above < K.limit → RowClean K [] above r
   unfolding no_place other_body misplaced any
   alone-row above r e g a o l =
       record {
         range = e;
-        place = rw (united-alone (take K.key) above a, lt-leb K.limit (length above) l) (none (not (known K.key r above)));
-        body = none (not (known K.key r above));
+        place = rw (united-alone (take K.key) above a, lt-leb K.limit (length above) l) (and-false (not (known K.key r above)));
+        body = and-false (not (known K.key r above));
         further = g;
         order = o;
       }

@@ -8,7 +8,7 @@ use native.Mathlib.Omega.{arith}
 use lib.ListN.{length, take, length-map}
 use Rattle.lists.specs.Keyed.{Ascending, united}
 use Rattle.lists.specs.Lists.{Has}
-use Rattle.lists.proofs.Logic.{has-map, has-mapped}
+use Rattle.lists.proofs.Logic.{has-map, has-mapped, map-back}
 use Rattle.lists.proofs.Union.{ascending-map, map-united, Agree, united-comm, length-grown}
 use Rattle.record_rows.specs.row.Row.{Row, same}
 use Rattle.record_rows.proofs.row.Compared.{neither-same}
@@ -54,15 +54,8 @@ module _ (K : Elements) (C : Coding K) where
     row_back : (x : Row) → Has x t → K.row_of (C.of x) ≡ x
     row_back x m = C.back x (accepted-range K.kind (map K.row_of E) t h x m)
 
-    rows_back : (s : Rows) → ((x : Row) → Has x s → K.row_of (C.of x) ≡ x) → map K.row_of (map C.of s) ≡ s
-    rows_back [] f = refl
-    rows_back (x ∷ s) f =
-        let e : K.row_of (C.of x) ≡ x = f x (inl refl) in
-        let g : map K.row_of (map C.of s) ≡ s = rows_back s (λ y m. f y (inr m)) in
-        cc
-
     pub lent_back : map K.row_of (map C.of t) ≡ t
-    lent_back = rows_back t row_back
+    lent_back = map-back C.of K.row_of t row_back
 
     pub lent-range : (x : K.A) → Has x (map C.of t) → K.kind.in_range (K.row_of x) ≡ true
     lent-range x m =

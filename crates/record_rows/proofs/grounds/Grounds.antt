@@ -1,6 +1,6 @@
 -- The first faulty row, looked for row by row, and the grounds 3, 4 and 13 of a row by its place in an ascending table. Assumes nothing.
 use mathlib.Core.Path.{◌≡◌, refl, ap, ◌∙◌, sym}
-use mathlib.Core.Bool.{Bool, true, false, not, ◌&&◌, ◌||◌}
+use mathlib.Core.Bool.{Bool, true, false, not, ◌&&◌, or-false}
 use mathlib.Core.Logic.{⊎_elim}
 use mathlib.Core.List.{List, [], ◌∷◌, ◌++◌}
 use Prim.Native.Nat.{ℕ, zero, suc, ◌+◌, ◌≤◌, ◌<◌}
@@ -119,9 +119,5 @@ module _ (k : ℕ) where
           let u : take k row ≡ take k (get_or J p []) = same-eq (take k row) (take k (get_or J p [])) e in
           let g = above-none row (drop (suc p) J) (λ r m. rw u (below-has (take k) (get_or J p []) r (drop (suc p) J) (ascending-at J p h a) m)) in (
             ap (known k row) splits ∙ any_append (alike k row) (take p J) (get_or J p [] ∷ drop (suc p) J) ∙ rw (f.0, e),
-            ap (clashes row) splits ∙ any_append (λ r. alike k row r && not (same row r)) (take p J) (get_or J p [] ∷ drop (suc p) J) ∙ rw (f.1, e, g.1) (or-end (not (same row (get_or J p [])))),
+            ap (clashes row) splits ∙ any_append (λ r. alike k row r && not (same row r)) (take p J) (get_or J p [] ∷ drop (suc p) J) ∙ rw (f.1, e, g.1) (or-false (not (same row (get_or J p [])))),
           )
-        where
-          or-end : (b : Bool) → (b || false) ≡ b
-          or-end true = refl
-          or-end false = refl

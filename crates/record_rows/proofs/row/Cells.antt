@@ -1,6 +1,6 @@
 -- Rows in range: their bounds, and that decoding and the row of what is decoded are inverse. Assumes nothing.
 use mathlib.Core.Path.{◌≡◌, refl, ap, sym, ◌∙◌}
-use mathlib.Core.Bool.{Bool, true, false, cond, ◌&&◌}
+use mathlib.Core.Bool.{Bool, true, false, cond, ◌&&◌, and_assoc}
 use mathlib.Core.List.{[], ◌∷◌}
 use Prim.Native.Nat.{ℕ, zero, suc, ◌+◌, ◌≤◌, ◌<◌, ◌/◌, ◌%◌}
 use native.Mathlib.Omega.{arith}
@@ -75,13 +75,9 @@ module _ (kind field value : ℕ) where
   unfolding body_in_range
   body-other a b c = past3 (λ n. false ≡ body_in_range n field value) (λ m. refl) kind a b c
 
-pub and-three : (a b c : Bool) → ((a && b) && c) ≡ (a && (b && c))
-and-three true b c = refl
-and-three false b c = refl
-
 -- a row of its width, from the tests that the code makes
 pub row-in-range : (row : Row) (width : ℕ) (second : Bool) {first rest f g : Bool} → length row ≡ width → f ≡ first → g ≡ rest → ((f && second) && g) ≡ (eqb (length row) width && (first && (second && rest)))
-row-in-range row width second {f = f} {g = g} w e p = rw (eq-eqb (length row) width w, ← e, ← p) (and-three f second g)
+row-in-range row width second {f = f} {g = g} w e p = rw (eq-eqb (length row) width w, ← e, ← p) (and_assoc f second g)
 
 tests-pass : (a b c d : Bool) → (a && (b && (c && d))) ≡ true → (a ≡ true) × (b ≡ true) × (c ≡ true) × (d ≡ true)
 tests-pass a b c d h =

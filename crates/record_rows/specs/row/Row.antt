@@ -47,9 +47,13 @@ same [] (y ∷ b) = false
 same (x ∷ a) [] = false
 same (x ∷ a) (y ∷ b) = eqb x y && same a b
 
--- a name: bench × 256 + sequence, bench 1 to 8, sequence 1 to 255
+-- benches are 1 to this one
+abbrev pub bench_limit : ℕ
+bench_limit = 8
+
+-- a name: bench × 256 + sequence, sequence 1 to 255
 unfoldable pub is_name : ℕ → Bool
-is_name n = leb 1 (n / 256) && (leb (n / 256) 8 && leb 1 (n % 256))
+is_name n = leb 1 (n / 256) && (leb (n / 256) bench_limit && leb 1 (n % 256))
 
 -- names are below it
 abbrev pub name_limit : ℕ

@@ -13,7 +13,7 @@ use Rattle.ledger.proofs.Valid.{start-valid, fed-valid}
 use Rattle.bench.proofs.Moves.{told-refused, bench-record}
 use Rattle.bench.proofs.Scheduled.{change-made}
 use Rattle.bench_edits.specs.visibility.Named.{mark_call}
-use Rattle.bench_edits.proofs.visibility.Visible.{found, unfound, which, unnamed, unknown, marked-already, must-stands, mark_made}
+use Rattle.bench_edits.proofs.visibility.Visible.{found-is, unfound, which, unnamed, unknown-refused, marked-already, must-stands, mark_made}
 use Rattle.bench_edits.proofs.visibility.with_mark.Goals as goal
 use Rattle.bench_edits.proofs.visibility.with_mark.Goals.{else-hides-via-then-hides+else-planned-index-eq-STANDS, else-hides-via-else-hides}
 
@@ -31,7 +31,7 @@ returns-in_err-index c = λ calls e.
     let f = c.edit_index.ensures.is L.multilog (bench-record L c.args.bench.now e) v.checked in
     let n : is_name c.args.edit ≡ true = sym c.is_name.ensures ∙ c.if-not-is_name.false in
     let p = err_from_is_err_and c.from_residual.result c.from_residual.ensures.1 in
-    let u = unknown L c.args.edit c.args.hides n (unfound _ _ _ f c.in_err-index.ensures.ok_part) in
+    let u = unknown-refused L c.args.edit c.args.hides n (unfound _ _ _ f c.in_err-index.ensures.ok_part) in
     let w = which _ _ c.in_err-index.ensures.value c.in_err-index.ensures.ok_part in
     rw (p.1, p.2) (told-refused L c.args.bench.now (mark_call c.args.hides c.args.edit) c.in_err-index.field-0.0 e (w ∙ u))
 
@@ -42,7 +42,7 @@ returns-then-marks-index c = λ calls e.
     let v = fed-valid start calls start-valid in
     let f = c.edit_index.ensures.is L.multilog (bench-record L c.args.bench.now e) v.checked in
     let n : is_name c.args.edit ≡ true = sym c.is_name.ensures ∙ c.if-not-is_name.false in
-    let k = found _ _ _ _ f c.in_ok-index.ensures.ok_part in
+    let k = found-is _ _ _ _ f c.in_ok-index.ensures.ok_part in
     told-refused L c.args.bench.now (mark_call c.args.hides c.args.edit) NotHideable e
     (marked-already L v c.args.bench.now e c.args.edit c.in_ok-index.index c.args.hides c.from-mark.result (c.from-mark.ensures ∙ byte-bit c.args.hides) n k.0 k.1 c.if-marks-index.true)
 
@@ -54,7 +54,7 @@ returns-then-planned-index-eq-STANDS c = λ calls e.
     let q = bench-record L c.args.bench.now e in
     let f = c.edit_index.ensures.is L.multilog q v.checked in
     let n : is_name c.args.edit ≡ true = sym c.is_name.ensures ∙ c.if-not-is_name.false in
-    let k = found _ _ _ _ f c.in_ok-index.ensures.ok_part in
+    let k = found-is _ _ _ _ f c.in_ok-index.ensures.ok_part in
     told-refused L c.args.bench.now (mark_call c.args.hides c.args.edit) NotHideable e
     (must-stands L v c.args.bench.now e c.args.edit c.in_ok-index.index c.args.hides c.from-mark.result (c.from-mark.ensures ∙ byte-bit c.args.hides) n k.0 k.1
     c.plan-planned.result.must (c.plan-planned.ensures L.multilog q (checked-fit L.multilog v.checked)).1 c.if-hides.true c.if-planned-index-eq-STANDS.true)
@@ -67,7 +67,7 @@ returns c = λ calls e.
     let q = bench-record L c.args.bench.now e in
     let f = c.edit_index.ensures.is L.multilog q v.checked in
     let n : is_name c.args.edit ≡ true = sym c.is_name.ensures ∙ c.if-not-is_name.false in
-    let k = found _ _ _ _ f c.in_ok-index.ensures.ok_part in
+    let k = found-is _ _ _ _ f c.in_ok-index.ensures.ok_part in
     let r : c.args.hides ≡ true → get_or c.plan-planned.result.must c.in_ok-index.index 0 ≡ 1 → ⊥ =
     λ t z. elim c.else-hides.branch [ else-hides-via-then-hides+else-planned-index-eq-STANDS w ↦ w.if-planned-index-eq-STANDS.false z | else-hides-via-else-hides w ↦ clash t w.if-hides.false ] in
     mark_made L v c.args.bench.now e c.args.edit c.in_ok-index.index c.args.hides c.from-mark.result (c.from-mark.ensures ∙ byte-bit c.args.hides) n k.0 k.1
