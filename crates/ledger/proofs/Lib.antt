@@ -1,3 +1,4 @@
 pub mod Valid
 pub mod Undone
 pub mod Told
+pub mod Alike

@@ -66,15 +66,12 @@ ran : (L : Ledger) → (bench_of L).view.catalogue.entries ≡ run chips (empty_
 unfolding bench_of chips_view
 ran L = catalogue-of chips places rows (open_edits L)
 
--- of a bench that is the ledger's, with the answers that it tells
-pub undo-of : (calls : List Call) {rs : List Outcome} {c : Bench} → c ≡ bench_of (fed start calls) → answers_of rs ≡ told start calls → Undo calls rs c
-undo-of calls e a =
-    record { ledger = e; answers = a; catalogue = ap (λ (b : Bench). b.view.catalogue.entries) e ∙ ran (fed start calls) }
-
 -- THE UNDO RULE
 pub undo-rule : {calls : List Call} {rs : List Outcome} {c : Bench} → Linked (bench_of start) calls rs c → Undo calls rs c
 unfolding fed
-undo-rule {calls} l = let k = kept [] l refl in undo-of calls k.ledger k.answers
+undo-rule {calls} l =
+    let k = kept [] l refl in
+    record { ledger = k.ledger; answers = k.answers; catalogue = ap (λ (b : Bench). b.view.catalogue.entries) k.ledger ∙ ran (fed start calls) }
 
 -- a step by its judgement
 pub step-refused : (L : Ledger) (call : Call) → (judge L call ≡ 0 → ⊥) → step L call ≡ refusal L (judge L call)

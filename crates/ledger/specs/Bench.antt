@@ -54,6 +54,11 @@ pub data Linked : Bench → List Call → List Outcome → Bench → Type 0 wher
 unfoldable pub answers_of : List Outcome → List CallAnswer
 answers_of rs = map (λ r. r.answer) rs
 
+-- what calls come to, one after the other
+unfoldable pub outcomes : Ledger → List Call → List Outcome
+outcomes L [] = []
+outcomes L (call ∷ rest) = outcome (step L call) ∷ outcomes (step L call).after rest
+
 -- what the ledger answers
 unfoldable pub told : Ledger → List Call → List CallAnswer
 told L [] = []

@@ -5,12 +5,13 @@ use mathlib.Core.List.{List, [], ◌∷◌}
 use Prim.Native.Nat.{ℕ}
 use lib.Dec.{eqb}
 use Rattle.lists.proofs.Lists.{by}
-use Rattle.ledger.specs.Ledger.{CallAnswer, Ledger, Call, start, fed, judge, step, refusal}
+use Rattle.ledger.specs.Ledger.{Ledger, Call, start, fed, judge, step, refusal}
 use Rattle.ledger.specs.declared.Bench.{Bench}
-use Rattle.ledger.specs.Bench.{bench_of, outcome, answers_of, told, Undo}
-use Rattle.ledger.proofs.Undone.{undo-of}
+use Rattle.ledger.specs.Bench.{bench_of, Linked, outcomes, Undo}
+use Rattle.ledger.proofs.Undone.{undo-rule}
+use Rattle.ledger.proofs.Alike.{linked-of}
 use Rattle.log_session.specs.Desk.{ledger_of, bench_in}
-use Rattle.log_run.specs.Log.{log_run, accepted, outcomes}
+use Rattle.log_run.specs.Log.{log_run, accepted}
 
 refused-stays : (L : Ledger) (call : Call) → eqb (judge L call) 0 ≡ false → (step L call).after ≡ L
 unfolding step refusal
@@ -30,12 +31,11 @@ pub log-bench : (log : List ℕ) → bench_in (log_run log).desk ≡ bench_of (f
 unfolding bench_in ledger_of
 log-bench log = ap bench_of (accepted-only start (log_run log).desk.calls)
 
-outcomes-told : (L : Ledger) (calls : List Call) → answers_of (outcomes L calls) ≡ told L calls
-unfolding answers_of outcomes told outcome
-outcomes-told L [] = refl
-outcomes-told L (call ∷ rest) = ap (λ (answers : List CallAnswer). (step L call).answer ∷ answers) (outcomes-told (step L call).after rest)
+-- THE UNDO RULE OF A RUN: the bench after a log is what the calls that its lines made come to, one after the other; and so the rule holds of them
+module _ (log : List ℕ) {bench : Bench} (e : bench ≡ bench_in (log_run log).desk) where
+  pub log-linked : Linked (bench_of start) (log_run log).desk.calls (outcomes start (log_run log).desk.calls) bench
+  unfolding bench_in ledger_of
+  log-linked = rw e (linked-of (log_run log).desk.calls)
 
--- THE UNDO RULE OF A RUN: the bench after a log, with the calls that its lines made and what each came to
-pub log-undo : (log : List ℕ) {bench : Bench} → bench ≡ bench_in (log_run log).desk → Undo (log_run log).desk.calls (outcomes start (log_run log).desk.calls) bench
-unfolding bench_in ledger_of
-log-undo log e = undo-of (log_run log).desk.calls e (outcomes-told start (log_run log).desk.calls)
+  pub log-undo : Undo (log_run log).desk.calls (outcomes start (log_run log).desk.calls) bench
+  log-undo = undo-rule log-linked

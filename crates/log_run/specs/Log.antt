@@ -2,7 +2,6 @@
 use Rattle.std.specs.Prelude.{cond, List, [], ◌∷◌, ◌++◌, ℕ, suc, eqb}
 use Rattle.text_lines.specs.Lines.{lines}
 use Rattle.ledger.specs.Ledger.{Ledger, Call, judge, step}
-use Rattle.ledger.specs.Bench.{Outcome, outcome}
 use Rattle.log_forms.specs.Printed.{Texts}
 use Rattle.log_commands.specs.Grammar.{command_read}
 use Rattle.log_session.specs.Desk.{Desk, empty_desk, printed_of}
@@ -40,8 +39,3 @@ log_run log = run_lines (begun empty_desk 0) (lines log)
 unfoldable pub accepted : Ledger → List Call → List Call
 accepted L [] = []
 accepted L (call ∷ rest) = cond (eqb (judge L call) 0) (call ∷ accepted (step L call).after rest) (accepted L rest)
-
--- what calls come to, one after the other
-unfoldable pub outcomes : Ledger → List Call → List Outcome
-outcomes L [] = []
-outcomes L (call ∷ rest) = outcome (step L call) ∷ outcomes (step L call).after rest
