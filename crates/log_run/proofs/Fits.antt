@@ -82,19 +82,18 @@ back_fits : (n : ℕ) → CommandFits (turn_back n)
 unfolding turn_back
 back_fits n = by (ltb n 2147483649) (λ (e : ltb n 2147483649 ≡ true). rw e tt) (λ (e : ltb n 2147483649 ≡ false). rw e (omega arith))
 
--- one line for each production, in the order of the grammar
 forms-fit : AllFit command_forms
 unfolding command_forms
-forms-fit = (λ n h. h 5, (λ n h. tt, (λ n h. tt, (λ n h. tt, (λ n h. tt, (λ n h. tt, (λ n h. tt, (λ n h. tt, (λ n h. tt, (λ n h. tt, (λ n h. tt, (λ n h. forward-fits (n 0), (λ n h. back_fits (n 0), (λ n h. tt, (λ n h. tt, (λ n h. tt, (λ n h. tt, (λ n h. tt, (λ n h. tt, (λ n h. tt, (λ n h. tt, (λ n h. tt, (λ n h. tt, (λ n h. tt, (λ n h. tt, (λ n h. tt, (λ n h. tt, tt)))))))))))))))))))))))))))
+forms-fit = search (forward-fits, back_fits)
 
 -- the lines of the exchanged text
 added-fit : AllFit (map add_form shapes)
 unfolding shapes set_shapes rule_shapes
-added-fit = (λ n h. h 2, (λ n h. h 2, (λ n h. h 2, (λ n h. h 2, (λ n h. h 2, (λ n h. h 2, (λ n h. tt, (λ n h. tt, (λ n h. tt, tt)))))))))
+added-fit = search arith
 
 lent-fit : AllFit (map lend_form shapes)
 unfolding shapes set_shapes rule_shapes
-lent-fit = (λ n h. h 3, (λ n h. h 3, (λ n h. h 3, (λ n h. h 3, (λ n h. h 3, (λ n h. h 3, (λ n h. tt, (λ n h. tt, (λ n h. tt, tt)))))))))
+lent-fit = search arith
 
 command-fits : (line : List ℕ) → CommandFits (command_read line)
 unfolding command_read grammar

@@ -24,10 +24,10 @@ use Rattle.text_lines.specs.Lines.{first_line}
 use Rattle.text_lines.proofs.Ends.{first_taken}
 use Rattle.log_answers.specs.bench_answers.Asks.{page_text}
 use Rattle.log_commands.specs.declared.Call.{Call as Calls}
-use Rattle.log_commands.specs.declared.Call.TheVariants.{AddEdit, AddConstraint, Merge, Hide, Show, Turn as TurnPages, Adopt}
-use Rattle.log_commands.specs.declared.Ask.TheVariants.{Text, Report, Hidden, Schedule, Catalogue, Journal, Page}
+use Rattle.log_commands.specs.declared.Call.TheVariants.{Turn as TurnPages}
+use Rattle.log_commands.specs.declared.Ask.TheVariants.{Page}
 use Rattle.log_commands.specs.declared.Command.{Command}
-use Rattle.log_commands.specs.declared.Command.TheVariants.{Lend, Propose, Call, Vote, Ask}
+use Rattle.log_commands.specs.declared.Command.TheVariants.{Call, Ask}
 use Rattle.log_commands.specs.Grammar.{command_read}
 use Rattle.log_session.specs.declared.Session.{Session}
 use Rattle.log_session.specs.Desk.{Desk, make, ledger_of, bench_in, replied}
@@ -61,24 +61,9 @@ no-line : {P : Type 0} {paging : PageLine} → ◌≡◌ {A = Option PageLine} N
 no-line e = clash refl (sym (ap is_some e))
 
 pub paging-line : (command : Result Command Refusal) {paging : PageLine} → paging_of command ≡ Some paging → command ≡ line_of paging
-paging-line (Err refusal) e = no-line e
-paging-line (Ok (Lend lend)) e = no-line e
-paging-line (Ok (Propose asked)) e = no-line e
-paging-line (Ok (Call (AddEdit cells))) e = no-line e
-paging-line (Ok (Call (AddConstraint cells))) e = no-line e
-paging-line (Ok (Call (Merge k))) e = no-line e
-paging-line (Ok (Call (Hide edit))) e = no-line e
-paging-line (Ok (Call (Show edit))) e = no-line e
 paging-line (Ok (Call (TurnPages pages))) e = ap line_of (ap told_in e)
-paging-line (Ok (Call (Adopt edit))) e = no-line e
-paging-line (Ok (Vote vote)) e = no-line e
-paging-line (Ok (Ask Text)) e = no-line e
-paging-line (Ok (Ask Report)) e = no-line e
-paging-line (Ok (Ask Hidden)) e = no-line e
-paging-line (Ok (Ask Schedule)) e = no-line e
-paging-line (Ok (Ask Catalogue)) e = no-line e
-paging-line (Ok (Ask Journal)) e = no-line e
 paging-line (Ok (Ask Page)) e = ap line_of (ap told_in e)
+paging-line command e = no-line e
 
 -- a turn of the bench's turner is the ledger's
 turn-replied : (D : Desk) (bench : Bench) → bench ≡ bench_in D → {turner : Turner} → bench.turner ≡ turner → (pages : ℤ)

@@ -14,7 +14,7 @@ use Rattle.log_forms.specs.declared.Printer.{Printer}
 use Rattle.log_forms.specs.Printed.{Printed}
 use Rattle.log_commands.specs.declared.Call.{Call as Calls}
 use Rattle.log_commands.specs.declared.Vote.{Vote as Votes}
-use Rattle.log_commands.specs.declared.Vote.TheVariants.{Elect, Bundle, Suggest, Test, Winner}
+use Rattle.log_commands.specs.declared.Vote.TheVariants.{Elect}
 use Rattle.log_commands.specs.declared.Ask.{Ask as Asks}
 use Rattle.log_commands.specs.declared.Command.{Command}
 use Rattle.log_commands.specs.declared.Command.TheVariants.{Call, Vote, Ask}
@@ -37,10 +37,7 @@ Performed session before after E = Holds E.after session × Printed (printed_of 
 pub same-desk : (D : Desk) (vote : Votes) → (vote_effect D vote).after ≡ D
 unfolding vote_effect
 same-desk D (Elect edit) = refl
-same-desk D (Bundle edit k) = refl
-same-desk D (Suggest asked) = refl
-same-desk D (Test k) = refl
-same-desk D (Winner edit) = refl
+same-desk D vote = refl
 
 module _ (D : Desk) {session : Session} {before after : Printer} {command : Result Command Refusal} where
   -- of the command that it is
