@@ -1,13 +1,15 @@
 -- The answers of making a proposal, return by return. Assumes nothing.
 use mathlib.Core.Path.{◌≡◌, ap, sym, ◌∙◌}
 use mathlib.Core.Bool.{Bool, true, false}
-use mathlib.Core.List.{map}
+use mathlib.Core.List.{List, map}
 use Prim.Native.Nat.{ℕ, ◌≤◌, ◌<◌}
 use native.Mathlib.Omega.{arith}
 use borrow.Author.Tests.{ne_eqb, lt-ltb, le-ltb}
 use lib.Dec.{eqb, ltb}
 use lib.ListN.{length, take}
 use Rattle.std.specs.Prelude.{Ok, Err}
+use Rattle.record.specs.declared.Edit.{Edit}
+use Rattle.record.specs.declared.Constraint.{Constraint}
 use Rattle.record.specs.declared.Record as declared
 use Rattle.record.specs.Record.{Record, written}
 use Rattle.lists.specs.Lists.{◌within◌}
@@ -16,7 +18,7 @@ use Rattle.lists.proofs.Lists.{by}
 use Rattle.record_rows.specs.row.Row.{edit_row, constraint_row}
 use Rattle.record_rows.specs.grounds.Ground.{Rows, ◌given◌, ◌orelse◌}
 use Rattle.record_rows.proofs.grounds.Grounds.{orelse-first, orelse-second}
-use Rattle.record_tables.specs.Table.{edit_rows, constraint_rows, empty_tables, decoded, lent_fault, unite}
+use Rattle.record_tables.specs.Table.{empty_tables, decoded, lent_fault, unite}
 use Rattle.record_tables.specs.Checked.{Checked}
 use Rattle.record_tables.proofs.Tables.{stored_back}
 use Rattle.record_tables.proofs.Unions.{joining-extends}
@@ -116,49 +118,50 @@ module _ (t : LentToPropose) where
   pub tables-refused : (r : Refusal) → number r ≡ fault → Makes t (Err r) t.newedits t.newconstraints
   tables-refused r e = refused-is r (e ∙ sym (fault-is ∙ orelse-first fault short (λ q. number-positive r (e ∙ q))))
 
-  module _ (made : declared.Record) (none-new : 0 ≡ fault) (new-held : made ≡ stored new) where
-    pub made-edits : take made.editcount made.edits ≡ new.edits
-    made-edits = ap (λ (R : Record). R.edits) (ap record_of new-held ∙ stored_back new)
+  -- the rows of the new proposal are at hand
+  module _ {made : declared.Record} (none-new : 0 ≡ fault) (new-held : made ≡ stored new) {es : List Edit} {cs : List Constraint}
+      (e : es ≡ take made.editcount made.edits) (c : cs ≡ take made.constraintcount made.constraints) where
+    edits-are : es ≡ new.edits
+    edits-are = e ∙ ap (λ (R : Record). R.edits) (ap record_of new-held ∙ stored_back new)
 
-    pub made-constraints : take made.constraintcount made.constraints ≡ new.constraints
-    made-constraints = ap (λ (R : Record). R.constraints) (ap record_of new-held ∙ stored_back new)
+    constraints-are : cs ≡ new.constraints
+    constraints-are = c ∙ ap (λ (R : Record). R.constraints) (ap record_of new-held ∙ stored_back new)
 
-    module _ (n m : ℕ) (en : n ≡ length new.edits) (em : m ≡ length new.constraints) where
-      -- 12: exactly enough is enough
-      pub few-edits : length t.newedits < n → Makes t (Err NoRoom) t.newedits t.newconstraints
+    -- 12: exactly enough is enough
+    pub few-edits : length t.newedits < length es → Makes t (Err NoRoom) t.newedits t.newconstraints
+    unfolding too_short
+    few-edits h =
+        let l : ltb (length t.newedits) (length new.edits) ≡ true = lt-ltb (length t.newedits) (length new.edits) (omega (arith, ap length edits-are)) in
+        refused-is NoRoom (sym (fault-is ∙ orelse-second fault short (sym none-new) ∙ rw l))
+
+    module _ (h : length es ≤ length t.newedits) where
+      enough : ltb (length t.newedits) (length new.edits) ≡ false
+      enough = le-ltb (length t.newedits) (length new.edits) (omega (arith, ap length edits-are))
+
+      pub few-constraints : length t.newconstraints < length cs → Makes t (Err NoRoom) t.newedits t.newconstraints
       unfolding too_short
-      few-edits h =
-          let l : ltb (length t.newedits) (length new.edits) ≡ true = lt-ltb (length t.newedits) (length new.edits) (omega (arith, en)) in
-          refused-is NoRoom (sym (fault-is ∙ orelse-second fault short (sym none-new) ∙ rw l))
+      few-constraints i =
+          let l : ltb (length t.newconstraints) (length new.constraints) ≡ true = lt-ltb (length t.newconstraints) (length new.constraints) (omega (arith, ap length constraints-are)) in
+          refused-is NoRoom (sym (fault-is ∙ orelse-second fault short (sym none-new) ∙ rw (enough, l)))
 
-      module _ (h : n ≤ length t.newedits) where
-        enough : ltb (length t.newedits) (length new.edits) ≡ false
-        enough = le-ltb (length t.newedits) (length new.edits) (omega (arith, en))
-
-        pub few-constraints : length t.newconstraints < m → Makes t (Err NoRoom) t.newedits t.newconstraints
+      module _ (i : length cs ≤ length t.newconstraints) where
+        proposal-accepted : propose_fault t ≡ 0
         unfolding too_short
-        few-constraints i =
-            let l : ltb (length t.newconstraints) (length new.constraints) ≡ true = lt-ltb (length t.newconstraints) (length new.constraints) (omega (arith, em)) in
-            refused-is NoRoom (sym (fault-is ∙ orelse-second fault short (sym none-new) ∙ rw (enough, l)))
+        proposal-accepted =
+            let l : ltb (length t.newconstraints) (length new.constraints) ≡ false = le-ltb (length t.newconstraints) (length new.constraints) (omega (arith, ap length constraints-are)) in
+            fault-is ∙ orelse-second fault short (sym none-new) ∙ rw (enough, l)
 
-        module _ (i : m ≤ length t.newconstraints) where
-          pub proposal-accepted : propose_fault t ≡ 0
-          unfolding too_short
-          proposal-accepted =
-              let l : ltb (length t.newconstraints) (length new.constraints) ≡ false = le-ltb (length t.newconstraints) (length new.constraints) (omega (arith, em)) in
-              fault-is ∙ orelse-second fault short (sym none-new) ∙ rw (enough, l)
+        given-new : new ≡ new_proposal t
+        unfolding new_proposal
+        given-new = rw proposal-accepted
 
-          pub given-new : new_proposal t ≡ new
-          unfolding new_proposal
-          given-new = rw proposal-accepted
-
-          pub written_is : {es cs : Rows} → es ≡ over (map edit_row new.edits) t.newedits → cs ≡ over (map constraint_row new.constraints) t.newconstraints
-              → Makes t (Ok (record { editcount = n; constraintcount = m })) es cs
-          written_is f g =
-              let x : n ≡ length (new_proposal t).edits = en ∙ ap (λ (R : Record). length R.edits) (sym given-new) in
-              let y : m ≡ length (new_proposal t).constraints = em ∙ ap (λ (R : Record). length R.constraints) (sym given-new) in
-              record {
-                answers = (sym proposal-accepted, λ j. record { editcount = x j; constraintcount = y j });
-                editrows = f ∙ ap (λ (R : Record). over (edit_rows R) t.newedits) (sym given-new);
-                constraintrows = g ∙ ap (λ (R : Record). over (constraint_rows R) t.newconstraints) (sym given-new);
-              }
+        pub written_is : {editrows constraintrows : Rows} → editrows ≡ over (map edit_row es) t.newedits → constraintrows ≡ over (map constraint_row cs) t.newconstraints
+            → Makes t (Ok (record { editcount = length es; constraintcount = length cs })) editrows constraintrows
+        written_is f g =
+            let x : es ≡ (new_proposal t).edits = edits-are ∙ ap (λ (R : Record). R.edits) given-new in
+            let y : cs ≡ (new_proposal t).constraints = constraints-are ∙ ap (λ (R : Record). R.constraints) given-new in
+            record {
+              answers = (sym proposal-accepted, λ j. record { editcount = length (x j); constraintcount = length (y j) });
+              editrows = f ∙ ap (λ (l : List Edit). over (map edit_row l) t.newedits) x;
+              constraintrows = g ∙ ap (λ (l : List Constraint). over (map constraint_row l) t.newconstraints) y;
+            }

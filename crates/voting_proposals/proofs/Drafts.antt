@@ -12,6 +12,8 @@ use Rattle.record.specs.Record.{Record}
 use Rattle.record.specs.Stored.{stored}
 use Rattle.record.specs.Judgement.{sound}
 use Rattle.lists.specs.Keyed.{united}
+use Rattle.graph.specs.indexes.Fit.{Fit}
+use Rattle.graph.proofs.indexes.Fit.{checked-fit}
 use Rattle.record_rows.specs.grounds.Ground.{◌given◌, ◌orelse◌}
 use Rattle.record_rows.proofs.grounds.Grounds.{orelse-none, given-none}
 use Rattle.record_tables.specs.Table.{constraint_key, unite}
@@ -39,51 +41,67 @@ module _ (M Q : Record) where
   unfolding draft_fault
   tested = refl
 
-  pub unsound-old : sound Q ≡ false → 8 ≡ draft_fault M Q
-  unsound-old e = sym (tested ∙ rw e)
+-- a record's soundness as the code tests it
+abbrev Tests : declared.Record → Bool → Type 0
+Tests multilog b = (R : Record) → multilog ≡ stored R → Fit R → b ≡ sound R
 
-  module _ (p : sound Q ≡ true) where
-    pub no-place-before : {r : Refusal} → Err r ≡ table_of (united constraint_key (unite M Q).constraints (firsts Q (unordered (unite M Q)))) → number r ≡ draft_fault M Q
+-- return by return
+module _ (M Q : Record) {both old : declared.Record} (e : both ≡ stored (unite M Q)) (k : Checked (unite M Q)) (f : old ≡ stored Q) (j : Checked Q) where
+  pub unsound-old : {b : Bool} → Tests old b → b ≡ false → 8 ≡ draft_fault M Q
+  unsound-old told n = let q : sound Q ≡ false = sym (told Q f (checked-fit Q j)) ∙ n in sym (tested M Q ∙ rw q)
+
+  module _ {b : Bool} (told : Tests old b) (s : b ≡ true) where
+    p : sound Q ≡ true
+    p = sym (told Q f (checked-fit Q j)) ∙ s
+
+    pub no-place-before : {r : Refusal}
+        → ((U V : Record) → both ≡ stored U → Checked U → old ≡ stored V → Checked V → Err r ≡ table_of (united constraint_key U.constraints (firsts V (unordered U))))
+        → number r ≡ draft_fault M Q
     unfolding overfull started joined_constraints
-    no-place-before e = let w = no-place _ e in let q : overfull (started M Q) ≡ true = w.1 in w.0 ∙ sym (tested ∙ rw (p, q))
+    no-place-before t = let w = no-place _ (t (unite M Q) Q e k f j) in let q : overfull (started M Q) ≡ true = w.1 in w.0 ∙ sym (tested M Q ∙ rw (p, q))
 
-    module _ (first : Constraints) (t : Ok first ≡ table_of (united constraint_key (unite M Q).constraints (firsts Q (unordered (unite M Q))))) where
+    module _ {first : Constraints} {start : declared.Record}
+        (t : (U V : Record) → both ≡ stored U → Checked U → old ≡ stored V → Checked V → Ok first ≡ table_of (united constraint_key U.constraints (firsts V (unordered U))))
+        (m : (R : Record) (l : List Constraint) → both ≡ stored R → Ok first ≡ table_of l → start ≡ stored (record { edits = R.edits; constraints = l })) where
       placed : overfull (started M Q) ≡ false
       unfolding overfull started joined_constraints
-      placed = le-ltb 512 _ (few first _ t)
+      placed = le-ltb 512 _ (few first _ (t (unite M Q) Q e k f j))
 
-      pub start-checked : Checked (unite M Q) → Checked (started M Q)
+      start-checked : Checked (started M Q)
       unfolding overfull
-      start-checked k = started-checked M Q k (ltb-false 512 (length (started M Q).constraints) placed)
+      start-checked = started-checked M Q k (ltb-false 512 (length (started M Q).constraints) placed)
 
-      -- the start as it is stored
-      pub start_is : (both start : declared.Record)
-          → ((R : Record) (l : List Constraint) → both ≡ stored R → Ok first ≡ table_of l → start ≡ stored (record { edits = R.edits; constraints = l }))
-          → both ≡ stored (unite M Q) → start ≡ stored (started M Q)
+      start_is : start ≡ stored (started M Q)
       unfolding started joined_constraints
-      start_is both start f e = f (unite M Q) _ e t
+      start_is = m (unite M Q) _ e (t (unite M Q) Q e k f j)
 
-      pub unsound-start : sound (started M Q) ≡ false → 8 ≡ draft_fault M Q
-      unsound-start e = sym (tested ∙ rw (p, placed, e))
+      start-sound : {b : Bool} → Tests start b → b ≡ sound (started M Q)
+      start-sound test = test (started M Q) start_is (checked-fit (started M Q) start-checked)
 
-      module _ (s : sound (started M Q) ≡ true) where
-        pub no-place-after : {r : Refusal} → Err r ≡ table_of (finished (started M Q)).constraints → number r ≡ draft_fault M Q
+      pub unsound-start : {b : Bool} → Tests start b → b ≡ false → 8 ≡ draft_fault M Q
+      unsound-start test n = let y : sound (started M Q) ≡ false = sym (start-sound test) ∙ n in sym (tested M Q ∙ rw (p, placed, y))
+
+      module _ {whole : Bool} (test : Tests start whole) (w : whole ≡ true) where
+        q : sound (started M Q) ≡ true
+        q = sym (start-sound test) ∙ w
+
+        pub no-place-after : {r : Refusal} → ((R : Record) → start ≡ stored R → Checked R → sound R ≡ true → Err r ≡ table_of (finished R).constraints)
+            → number r ≡ draft_fault M Q
         unfolding overfull proposed
-        no-place-after e = let w = no-place _ e in let z : overfull (proposed M Q) ≡ true = w.1 in w.0 ∙ sym (tested ∙ rw (p, placed, s, z))
+        no-place-after u =
+            let y = no-place _ (u (started M Q) start_is start-checked q) in
+            let z : overfull (proposed M Q) ≡ true = y.1 in
+            y.0 ∙ sym (tested M Q ∙ rw (p, placed, q, z))
 
-        module _ (last : Constraints) (u : Ok last ≡ table_of (finished (started M Q)).constraints) where
-          last-placed : overfull (proposed M Q) ≡ false
-          unfolding overfull proposed
-          last-placed = le-ltb 512 _ (few last _ u)
-
-          pub propose-no-fault : 0 ≡ draft_fault M Q
-          propose-no-fault = sym (tested ∙ rw (p, placed, s, last-placed))
-
-          pub last-is : (start new : declared.Record)
-              → ((R : Record) (l : List Constraint) → start ≡ stored R → Ok last ≡ table_of l → new ≡ stored (record { edits = R.edits; constraints = l }))
-              → start ≡ stored (started M Q) → new ≡ stored (proposed M Q)
-          unfolding proposed finished joined_constraints
-          last-is start new f e = f (started M Q) _ e u
+        pub drafted_is : {last : Constraints} {new : declared.Record}
+            → ((R : Record) → start ≡ stored R → Checked R → sound R ≡ true → Ok last ≡ table_of (finished R).constraints)
+            → ((R : Record) (l : List Constraint) → start ≡ stored R → Ok last ≡ table_of l → new ≡ stored (record { edits = R.edits; constraints = l }))
+            → (0 ≡ draft_fault M Q) × (new ≡ stored (proposed M Q))
+        unfolding overfull proposed finished joined_constraints
+        drafted_is {last} u v =
+            let d = u (started M Q) start_is start-checked q in
+            let z : overfull (proposed M Q) ≡ false = le-ltb 512 _ (few last _ d) in
+            (sym (tested M Q ∙ rw (p, placed, q, z)), v (started M Q) _ start_is d)
 
 -- of a draft without fault the start is checked and sound, and the rows have places
 pub start-faultless : (M Q : Record) → Checked (unite M Q) → draft_fault M Q ≡ 0
