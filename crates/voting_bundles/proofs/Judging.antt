@@ -7,6 +7,7 @@ use native.Mathlib.Omega.{arith}
 use lib.Dec.{eqb}
 use lib.ListN.{length, take, drop, length-map}
 use lib.Seq.{take_all, take-append-le}
+use Rattle.std.specs.Prelude.{Ok, Err}
 use Rattle.std.specs.List.{list_all}
 use borrow.Author.Tests.{ne_eqb, lt-ltb}
 use Rattle.record.specs.declared.Record as declared
@@ -17,8 +18,15 @@ use Rattle.record.specs.Judgement.{sound, settled}
 use Rattle.lists.proofs.Lists.{by, cons-by, ascending-tail, ascending-head, mem-head, mem-tail}
 use Rattle.record.proofs.Records.{written-names}
 use Rattle.record_rows.specs.row.Row.{is_name}
+use Rattle.record_rows.proofs.row.Cells.{name-taken, name-refused}
+use Rattle.refusals.specs.declared.Refusal.{Refusal}
+use Rattle.refusals.specs.declared.Refusal.TheVariants.{OutOfRange}
+use Rattle.refusals.specs.Numbers.{number}
+use Rattle.refusals.proofs.Numbers.{number-positive}
 use Rattle.record_rows.specs.grounds.Ground.{Rows}
 use Rattle.record_tables.specs.Table.{empty_tables, decoded, lent_fault}
+use Rattle.record_tables.specs.Checked.{Checked}
+use Rattle.record_tables.proofs.Records.{lent-checked}
 use Rattle.graph.specs.links.Marks.{marks_of, values_of}
 use Rattle.voting.specs.Bundle.{members, between, bundle, eligible}
 use Rattle.voting.proofs.Bundles.{bundle-extended, bundle-well-formed, filter-names}
@@ -26,6 +34,7 @@ use Rattle.lists.proofs.Front.{filter-length}
 use Rattle.voting_bundles.specs.Bundles.{lent_bundle_fault, refused_bundle, bundle_answer}
 use Rattle.record_rows.proofs.grounds.Grounds.{orelse-none}
 use Rattle.graph.specs.indexes.Fit.{Fit}
+use Rattle.graph.proofs.indexes.Fit.{checked-fit}
 use Rattle.lists.proofs.Tests.{bit_is}
 
 -- what is filtered out of ascending names ascends
@@ -78,30 +87,44 @@ pub eligible-all : (R : Record) (e : ℕ) → all (settled (bundle R e)) (writte
 unfolding eligible
 eligible-all R e = refl
 
--- the grounds one by one
+-- the grounds one by one, as the code tells them
 module _ (es cs : Rows) (e : ℕ) where
-  pub bundle-rows-refused : (n : ℕ) → n ≡ lent_fault empty_tables es cs → (n ≡ 0 → ⊥) → n ≡ lent_bundle_fault es cs e
+  pub bundle-rows-refused : (r : Refusal) → number r ≡ lent_fault empty_tables es cs → number r ≡ lent_bundle_fault es cs e
   unfolding lent_bundle_fault
-  bundle-rows-refused n q h = let z : eqb (lent_fault empty_tables es cs) 0 ≡ false = ne_eqb (lent_fault empty_tables es cs) 0 (λ y. h (q ∙ y)) in rw z q
+  bundle-rows-refused r q = let z : eqb (lent_fault empty_tables es cs) 0 ≡ false = ne_eqb (lent_fault empty_tables es cs) 0 (λ y. number-positive r (q ∙ y)) in rw z q
 
-  module _ (z : 0 ≡ lent_fault empty_tables es cs) where
-    pub bundle-name-refused : is_name e ≡ false → 2 ≡ lent_bundle_fault es cs e
+  module _ {multilog : declared.Record} (p : (0 ≡ lent_fault empty_tables es cs) × (multilog ≡ stored (decoded es cs))) where
+    pub bundle-name-refused : {r : Refusal} → Err r ≡ cond (is_name e) (Ok e) (Err OutOfRange) → number r ≡ lent_bundle_fault es cs e
     unfolding lent_bundle_fault
-    bundle-name-refused h = rw (sym z, h)
+    bundle-name-refused q = let n = name-refused e q in rw (n.1, sym p.0, n.0)
 
-    module _ (n : is_name e ≡ true) where
-      pub bundle-unknown-refused : mem e (written (decoded es cs)) ≡ false → 5 ≡ lent_bundle_fault es cs e
+    checked : Checked (decoded es cs)
+    checked = lent-checked es cs (sym p.0)
+
+    fit : Fit (decoded es cs)
+    fit = checked-fit (decoded es cs) checked
+
+    module _ {x : ℕ} (q : Ok x ≡ cond (is_name e) (Ok e) (Err OutOfRange)) {known : Bool}
+        (told : (R : Record) → multilog ≡ stored R → Checked R → known ≡ mem x (written R)) where
+      knows : {b : Bool} → known ≡ b → mem e (written (decoded es cs)) ≡ b
+      knows k = rw (name-taken e q).1 at (sym (told (decoded es cs) p.1 checked) ∙ k)
+
+      pub bundle-unknown-refused : known ≡ false → 5 ≡ lent_bundle_fault es cs e
       unfolding lent_bundle_fault
-      bundle-unknown-refused h = rw (sym z, n, h)
+      bundle-unknown-refused k = rw (sym p.0, (name-taken e q).0, knows k)
 
-      module _ (k : mem e (written (decoded es cs)) ≡ true) where
-        pub bundle-unsound-refused : sound (decoded es cs) ≡ false → 8 ≡ lent_bundle_fault es cs e
+      module _ (k : known ≡ true) {whole : Bool} (test : (R : Record) → multilog ≡ stored R → Fit R → whole ≡ sound R) where
+        pub bundle-unsound-refused : whole ≡ false → 8 ≡ lent_bundle_fault es cs e
         unfolding lent_bundle_fault
-        bundle-unsound-refused h = rw (sym z, n, k, h)
+        bundle-unsound-refused s = let u : sound (decoded es cs) ≡ false = sym (test (decoded es cs) p.1 fit) ∙ s in rw (sym p.0, (name-taken e q).0, knows k, u)
 
-        pub bundle-accepted : sound (decoded es cs) ≡ true → 0 ≡ lent_bundle_fault es cs e
+        pub bundle-accepted : whole ≡ true → {small : declared.Record}
+            → ((R : Record) → multilog ≡ stored R → Fit R → x among written R → small ≡ stored (bundle R x))
+            → (0 ≡ lent_bundle_fault es cs e) × (small ≡ stored (bundle (decoded es cs) e))
         unfolding lent_bundle_fault
-        bundle-accepted h = rw (sym z, n, k, h)
+        bundle-accepted s made =
+            let u : sound (decoded es cs) ≡ true = sym (test (decoded es cs) p.1 fit) ∙ s in
+            (rw (sym p.0, (name-taken e q).0, knows k, u), rw (name-taken e q).1 at (made (decoded es cs) p.1 fit (sym (told (decoded es cs) p.1 checked) ∙ k)))
 
   -- what is not refused has rows without fault
   pub bundle-checked : 0 ≡ lent_bundle_fault es cs e → 0 ≡ lent_fault empty_tables es cs
