@@ -1,10 +1,10 @@
 -- A row that is judged and held. Assumes nothing.
-use Rattle.std.proofs.Common.{◌≡◌, refl, sym, ◌∙◌, false, List, [], ◌∷◌, ◌++◌, ℕ, ◌+◌, ◌≤◌, ◌<◌, ltb, length, take, set, replicate, add-one, arith}
+use Rattle.std.proofs.Common.{◌≡◌, refl, sym, ◌∙◌, false, List, [], ◌∷◌, ◌++◌, ℕ, ◌+◌, ◌≤◌, ◌<◌, ltb, length, take, set, replicate, arith}
 use Rattle.std.specs.Prelude.{Result, Ok, Err}
 use mathlib.Core.List.{map-append}
 use borrow.Author.Tests.{le-ltb, lt-ltb, ne_eqb}
 use lib.ListN.{length-set, length-replicate}
-use lib.Seq.{length-take-le, take-suc-set}
+use lib.Seq.{length-take-le}
 use Rattle.lists.specs.Keyed.{Ascending}
 use Rattle.lists.proofs.Union.{ascending-snoc}
 use Rattle.record.specs.Stored.{edit_limit, constraint_limit}
@@ -21,6 +21,7 @@ use Rattle.refusals.specs.Numbers.{number}
 use Rattle.refusals.proofs.Numbers.{number-positive}
 use Rattle.text.specs.Text.{edit_fault, constraint_fault, line_fault}
 use Rattle.text_reader.specs.Held.{EditsHeld, ConstraintsHeld, HeldRows, LineTaken, EditTaken, ConstraintTaken}
+use Rattle.std.proofs.lemmas.List.{take_more_set}
 use Rattle.text_reader.proofs.Faults.{alone-room}
 
 -- a row without fault below n others, which then stands at n
@@ -29,12 +30,9 @@ module _ (K : TableKind) (t : Rows) (n : ℕ) (row : Row) (w : n ≤ length t) (
   more_room = rw (length-take-le n t w) at (alone-room K (take n t) row a z)
 
   module _ (h : n < length t) where
-    pub one_more : take (n + 1) (set t n row) ≡ take n t ++ (row ∷ [])
-    one_more = rw add-one (take-suc-set t n row h)
-
     pub more-ascends : Ascending (take K.key) (take (n + 1) (set t n row))
     unfolding misplaced
-    more-ascends = rw one_more (ascending-snoc (take K.key) (take n t) row a (row-clean K [] (take n t) row z).order)
+    more-ascends = rw (take_more_set t n row h) (ascending-snoc (take K.key) (take n t) row a (row-clean K [] (take n t) row z).order)
 
 -- no rows
 pub edits-start : EditsHeld (replicate edit_limit (replicate 5 0)) (set (replicate 2304 0) 0 1) 0
@@ -80,7 +78,7 @@ module _ (edits constraints : Rows) (marks : List ℕ) (n m : ℕ) (row : Row) w
     name-inside = omega (arith, h.marksize, row_small row (row-clean edit_kind [] (take n edits) row (sym none)).range)
 
     names_more : names_of (take (n + 1) (set edits n row)) ≡ names_of (take n edits) ++ (cell row 0 ∷ [])
-    names_more = rw (one_more edit_kind edits n row near h.ascends (sym none) edit-inside) (map-append (λ (r : Row). cell r 0) (take n edits) (row ∷ []))
+    names_more = rw (take_more_set edits n row edit-inside) (map-append (λ (r : Row). cell r 0) (take n edits) (row ∷ []))
 
     pub edit-held : EditsHeld (set edits n row) (set marks (cell row 0) 1) (n + 1)
     edit-held =
@@ -107,7 +105,7 @@ module _ (edits constraints : Rows) (marks : List ℕ) (n m : ℕ) (row : Row) w
       edit-taken o =
           record {
             number_is = sym (edit-number ∙ rw (counted, le-ltb 0 m o) refl);
-            rows-are = rw (one_more edit_kind edits n row near h.ascends (sym none) edit-inside) refl;
+            rows-are = rw (take_more_set edits n row edit-inside) refl;
           }
 
 module _ (edits constraints : Rows) (n m : ℕ) (row : Row) {number : ℕ} (is : number ≡ row_fault (constraint_kind (names_of (take n edits)) false) [] (take m constraints) row) where
@@ -136,5 +134,5 @@ module _ (edits constraints : Rows) (n m : ℕ) (row : Row) {number : ℕ} (is :
     constraint-taken =
         record {
           number_is = sym z ∙ is;
-          rows-are = rw (one_more (constraint_kind (names_of (take n edits)) false) constraints m row near-constraints k.ascends (sym is ∙ z) constraint-inside) refl;
+          rows-are = rw (take_more_set constraints m row constraint-inside) refl;
         }

@@ -2,7 +2,7 @@
 use Rattle.std.specs.Prelude.{◌≡◌, Bool, cond, List, [], ℕ, ◌+◌, ◌≤◌, eqb, length, take, Result, Ok}
 use Rattle.lists.specs.Keyed.{Ascending}
 use Rattle.record.specs.Stored.{edit_limit, constraint_limit}
-use Rattle.record_rows.specs.row.Row.{Row}
+use Rattle.record_rows.specs.row.Row.{Row, name_limit}
 use Rattle.record_rows.specs.grounds.Ground.{Rows, TableKind}
 use Rattle.record_tables.specs.Table.{names_of}
 use Rattle.record_tables.specs.Checked.{MarksNames}
@@ -18,7 +18,7 @@ row_kind key places fits further = record { key = key; limit = places; in_range 
 -- n edits, in order, with the marks of their names
 pub record EditsHeld (edits : Rows) (marks : List ℕ) (n : ℕ) : Type 0 where
   pub size : length edits ≡ edit_limit
-  pub marksize : length marks ≡ 2304
+  pub marksize : length marks ≡ name_limit
   pub few : n ≤ edit_limit
   pub ascends : Ascending (take 1) (take n edits)
   pub marked : MarksNames marks (names_of (take n edits))
