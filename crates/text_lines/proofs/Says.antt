@@ -58,6 +58,8 @@ rule-word-rest zero a b = absurd (a refl)
 rule-word-rest (suc zero) a b = absurd (b refl)
 rule-word-rest (suc (suc n)) a b = refl
 
+pub ruleset rests = (set_rest, rule-rest, word-rest, rule-word-rest)
+
 -- how many numbers the forms take
 set-slots : (field : ℕ) → slots (set_form field) ≤ 3
 unfolding set_form bytes slots is_mark

@@ -27,6 +27,7 @@ pub enum Line {
 }
 
 // The forms of lines, by kind, field and rule.
+#[tactic(auto, using(crate::proofs::Says::rests), unfolding(crate::specs::Line::set_form, text_forms::specs::Spelling::bytes))]
 fn set_form(field: u32) -> &'static [u8]
     ensures { result.now ≡ set_form field }
 {
@@ -49,6 +50,7 @@ fn edit_form(kind: u32, field: u32) -> &'static [u8]
 }
 
 // Pub for the answers of a log.
+#[tactic(auto, using(crate::proofs::Says::rests), unfolding(crate::specs::Line::rule_form, text_forms::specs::Spelling::bytes))]
 pub fn rule_form(rule: u32) -> &'static [u8]
     ensures { result.now ≡ rule_form rule }
 {
@@ -175,6 +177,7 @@ pub fn read_line(bytes: &[u8]) -> Result<Line, Refusal>
 // The words of a form between its numbers, by field and rule.
 // Kept: from here on a line is written word by word, by the pieces of the forms above, and its length counted with theirs, where
 // `text_forms::write_form` would write the same bytes from the form itself: this is for speed (docs/DECISIONS.md, 46).
+#[tactic(auto, using(crate::proofs::Says::rests), unfolding(crate::specs::Line::field_word, text_forms::specs::Spelling::bytes))]
 fn field_word(field: u32) -> &'static [u8]
     ensures { result.now ≡ field_word field }
 {
@@ -186,6 +189,7 @@ fn field_word(field: u32) -> &'static [u8]
     }
 }
 
+#[tactic(auto, using(crate::proofs::Says::rests), unfolding(crate::specs::Line::rule_word, text_forms::specs::Spelling::bytes))]
 fn rule_word(rule: u32) -> &'static [u8]
     ensures { result.now ≡ rule_word rule }
 {
