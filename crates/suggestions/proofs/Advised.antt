@@ -1,10 +1,10 @@
 -- The laws that the code of suggestions cites, and that it does not matter which of two concurrent edits is named first. Assumes nothing.
 use Prim.Native.Nat.{ℕ, zero, suc, ◌≤◌, ◌<◌, min, max}
-use mathlib.Core.Path.{◌≡◌, refl, sym, ap, ◌∙◌}
+use mathlib.Core.Path.{◌≡◌, refl, ap}
 use mathlib.Core.Bool.{Bool, true, false, cond, not, ◌&&◌}
 use mathlib.Core.List.{[], ◌∷◌}
 use native.Mathlib.Omega.{arith}
-use borrow.Author.Tests.{lt-ltb, eq-eqb, ne_eqb, eqb-true, eqb-false}
+use borrow.Author.Tests.{lt-ltb}
 use lib.Dec.{eqb, ltb}
 use Rattle.std.specs.Prelude.{Result, Ok, Err}
 use Rattle.lists.proofs.Lists.{by}
@@ -20,6 +20,7 @@ use Rattle.suggestions.specs.Suggest.{kind_of, field_named, after_table, concurr
 use Rattle.suggestions.specs.declared.Suggested.{Suggested}
 use Rattle.record_rows.proofs.row.Cells.{edit-back}
 use Rattle.suggestions.specs.declared.Advice.{Advice}
+use Rattle.lists.proofs.Tests.{eqb-swapped}
 use Rattle.suggestions.specs.declared.Advice.TheVariants.{Nothing, Noncommuting}
 
 abbrev pub advice_between : ℕ → Body → Body → Advice
@@ -58,16 +59,10 @@ table-swapped (suc (suc a)) zero f = refl
 table-swapped (suc (suc a)) (suc zero) f = refl
 table-swapped (suc (suc a)) (suc (suc b)) f = refl
 
-same-swapped : (x y : ℕ) → eqb x y ≡ eqb y x
-same-swapped x y =
-    by (eqb x y)
-    (λ e. e ∙ sym (eq-eqb y x (sym (eqb-true x y e))))
-    (λ e. e ∙ sym (ne_eqb y x (λ q. eqb-false x y e (sym q))))
-
 advised-swapped : (a b : Row) → advised 1 a b ≡ advised 1 b a
 unfolding advised advice_of
 advised-swapped a b =
-    rw (same-swapped (cell a 0) (cell b 0), same-swapped (cell a 2) (cell b 2), same-swapped (cell a 3) (cell b 3), table-swapped (cell a 1) (cell b 1) (eqb (cell b 3) (cell a 3)))
+    rw (eqb-swapped (cell a 0) (cell b 0), eqb-swapped (cell a 2) (cell b 2), eqb-swapped (cell a 3) (cell b 3), table-swapped (cell a 1) (cell b 1) (eqb (cell b 3) (cell a 3)))
 
 pair-swapped : (x y : ℕ) → rows_of Noncommuting x y ≡ rows_of Noncommuting y x
 pair-swapped x y =

@@ -59,20 +59,17 @@ module _ (f : ℕ → ℕ) where
   benches-given-none (x ∷ l) z = rw (z 0 (omega arith)) (benches-given-none l (λ j i. z (suc j) (omega arith)))
 
 -- the proposal of the bench at place k, past the eighth an empty one
+pub rows-at : {A : Type 0} (rows : A → Rows) (l : List A) (k : ℕ) (a : A) → rows a ≡ [] → get_or (map rows l) (k + 1 - 1) [] ≡ rows (get_or l k a)
+rows-at rows l k a e = let z : k + 1 - 1 ≡ k = omega arith in rw (z, ← e) (get_or-map rows l k a)
+
 module _ {A B : Type 0} (rows : A → Rows) (cells : B → Rows) (es : List A) (cs : List B) (k : ℕ) (a : A) (b : B) (ea : rows a ≡ []) (eb : cells b ≡ []) where
-  pub edits-at : get_or (map rows es) (k + 1 - 1) [] ≡ rows (get_or es k a)
-  edits-at = let z : k + 1 - 1 ≡ k = omega arith in rw (z, ← ea) (get_or-map rows es k a)
-
-  constraints-at : get_or (map cells cs) (k + 1 - 1) [] ≡ cells (get_or cs k b)
-  constraints-at = let z : k + 1 - 1 ≡ k = omega arith in rw (z, ← eb) (get_or-map cells cs k b)
-
   pub held_at : held (lent_proposals (map rows es) (map cells cs)) (k + 1) ≡ decoded (rows (get_or es k a)) (cells (get_or cs k b))
   unfolding held
-  held_at = rw (edits-at, constraints-at)
+  held_at = rw (rows-at rows es k a ea, rows-at cells cs k b eb)
 
   pub fault-at : proposal_fault (lent_proposals (map rows es) (map cells cs)) (k + 1) ≡ lent_fault empty_tables (rows (get_or es k a)) (cells (get_or cs k b))
   unfolding proposal_fault
-  fault-at = rw (edits-at, constraints-at)
+  fault-at = rw (rows-at rows es k a ea, rows-at cells cs k b eb)
 
 -- the walk over the rows of the proposals: no fault below place k
 module _ {A B : Type 0} (rows : A → Rows) (cells : B → Rows) (es : List A) (cs : List B) where

@@ -6,7 +6,6 @@ use Prim.Native.Nat.{ℕ, suc, ◌+◌, ◌-◌, ◌<◌}
 use native.Mathlib.Omega.{arith}
 use lib.Dec.{eqb}
 use lib.ListN.{length, get_or}
-use borrow.Author.Tests.{eqb-true, eqb-false, eq-eqb, ne_eqb}
 use Rattle.std.specs.List.{list_any}
 use Rattle.lists.specs.Lists.{any, all, mem}
 use Rattle.record.specs.Record.{written, name_of}
@@ -16,12 +15,10 @@ use Rattle.record_rows.specs.row.Row.{Row, cell, is_name, edit_in_range, edit_of
 use Rattle.record_rows.specs.grounds.Ground.{Rows}
 use Rattle.record_tables.specs.Table.{names_of}
 use Rattle.voting_count.specs.Count.{lent_proposals, Faultless}
-use Rattle.voting_count.proofs.Benches.{edits-at, bench-at}
+use Rattle.voting_count.proofs.Benches.{rows-at, bench-at}
 use Rattle.voting_count.proofs.Proposals.{held-checked, bench-faultless}
+use Rattle.lists.proofs.Tests.{eqb-swapped}
 use Rattle.voting_roll.specs.Election.{benches, held, proposal_fault}
-
-turned : (a b : ℕ) → eqb a b ≡ eqb b a
-turned a b = by (eqb a b) (λ e. e ∙ sym (eq-eqb b a (sym (eqb-true a b e)))) (λ e. e ∙ sym (ne_eqb b a (λ q. eqb-false a b e (sym q))))
 
 -- a row with this name
 abbrev pub count-named : ℕ → Row → Bool
@@ -31,7 +28,7 @@ module _ (x : ℕ) where
   pub any-named : (t : Rows) → list_any (count-named x) t ≡ mem x (names_of t)
   unfolding mem
   any-named [] = refl
-  any-named (r ∷ t) = rw (turned (cell r 0) x, any-named t)
+  any-named (r ∷ t) = rw (eqb-swapped (cell r 0) x, any-named t)
 
 -- the names of rows in range are those of their edits; what is not in range is the filler, whose row is not either
 filler-out : edit_in_range (edit_row filler_edit) ≡ false
@@ -56,7 +53,7 @@ pub held-named : {A : Type 0} (rows : A → Rows) (es : List A) (cs : List Rows)
 unfolding held written
 held-named rows es cs k a q x h =
     let t = get_or (map rows es) (k + 1 - 1) [] in
-    let e : t ≡ rows (get_or es k a) = edits-at rows (λ (r : Rows). r) es [] k a [] q refl in
+    let e : t ≡ rows (get_or es k a) = rows-at rows es k a q in
     ap (mem x) (ap names_of (sym e) ∙ rows_named t (held-checked (lent_proposals (map rows es) cs) (k + 1) h).editrange)
 
 -- a test of the eight lent records, and one of the benches
