@@ -18,21 +18,32 @@ pub fn faults(sources: &[Source], edits: &[Edit], spans: &[Span]) -> Vec<Fault> 
     let told: HashSet<&str> = words.map(|word| word.text).collect();
     let mut found = Vec::new();
     for source in sources {
-        for declared in source.declarations.iter().filter(|declared| may_die(source, declared)) {
-            let wrong = match source.language {
-                Language::Antt if told.contains(declared.name) => None,
-                Language::Antt => antt_wrong(source, declared, &uses),
-                Language::Rattle if code_told(source, declared, spans) => None,
-                Language::Rattle if declared.is_inner() => method_wrong(sources, source, declared),
-                Language::Rattle => code_wrong(sources, source, declared, &uses),
-            };
-            if let Some(wrong) = wrong.filter(|_| !edited(source, declared, edits)) {
-                let what = format!("{} {wrong}", declared.name);
-                found.push(Fault::new(source.path, source.line(declared.range.start), what));
-            }
+        let wrong = match source.language {
+            Language::Antt => antt_dead(source, edits, &told, &uses),
+            Language::Rattle => code_dead(sources, source, edits, spans, &uses),
+        };
+        for (declared, wrong) in wrong {
+            let what = format!("{} {wrong}", declared.name);
+            found.push(Fault::new(source.path, source.line(declared.range.start), what));
         }
     }
     found
+}
+
+fn code_dead<'s>(
+    sources: &[Source],
+    source: &'s Source,
+    edits: &[Edit],
+    spans: &[Span],
+    uses: &Uses,
+) -> Vec<(&'s Declaration<'s>, &'static str)> {
+    let wrong = |declared: &Declaration| match declared {
+        _ if code_told(source, declared, spans) || edited(source, declared, edits) => None,
+        _ if declared.is_inner() => method_wrong(sources, source, declared),
+        _ => code_wrong(sources, source, declared, uses),
+    };
+    let found = source.declarations.iter().filter(|declared| may_die(source, declared));
+    found.filter_map(|declared| Some((declared, wrong(declared)?))).collect()
 }
 
 /// Whether something has to use it. C, the system or the kit may: the kit takes the public names of a function's proof. Of what lies within another
@@ -50,34 +61,70 @@ fn edited(source: &Source, declared: &Declaration, edits: &[Edit]) -> bool {
     edits.any(|edit| words(&edit.new, Language::Antt).iter().any(|word| word.text == declared.name))
 }
 
-fn antt_wrong(source: &Source, declared: &Declaration, uses: &Uses) -> Option<&'static str> {
-    let module = source.module();
-    let own = |name: &str| here(source, declared, name) || uses.antt(&module, name);
-    let inside =
-        |part: &&Declaration| part.kind == Kind::Part && declared.range.contains(&part.range.start);
-    let constructors =
-        source.declarations.iter().filter(|_| declared.kind == Kind::Data).filter(inside);
-    let by_part = |part: &Declaration| {
-        own(part.name) || uses.antt(&format!("{module}.{}", declared.name), part.name)
+/// The definitions and laws of a file that nothing uses, but for those of them that are dead.
+fn antt_dead<'s>(
+    source: &'s Source,
+    edits: &[Edit],
+    told: &HashSet<&str>,
+    uses: &Uses,
+) -> Vec<(&'s Declaration<'s>, &'static str)> {
+    let found: Vec<&Declaration> =
+        source.declarations.iter().filter(|declared| may_die(source, declared)).collect();
+    let names: Vec<Vec<&str>> = found.iter().map(|declared| names_of(source, declared)).collect();
+    let elsewhere = |declared: &Declaration| {
+        told.contains(declared.name)
+            || edited(source, declared, edits)
+            || used_elsewhere(source, declared, uses)
     };
-    (!own(declared.name) && !constructors.into_iter().any(by_part)).then_some(DEAD)
+    let mut live: Vec<bool> = found.iter().map(|declared| elsewhere(declared)).collect();
+    // which one names which
+    let mut citations = Vec::new();
+    for word in source.words.iter().filter(|word| word.joint == Joint::None) {
+        let holds = |at: &usize| found[*at].range.contains(&word.start);
+        let named = |at: &usize| names[*at].iter().any(|name| names_it(word.text, name));
+        let cited: Vec<usize> = (0..found.len()).filter(|at| named(at) && !holds(at)).collect();
+        if cited.is_empty() || is_fixity(source, word.start) {
+            continue;
+        }
+        let holders: Vec<usize> = (0..found.len()).filter(holds).collect();
+        for at in cited {
+            live[at] |= holders.is_empty();
+            citations.extend(holders.iter().map(|holder| (*holder, at)));
+        }
+    }
+    while let Some((_, at)) = citations.iter().find(|(holder, at)| live[*holder] && !live[*at]) {
+        live[*at] = true;
+    }
+    found.into_iter().zip(live).filter(|(_, live)| !live).map(|(found, _)| (found, DEAD)).collect()
 }
 
-/// Whether its own file names it outside its declaration; that an operator binds tighter than another is no use.
-fn here(source: &Source, declared: &Declaration, name: &str) -> bool {
-    let named = |text: &str| {
-        text == name
-            || name.contains(HOLE) && parts(name).any(|part| part == text.trim_matches(HOLE))
+/// The name of a definition or a law, and those of the constructors of a data type.
+fn names_of<'s>(source: &'s Source, declared: &'s Declaration) -> Vec<&'s str> {
+    let inside = |part: &&Declaration| {
+        declared.kind == Kind::Data
+            && part.kind == Kind::Part
+            && declared.range.contains(&part.range.start)
     };
-    let fixity = |start: usize| {
-        let line = source.text[..start].rfind('\n').map_or(0, |end| end + 1);
-        source.text[line..].trim_start().starts_with("infix")
-    };
-    let mut outside = source
-        .words
-        .iter()
-        .filter(|word| word.joint == Joint::None && !declared.range.contains(&word.start));
-    outside.any(|word| named(word.text) && !fixity(word.start))
+    let parts = source.declarations.iter().filter(inside).map(|part| part.name);
+    std::iter::once(declared.name).chain(parts).collect()
+}
+
+fn used_elsewhere(source: &Source, declared: &Declaration, uses: &Uses) -> bool {
+    let module = source.module();
+    let by_part = |part: &str| uses.antt(&format!("{module}.{}", declared.name), part);
+    let mut names = names_of(source, declared).into_iter();
+    names.any(|name| uses.antt(&module, name) || name != declared.name && by_part(name))
+}
+
+/// Whether a word names it, or is a part of it where it is an operator.
+fn names_it(text: &str, name: &str) -> bool {
+    text == name || name.contains(HOLE) && parts(name).any(|part| part == text.trim_matches(HOLE))
+}
+
+/// Whether a line says how tight an operator binds: that is no use.
+fn is_fixity(source: &Source, start: usize) -> bool {
+    let line = source.text[..start].rfind('\n').map_or(0, |end| end + 1);
+    source.text[line..].trim_start().starts_with("infix")
 }
 
 /// Code is named in a document with its crate; a type, a trait or a method also without.
@@ -179,6 +226,16 @@ mod tests {
             ("crates/a/must-fail/x.edit", "file: specs/X.antt\nold: x\nnew: f-is\n")
         ])
         .is_empty());
+    }
+
+    #[test]
+    fn laws_that_cite_one_another_alone_are_dead() {
+        let laws = "pub f : A\nf = g\n\npub g : A\ng = f\n\npub h : A\nh = g\n";
+        assert_eq!(whats(&[("crates/a/proofs/A.antt", laws)]).len(), 3);
+        let used = ("crates/b/proofs/B.antt", "use Rattle.a.proofs.A.{h}\n");
+        assert!(whats(&[("crates/a/proofs/A.antt", laws), used]).is_empty());
+        let used = ("crates/b/proofs/B.antt", "use Rattle.a.proofs.A.{f}\n");
+        assert_eq!(whats(&[("crates/a/proofs/A.antt", laws), used]).len(), 1);
     }
 
     #[test]
