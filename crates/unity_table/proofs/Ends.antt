@@ -28,6 +28,7 @@ use Rattle.unity_table.specs.declared.RowFault.{RowFault}
 use Rattle.unity_table.specs.Unity.{election_limit, shares, out_of_range, too_wide, weights_fault, Fault, deciding_fault, summary, refused_unity, unity_of, fault_of, answer_told}
 use Rattle.unity_table.specs.Summed.{running, summed, Open, united_answer}
 use Rattle.unity_table.proofs.Faults.{no_fault, stays, table-ends}
+use Rattle.std.proofs.lemmas.List.{nil_from_length}
 use Rattle.unity_table.proofs.Sums.{shares-positive, passes, passed, running-stays}
 
 -- the mean's denominator does not fit
@@ -72,10 +73,6 @@ unfolding mean lowest_terms
 mean-small [] = omega arith
 mean-small (f ∷ l) = div-le_self (sum_of (f ∷ l)).numerator (gcd (sum_of (f ∷ l)).numerator ((sum_of (f ∷ l)).denominator * length (f ∷ l)))
 
-none_is : (m : List Fraction) → length m ≡ 0 → m ≡ []
-none_is [] h = refl
-none_is (f ∷ m) h = absurd (omega arith)
-
 module _ (s : Summed) (l : List Weights) (o : Open s l) where
   end-divisor : 0 < s.sum.denominator
   unfolding summed sum_of
@@ -102,7 +99,7 @@ module _ (s : Summed) (l : List Weights) (o : Open s l) where
   unfolding summed mean least_fraction bounded_fraction
   mean_none n =
       let g : length (shares l) ≡ 0 = sym (ap (λ (x : Summed). x.entered) o.is) ∙ n in
-      let m = none_is (shares l) g in
+      let m = nil_from_length (shares l) g in
       let b : s.least ≡ zero_fraction = ap (λ (x : Summed). x.least) o.is ∙ rw m in
       rw (m, b)
 
