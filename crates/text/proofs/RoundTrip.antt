@@ -12,7 +12,7 @@ use Rattle.lists.proofs.Lists.{by}
 use Rattle.record.specs.Record.{Record}
 use Rattle.record.specs.Judgement.{sound}
 use Rattle.lists.specs.Lists.{Has}
-use Rattle.lists.proofs.Logic.{has-mapped, all-has, all-by}
+use Rattle.lists.proofs.Logic.{has-mapped, all-has, all-by, map-back}
 use Rattle.record_rows.specs.row.Row.{Row, cell, edit_in_range, constraint_in_range, edit_of, constraint_of, edit_row, constraint_row}
 use Rattle.record_rows.proofs.row.Cells.{edit-back, constraint-back}
 use Rattle.record_rows.specs.grounds.Ground.{Rows, row_fault}
@@ -120,16 +120,12 @@ unfolding read_rows
 refused-number text k l h = refused-from (lines text) 0 [] [] k l h
 
 -- the rows of a record that rows were decoded to are those rows
-rows_back : {A : Type 0} (of : Row → A) (to : A → Row) (t : Rows) → ((x : Row) → Has x t → to (of x) ≡ x) → map to (map of t) ≡ t
-rows_back of to [] f = refl
-rows_back of to (x ∷ t) f = let p : to (of x) ≡ x = f x (inl refl) in let q : map to (map of t) ≡ t = rows_back of to t (λ y m. f y (inr m)) in cc
-
 module _ (edits constraints : Rows) (g : Given edits constraints) where
   pub edits-back : edit_rows (decoded edits constraints) ≡ edits
-  edits-back = rows_back edit_of edit_row edits (λ x m. edit-back x (accepted-range edit_kind [] edits g.edit-table x m))
+  edits-back = map-back edit_of edit_row edits (λ x m. edit-back x (accepted-range edit_kind [] edits g.edit-table x m))
 
   pub constraints-back : constraint_rows (decoded edits constraints) ≡ constraints
-  constraints-back = rows_back constraint_of constraint_row constraints (λ x m. constraint-back x (accepted-range (constraint_kind (names_of edits) false) [] constraints g.constraint-table x m))
+  constraints-back = map-back constraint_of constraint_row constraints (λ x m. constraint-back x (accepted-range (constraint_kind (names_of edits) false) [] constraints g.constraint-table x m))
 
 joined_is : (ls : List (List ℕ)) → joined_lines ls ≡ concat ls
 unfolding joined_lines concat
