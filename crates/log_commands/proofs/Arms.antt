@@ -1,37 +1,67 @@
 -- The arms that a letter leads to. Assumes nothing.
 use mathlib.Core.Path.{◌≡◌, refl, ap, sym, ◌∙◌}
-use mathlib.Core.Bool.{Bool, true, false}
+use mathlib.Core.Bool.{Bool, true, false, cond, not}
 use mathlib.Core.Logic.{◌≢◌}
-use mathlib.Core.List.{List, [], ◌∷◌}
-use Prim.Native.Nat.{ℕ, ◌+◌, ◌≤◌, ◌<◌}
-use Prim.Native.String.{String}
-use borrow.Author.Tests.{lt-ltb, le-ltb}
-use lib.Dec.{leb}
-use lib.ListN.{length, get_or, drop}
-use Rattle.lists.specs.Lists.{all}
-use Rattle.lists.proofs.Lists.{clash}
+use mathlib.Core.List.{List, [], ◌∷◌, map}
+use Prim.Native.Nat.{ℕ, ◌+◌, ◌≤◌, ◌<◌, max}
+use borrow.Author.Tests.{lt-ltb, le-ltb, eqb-false, ne_eqb}
+use lib.Dec.{eqb, leb}
+use lib.ListN.{length, get_or, take, drop}
+use Rattle.lists.specs.Lists.{all, mem, filter}
+use Rattle.lists.proofs.Lists.{by, clash}
 use Rattle.text_forms.specs.decimal.Decimal.{numeral_size}
-use Rattle.text_forms.specs.Spelling.{bytes, number_spelling}
+use Rattle.text_forms.specs.Spelling.{bytes, starts_with, number_spelling}
 use Rattle.text_forms.specs.Form.{is_mark, spelling, taken}
 use Rattle.text_forms.proofs.Forms.{slots}
-use Rattle.text_lines.specs.Line.{line_limit}
-use Rattle.text_lines.proofs.Signs.{ends-number, ends-run}
+use Rattle.text_lines.specs.Line.{set_form, edit_form, rule_form, set_shapes, rule_shapes, shapes, line_limit, line_read}
+use Rattle.text_lines.proofs.Signs.{line-ends, otherwise, ruled_out, ends-number, ends-run}
 use Rattle.std.specs.Prelude.{Result, Ok, Err}
 use Rattle.refusals.specs.declared.Refusal.{Refusal}
 use Rattle.refusals.specs.declared.Refusal.TheVariants.{NotInForm}
 use Rattle.log_forms.specs.productions.Productions.{Production, parse}
-use Rattle.log_forms.specs.productions.Words.{starting, words_of}
+use Rattle.log_forms.specs.productions.Words.{words_of, words_read}
 use Rattle.log_forms.proofs.productions.Choosing as choosing
-use Rattle.log_commands.specs.Grammar.{grammar, command_read}
-use Rattle.log_commands.specs.Groups.{plain_said, number_said, read_starting}
+use Rattle.log_commands.specs.Grammar.{command_forms, add_form, lend_form, grammar, command_read}
+use Rattle.log_commands.specs.Groups.{command_said, number_said, number_read, by_number, read_after, line_adds, lent_line_read}
 use Rattle.log_commands.specs.declared.Command.{Command}
+use Rattle.log_commands.proofs.Exchanged.{added-kept, lent-kept}
 
--- of the forms that start so, those that the letter after it leaves
-abbrev pub left_by : String → ℕ → List (Production (Result Command Refusal))
-left_by p letter = choosing.letter_leaves (bytes p) letter (starting p grammar)
+-- the forms that start so
+abbrev pub forms_after : List ℕ → List (Production (Result Command Refusal))
+forms_after beginning = filter (λ p. starts_with beginning p.form) grammar
 
-abbrev pub left_without : String → List ℕ → List (Production (Result Command Refusal))
-left_without p keys = choosing.others_leave (bytes p) keys (starting p grammar)
+-- A form, or a group of forms that start so, is told by the letter after the longest beginning that it shares with another.
+unfoldable pub shared_size : List ℕ → List ℕ → ℕ
+shared_size [] g = 0
+shared_size (c ∷ f) [] = 0
+shared_size (c ∷ f) (d ∷ g) = cond (eqb c d) (shared_size f g + 1) 0
+
+unfoldable pub longest : List ℕ → List (Production (Result Command Refusal)) → ℕ
+longest f [] = 0
+longest f (production ∷ rest) = max (cond (starts_with f production.form) 0 (shared_size f production.form)) (longest f rest)
+
+unfoldable pub beginning_of : List ℕ → List ℕ
+beginning_of f = take (longest f grammar) f
+
+unfoldable pub letter_of : List ℕ → ℕ
+letter_of f = get_or f (longest f grammar) 0
+
+unfoldable pub left_of : List ℕ → List (Production (Result Command Refusal))
+left_of f = choosing.letter_leaves (beginning_of f) (letter_of f) (forms_after (beginning_of f))
+
+-- the letters of forms after a beginning
+unfoldable pub letters : List ℕ → List (Production (Result Command Refusal)) → List ℕ
+letters beginning productions = filter (λ c. not (is_mark c)) (map (λ p. get_or p.form (length beginning) 0) productions)
+
+unfoldable pub others_of : List ℕ → List (Production (Result Command Refusal)) → List (Production (Result Command Refusal))
+others_of beginning productions = choosing.others_leave beginning (letters beginning productions) productions
+
+unfoldable pub last_of : List ℕ → List (Production (Result Command Refusal))
+last_of f = others_of (beginning_of f) (forms_after (beginning_of f))
+
+-- A form of numbers after a record's number is tried, and where the line is not in it the lines of the exchanged text.
+unfoldable pub lent_left : List ℕ → List (Production (Result Command Refusal))
+lent_left f = choosing.letter_leaves (bytes "lent=# ") (get_or f 7 0) (forms_after (bytes "lent=# "))
 
 -- one is left at least, with no more numbers than the code keeps
 abbrev pub is_first : List (Production (Result Command Refusal)) → Bool
@@ -48,88 +78,147 @@ others-of : (productions : List (Production (Result Command Refusal))) (s : List
 others-of [] s h e n q = clash h refl
 others-of (production ∷ rest) s h e n q = choosing.other-production Err s production rest h e n q
 
-abbrev pub of_number : (ℕ → Result Command Refusal) → Result ℕ Refusal → Result Command Refusal
-of_number meaning (Ok n) = meaning n
-of_number meaning (Err refusal) = Err refusal
+-- what computes from the grammar
+unfoldable pub computed : Unit {0}
+unfolding command_forms grammar shapes set_shapes rule_shapes set_form edit_form rule_form filter mem bytes starts_with is_mark spelling number_spelling slots choosing.letter_other choosing.letter_among ruled_out otherwise line-ends shared_size longest beginning_of letter_of left_of letters others_of last_of lent_left
+computed = tt
 
--- what a form without numbers says
-plain-said-made : (command : Command) (w : Result (List ℕ) Refusal) → plain_said command w ≡ choosing.made Err w (λ n. Ok command)
-plain-said-made command (Ok words) = refl
-plain-said-made command (Err refusal) = refl
+other-is : (keys : List ℕ) (x : ℕ) → mem x keys ≡ false → choosing.Others keys x
+unfolding mem
+other-is [] x h = tt
+other-is (key ∷ keys) x h =
+    by (eqb x key)
+    (λ (e : eqb x key ≡ true). clash (sym (rw e at h)) refl)
+    (λ (e : eqb x key ≡ false). (other-is keys x (rw e at h), eqb-false x key e))
 
--- what a form with one number says
-number-made : (meaning : ℕ → Result Command Refusal) (w : Result (List ℕ) Refusal) → of_number meaning (number_said w) ≡ choosing.made Err w (λ n. meaning (n 0))
-number-made meaning (Ok words) = refl
-number-made meaning (Err refusal) = refl
+by-number-said : (w : Result (List ℕ) Refusal) (meaning : (ℕ → ℕ) → Result Command Refusal) → meaning ≡ (λ n. meaning (λ k. n 0)) → by_number (number_said w) meaning ≡ command_said w meaning
+by-number-said (Ok words) meaning m = sym (ap (λ (f : (ℕ → ℕ) → Result Command Refusal). f (λ k. get_or words k 0)) m)
+by-number-said (Err refusal) meaning m = refl
 
-module _ (p : String) (s : List ℕ) {x : ℕ} (e : x ≡ choosing.letter_after (bytes p) s) {r : Result Command Refusal} where
-  -- the letter leaves one form
-  pub arm : (letter : ℕ) → x ≡ letter → choosing.is_one (left_by p letter) ≡ true → {w : Result (List ℕ) Refusal} → w ≡ words_of (taken (choosing.first_form (left_by p letter)) s)
-      → r ≡ choosing.made Err w (choosing.first_meaning Err (left_by p letter)) → r ≡ read_starting p s
-  unfolding read_starting
-  arm letter l h q t = choosing.letter-arm Err (bytes p) s e (starting p grammar) letter l h q t
+module _ (f s : List ℕ) where
+  -- what the form says that its letter leaves
+  pub told_arm : choosing.letter_after (beginning_of f) s ≡ letter_of f → choosing.is_one (left_of f) ≡ true → choosing.first_form (left_of f) ≡ f
+      → command_said (words_read f s) (choosing.first_meaning Err (left_of f)) ≡ read_after (beginning_of f) s
+  unfolding read_after left_of words_read
+  told_arm e h q = choosing.letter-arm Err (beginning_of f) s refl (forms_after (beginning_of f)) (letter_of f) e h (ap (λ (g : List ℕ). words_of (taken g s)) (sym q)) refl
 
-  pub plain-arm : (letter : ℕ) → x ≡ letter → choosing.is_one (left_by p letter) ≡ true → {command : Command} → choosing.first_meaning Err (left_by p letter) ≡ (λ n. Ok command)
-      → r ≡ plain_said command (words_of (taken (choosing.first_form (left_by p letter)) s)) → r ≡ read_starting p s
-  plain-arm letter l h {command} m q =
-      let w = words_of (taken (choosing.first_form (left_by p letter)) s) in
-      arm letter l h refl (q ∙ plain-said-made command w ∙ ap (choosing.made Err w) (sym m))
+  -- or that is left where no letter is told
+  pub told_last : mem (choosing.letter_after (beginning_of f) s) (letters (beginning_of f) (forms_after (beginning_of f))) ≡ false
+      → choosing.is_one (last_of f) ≡ true → choosing.first_form (last_of f) ≡ f
+      → command_said (words_read f s) (choosing.first_meaning Err (last_of f)) ≡ read_after (beginning_of f) s
+  unfolding read_after others_of last_of words_read
+  told_last o h q =
+      let keys = letters (beginning_of f) (forms_after (beginning_of f)) in
+      choosing.others-arm Err (beginning_of f) s refl (forms_after (beginning_of f)) keys (other-is keys (choosing.letter_after (beginning_of f) s) o) h (ap (λ (g : List ℕ). words_of (taken g s)) (sym q)) refl
 
-  pub number-arm : (letter : ℕ) → x ≡ letter → choosing.is_one (left_by p letter) ≡ true → (meaning : ℕ → Result Command Refusal)
-      → choosing.first_meaning Err (left_by p letter) ≡ (λ n. meaning (n 0))
-      → {v : Result ℕ Refusal} → v ≡ number_said (words_of (taken (choosing.first_form (left_by p letter)) s)) → r ≡ of_number meaning v → r ≡ read_starting p s
-  number-arm letter l h meaning m q t =
-      let w = words_of (taken (choosing.first_form (left_by p letter)) s) in
-      arm letter l h refl (t ∙ ap (of_number meaning) q ∙ number-made meaning w ∙ ap (choosing.made Err w) (sym m))
+  -- of a group: what its forms say
+  pub told_group : choosing.letter_after (beginning_of f) s ≡ letter_of f → left_of f ≡ forms_after f → read_after f s ≡ read_after (beginning_of f) s
+  unfolding read_after left_of
+  told_group e h =
+      choosing.by-letter Err (beginning_of f) s refl (forms_after (beginning_of f)) (letter_of f) e
+      (ap (λ (productions : List (Production (Result Command Refusal))). parse Err productions s) (sym h))
 
-  -- or some
-  pub part : (letter : ℕ) → x ≡ letter → r ≡ parse Err (left_by p letter) s → r ≡ read_starting p s
-  unfolding read_starting
-  part letter l q = choosing.by-letter Err (bytes p) s e (starting p grammar) letter l q
+  pub told_none : mem (choosing.letter_after f s) (letters f (forms_after f)) ≡ false → others_of f (forms_after f) ≡ [] → read_after f s ≡ Err NotInForm
+  unfolding read_after others_of parse
+  told_none o h =
+      let keys = letters f (forms_after f) in
+      sym (choosing.by-others Err f s refl (forms_after f) keys (other-is keys (choosing.letter_after f s) o)
+      (ap (λ (productions : List (Production (Result Command Refusal))). parse Err productions s) (sym h)))
 
-  -- the letter is none of these: one form is left, or none
-  pub last : (keys : List ℕ) → choosing.Others keys x → choosing.is_one (left_without p keys) ≡ true → {w : Result (List ℕ) Refusal} → w ≡ words_of (taken (choosing.first_form (left_without p keys)) s)
-      → r ≡ choosing.made Err w (choosing.first_meaning Err (left_without p keys)) → r ≡ read_starting p s
-  unfolding read_starting
-  last keys o h q t = choosing.others-arm Err (bytes p) s e (starting p grammar) keys o h q t
+  -- a whole line, by its third letter
+  pub told_line : length s ≤ line_limit → choosing.letter_after (bytes "..") s ≡ get_or f 2 0 → choosing.letter_leaves (bytes "..") (get_or f 2 0) grammar ≡ forms_after f
+      → read_after f s ≡ command_read s
+  unfolding read_after command_read
+  told_line l e h =
+      rw (le-ltb line_limit (length s) l)
+      (choosing.by-letter Err (bytes "..") s refl grammar (get_or f 2 0) e
+      (ap (λ (productions : List (Production (Result Command Refusal))). parse Err productions s) (sym h)))
 
-  pub number-last : (keys : List ℕ) → choosing.Others keys x → choosing.is_one (left_without p keys) ≡ true → (meaning : ℕ → Result Command Refusal)
-      → choosing.first_meaning Err (left_without p keys) ≡ (λ n. meaning (n 0))
-      → {v : Result ℕ Refusal} → v ≡ number_said (words_of (taken (choosing.first_form (left_without p keys)) s)) → r ≡ of_number meaning v → r ≡ read_starting p s
-  number-last keys o h meaning m q t =
-      let w = words_of (taken (choosing.first_form (left_without p keys)) s) in
-      last keys o h refl (t ∙ ap (of_number meaning) q ∙ number-made meaning w ∙ ap (choosing.made Err w) (sym m))
-
-  pub no-form : (keys : List ℕ) → choosing.Others keys x → r ≡ parse Err (left_without p keys) s → r ≡ read_starting p s
-  unfolding read_starting
-  no-form keys o q = choosing.by-others Err (bytes p) s e (starting p grammar) keys o q
-
-  -- the first that is left is tried, and where the line is not in its form the others
-  pub first : (letter : ℕ) → x ≡ letter → is_first (left_by p letter) ≡ true → {w : Result (List ℕ) Refusal} → w ≡ words_of (taken (choosing.first_form (left_by p letter)) s)
-      → w ≢ Err NotInForm → r ≡ choosing.made Err w (choosing.first_meaning Err (left_by p letter)) → r ≡ read_starting p s
-  first letter l h q n t = part letter l (first_of (left_by p letter) s h q n t)
-
-  pub second : (letter : ℕ) → x ≡ letter → is_first (left_by p letter) ≡ true → {w : Result (List ℕ) Refusal} → w ≡ words_of (taken (choosing.first_form (left_by p letter)) s)
-      → w ≡ Err NotInForm → r ≡ parse Err (drop 1 (left_by p letter)) s → r ≡ read_starting p s
-  second letter l h q n t = part letter l (others-of (left_by p letter) s h q n t)
-
--- a whole line, by its third letter
 module _ (s : List ℕ) where
-  pub command-long : line_limit < length s → Err NotInForm ≡ command_read s
+  pub long_line : line_limit < length s → command_read s ≡ Err NotInForm
   unfolding command_read
-  command-long h = rw (lt-ltb line_limit (length s) h)
+  long_line h = rw (lt-ltb line_limit (length s) h)
 
-  module _ (h : length s ≤ line_limit) {r : Result Command Refusal} where
-    command-short : r ≡ parse Err grammar s → r ≡ command_read s
-    unfolding command_read
-    command-short q = rw (le-ltb line_limit (length s) h) q
+  pub other_line : length s ≤ line_limit → mem (choosing.letter_after (bytes "..") s) (letters (bytes "..") grammar) ≡ false → others_of (bytes "..") grammar ≡ []
+      → command_read s ≡ Err NotInForm
+  unfolding command_read others_of parse
+  other_line l o h =
+      let keys = letters (bytes "..") grammar in
+      rw (le-ltb line_limit (length s) l)
+      (sym (choosing.by-others Err (bytes "..") s refl grammar keys (other-is keys (choosing.letter_after (bytes "..") s) o)
+      (ap (λ (productions : List (Production (Result Command Refusal))). parse Err productions s) (sym h))))
 
-    module _ {x : ℕ} (e : x ≡ choosing.letter_after (bytes "..") s) where
-      pub group : (letter : ℕ) → x ≡ letter → r ≡ parse Err (choosing.letter_leaves (bytes "..") letter grammar) s → r ≡ command_read s
-      group letter l q = command-short (choosing.by-letter Err (bytes "..") s e grammar letter l q)
+  -- of the exchanged text
+  added_by : (letter : ℕ) → length s ≤ line_limit → choosing.letter_after (bytes "..") s ≡ letter
+      → choosing.letter_leaves (bytes "..") letter grammar ≡ choosing.letter_leaves (bytes "..") letter (map add_form shapes) → line_adds (line_read s) ≡ command_read s
+  unfolding command_read
+  added_by letter l e h =
+      rw (le-ltb line_limit (length s) l)
+      (choosing.by-letter Err (bytes "..") s refl grammar letter e
+      (added-kept s l refl letter e refl ∙ ap (λ (productions : List (Production (Result Command Refusal))). parse Err productions s) (sym h)))
 
-      pub other-group : (keys : List ℕ) → choosing.Others keys x → r ≡ parse Err (choosing.others_leave (bytes "..") keys grammar) s → r ≡ command_read s
-      other-group keys o q = command-short (choosing.by-others Err (bytes "..") s e grammar keys o q)
+  pub added_edit : length s ≤ line_limit → choosing.letter_after (bytes "..") s ≡ 105 → line_adds (line_read s) ≡ command_read s
+  unfolding computed
+  added_edit l e = added_by 105 l e refl
+
+  pub added_constraint : length s ≤ line_limit → choosing.letter_after (bytes "..") s ≡ 102 → line_adds (line_read s) ≡ command_read s
+  unfolding computed
+  added_constraint l e = added_by 102 l e refl
+
+pub ruleset told_arms = (told_arm, told_last, told_group, told_none, ne_eqb)
+
+pub ruleset told_lines = (told_line, long_line, other_line, added_edit, added_constraint, ne_eqb)
+
+module _ (f s : List ℕ) (e : choosing.letter_after (bytes "lent=# ") s ≡ get_or f 7 0) (q : choosing.first_form (lent_left f) ≡ f) where
+  words-first : words_read f s ≡ words_of (taken (choosing.first_form (lent_left f)) s)
+  unfolding words_read
+  words-first = ap (λ (g : List ℕ). words_of (taken g s)) (sym q)
+
+  pub lent_first : is_first (lent_left f) ≡ true → words_read f s ≢ Err NotInForm → command_said (words_read f s) (choosing.first_meaning Err (lent_left f)) ≡ read_after (bytes "lent=# ") s
+  unfolding read_after lent_left
+  lent_first h n =
+      choosing.by-letter Err (bytes "lent=# ") s refl (forms_after (bytes "lent=# ")) (get_or f 7 0) e
+      (first_of (lent_left f) s h words-first n refl)
+
+  pub lent_second : is_first (lent_left f) ≡ true → drop 1 (lent_left f) ≡ choosing.letter_leaves (bytes "lent=# ") (get_or f 7 0) (map lend_form shapes)
+      → words_read f s ≡ Err NotInForm → lent_line_read s ≡ read_after (bytes "lent=# ") s
+  unfolding read_after lent_left
+  lent_second h d n =
+      choosing.by-letter Err (bytes "lent=# ") s refl (forms_after (bytes "lent=# ")) (get_or f 7 0) e
+      (others-of (lent_left f) s h words-first n
+      (lent-kept s refl (get_or f 7 0) e refl ∙ ap (λ (productions : List (Production (Result Command Refusal))). parse Err productions s) (sym d)))
+
+-- by what is read in a form: its words, or its number
+abbrev ByNumber : List (Production (Result Command Refusal)) → Type 0
+ByNumber productions = choosing.first_meaning Err productions ≡ (λ n. choosing.first_meaning Err productions (λ k. n 0))
+
+module _ {f : List ℕ} (s : List ℕ) {w : Result (List ℕ) Refusal} (q : w ≡ words_read f s) where
+  pub by_letter : choosing.letter_after (beginning_of f) s ≡ letter_of f → choosing.is_one (left_of f) ≡ true → choosing.first_form (left_of f) ≡ f
+      → command_said w (choosing.first_meaning Err (left_of f)) ≡ read_after (beginning_of f) s
+  by_letter e h g = rw q (told_arm f s e h g)
+
+  pub by_last : {x : ℕ} → x ≡ choosing.letter_after (beginning_of f) s → choosing.Others (letters (beginning_of f) (forms_after (beginning_of f))) x
+      → choosing.is_one (last_of f) ≡ true → choosing.first_form (last_of f) ≡ f → command_said w (choosing.first_meaning Err (last_of f)) ≡ read_after (beginning_of f) s
+  unfolding read_after others_of last_of words_read
+  by_last e o h g =
+      choosing.others-arm Err (beginning_of f) s e (forms_after (beginning_of f)) (letters (beginning_of f) (forms_after (beginning_of f))) o h
+      (q ∙ ap (λ (g : List ℕ). words_of (taken g s)) (sym g)) refl
+
+  pub lent_by_first : choosing.letter_after (bytes "lent=# ") s ≡ get_or f 7 0 → choosing.first_form (lent_left f) ≡ f → is_first (lent_left f) ≡ true → w ≢ Err NotInForm
+      → command_said w (choosing.first_meaning Err (lent_left f)) ≡ read_after (bytes "lent=# ") s
+  lent_by_first e g h n = rw q (lent_first f s e g h (λ z. n (q ∙ z)))
+
+module _ {f : List ℕ} (s : List ℕ) {v : Result ℕ Refusal} (q : v ≡ number_read f s) where
+  pub number_by_letter : choosing.letter_after (beginning_of f) s ≡ letter_of f → choosing.is_one (left_of f) ≡ true → choosing.first_form (left_of f) ≡ f → ByNumber (left_of f)
+      → by_number v (choosing.first_meaning Err (left_of f)) ≡ read_after (beginning_of f) s
+  unfolding number_read
+  number_by_letter e h g m = rw q (by-number-said (words_read f s) (choosing.first_meaning Err (left_of f)) m ∙ told_arm f s e h g)
+
+  pub number_by_last : {x : ℕ} → x ≡ choosing.letter_after (beginning_of f) s → choosing.Others (letters (beginning_of f) (forms_after (beginning_of f))) x
+      → choosing.is_one (last_of f) ≡ true → choosing.first_form (last_of f) ≡ f → ByNumber (last_of f)
+      → by_number v (choosing.first_meaning Err (last_of f)) ≡ read_after (beginning_of f) s
+  unfolding number_read
+  number_by_last e o h g m = rw q (by-number-said (words_read f s) (choosing.first_meaning Err (last_of f)) m ∙ by_last s refl e o h g)
 
 -- letters after a record's number
 module _ (s : List ℕ) {number : ℕ} (p : number ≡ 5 + numeral_size (drop 5 s)) {x : ℕ} where

@@ -2,13 +2,12 @@
 // that alone is tried.
 #![tactic(auto)]
 
-ghost use Rattle.std.specs.Prelude.{◌≡◌, [], ◌∷◌, ◌+◌, ◌≤◌, length, drop};
+ghost use Rattle.std.specs.Prelude.{◌≡◌, [], ◌∷◌, ◌+◌, ◌≤◌, length, drop, Ok};
 ghost use Rattle.text_forms.specs.decimal.Decimal.{numeral_size};
-ghost use Rattle.text_forms.specs.Form.{taken};
 ghost use Rattle.text_lines.specs.Line.{line_read, line_limit};
-ghost use Rattle.log_forms.specs.productions.Words.{words_of};
+ghost use Rattle.log_forms.specs.productions.Words.{words_read};
 ghost use Rattle.log_commands.specs.Grammar.{edit_cells_of, constraint_cells_of, adding, lending_to, command_read};
-ghost use Rattle.log_commands.specs.Groups.{turn_by, plain_said, number_said, read_starting, line_adds, lent_number, lent_line_read};
+ghost use Rattle.log_commands.specs.Groups.{turn_by, command_said, number_read, read_starting, line_adds, lent_number, lent_line_read};
 
 use log_forms::productions;
 use refusals::Refusal;
@@ -170,21 +169,23 @@ fn turn_by(pages: i64) -> Result<Command, Refusal>
 
 // What a form without numbers says.
 fn read_plain(form: &[u8], bytes: &[u8], command: Command) -> Result<Command, Refusal>
-    ensures { result ≡ plain_said command (words_of (taken form.now bytes.now)) }
+    ensures { result ≡ command_said (words_read form.now bytes.now) (λ n. Ok command) }
 {
     productions::read_words(form, bytes)?;
     Ok(command)
 }
 
 // The number of a form that has one.
+#[tactic(auto, unfolding(crate::specs::Groups::number_read))]
 fn read_number(form: &[u8], bytes: &[u8]) -> Result<u32, Refusal>
-    ensures { result ≡ number_said (words_of (taken form.now bytes.now)) }
+    ensures { result ≡ number_read form.now bytes.now }
 {
     let words = productions::read_words(form, bytes)?;
     Ok(words[0])
 }
 
 // The forms that start so, by the letter after it; so below.
+#[tactic(auto, using(crate::proofs::Arms::told_arms), unfolding(crate::proofs::Arms::computed))]
 fn read_ask(bytes: &[u8]) -> Result<Command, Refusal>
     ensures { result ≡ read_starting "ask=" bytes.now }
 {
@@ -202,6 +203,7 @@ fn read_ask(bytes: &[u8]) -> Result<Command, Refusal>
 }
 
 // No number begins with a minus sign.
+#[tactic(auto, using(crate::proofs::Arms::told_arms), unfolding(crate::proofs::Arms::computed))]
 fn read_turn(bytes: &[u8]) -> Result<Command, Refusal>
     ensures { result ≡ read_starting "do=turn pages=" bytes.now }
 {
@@ -212,6 +214,7 @@ fn read_turn(bytes: &[u8]) -> Result<Command, Refusal>
     }
 }
 
+#[tactic(auto, using(crate::proofs::Arms::told_arms), unfolding(crate::proofs::Arms::computed))]
 fn read_turn_or_test(bytes: &[u8]) -> Result<Command, Refusal>
     ensures { result ≡ read_starting "do=t" bytes.now }
 {
@@ -223,6 +226,7 @@ fn read_turn_or_test(bytes: &[u8]) -> Result<Command, Refusal>
     }
 }
 
+#[tactic(auto, using(crate::proofs::Arms::told_arms), unfolding(crate::proofs::Arms::computed))]
 fn read_show_or_suggest(bytes: &[u8]) -> Result<Command, Refusal>
     ensures { result ≡ read_starting "do=s" bytes.now }
 {
@@ -244,6 +248,7 @@ fn read_show_or_suggest(bytes: &[u8]) -> Result<Command, Refusal>
 
 // Kept: a form of several numbers has an arm with `?`, here and below: read_words(..).map(|words| ..) was tried, and the clauses of each closure make
 // the proof longer.
+#[tactic(auto, using(crate::proofs::Arms::told_arms), unfolding(crate::proofs::Arms::computed))]
 fn read_do(bytes: &[u8]) -> Result<Command, Refusal>
     ensures { result ≡ read_starting "do=" bytes.now }
 {
@@ -278,6 +283,7 @@ fn read_do(bytes: &[u8]) -> Result<Command, Refusal>
     }
 }
 
+#[tactic(auto, using(crate::proofs::Arms::told_arms), unfolding(crate::proofs::Arms::computed))]
 fn read_roll(bytes: &[u8]) -> Result<Command, Refusal>
     ensures { result ≡ read_starting "roll=" bytes.now }
 {
@@ -292,6 +298,7 @@ fn read_roll(bytes: &[u8]) -> Result<Command, Refusal>
 }
 
 // Kept: beside `read_roll`: `read_plain`, `read_words` and `read_number` are what both share; what is left is two forms and two commands each.
+#[tactic(auto, using(crate::proofs::Arms::told_arms), unfolding(crate::proofs::Arms::computed))]
 fn read_row(bytes: &[u8]) -> Result<Command, Refusal>
     ensures { result ≡ read_starting "row=" bytes.now }
 {
@@ -303,6 +310,7 @@ fn read_row(bytes: &[u8]) -> Result<Command, Refusal>
 }
 
 // The record's number ends at `number`.
+#[tactic(auto, using(crate::proofs::Arms::told_arms), unfolding(crate::proofs::Arms::computed))]
 fn read_rows(bytes: &[u8], number: usize) -> Result<Command, Refusal>
     requires { number ≡ 5 + numeral_size (drop 5 bytes.now) }
     ensures { result ≡ read_starting "lent=# rows=" bytes.now }
@@ -377,6 +385,7 @@ fn read_lent_line(bytes: &[u8]) -> Result<Command, Refusal>
 // Rows of numbers are tried before lines of the exchanged text.
 // Kept: a match of the answer in each of two arms: only these two go on to a line. As functions the rows would be two and the match a third, each with
 // a definition of what it gives, in place of two matches.
+#[tactic(auto, using(crate::proofs::Arms::told_arms, crate::proofs::Arms::lent_second), unfolding(crate::proofs::Arms::computed))]
 fn read_lent(bytes: &[u8]) -> Result<Command, Refusal>
     requires { length bytes.now ≤ line_limit }
     ensures { result ≡ read_starting "lent=# " bytes.now }
@@ -419,6 +428,7 @@ fn read_lent(bytes: &[u8]) -> Result<Command, Refusal>
 }
 
 // What a line of a log says, its end included. The third letter tells the groups of forms.
+#[tactic(auto, using(crate::proofs::Arms::told_lines), unfolding(crate::proofs::Arms::computed))]
 pub fn read_command(bytes: &[u8]) -> Result<Command, Refusal>
     ensures { result ≡ command_read bytes.now }
 {

@@ -1,37 +1,15 @@
 -- `read_turn_or_test` meets its contract. Assumes nothing.
-use mathlib.Core.Path.{refl}
-use Rattle.std.specs.Prelude.{Ok}
+use Rattle.std.proofs.Common.{refl, sym, ◌∙◌}
 use Rattle.std.proofs.lemmas.Result.{err_from_is_err_and}
-use Rattle.lists.specs.Lists.{filter, mem}
-use Rattle.text_forms.specs.Spelling.{bytes, starts_with, number_spelling}
-use Rattle.text_forms.specs.Form.{is_mark, spelling}
-use Rattle.text_forms.proofs.Forms.{slots}
-use Rattle.text_lines.specs.Line.{set_form, edit_form, rule_form, set_shapes, rule_shapes, shapes}
-use Rattle.text_lines.proofs.Signs.{line-ends, otherwise, ruled_out}
-use Rattle.log_forms.specs.productions.Productions.{parse}
-use Rattle.log_forms.specs.productions.Words.{starting}
-use Rattle.log_forms.proofs.productions.Choosing.{letter_other, letter_among}
-use Rattle.log_commands.specs.Grammar.{command_forms, grammar}
-use Rattle.log_commands.specs.Groups.{read_starting}
-use Rattle.log_commands.specs.declared.Vote.TheVariants.{Test}
-use Rattle.log_commands.specs.declared.Command.TheVariants.{Vote}
-use Rattle.log_commands.proofs.Arms.{number-arm, part, no-form}
+use Rattle.log_commands.proofs.Arms.{computed, number_by_letter}
 use Rattle.log_commands.proofs.read_turn_or_test.Goals as goal
 
 pub returns-in_err-read_number-in-101 : goal.returns-in_err-read_number-in-101
-unfolding command_forms grammar shapes set_shapes rule_shapes set_form edit_form rule_form read_starting starting parse filter mem bytes starts_with is_mark spelling number_spelling slots letter_other letter_among ruled_out otherwise line-ends
+unfolding computed
 returns-in_err-read_number-in-101 c =
     let p = err_from_is_err_and c.from_residual.result c.from_residual.ensures.1 in
-    rw (p.1, p.2) (number-arm "do=t" c.args.bytes.now c.byte_at-letter.ensures 101 c.in-101.is refl (λ n. Ok (Vote (Test n))) refl c.in_err-read_number-in-101.ensures refl)
+    rw (p.1, p.2) (number_by_letter c.args.bytes.now c.in_err-read_number-in-101.ensures (sym c.byte_at-letter.ensures ∙ c.in-101.is) refl refl refl)
 
 pub returns-in_ok-read_number-in-101 : goal.returns-in_ok-read_number-in-101
-unfolding command_forms grammar shapes set_shapes rule_shapes set_form edit_form rule_form read_starting starting parse filter mem bytes starts_with is_mark spelling number_spelling slots letter_other letter_among ruled_out otherwise line-ends
-returns-in_ok-read_number-in-101 c = number-arm "do=t" c.args.bytes.now c.byte_at-letter.ensures 101 c.in-101.is refl (λ n. Ok (Vote (Test n))) refl c.in_ok-read_number-in-101.ensures refl
-
-pub returns-in-117 : goal.returns-in-117
-unfolding command_forms grammar shapes set_shapes rule_shapes set_form edit_form rule_form read_starting starting parse filter mem bytes starts_with is_mark spelling number_spelling slots letter_other letter_among ruled_out otherwise line-ends
-returns-in-117 c = part "do=t" c.args.bytes.now c.byte_at-letter.ensures 117 c.in-117.is c.read_turn.ensures
-
-pub returns-in_default : goal.returns-in_default
-unfolding command_forms grammar shapes set_shapes rule_shapes set_form edit_form rule_form read_starting starting parse filter mem bytes starts_with is_mark spelling number_spelling slots letter_other letter_among ruled_out otherwise line-ends
-returns-in_default c = no-form "do=t" c.args.bytes.now c.byte_at-letter.ensures (bytes "eu") c.in_default.in_default-own.rest refl
+unfolding computed
+returns-in_ok-read_number-in-101 c = number_by_letter c.args.bytes.now c.in_ok-read_number-in-101.ensures (sym c.byte_at-letter.ensures ∙ c.in-101.is) refl refl refl

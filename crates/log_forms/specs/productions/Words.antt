@@ -1,13 +1,11 @@
--- Inner: the call log: what the code keeps of a form's numbers, and groups of productions. Assumes nothing.
+-- Inner: the call log: what the code keeps of a form's numbers. Assumes nothing.
 use Rattle.std.specs.Prelude.{ℕ, cond, List, ◌++◌, get_or, take, replicate, Result, Ok, Err}
-use Prim.Native.String.{String}
 use Rattle.std.proofs.Math.Option.{Option, none, some}
-use Rattle.lists.specs.Lists.{all, filter}
-use Rattle.text_forms.specs.Spelling.{bytes, starts_with}
+use Rattle.lists.specs.Lists.{all}
+use Rattle.text_forms.specs.Form.{taken}
 use Rattle.text_lines.specs.Line.{fits_word}
 use Rattle.refusals.specs.declared.Refusal.{Refusal}
 use Rattle.refusals.specs.declared.Refusal.TheVariants.{NotInForm, OutOfRange}
-use Rattle.log_forms.specs.productions.Productions.{Production}
 
 -- a word by its place
 abbrev pub word_at : List ℕ → ℕ → ℕ
@@ -25,6 +23,6 @@ abbrev pub words_of : Option (List ℕ) → Result (List ℕ) Refusal
 words_of none = Err NotInForm
 words_of (some ns) = words_kept (eight_of ns)
 
--- the productions whose forms start so
-unfoldable pub starting : {A : Type 0} → String → List (Production A) → List (Production A)
-starting beginning productions = filter (λ p. starts_with (bytes beginning) p.form) productions
+-- of a text in a form
+unfoldable pub words_read : List ℕ → List ℕ → Result (List ℕ) Refusal
+words_read form s = words_of (taken form s)
