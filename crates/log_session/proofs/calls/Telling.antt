@@ -9,9 +9,9 @@ use Rattle.log_forms.specs.declared.Printer.{Printer}
 use Rattle.log_forms.specs.Printed.{Printed}
 use Rattle.log_answers.specs.Answers.{answered_text}
 use Rattle.log_commands.specs.declared.Lend.{Lend as Lends}
-use Rattle.log_commands.specs.declared.Lend.TheVariants.{EditRow, ConstraintRow, NoRows, BenchRows, RollRow, NoRoll, RowName, NoRow}
+use Rattle.log_commands.specs.declared.Lend.TheVariants.{NoRow}
 use Rattle.log_commands.specs.declared.Call.{Call as Calls}
-use Rattle.log_commands.specs.declared.Call.TheVariants.{AddEdit, AddConstraint, Merge, Hide, Show, Turn, Adopt}
+use Rattle.log_commands.specs.declared.Call.TheVariants.{Adopt}
 use Rattle.log_lent.specs.declared.Lending.{Lending}
 use Rattle.log_lent.specs.Kept.{Kept}
 use Rattle.log_session.specs.declared.Session.{Session}
@@ -23,25 +23,14 @@ use Rattle.log_session.specs.calls.Lines.{Holds, pages_text, call_text, call_eff
 -- a call that is no adoption
 pub pages-only : (call : Calls) → ((edit : ℕ) → call ≡ Adopt edit → ⊥) → call_text call ≡ pages_text
 unfolding call_text
-pages-only (AddEdit cells) h = refl
-pages-only (AddConstraint cells) h = refl
-pages-only (Merge k) h = refl
-pages-only (Hide edit) h = refl
-pages-only (Show edit) h = refl
-pages-only (Turn pages) h = refl
 pages-only (Adopt edit) h = absurd (h edit refl)
+pages-only call h = refl
 
--- a line that lends makes no call, and prints nothing where it is accepted
+-- a line that lends makes no call, and prints nothing where it is accepted: one case is named, so that each is computed
 lend-is : (D : Desk) (lend : Lends) → lend_effect D lend ≡ lends D (lend_effect D lend).number (lend_effect D lend).after.lent
 unfolding lend_effect
-lend-is D (EditRow k cells) = refl
-lend-is D (ConstraintRow k cells) = refl
-lend-is D (NoRows k) = refl
-lend-is D (BenchRows k) = refl
-lend-is D (RollRow seat weight) = refl
-lend-is D NoRoll = refl
-lend-is D (RowName name) = refl
 lend-is D NoRow = refl
+lend-is D lend = refl
 
 pub lend-calls : (D : Desk) (lend : Lends) → (lend_effect D lend).after.calls ≡ D.calls
 lend-calls D lend = ap (λ (E : Effect). E.after.calls) (lend-is D lend)

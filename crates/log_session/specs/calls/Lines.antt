@@ -5,7 +5,7 @@ use Rattle.ledger.specs.Ledger.{CallAnswer, last}
 use Rattle.log_forms.specs.Printed.{Texts}
 use Rattle.log_answers.specs.Answers.{answer_line, bit, answered_text}
 use Rattle.log_commands.specs.declared.Call.{Call}
-use Rattle.log_commands.specs.declared.Call.TheVariants.{AddEdit, AddConstraint, Merge, Hide, Show, Turn, Adopt}
+use Rattle.log_commands.specs.declared.Call.TheVariants.{Adopt}
 use Rattle.log_lent.specs.Kept.{Kept}
 use Rattle.log_session.specs.declared.Session.{Session}
 use Rattle.log_session.specs.Desk.{Desk, Effect, bench_in, requested}
@@ -27,13 +27,8 @@ adoption_text a opened last =
 
 -- what an accepted line that makes a call prints: an adoption answers what the election does, too
 unfoldable pub call_text : Call → CallAnswer → ℕ → ℕ → Texts
-call_text (AddEdit cells) = pages_text
-call_text (AddConstraint cells) = pages_text
-call_text (Merge k) = pages_text
-call_text (Hide edit) = pages_text
-call_text (Show edit) = pages_text
-call_text (Turn pages) = pages_text
 call_text (Adopt edit) = adoption_text
+call_text call = pages_text
 
 -- THE EFFECT of a line that makes a call
 unfoldable pub call_effect : Desk → Call → Effect
