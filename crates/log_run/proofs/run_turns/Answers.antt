@@ -11,12 +11,10 @@ pub loop-from-init : goal.loop-from-init
 loop-from-init c = (omega (arith, c.requires.inside), omega arith, λ e. refl, refl, λ D before session R t k. running-open _ D before R t)
 
 pub slice_bounds-read_command-end : goal.slice_bounds-read_command-end
-slice_bounds-read_command-end c = let x = next-line c.args.log.now c.loop-from.from c.loop-from-test.true c.line_end-end.ensures in omega (arith, x.inside)
+slice_bounds-read_command-end c = let x = next-line c.args.log.now c.loop-from.from c.loop-from-test.true c.line_end-end.ensures in omega arith
 
 pub loop-from-smaller : goal.loop-from-smaller
-loop-from-smaller c =
-    let x = next-line c.args.log.now c.loop-from.from c.loop-from-test.true c.line_end-end.ensures in
-    omega (arith, x.forward, x.inside)
+loop-from-smaller c = let x = next-line c.args.log.now c.loop-from.from c.loop-from-test.true c.line_end-end.ensures in omega arith
 
 pub loop-from-preserved : goal.loop-from-preserved
 loop-from-preserved c =
@@ -25,8 +23,8 @@ loop-from-preserved c =
     let v = c.loop-from.invariant in
     let x = next-line c.args.log.now c.loop-from.from h c.line_end-end.ensures in (
       x.inside,
-      omega (arith, x.forward, v.1),
-      λ e. absurd (omega (arith, x.forward, v.1)),
+      omega arith,
+      λ e. absurd (omega arith),
       r.last ∙ v.3,
       λ D before session R t k.
           let S = v.4 D before session R t k in
