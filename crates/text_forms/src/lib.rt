@@ -32,7 +32,7 @@ fn write_name(out: &mut [u8], n: u64) -> usize
     requires { length (name_spelling.write n) ≤ length out.old }
     ensures { Written (name_spelling.write n) out.old result out.new }
 {
-    decimal::write_number(out, n)
+    decimal::write_short(out, n)
 }
 
 fn read_name(bytes: &[u8]) -> Option<Numeral>
@@ -95,7 +95,7 @@ fn write_mark(out: &mut [u8], mark: u8, n: u64) -> usize
     match mark {
         b'?' => write_answer(out, n),
         b'@' => write_name(out, n),
-        _ => decimal::write_number(out, n),
+        _ => decimal::write_short(out, n),
     }
 }
 

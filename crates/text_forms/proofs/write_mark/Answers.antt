@@ -10,9 +10,9 @@ write_answer-requires c = fits-as c.args.mark c.args.n (spells-answers c.args.ma
 pub write_name-requires : goal.write_name-requires
 write_name-requires c = fits-as c.args.mark c.args.n (spells-names c.args.mark c.in-64.is) c.args.out.now c.requires
 
-pub write_number-requires : goal.write_number-requires
+pub write_short-requires : goal.write_short-requires
 unfolding number_spelling
-write_number-requires c = fits-as c.args.mark c.args.n (spells-numbers c.args.mark (λ e. absurd (omega arith)) (λ e. absurd (omega arith))) c.args.out.now c.requires
+write_short-requires c = fits-as c.args.mark c.args.n (spells-numbers c.args.mark (λ e. absurd (omega arith)) (λ e. absurd (omega arith))) c.args.out.now c.requires
 
 pub returns-in-63 : goal.returns-in-63
 returns-in-63 c = written_as c.args.mark c.args.n (spells-answers c.args.mark c.in-63.is) c.args.out.now c.write_answer.ensures
@@ -22,4 +22,4 @@ returns-in-64 c = written_as c.args.mark c.args.n (spells-names c.args.mark c.in
 
 pub returns-in_default : goal.returns-in_default
 unfolding number_spelling
-returns-in_default c = written_as c.args.mark c.args.n (spells-numbers c.args.mark (λ e. absurd (omega arith)) (λ e. absurd (omega arith))) c.args.out.now c.write_number.ensures
+returns-in_default c = written_as c.args.mark c.args.n (spells-numbers c.args.mark (λ e. absurd (omega arith)) (λ e. absurd (omega arith))) c.args.out.now c.write_short.ensures

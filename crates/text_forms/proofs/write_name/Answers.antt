@@ -2,10 +2,10 @@
 use Rattle.text_forms.specs.Spelling.{number_spelling, name_spelling}
 use Rattle.text_forms.proofs.write_name.Goals as goal
 
-pub write_number-requires : goal.write_number-requires
+pub write_short-requires : goal.write_short-requires
 unfolding name_spelling number_spelling
-write_number-requires c = c.requires
+write_short-requires c = c.requires
 
 pub returns : goal.returns
 unfolding name_spelling number_spelling
-returns c = c.write_number.ensures
+returns c = c.write_short.ensures
