@@ -228,16 +228,16 @@ constraint-line-read row h =
     read-row n k p row e a x = rw (e, constraint-line-cells n k p) (read-rule-line n k p (rw e at x) (cell-fits (n ∷ k ∷ p ∷ []) 0 (rw e at a)) (cell-fits (n ∷ k ∷ p ∷ []) 2 (rw e at a)))
 
 -- What a line says gives the line.
-abbrev pub line_text : Line → List ℕ
-line_text (Edit row) = edit_line row
-line_text (Constraint row) = constraint_line row
+abbrev pub written_line : Line → List ℕ
+written_line (Edit row) = edit_line row
+written_line (Constraint row) = constraint_line row
 
 abbrev pub row_in_form : Line → Bool
 row_in_form (Edit row) = is_edit_row row
 row_in_form (Constraint row) = is_constraint_row row
 
 abbrev pub Faithful : Result Line Refusal → List ℕ → Type 0
-Faithful l s = IfOk l (λ line. (s ≡ line_text line) × (row_in_form line ≡ true))
+Faithful l s = IfOk l (λ line. (s ≡ written_line line) × (row_in_form line ≡ true))
 
 -- What a line can say.
 pub data Saying (l : Result Line Refusal) : Type 0 where
@@ -252,7 +252,7 @@ saying-row (Constraint row) = a-constraint row refl
 
 pub record Says (h : Shape) : Type 0 where
   pub plain : mem 63 h.form ≡ false
-  pub text : (ns : List ℕ) → length ns ≡ slots h.form → line_text (h.says ns) ≡ fill h.form ns
+  pub text : (ns : List ℕ) → length ns ≡ slots h.form → written_line (h.says ns) ≡ fill h.form ns
   pub row : (ns : List ℕ) → length ns ≡ slots h.form → all fits_word ns ≡ true → row_in_form (h.says ns) ≡ true
 
 abbrev Each : List Shape → Type 0

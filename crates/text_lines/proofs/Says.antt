@@ -23,6 +23,7 @@ use Rattle.text_forms.proofs.Forms.{slots, fill-taken}
 use Rattle.text_lines.specs.Line.{set_form, edit_form, rule_form, field_word, rule_word, word_read, Shape, edit_shape, rule_shape, set_shapes, rule_shapes, shapes, fits_word, said, read_as, or_else, read_by, line_read, line_limit}
 use Rattle.text_lines.specs.declared.Line.{Line}
 use Rattle.text_lines.specs.declared.Line.TheVariants.{Edit, Constraint}
+use Rattle.std.proofs.lemmas.List.{get_or_past}
 use Rattle.text_lines.proofs.Signs.{line-ends, ends-run, ends-number, otherwise, Sign, sign, Shows, ruled_out, ruled_out_lem, all_but, third-sign, letter}
 
 -- the last arm of a match stands for all numbers from there on
@@ -103,12 +104,6 @@ all_three (a ∷ []) h = refl
 all_three (a ∷ b ∷ []) h = refl
 all_three (a ∷ b ∷ c ∷ []) h = rw (and-true (fits_word c))
 all_three (a ∷ b ∷ c ∷ d ∷ ns) h = absurd (omega arith)
-
-third-none : (ns : List ℕ) → length ns ≤ 2 → get_or ns 2 0 ≡ 0
-third-none [] h = refl
-third-none (a ∷ []) h = refl
-third-none (a ∷ b ∷ []) h = refl
-third-none (a ∷ b ∷ c ∷ ns) h = absurd (omega arith)
 
 -- What the code's answer says of a form with at most three numbers.
 no-fit : (o : Option (List ℕ)) → None ≡ filled_of o → o ≡ none
@@ -198,7 +193,7 @@ rule-said rule s {numbers} e x y =
     let l : slots (rule_form rule) ≤ 3 = omega (arith, rule-slots rule) in
     let z : get_or numbers 2 0 ≡ 0 =
     taken-by (rule_shape rule) s e l (λ ns q m a b c.
-    let n : length ns ≤ 2 = omega (arith, rule-slots rule, (fill-taken (rule_form rule) s ns q).0) in c ∙ ap saturated (third-none ns n)) in
+    let n : length ns ≤ 2 = omega (arith, rule-slots rule, (fill-taken (rule_form rule) s ns q).0) in c ∙ ap saturated (get_or_past ns 2 0 n)) in
     all_small (rule_shape rule) s e l (word-fits _ x) (word-fits _ y) (ap fits_word z)
     (λ ns a b c q. rw (word-same _ x ∙ a, word-same _ y ∙ b) q)
 
@@ -346,9 +341,9 @@ module _ (s : List ℕ) {r : Result Line Refusal} where
   unfolding line_read
   whole h e = rw (le-ltb line_limit (length s) h) e
 
-  pub no_line : {x : ℕ} → x ≡ get_or s 2 0 → x ≢ 105 → x ≢ 102 → r ≡ Err NotInForm → r ≡ read_by shapes s
+  pub no-letter : {x : ℕ} → x ≡ get_or s 2 0 → x ≢ 105 → x ≢ 102 → r ≡ Err NotInForm → r ≡ read_by shapes s
   unfolding shapes set_shapes rule_shapes edit_form set_form rule_form bytes all all_but ruled_out otherwise is_mark
-  no_line {x} l a b = by-none (sign ".." x ∷ []) s (third-sign s x (sym l), tt) (rw (ne_eqb x 105 a, ne_eqb x 102 b) refl)
+  no-letter {x} l a b = by-none (sign ".." x ∷ []) s (third-sign s x (sym l), tt) (rw (ne_eqb x 105 a, ne_eqb x 102 b) refl)
 
 -- what is there, or refused
 pub there : (o : Answer (List ℕ)) {r : Result (List ℕ) Refusal} {a : List ℕ} → r ≡ ok_or o NotInForm → r ≡ Ok a → Some a ≡ o

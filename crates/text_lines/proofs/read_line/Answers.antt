@@ -1,7 +1,7 @@
 -- `read_line` meets its contract. Assumes nothing.
 use native.Mathlib.Omega.{arith}
 use mathlib.Core.Path.{refl, sym, ◌∙◌}
-use Rattle.text_lines.proofs.Says.{too_long, whole, no_line}
+use Rattle.text_lines.proofs.Says.{too_long, whole, no-letter}
 use Rattle.text_lines.proofs.read_line.Goals as goal
 
 pub returns-then-bytes-gt-LINE_LIMIT : goal.returns-then-bytes-gt-LINE_LIMIT
@@ -20,4 +20,4 @@ pub returns-in-102 : goal.returns-in-102
 returns-in-102 c = whole c.args.bytes.now c.if-bytes-gt-LINE_LIMIT.false c.read_rule.ensures
 
 pub returns-in_default : goal.returns-in_default
-returns-in_default c = whole c.args.bytes.now c.if-bytes-gt-LINE_LIMIT.false (no_line c.args.bytes.now c.byte_at-third.ensures (λ e. absurd (omega arith)) (λ e. absurd (omega arith)) refl)
+returns-in_default c = whole c.args.bytes.now c.if-bytes-gt-LINE_LIMIT.false (no-letter c.args.bytes.now c.byte_at-third.ensures (λ e. absurd (omega arith)) (λ e. absurd (omega arith)) refl)
