@@ -20,6 +20,7 @@ use Rattle.record.proofs.Order.{order-placed, order-starts}
 use Rattle.record.proofs.Judged.{init-must}
 use Rattle.record.proofs.Scheduled.{musts-scheduled}
 use Rattle.graph.specs.links.Marks.{name_at}
+use Rattle.graph.proofs.links.Marks.{name-zero}
 use Rattle.graph.proofs.links.Names.{get_or-among, place_same, ascending-distinct}
 use Rattle.judgement_marks.specs.declared.row.Row.{Row}
 use Rattle.judgement_marks.specs.schedules.Rows.{RowIs}
@@ -60,10 +61,6 @@ Listing R list edits q = edits ≡ padded 127 filler_edit (map (edit_named R.edi
 pub listing_start : (R : Record) (list : List ℕ) → Listing R list (replicate 127 filler_edit) 1
 unfolding padded
 listing_start R list = refl
-
-name-zero : (R : Record) → name_at R 0 ≡ 0
-unfolding names
-name-zero R = refl
 
 module _ (R : Record) (f : Fit R) (r : declared.Record) (e : r ≡ stored R) (row : Row) (size : length row.indexes ≡ 128) (hidden : List ℕ)
     (g : RowIs R row (schedule R hidden)) where

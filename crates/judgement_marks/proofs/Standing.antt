@@ -1,6 +1,6 @@
 -- Must and never by closures that start from what must stand. Assumes nothing.
 use mathlib.Core.Path.{◌≡◌, refl, sym, ◌∙◌}
-use mathlib.Core.Bool.{Bool, true, false, not, ◌&&◌, ◌||◌, cond}
+use mathlib.Core.Bool.{Bool, true, false, not, ◌&&◌, ◌||◌, cond, not-not}
 use mathlib.Core.List.{List, [], ◌∷◌}
 use Prim.Native.Nat.{ℕ, ◌≤◌, ◌<◌}
 use native.Mathlib.Omega.{arith}
@@ -162,7 +162,3 @@ pub settled-is-by : (R : Record) (musts nevers opens : List ℕ) (y : ℕ) → m
 unfolding settled
 settled-is-by R ms ns os y a b c l =
     rw (marked-is R (never R) ns y b l, marked-is R (must R) ms y a l, marked-is R (λ x. not (serialised R x)) os y c l, not-not (serialised R (name_at R y)))
-  where
-    not-not : (b : Bool) → not (not b) ≡ b
-    not-not true = refl
-    not-not false = refl

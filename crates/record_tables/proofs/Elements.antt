@@ -1,5 +1,4 @@
 -- The two kinds of table with the types of their elements. Assumes nothing.
-use mathlib.Core.Path.{◌≡◌, refl}
 use mathlib.Core.Bool.{Bool}
 use mathlib.Core.List.{List, map}
 use Prim.Native.Nat.{ℕ}
@@ -13,6 +12,7 @@ use Rattle.record_rows.specs.row.Row.{edit_row, constraint_row, edit_of, constra
 use Rattle.record_rows.proofs.row.Cells.{edit-wide, constraint-wide, edit-back, edit-again, constraint-back, constraint-again}
 use Rattle.record_rows.proofs.grounds.Loop.{Elements}
 use Rattle.record_rows.proofs.grounds.Decoded.{Coding}
+use Rattle.record_rows.specs.element.Laws.{edit-keyed, constraint-keyed}
 use Rattle.record_tables.specs.Table.{edit_kind, constraint_kind, edit_key, constraint_key}
 
 abbrev pub edit_elements : Elements
@@ -22,23 +22,14 @@ abbrev pub constraint_elements : List ℕ → Bool → Elements
 constraint_elements names adding =
     record { A = Constraint; kind = constraint_kind names adding; row_of = constraint_row; width = 3; narrow = omega arith; wide = constraint-wide }
 
--- the key of an element is the first cells of its row
-pub edit-key : (e : Edit) → take 1 (edit_row e) ≡ edit_key e
-unfolding edit_row
-edit-key e = refl
-
-pub constraint-key : (c : Constraint) → take 3 (constraint_row c) ≡ constraint_key c
-unfolding constraint_row
-constraint-key c = refl
-
 abbrev pub edit_coding : Coding edit_elements
-edit_coding = record { key = edit_key; keyed = edit-key; of = edit_of; back = edit-back; again = edit-again }
+edit_coding = record { key = edit_key; keyed = edit-keyed; of = edit_of; back = edit-back; again = edit-again }
 
 abbrev pub constraint_coding : (names : List ℕ) (adding : Bool) → Coding (constraint_elements names adding)
-constraint_coding names adding = record { key = constraint_key; keyed = constraint-key; of = constraint_of; back = constraint-back; again = constraint-again }
+constraint_coding names adding = record { key = constraint_key; keyed = constraint-keyed; of = constraint_of; back = constraint-back; again = constraint-again }
 
 pub edit-rows-ascend : (l : List Edit) → Ascending edit_key l → Ascending (take 1) (map edit_row l)
-edit-rows-ascend l a = ascending-map edit_key (take 1) edit_row l (λ e m. edit-key e) a
+edit-rows-ascend l a = ascending-map edit_key (take 1) edit_row l (λ e m. edit-keyed e) a
 
 pub constraint-rows-ascend : (l : List Constraint) → Ascending constraint_key l → Ascending (take 3) (map constraint_row l)
-constraint-rows-ascend l a = ascending-map constraint_key (take 3) constraint_row l (λ c m. constraint-key c) a
+constraint-rows-ascend l a = ascending-map constraint_key (take 3) constraint_row l (λ c m. constraint-keyed c) a

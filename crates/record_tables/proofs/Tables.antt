@@ -37,10 +37,13 @@ module _ (r : declared.Record) (R : Record) (e : r ≡ stored R) where
   pub held : record_of r ≡ R
   held = ap record_of e ∙ stored_back R
 
-  held-edits : (record_of r).edits ≡ R.edits
+  pub constraint-count : r.constraintcount ≡ length R.constraints
+  constraint-count = ap (λ (x : declared.Record). x.constraintcount) e
+
+  pub held-edits : take r.editcount r.edits ≡ R.edits
   held-edits = ap (λ (x : Record). x.edits) held
 
-  held-constraints : (record_of r).constraints ≡ R.constraints
+  pub held-constraints : take r.constraintcount r.constraints ≡ R.constraints
   held-constraints = ap (λ (x : Record). x.constraints) held
 
   pub stored-ordered : Checked R → OrderedTables r

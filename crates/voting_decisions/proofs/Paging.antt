@@ -2,7 +2,7 @@
 use mathlib.Core.Path.{◌≡◌, refl, ap, sym, ◌∙◌}
 use mathlib.Core.Bool.{true, false, cond, ◌&&◌}
 use mathlib.Core.List.{List, [], ◌∷◌, ◌++◌}
-use Rattle.std.specs.Prelude.{Result}
+use Rattle.std.specs.Prelude.{Result, flat_map}
 use Rattle.refusals.specs.declared.Refusal.{Refusal}
 use Prim.Native.Nat.{ℕ, suc, ◌+◌, ◌≤◌, ◌<◌}
 use native.Mathlib.Numerals.{add-one}
@@ -11,18 +11,15 @@ use borrow.Author.Tests.{eq-eqb, ne_eqb, eqb-false, lt-ltb, le-ltb}
 use lib.ListN.{length, take, get_or, length-map}
 use Rattle.record.specs.declared.Edit.{Edit}
 use Rattle.record.specs.declared.Constraint.{Constraint}
-use Rattle.record.specs.declared.Record as declared
 use Rattle.lists.specs.Lists.{mem, index_of, ◌among◌}
 use Rattle.record.specs.Record.{Record, names, written, name_of, has, WellFormed}
-use Rattle.record.specs.Stored.{stored}
 use Rattle.record.specs.Schedule.{schedule}
 use Rattle.record.specs.Judgement.{sound}
-use Rattle.lists.proofs.Lists.{by, is-by, le-by, clash, get_or-mapped}
+use Rattle.lists.proofs.Lists.{by, is-by, le-by, clash, get_or-mapped, mem-other}
 use Rattle.record.proofs.Records.{written-names, right-written, not-init}
 use Rattle.record.proofs.Scheduled.{schedule-sound}
 use Rattle.lists.specs.Keyed.{inserted, united}
 use Rattle.record_tables.specs.Table.{constraint_key}
-use Rattle.record_tables.proofs.Tables.{held}
 use Rattle.graph.specs.links.Marks.{name_at, place_in}
 use Rattle.graph.proofs.links.Marks.{values-at}
 use Rattle.graph.proofs.links.Names.{get_or-among, get_or-place, place-known}
@@ -31,8 +28,8 @@ use Rattle.voting.proofs.Finished.{unordered-from}
 use Rattle.record_joining.specs.declared.insertion.Constraints.{Constraints}
 use Rattle.record_joining.specs.insertion.Insertion.{table_of}
 use Rattle.voting_drafts.proofs.pairs.Unordered.{index-low, index-name}
-use Rattle.voting_drafts.proofs.draft.Places.{place_none, place-there, place-mem}
-use Rattle.voting_drafts.specs.ranking.Ranking.{flat_map, rank_of, rank_order, pair_order}
+use Rattle.voting_drafts.proofs.draft.Places.{place_none, place-there}
+use Rattle.voting_drafts.specs.ranking.Ranking.{rank_of, rank_order, pair_order}
 use Rattle.voting_drafts.proofs.ranking.Joins.{flat-same, united-append, united-one, joins-next}
 use Rattle.voting_drafts.proofs.ranking.Ordered.{left-unranked, right-unranked, left-lower, right-lower}
 use Rattle.voting_decisions.specs.Decisions.{Paged, decided, decision_row}
@@ -40,11 +37,11 @@ use Rattle.voting_decisions.specs.Decisions.{Paged, decided, decision_row}
 -- a name other than INIT stands in the row where its place is not 0
 module _ (rest : List ℕ) (x : ℕ) (n : x ≡ 0 → ⊥) {page : ℕ} (e : page ≡ place_in (0 ∷ rest) x) where
   pub not_in : page ≡ 0 → mem x (0 ∷ rest) ≡ false
-  not_in z = place-mem rest x n ∙ place_none rest x (λ q. absurd (n q)) (sym e ∙ z)
+  not_in z = mem-other 0 x rest n ∙ place_none rest x (λ q. absurd (n q)) (sym e ∙ z)
 
   pub is-in : (page ≡ 0 → ⊥) → (mem x (0 ∷ rest) ≡ true) × (page ≡ index_of x (0 ∷ rest))
   is-in z =
-      let m : mem x (0 ∷ rest) ≡ true = place-mem rest x n ∙ place-there rest x (λ q. z (e ∙ q)) in
+      let m : mem x (0 ∷ rest) ≡ true = mem-other 0 x rest n ∙ place-there rest x (λ q. z (e ∙ q)) in
       (m, e ∙ place-known x (0 ∷ rest) m)
 
   -- the decision on it
@@ -74,7 +71,7 @@ order_is rest c n m lower {a} {b} e f =
 
 -- the orders of all pairs are those of each
 orders-each : (row : List ℕ) (l : List Constraint) → flat_map (λ c. orders row (c ∷ [])) l ≡ orders row l
-unfolding flat_map orders
+unfolding orders
 orders-each row [] = refl
 orders-each row (c ∷ l) = by (mem c.left row && mem c.right row) (λ e. rw (e, orders-each row l)) (λ e. rw (e, orders-each row l))
 
@@ -127,10 +124,6 @@ module _ (R : Record) (rest index pages : List ℕ) (g : Paged R rest index page
       order_is rest c (eqb-false c.left 0 (not-init g.formed c.left l)) (eqb-false c.right 0 (not-init g.formed c.right v)) (lower c.left c.right u)
       (page-named c.left (written-names R c.left l) refl) (page-named c.right (written-names R c.right v) refl))
       ∙ orders-each (0 ∷ rest) (unordered R)
-
--- the edits of a stored record
-pub held-edits : (r : declared.Record) (R : Record) → r ≡ stored R → take r.editcount r.edits ≡ R.edits
-held-edits r R e = ap (λ (x : Record). x.edits) (held r R e)
 
 -- the schedule starts with INIT
 pub scheduled-rest : (R : Record) → WellFormed R → sound R ≡ true → (rest : List ℕ) × (schedule R [] ≡ 0 ∷ rest)

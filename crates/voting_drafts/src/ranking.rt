@@ -1,12 +1,12 @@
 // A table joined by the orders of pairs, each by the ranks of its two edits. Functions are pub for `draft`, which ranks what was settled
 // first, and `voting_decisions`, which ranks by the pages of a schedule.
-ghost use Rattle.std.specs.Prelude.{◌≡◌, List, Ok, ℕ};
+ghost use Rattle.std.specs.Prelude.{◌≡◌, List, Ok, ℕ, flat_map};
 ghost use Rattle.record.specs.declared.Constraint.{Constraint};
 ghost use Rattle.lists.specs.Keyed.{Ascending, united};
 ghost use Rattle.record_tables.specs.Table.{constraint_key};
 ghost use Rattle.voting.specs.Proposal.{before};
 ghost use Rattle.record_joining.specs.insertion.Insertion.{table_of};
-ghost use Rattle.voting_drafts.specs.ranking.Ranking.{flat_map, rank_order, pair_order};
+ghost use Rattle.voting_drafts.specs.ranking.Ranking.{rank_order, pair_order};
 
 use record::{Constraint, NOTAFTER};
 use record_joining::insertion::Constraints;

@@ -8,9 +8,9 @@ use std::fmt::Write;
 
 /// Names that still have two meanings, a definition's and a law's most of them, once for each further one. No other may.
 const STILL: &str =
-    "Agree Each Faultless Follows Joins Same Won Writing any-by any-no back earlier enabler \
+    "Agree Each Faultless Follows Joins Same Won Writing any-by any-no earlier enabler \
     group held index_in itself judged last lines more new placed \
-    taken turn turn waiting written";
+    taken turn turn written";
 
 #[derive(Clone, Copy, PartialEq, Eq, PartialOrd, Ord)]
 enum Sort {

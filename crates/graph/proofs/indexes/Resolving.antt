@@ -1,18 +1,18 @@
 -- The linked rows of a record's constraints are those of its three rules. Assumes nothing.
 use mathlib.Core.Path.{◌≡◌, refl, sym, ap, ◌∙◌}
 use mathlib.Core.Bool.{true}
-use mathlib.Core.Logic.{inl, inr}
 use mathlib.Core.List.{List, [], ◌∷◌, map}
 use Prim.Native.Nat.{ℕ, zero, suc, ◌+◌, ◌*◌, ◌<◌}
 use native.Mathlib.Omega.{arith}
 use lib.ListN.{length, get_or, length-map}
 use Rattle.record.specs.declared.Constraint.{Constraint}
-use Rattle.lists.specs.Lists.{any, index_of, ◌among◌}
-use Rattle.record.specs.Record.{Record, names, is, has, WellFormed}
+use Rattle.lists.specs.Lists.{any, index_of}
+use Rattle.record.specs.Record.{Record, names, is, has}
 use Rattle.record.specs.Stored.{filler_constraint}
 use Rattle.lists.proofs.Lists.{clash, or-by, mem_index, get_or-mapped}
 use Rattle.lists.proofs.Arrays.{get_or-any}
 use Rattle.record.proofs.Records as records
+pub use Rattle.record.proofs.Records.{left-known, right-known}
 use Rattle.graph.specs.links.Marks.{name_at, place_in}
 use Rattle.graph.specs.links.Links.{left_at, with_row, Leads}
 use Rattle.graph.proofs.links.Names.{get_or-place, ascending-distinct, place-known}
@@ -58,14 +58,6 @@ at_has (c ∷ l) d a k b h f =
     or-by (is a k b c) (has a k b l) h
     (λ e. records.constraint-by a k b c e (λ x y z. f 0 (omega arith) x y z))
     (λ e. at_has l d a k b e (λ i u. f (suc i) (omega arith)))
-
--- both ends of a constraint are known
-module _ {R : Record} (w : WellFormed R) where
-  pub left-known : (a k b : ℕ) → has a k b R.constraints ≡ true → a among names R
-  left-known a k b h = records.written-names R a (w.left a k b h)
-
-  pub right-known : (a k b : ℕ) → has a k b R.constraints ≡ true → b among names R
-  right-known a k b h = elim (w.right a k b h) [ inl i ↦ records.written-names R b i | inr z ↦ rw z.1 (records.init-known R) ]
 
 module _ (R : Record) (f : Fit R) (rows : List ℕ) (j : ℕ) (q : j ≡ length R.constraints) (g : Linking (keys_of R) (lefts_of R) rows j) where
   left-at : (i : ℕ) → i < length R.constraints → left_at rows i ≡ place_in (names R) (get_or R.constraints i filler_constraint).left

@@ -29,9 +29,6 @@ pub names-few : (R : Record) → Fit R → length (names R) ≤ 128
 names-few R f = omega (arith, length-names R, f.edits)
 
 module _ (r : declared.Record) (R : Record) (e : r ≡ stored R) where
-  pub constraint-count : r.constraintcount ≡ length R.constraints
-  constraint-count = ap (λ q. q.constraintcount) e
-
   pub edit-at : (i : ℕ) (d : Edit) → i < length R.edits → get_or r.edits i d ≡ get_or R.edits i d
   unfolding padded
   edit-at i d h = ap (λ q. get_or q.edits i d) e ∙ get_or-append R.edits (replicate (127 - length R.edits) filler_edit) d i h

@@ -15,6 +15,7 @@ use Rattle.lists.proofs.Lists.{by, clash, is-by, le-by, get_or-mapped}
 use Rattle.lists.proofs.Arrays.{get_or-zeros}
 use Rattle.graph.specs.links.Marks.{name_at, values_of, marks_of}
 use Rattle.graph.specs.links.Reach.{On, Off}
+use Rattle.lists.proofs.Tests.{bit-on}
 use Rattle.graph.proofs.links.Names.{get_or-among}
 
 -- a bound on all values stays, wherever one below it is set
@@ -28,6 +29,11 @@ past_end : (f : ℕ → ℕ) (l : List ℕ) (c y : ℕ) → length l ≤ y → g
 past_end f [] c y h = get_or-zeros c y
 past_end f (x ∷ l) c zero h = absurd (omega arith)
 past_end f (x ∷ l) c (suc y) h = past_end f l c y (omega arith)
+
+-- INIT's index
+pub name-zero : (R : Record) → name_at R 0 ≡ 0
+unfolding names
+name-zero R = refl
 
 module _ (R : Record) (value : ℕ → ℕ) where
   pub values-size : length (names R) ≤ 128 → length (values_of R value) ≡ 128
@@ -79,10 +85,6 @@ values_same R f g few h =
 -- either a mark stands or not
 pub on-by {ℓ} : {P : Type ℓ} (m : List ℕ) (y : ℕ) → (On m y → P) → (Off m y → P) → P
 on-by m y = is-by (get_or m y 0) 1
-
-bit-on : (b : Bool) → ◌≡◌ {A = ℕ} (cond b 1 0) 1 → b ≡ true
-bit-on true e = refl
-bit-on false e = absurd (omega arith)
 
 bit-low : (b : Bool) → cond {A = ℕ} b 1 0 ≤ 1
 bit-low true = omega arith

@@ -49,11 +49,11 @@ no-ring-none R = refl
 
 module _ (R : Record) (t s rows : List ℕ) (g : Leads (notafter R) R 0 rows) (sub : t within names R)
     (e : s ≡ marks_of R (λ y. mem y t)) where
-  low : (y : ℕ) → get_or s y 0 ≤ 1
-  low y = rw e (marks-low R (λ y. mem y t) y)
+  pub ring-low : (y : ℕ) → get_or s y 0 ≤ 1
+  ring-low y = rw e (marks-low R (λ y. mem y t) y)
 
   held_in : (y : ℕ) → Present s y → (y < length (names R)) × (name_at R y among t)
-  held_in y h = marks-on R (λ y. mem y t) y (rw (← e) (one_of (get_or s y 0) h (low y)))
+  held_in y h = marks-on R (λ y. mem y t) y (rw (← e) (one_of (get_or s y 0) h (ring-low y)))
     where
       one_of : (v : ℕ) → (v ≡ 0 → ⊥) → v ≤ 1 → v ≡ 1
       one_of v n l = omega (arith, n)
@@ -82,13 +82,10 @@ module _ (R : Record) (t s rows : List ℕ) (g : Leads (notafter R) R 0 rows) (s
   pub ring-none : (u old : List ℕ) (n : ℕ) (w : List ℕ) → n ≡ length (names R) → old ≡ marks_of R (λ y. mem y u) → ring R u ≡ false
       → Searching rows old s n w → false ≡ ring R t
   ring-none u old n w q o calm k =
-      let d = k.search g.keys g.linked low in
+      let d = k.search g.keys g.linked ring-low in
       sym (ring-new R u t sub calm
       (λ a b z j i m. let x = index_of a (names R) in
       let f : Off old (index_of a (names R)) = λ z. clash (rw (get_or-place a (names R) (sub a i)) at (marks-on R (λ y. mem y u) x (rw (← o) z)).1) m in
       rw (get_or-place a (names R) (sub a i)) at
-      (d.placed (λ y. mem (name_at R y) (order R t)) follows (λ y h. absurd (omega (arith, low y, h))) x
+      (d.placed (λ y. mem (name_at R y) (order R t)) follows (λ y h. absurd (omega (arith, ring-low y, h))) x
       (d.done x (omega (arith, mem_index a (names R) (sub a i))) f (in_held a i)))))
-
-  pub ring-low : (y : ℕ) → get_or s y 0 ≤ 1
-  ring-low = low

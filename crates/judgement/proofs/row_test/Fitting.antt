@@ -24,43 +24,38 @@ use Rattle.graph.specs.indexes.Indexed.{Indexed}
 use Rattle.graph.proofs.indexes.Resolving.{has-at, left-known, right-known}
 use Rattle.judgement.specs.row_test.Seats.{Seated, known_apart}
 
-module _ (row : List ℕ) (x y a b : ℕ) (p : a ≡ position_of x row) (q : b ≡ position_of y row) where
+module _ (row : List ℕ) (x : ℕ) {a : ℕ} (p : a ≡ position_of x row) where
   absent : a ≡ 0 → mem x row ≡ false
   absent e = position-none x row (sym p ∙ e)
-
-  absent-right : b ≡ 0 → mem y row ≡ false
-  absent-right e = position-none y row (sym q ∙ e)
 
   here : (a ≡ 0 → ⊥) → mem x row ≡ true
   here n = position_some x row (λ e. n (p ∙ e))
 
-  here-right : (b ≡ 0 → ⊥) → mem y row ≡ true
-  here-right n = position_some y row (λ e. n (q ∙ e))
-
+module _ (row : List ℕ) (x y a b : ℕ) (p : a ≡ position_of x row) (q : b ≡ position_of y row) where
   pub earlier-absent : a ≡ 0 → true ≡ fits row x 0 y
   unfolding fits
-  earlier-absent e = rw (absent e)
+  earlier-absent e = rw (absent row x p e)
 
   pub earlier-alone : b ≡ 0 → true ≡ fits row x 0 y
   unfolding fits
-  earlier-alone e = rw (absent-right e, and-false (mem x row))
+  earlier-alone e = rw (absent row y q e, and-false (mem x row))
 
   pub earlier-both : (a ≡ 0 → ⊥) → (b ≡ 0 → ⊥) → ltb a b ≡ fits row x 0 y
   unfolding fits
   earlier-both n m =
-      let u = p ∙ position_at x row (here n) in
-      let v = q ∙ position_at y row (here-right m) in
-      rw (here n, here-right m)
+      let u = p ∙ position_at x row (here row x p n) in
+      let v = q ∙ position_at y row (here row y q m) in
+      rw (here row x p n, here row y q m)
       (same_by _ _ (λ h. lt-ltb (index_of x row) (index_of y row) (omega (arith, ltb-true a b h))) (λ h. lt-ltb a b (omega (arith, ltb-true (index_of x row) (index_of y row) h))))
 
   pub with-absent : b ≡ 0 → true ≡ fits row x 1 y
   unfolding fits
-  with-absent e = rw (absent-right e)
+  with-absent e = rw (absent row y q e)
 
   pub with-right : (b ≡ 0 → ⊥) → not (eqb a 0) ≡ fits row x 1 y
   unfolding fits
   with-right m =
-      rw (here-right m) (is-by a 0 (λ e. rw (eq-eqb a 0 e, absent e)) (λ e. rw (ne_eqb a 0 e, here e)))
+      rw (here row y q m) (is-by a 0 (λ e. rw (eq-eqb a 0 e, absent row x p e)) (λ e. rw (ne_eqb a 0 e, here row x p e)))
 
 pub fits-other : (row : List ℕ) (x k y : ℕ) → (k ≡ 0 → ⊥) → (k ≡ 1 → ⊥) → true ≡ fits row x k y
 unfolding fits

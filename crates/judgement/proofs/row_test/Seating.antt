@@ -15,6 +15,7 @@ use Rattle.record.specs.Record.{Record, names}
 use Rattle.lists.proofs.Lists.{by, clash, is-by, mem_index, snoc-by, all_in, in_all, distinct_snoc, index-snoc, position-none, position_some}
 use Rattle.record.proofs.Records.{init-known}
 use Rattle.graph.specs.links.Marks.{name_at}
+use Rattle.graph.proofs.links.Marks.{name-zero}
 use Rattle.graph.proofs.links.Names.{get_or-among, get_or-place, place-get_or, later-not, ascending-distinct, place-known, place-unknown}
 use Rattle.graph.specs.indexes.Fit.{Fit}
 use Rattle.graph.specs.indexes.Indexed.{Indexed}
@@ -25,10 +26,6 @@ use Rattle.lists.proofs.Arrays.{get_or-zeros}
 init-place : (R : Record) → index_of 0 (names R) ≡ 0
 unfolding names index_of
 init-place R = refl
-
-name-zero : (R : Record) → name_at R 0 ≡ 0
-unfolding names
-name-zero R = refl
 
 -- the index of a known name
 module _ (R : Record) (table : List ℕ) (t : Indexed R table) (name : ℕ) where
@@ -92,11 +89,8 @@ module _ (R : Record) (f : Fit R) (row places : List ℕ) (q : ℕ) (h : q < len
           seats = λ y k. rw (more, seat-snoc (take q row) x (name_at R y) m, length-take-le q row (omega arith))
               (is-by y p
               (λ z. rw (z, get_or-set_same places p (q + 1) 0 l, eq-eqb (name_at R p) x (get_or-place x (names R) i)) (omega arith))
-              (λ z. rw (get_or-set_other places p y (q + 1) 0 z, ne_eqb (name_at R y) x (λ w. z (sym (at_name y d k) ∙ ap (λ v. index_of v (names R)) w))) (g.seats y k)));
+              (λ z. rw (get_or-set_other places p y (q + 1) 0 z, ne_eqb (name_at R y) x (λ w. z (sym (place-get_or (names R) y d k) ∙ ap (λ v. index_of v (names R)) w))) (g.seats y k)));
         }
-      where
-        at_name : (y : ℕ) → distinct (names R) ≡ true → y < length (names R) → index_of (name_at R y) (names R) ≡ y
-        at_name y d k = place-get_or (names R) y d k
 
 pub seating-end : (R : Record) (row places : List ℕ) (q : ℕ) → length row ≤ q → Seating R row places q → (true ≡ known_apart R row) × Seated R row places
 unfolding known_apart

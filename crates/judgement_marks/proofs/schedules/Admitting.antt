@@ -20,7 +20,7 @@ use Rattle.lists.proofs.Lists.{by, clash, is-by, and_l, and_r, and_i, or-by, or_
 use Rattle.record.proofs.Order.{needs-holds, needs-closed, needs-known, needs-within, ring-grows}
 use Rattle.record.proofs.Records.{written-names}
 use Rattle.record.proofs.Judged.{init-must}
-use Rattle.record.proofs.Scheduled.{musts-known}
+use Rattle.record.proofs.Scheduled.{musts-known, admit-within}
 use Rattle.graph.specs.links.Marks.{name_at, marks_of}
 use Rattle.graph.specs.links.Reach.{On, Off}
 use Rattle.graph.proofs.links.Names.{get_or-among, get_or-place}
@@ -135,11 +135,6 @@ module _ (R : Record) (w : WellFormed R) (hiddens t : List ℕ) (g : Clear R hid
       (λ h. by (any (bars R hiddens) (needs R (x ∷ t))) (λ b. rw (admit-barred b) g)
       (λ b. by (ring R (needs R (x ∷ t))) (λ r. rw (admit-ring r) g) (λ r. rw (admit-new h b r) (clear-new i b))))
 
-  pub admit-keeps : t within admit R hiddens t x
-  unfolding admit
-  admit-keeps y i =
-      by (mem x t || barred R hiddens x || ring R (needs R (x ∷ t))) (λ e. rw e i) (λ e. rw e (needs-holds R (x ∷ t) y (mem-tail y x t i)))
-
   -- what does not enter is barred or closes a ring
   admit-missed : mem x (admit R hiddens t x) ≡ false → (barred R hiddens x || ring R (needs R (x ∷ admit R hiddens t x))) ≡ true
   unfolding admit
@@ -188,7 +183,7 @@ needs-cons R w t x i k = needs-known R w (x ∷ t) (cons-within x t (names R) i 
 missed-step : (R : Record) → WellFormed R → (hiddens t : List ℕ) → Clear R hiddens t → (x : ℕ) → x < length (names R) → Missed R hiddens t x
     → Missed R hiddens (admit R hiddens t (name_at R x)) (x + 1)
 missed-step R w hiddens t g x l f y h m =
-    let v = admit-keeps R w hiddens t g (name_at R x) in
+    let v = admit-within R hiddens t (name_at R x) in
     is-by y x (λ q. rw q (admit-missed R w hiddens t g (name_at R x) (rw q at m)))
     (λ q. let i = get_or-among (names R) y (omega arith) in
     let n : mem (name_at R y) t ≡ false = by (mem (name_at R y) t) (λ p. clash (v (name_at R y) p) m) (λ p. p) in

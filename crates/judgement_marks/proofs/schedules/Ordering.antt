@@ -7,12 +7,11 @@ use Rattle.std.specs.Prelude.{Option, Some, None, MatchOption, IfSome}
 use Rattle.graph.specs.declared.links.Lefts.{Lefts}
 use Prim.Native.Nat.{ℕ, zero, suc, ◌+◌, ◌-◌, ◌≤◌, ◌<◌}
 use native.Mathlib.Omega.{arith}
-use native.Mathlib.Numerals.{add-one}
 use lib.Dec.{eqb}
 use lib.ListN.{length, get_or, take, set, replicate, length-set}
-use lib.Seq.{get_or-set_same, get_or-set_other, take-suc-set}
+use lib.Seq.{get_or-set_same, get_or-set_other}
 use borrow.Author.Tests.{eq-eqb, ne_eqb, not-false}
-use Rattle.lists.specs.Lists.{any, mem, index_of, ◌among◌, ◌within◌, distinct, find, grown}
+use Rattle.lists.specs.Lists.{any, mem, index_of, ◌within◌, distinct, find, grown}
 use Rattle.record.specs.Record.{Record, names, notafter}
 use Rattle.record.specs.Schedule.{ready, order}
 use Rattle.lists.proofs.Lists.{by, clash, is-by, le-by, and_l, and_r, and_i, same_by, mem-append, any-by, any-in, no-any, mem_index, grown-some, grown-none}
@@ -26,6 +25,7 @@ use Rattle.graph.proofs.links.Links.{Looking, looking-start, looking-step}
 use Rattle.graph.specs.links.Resolved.{Resolved}
 use Rattle.judgement_marks.proofs.Standing.{marked-on, marked-off, marked-is}
 use Rattle.judgement_marks.specs.declared.row.Row.{Row}
+use Rattle.std.proofs.lemmas.List.{take_more_set}
 use Rattle.judgement_marks.specs.schedules.Rows.{free, found, RowIs}
 
 -- is an edit free, by the marks of what waits
@@ -53,12 +53,9 @@ module _ (R : Record) (test : ℕ → Bool) (rows waits : List ℕ) (g : Resolve
       (λ a i. by (notafter R a (name_at R x))
       (λ q. let r = g.notafters.row_of a (name_at R x) q in
       let f : Off waits (index_of a (names R)) = rw r.left at (w g.notafters.keys g.notafters.linked r.row r.low (omega (arith, r.key, place-get_or (names R) x g.notafters.apart l))) in
-      rw (q, by (test a) (λ t. absurd (f (rw e (on-marks R test (index_of a (names R)) (at_low a i) (rw (get_or-place a (names R) i) t))))) (λ t. t)))
+      rw (q, by (test a) (λ t. absurd (f (rw e (on-marks R test (index_of a (names R)) (mem_index a (names R) i) (rw (get_or-place a (names R) i) t))))) (λ t. t)))
       (λ q. rw q)) in
       rw (marked-on R test waits x e o, none_before)
-    where
-      at_low : (a : ℕ) → a among names R → index_of a (names R) < length (names R)
-      at_low a i = mem_index a (names R) i
 
 -- x is placed: who was held, not by x, is held
 module _ (R : Record) (test later : ℕ → Bool) (waits : List ℕ) (x : ℕ) (e : waits ≡ marks_of R test) (q : set waits x 0 ≡ marks_of R later) where
@@ -153,8 +150,8 @@ module _ (R : Record) (test : ℕ → Bool) (n : ℕ) (q : n ≡ length (names R
       (lowest-found x w.1 (w.2 w.1) g, g)
 
 -- the test of what still waits of the set t, of which a row is placed
-abbrev pub waiting : List ℕ → List ℕ → ℕ → Bool
-waiting t placed y = mem y t && not (mem y placed)
+abbrev pub is_waiting : List ℕ → List ℕ → ℕ → Bool
+is_waiting t placed y = mem y t && not (mem y placed)
 
 -- free of what waits is ready and not yet placed
 module _ (R : Record) (t placed : List ℕ) (sub : t within names R) where
@@ -164,7 +161,7 @@ module _ (R : Record) (t placed : List ℕ) (sub : t within names R) where
       (λ h. any-by _ (names R) h (λ a i e. let u = and_r (notafter R a x) _ e in any-in _ t a (and_l _ _ u) (and_i (notafter R a x) _ (and_l (notafter R a x) _ e) (and_r (mem a t) _ u))))
       (λ h. any-by _ t h (λ a i e. any-in _ (names R) a (sub a i) (and_i (notafter R a x) _ (and_l (notafter R a x) _ e) (and_i _ _ i (and_r (notafter R a x) _ e)))))
 
-  free-ready : (x : ℕ) → free R (waiting t placed) x ≡ (not (mem x placed) && ready R t placed x)
+  free-ready : (x : ℕ) → free R (is_waiting t placed) x ≡ (not (mem x placed) && ready R t placed x)
   unfolding free ready
   free-ready x = rw (any-waiting x) (turn (mem x t) (not (mem x placed)) (not (any (λ a. notafter R a x && not (mem a placed)) t)))
     where
@@ -174,38 +171,35 @@ module _ (R : Record) (t placed : List ℕ) (sub : t within names R) where
       turn false true c = refl
       turn false false c = refl
 
-  first-ready : find (free R (waiting t placed)) (names R) ≡ find (λ y. not (mem y placed) && ready R t placed y) (names R)
+  first-ready : find (free R (is_waiting t placed)) (names R) ≡ find (λ y. not (mem y placed) && ready R t placed y) (names R)
   first-ready = ap (λ p. find p (names R)) (fun_ext free-ready)
 
 -- to clear the mark of one that waits places it
 placed-marks : (R : Record) (t placed : List ℕ) (r : ℕ) → distinct (names R) ≡ true → length (names R) ≤ 128 → r < length (names R)
-    → set (marks_of R (waiting t placed)) r 0 ≡ marks_of R (waiting t (placed ++ (name_at R r ∷ [])))
+    → set (marks_of R (is_waiting t placed)) r 0 ≡ marks_of R (is_waiting t (placed ++ (name_at R r ∷ [])))
 unfolding mem
 placed-marks R t placed r d few l =
-    marks-are R (waiting t (placed ++ (name_at R r ∷ []))) (set (marks_of R (waiting t placed)) r 0) few
-    (length-set (marks_of R (waiting t placed)) r 0 ∙ marks-size R (waiting t placed) few)
-    (λ y. is-by y r (λ q. rw (q, same) (omega arith)) (λ q. rw (get_or-set_other (marks_of R (waiting t placed)) r y 0 0 q) (marks-low R (waiting t placed) y)))
+    marks-are R (is_waiting t (placed ++ (name_at R r ∷ []))) (set (marks_of R (is_waiting t placed)) r 0) few
+    (length-set (marks_of R (is_waiting t placed)) r 0 ∙ marks-size R (is_waiting t placed) few)
+    (λ y. is-by y r (λ q. rw (q, same) (omega arith)) (λ q. rw (get_or-set_other (marks_of R (is_waiting t placed)) r y 0 0 q) (marks-low R (is_waiting t placed) y)))
     (λ y o. is-by y r (λ q. absurd (let z = rw (q, same) at o in omega arith))
-    (λ q. let k = marks-on R (waiting t placed) y (rw (get_or-set_other (marks_of R (waiting t placed)) r y 0 0 q) at o) in (k.0, rw (later y k.0 q) k.1)))
+    (λ q. let k = marks-on R (is_waiting t placed) y (rw (get_or-set_other (marks_of R (is_waiting t placed)) r y 0 0 q) at o) in (k.0, rw (later y k.0 q) k.1)))
     (λ y h e. is-by y r
     (λ q. clash (and_r (mem (name_at R r) t) _ (rw q at e)) (rw (mem-append (name_at R r) placed (name_at R r ∷ []), eq-eqb (name_at R r) (name_at R r) refl, or-true (mem (name_at R r) placed))))
-    (λ q. rw (get_or-set_other (marks_of R (waiting t placed)) r y 0 0 q) (on-marks R (waiting t placed) y h (rw (later y h q) at e))))
+    (λ q. rw (get_or-set_other (marks_of R (is_waiting t placed)) r y 0 0 q) (on-marks R (is_waiting t placed) y h (rw (later y h q) at e))))
   where
-    same : get_or (set (marks_of R (waiting t placed)) r 0) r 0 ≡ 0
-    same = get_or-set_same (marks_of R (waiting t placed)) r 0 0 (omega (arith, marks-size R (waiting t placed) few))
+    same : get_or (set (marks_of R (is_waiting t placed)) r 0) r 0 ≡ 0
+    same = get_or-set_same (marks_of R (is_waiting t placed)) r 0 0 (omega (arith, marks-size R (is_waiting t placed) few))
 
     later : (y : ℕ) → y < length (names R) → (y ≡ r → ⊥) → mem (name_at R y) (placed ++ (name_at R r ∷ [])) ≡ mem (name_at R y) placed
     later y h q =
         rw (mem-append (name_at R y) placed (name_at R r ∷ []), ne_eqb (name_at R y) (name_at R r) (λ e. q (place_same (names R) y r d h l e)))
         (or-false (mem (name_at R y) placed))
 
-pub take-one : (out : List ℕ) (k x : ℕ) → k < length out → take (k + 1) (set out k x) ≡ take k out ++ (x ∷ [])
-take-one out k x h = rw add-one (take-suc-set out k x h)
-
 -- what the loop keeps: the order is what is still to be grown from the row
 pub record Ordering (R : Record) (t indexes waits : List ℕ) (k fuel : ℕ) : Type 0 where
   pub known : (q : ℕ) → q < k → get_or indexes q 0 < length (names R)
-  pub marks : waits ≡ marks_of R (waiting t (map (name_at R) (take k indexes)))
+  pub marks : waits ≡ marks_of R (is_waiting t (map (name_at R) (take k indexes)))
   pub rest : order R t ≡ grown (ready R t) (names R) fuel (map (name_at R) (take k indexes))
 
 module _ (R : Record) (t : List ℕ) (sub : t within names R) (d : distinct (names R) ≡ true) (few : length (names R) ≤ 128) (n : ℕ) (c : n ≡ length (names R)) where
@@ -218,12 +212,12 @@ module _ (R : Record) (t : List ℕ) (sub : t within names R) (d : distinct (nam
   }
 
   pub ordering-step : (indexes waits : List ℕ) (k r : ℕ) → k < length indexes → r < n → k < n
-      → find (free R (waiting t (map (name_at R) (take k indexes)))) (names R) ≡ some (name_at R r)
+      → find (free R (is_waiting t (map (name_at R) (take k indexes)))) (names R) ≡ some (name_at R r)
       → Ordering R t indexes waits k (n - k) → Ordering R t (set indexes k r) (set waits r 0) (k + 1) (n - (k + 1))
   ordering-step indexes waits k r h l u f g =
       let row = map (name_at R) (take k indexes) in
       let e : map (name_at R) (take (k + 1) (set indexes k r)) ≡ map (name_at R) (take k indexes) ++ (name_at R r ∷ []) =
-      ap (map (name_at R)) (take-one indexes k r h) ∙ map-append (name_at R) (take k indexes) (r ∷ []) in
+      ap (map (name_at R)) (take_more_set indexes k r h) ∙ map-append (name_at R) (take k indexes) (r ∷ []) in
       let z : n - k ≡ suc (n - (k + 1)) = omega arith in
       record {
         known = λ q w. is-by q k (λ y. rw (y, get_or-set_same indexes k r 0 h) (omega arith)) (λ y. rw (get_or-set_other indexes k q r 0 y) (g.known q (omega (arith, y))));
@@ -232,7 +226,7 @@ module _ (R : Record) (t : List ℕ) (sub : t within names R) (d : distinct (nam
             ∙ grown-some (ready R t) (names R) (n - (k + 1)) row (name_at R r) (sym (first-ready R t row sub) ∙ f));
       }
 
-  pub ordering-stop : (placed : Row) (waits : List ℕ) → find (free R (waiting t (map (name_at R) (take placed.count placed.indexes)))) (names R) ≡ none
+  pub ordering-stop : (placed : Row) (waits : List ℕ) → find (free R (is_waiting t (map (name_at R) (take placed.count placed.indexes)))) (names R) ≡ none
       → Ordering R t placed.indexes waits placed.count (n - placed.count) → RowIs R placed (order R t)
   ordering-stop placed waits f g =
       let row = map (name_at R) (take placed.count placed.indexes) in

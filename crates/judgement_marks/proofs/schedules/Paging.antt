@@ -69,8 +69,8 @@ module _ (R : Record) (d : distinct (names R) ≡ true) (few : length (names R) 
       plain : (v : ℕ) → 0 + v ≡ v
       plain v = omega arith
 
-pub back : (k : ℕ) → 0 < k → k - 1 + 1 ≡ k
-back k h = omega arith
+pub one-back : (k : ℕ) → 0 < k → k - 1 + 1 ≡ k
+one-back k h = omega arith
 
 pub zero_left : (k : ℕ) → k ≤ 0 → k ≡ 0
 zero_left k h = omega arith

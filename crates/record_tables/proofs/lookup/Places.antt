@@ -5,7 +5,7 @@ use mathlib.Core.List.{List, [], ◌∷◌, map}
 use Prim.Native.Nat.{ℕ, zero, suc, ◌≤◌, ◌<◌}
 use native.Mathlib.Omega.{arith}
 use borrow.Author.Tests.{eq-eqb, ne_eqb, ltb-true, ltb-false, lt-ltb, le-ltb}
-use lib.Dec.{eqb, ltb}
+use lib.Dec.{ltb}
 use lib.ListN.{length, get_or, length-map}
 use Rattle.std.specs.Prelude.{Result, Ok, Err, Some, None}
 use Rattle.std.specs.Result.{result_ok}
@@ -14,7 +14,7 @@ use Rattle.std.proofs.Common.{Less, Equal, Greater}
 use Rattle.std.specs.List.Sorted.{IsBinarySearchResult, IsSearchInRange}
 use Rattle.std.proofs.lemmas.Cmp.{ranked}
 use Rattle.std.proofs.lemmas.Bool.Decides.{nat_tests}
-use Rattle.lists.proofs.Lists.{by, ascending-head, ascending-tail, has-among, get_or-mapped}
+use Rattle.lists.proofs.Lists.{by, same_by, mem_index, index-mem, ascending-head, ascending-tail, has-among, get_or-mapped}
 use Rattle.record.specs.declared.Edit.{Edit}
 use Rattle.lists.specs.Lists.{index_of, mem, ascending}
 use Rattle.lists.proofs.Logic.{has-get_or}
@@ -46,19 +46,15 @@ at_none x (y ∷ l) f =
     rw (ne_eqb x y n) (ap suc (at_none x l (λ k p. f (suc k) (omega arith))))
 
 -- a name that is there has a place below the length
-mem_index : (x : ℕ) (l : List ℕ) → ltb (index_of x l) (length l) ≡ mem x l
-unfolding index_of mem
-mem_index x [] = refl
-mem_index x (y ∷ l) = by (eqb x y) (λ e. rw (e, lt-ltb 0 (suc (length l)) (omega arith))) (λ e. rw e (shift (index_of x l) (length l) ∙ mem_index x l))
-  where
-    shift : (m n : ℕ) → ltb (suc m) (suc n) ≡ ltb m n
-    shift m n = by (ltb m n) (λ e. rw (e, lt-ltb (suc m) (suc n) (let h : m < n = ltb-true m n e in omega arith))) (λ e. rw (e, le-ltb (suc m) (suc n) (let h : n ≤ m = ltb-false m n e in omega arith)))
+low-mem : (x : ℕ) (l : List ℕ) → ltb (index_of x l) (length l) ≡ mem x l
+low-mem x l =
+    same_by (ltb (index_of x l) (length l)) (mem x l) (λ e. index-mem x l (ltb-true (index_of x l) (length l) e)) (λ i. lt-ltb (index_of x l) (length l) (mem_index x l i))
 
 pub place-some : (x : ℕ) (l : List ℕ) (i : ℕ) → i ≡ index_of x l → i < length l → Some i ≡ known_place x l
-place-some x l i e h = let m : mem x l ≡ true = sym (mem_index x l) ∙ rw (← e) (lt-ltb i (length l) h) in rw (m, e)
+place-some x l i e h = let m : mem x l ≡ true = sym (low-mem x l) ∙ rw (← e) (lt-ltb i (length l) h) in rw (m, e)
 
 pub place-none : (x : ℕ) (l : List ℕ) → length l ≡ index_of x l → None ≡ known_place x l
-place-none x l e = let m : mem x l ≡ false = sym (mem_index x l) ∙ rw (← e) (le-ltb (length l) (length l) (omega arith)) in rw m
+place-none x l e = let m : mem x l ≡ false = sym (low-mem x l) ∙ rw (← e) (le-ltb (length l) (length l) (omega arith)) in rw m
 
 -- later names answer no less
 rises : (a b x : ℕ) → a ≤ b → ordering_index (nat_cmp a x) ≤ ordering_index (nat_cmp b x)

@@ -6,7 +6,7 @@ use lib.ListN.{length}
 use Rattle.record.specs.Record.{written}
 use Rattle.voting.specs.Proposal.{decisions}
 use Rattle.record_tables.specs.Table.{unite}
-use Rattle.graph.proofs.indexes.Tables.{constraint-count}
+use Rattle.record_tables.proofs.Tables.{constraint-count}
 use Rattle.graph.proofs.indexes.Fit.{checked-fit}
 use Rattle.voting_decisions.specs.Decisions.{only_constraints}
 use Rattle.voting_decisions.proofs.Joined.{edits-unite, constraints-unite, table-united}

@@ -12,7 +12,8 @@ use Rattle.record.specs.Record.{written}
 use Rattle.record.specs.Stored.{filler_edit, filler_constraint}
 use Rattle.voting.specs.Proposal.{decisions, decision_on}
 use Rattle.record_union.proofs.Joining.{decode-next, decode-end}
-use Rattle.voting_decisions.proofs.Paging.{decisions-named, decision-here, decisions-end, held-edits}
+use Rattle.record_tables.proofs.Tables.{held-edits}
+use Rattle.voting_decisions.proofs.Paging.{decisions-named, decision-here, decisions-end}
 use Rattle.voting_decisions.proofs.Joined.{only-start, only-stored, decisions-many, written-few}
 use Rattle.voting_decisions.proofs.decisions_of.Goals as goal
 

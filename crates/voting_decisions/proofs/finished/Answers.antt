@@ -2,7 +2,7 @@
 use Prim.Native.Nat.{ℕ}
 use mathlib.Core.Path.{ap, ◌∙◌}
 use mathlib.Core.List.{List, ◌∷◌}
-use Rattle.std.specs.Prelude.{Err}
+use Rattle.std.specs.Prelude.{Err, flat_map}
 use Rattle.std.proofs.lemmas.Result.{err_from_is_err_and}
 use Rattle.record.specs.declared.Constraint.{Constraint}
 use Rattle.record.specs.Record.{written}
@@ -15,7 +15,7 @@ use Rattle.record_joining.specs.insertion.Insertion.{table_of}
 use Rattle.record_joining.proofs.insertion.Tables.{stays-full}
 use Rattle.graph.proofs.indexes.Fit.{checked-fit}
 use Rattle.voting_decisions.specs.Decisions.{Paged}
-use Rattle.voting_drafts.specs.ranking.Ranking.{flat_map, rank_of, pair_order}
+use Rattle.voting_drafts.specs.ranking.Ranking.{rank_of, pair_order}
 use Rattle.voting_decisions.proofs.Paging.{orders-by-page, scheduled-rest, finished-is}
 use borrow.Author.Rules.{rules}
 use borrow.Author.Tests.{tests}

@@ -1,7 +1,7 @@
 use Prim.Native.Nat.{ℕ}
 use mathlib.Core.Path.{◌≡◌}
 use mathlib.Core.List.{List, ◌∷◌}
-use Rattle.std.specs.Prelude.{Ok}
+use Rattle.std.specs.Prelude.{Ok, flat_map}
 use lib.ListN.{take}
 use Rattle.record.specs.Record.{Record, written}
 use Rattle.record.specs.declared.Constraint.{Constraint}
@@ -9,7 +9,6 @@ use Rattle.record.specs.Stored.{stored}
 use Rattle.lists.specs.Keyed.{Ascending, united}
 use Rattle.record_tables.specs.Table.{constraint_key}
 use Rattle.record_joining.specs.insertion.Insertion.{table_of}
-use Rattle.voting_drafts.specs.ranking.Ranking.{flat_map}
 use Rattle.voting_decisions.specs.Decisions.{Paged, decision_row}
 use Rattle.voting_decisions.proofs.with_decisions.Given as goal
 

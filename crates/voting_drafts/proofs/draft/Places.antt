@@ -21,8 +21,3 @@ module _ (l : List ℕ) (x : ℕ) where
   place-there h =
       is-by x 0 (λ e. absurd (h (rw e)))
       (λ e. by (mem x l) (λ m. m) (λ m. absurd (h (rw (ne_eqb x 0 e, m)))))
-
-  -- a name other than INIT stands in the row where its place is not 0
-  pub place-mem : (x ≡ 0 → ⊥) → mem x (0 ∷ l) ≡ mem x l
-  unfolding mem
-  place-mem n = rw (ne_eqb x 0 n)

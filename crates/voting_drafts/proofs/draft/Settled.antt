@@ -18,7 +18,9 @@ use Rattle.graph.proofs.links.Marks.{marks-at}
 use Rattle.graph.proofs.links.Names.{get_or-place, place-known}
 use Rattle.voting.specs.Proposal.{settled_in, settled_first, firsts}
 use Rattle.voting_drafts.specs.draft.Draft.{Settles, settled_rank}
-use Rattle.voting_drafts.specs.ranking.Ranking.{flat_map, rank_order, pair_order}
+use Rattle.std.specs.Prelude.{flat_map}
+use Rattle.voting_drafts.specs.ranking.Ranking.{rank_order, pair_order}
+use Rattle.lists.proofs.Tests.{bit_is}
 use Rattle.voting_drafts.proofs.draft.Places.{place_none, place-there}
 
 module _ (Q : Record) (index marks : List ℕ) (s : Settles Q index marks) (x i : ℕ) (e : i ≡ get_or index x 0) where
@@ -39,11 +41,7 @@ module _ (Q : Record) (index marks : List ℕ) (s : Settles Q index marks) (x i 
       let l : i < length (names Q) = let b = mem_index x (names Q) k in omega arith in
       let n : name_at Q i ≡ x = ap (name_at Q) p ∙ get_or-place x (names Q) k in
       let v : get_or marks i 0 ≡ cond (settled Q x) 1 0 = ap (λ (t : List ℕ). get_or t i 0) s.marked ∙ marks-at Q (settled Q) i l ∙ ap (λ (y : ℕ). cond (settled Q y) 1 0) n in
-      rw (v, m) (bit (settled Q x))
-    where
-      bit : (b : Bool) → eqb (cond b 1 0) 1 ≡ b
-      bit true = refl
-      bit false = refl
+      rw (v, m) (bit_is (settled Q x))
 
   settled-rank : settled_rank marks i ≡ cond (settled_in Q x) 1 2
   settled-rank =
@@ -64,6 +62,6 @@ module _ (Q : Record) (index marks : List ℕ) (s : Settles Q index marks) where
   rank_is x = settled-rank Q index marks s x (get_or index x 0) refl
 
   pub firsts-by-rank : (l : List Constraint) → flat_map (pair_order (λ x. settled_rank marks (get_or index x 0))) l ≡ firsts Q l
-  unfolding flat_map firsts
+  unfolding firsts
   firsts-by-rank [] = refl
   firsts-by-rank (c ∷ l) = rw (rank_is c.left, rank_is c.right, first-by-rank (settled_in Q c.left) (settled_in Q c.right) c.left c.right, firsts-by-rank l)

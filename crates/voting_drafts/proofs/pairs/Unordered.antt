@@ -9,16 +9,14 @@ use lib.Dec.{eqb}
 use lib.ListN.{length, take, get_or}
 use lib.Seq.{take_at}
 use Rattle.record.specs.declared.Constraint.{Constraint}
-use Rattle.record.specs.declared.Record as declared
 use Rattle.lists.specs.Lists.{◌among◌, index_of, filter, Has}
 use Rattle.record.specs.Record.{Record, names, notafter, WellFormed}
-use Rattle.record.specs.Stored.{stored, constraint_limit}
+use Rattle.record.specs.Stored.{constraint_limit}
 use Rattle.lists.proofs.Lists.{mem_index}
 use Rattle.lists.proofs.Front.{filter-length}
 use Rattle.graph.proofs.indexes.Resolving as resolving
 use Rattle.graph.specs.links.Marks.{name_at}
 use Rattle.graph.proofs.links.Names.{get_or-place, place-known}
-use Rattle.record_tables.proofs.Tables.{held}
 use Rattle.graph.specs.links.Resolved.{Resolved}
 use Rattle.graph.specs.indexes.Indexed.{Indexed}
 use Rattle.voting.specs.Proposal.{unordered}
@@ -61,10 +59,6 @@ module _ (R : Record) (w : WellFormed R) (c : Constraint) (m : Has c R.constrain
 
 pub order-read : (R : Record) (x y a b : ℕ) {r : Bool} → r ≡ (notafter R (name_at R a) (name_at R b) || notafter R (name_at R b) (name_at R a)) → name_at R a ≡ x → name_at R b ≡ y → r ≡ (notafter R x y || notafter R y x)
 order-read R x y a b e f g = rw (f, g) at e
-
--- the constraints of a stored record
-pub held-constraints : (r : declared.Record) (R : Record) → r ≡ stored R → take r.constraintcount r.constraints ≡ R.constraints
-held-constraints r R e = ap (λ (x : Record). x.constraints) (held r R e)
 
 -- the constraints of a record that pass the test, at the beginning of an array
 pub pairs-selected : (R : Record) (l rows rest : List Constraint) (n m : ℕ) → length R.constraints ≤ constraint_limit → l ≡ R.constraints

@@ -1,46 +1,32 @@
 -- A table that is joined by what each element of a list gives. Assumes nothing.
 use mathlib.Core.Path.{◌≡◌, refl, ap, sym, ◌∙◌}
 use mathlib.Core.Logic.{inl, inr}
-use mathlib.Core.List.{List, [], ◌∷◌, ◌++◌, map, append_assoc, append-nil}
-use Rattle.std.specs.Prelude.{Result, Err}
+use mathlib.Core.List.{List, [], ◌∷◌, ◌++◌, append-nil}
+use Rattle.std.specs.Prelude.{Result, Err, flat_map}
 use Rattle.refusals.specs.declared.Refusal.{Refusal}
 use Prim.Native.Nat.{ℕ, ◌+◌, ◌≤◌, ◌<◌}
-use native.Mathlib.Numerals.{add-one}
 use lib.ListN.{length, take, drop, get_or, take-append-drop}
-use lib.Seq.{take-suc, take_all}
+use lib.Seq.{take_all}
 use Rattle.record.specs.declared.Constraint.{Constraint}
 use Rattle.lists.specs.Lists.{Has}
-use Rattle.lists.specs.Keyed.{Ascending, inserted, united}
-use Rattle.lists.proofs.Union.{ascending-united}
+use Rattle.lists.specs.Keyed.{inserted, united}
 use Rattle.record_tables.specs.Table.{constraint_key}
 use Rattle.record_joining.specs.declared.insertion.Constraints.{Constraints}
 use Rattle.record_joining.specs.insertion.Insertion.{table_of}
+use Rattle.std.proofs.lemmas.Grind.{flat_map-append}
+use Rattle.std.proofs.lemmas.List.{take_more}
 use Rattle.record_joining.proofs.insertion.Tables.{stays-full}
-use Rattle.voting_drafts.specs.ranking.Ranking.{flat_map}
 
 module _ {A B : Type 0} (f : A → List B) where
-  flat_append : (s t : List A) → flat_map f (s ++ t) ≡ flat_map f s ++ flat_map f t
-  unfolding flat_map
-  flat_append [] t = refl
-  flat_append (x ∷ s) t = ap (λ (r : List B). f x ++ r) (flat_append s t) ∙ sym (append_assoc (f x) (flat_map f s) (flat_map f t))
-
   -- one element more
   flat-next : (l : List A) (i : ℕ) (d : A) → i < length l → flat_map f (take (i + 1) l) ≡ flat_map f (take i l) ++ f (get_or l i d)
-  unfolding flat_map
   flat-next l i d h =
-      let s : take (i + 1) l ≡ take i l ++ (get_or l i d ∷ []) = rw (add-one i) (take-suc l i d h) in
-      ap (flat_map f) s ∙ flat_append (take i l) (get_or l i d ∷ []) ∙ ap (λ (r : List B). flat_map f (take i l) ++ r) (append-nil (f (get_or l i d)))
+      ap (flat_map f) (take_more l i d h) ∙ flat_map-append f (take i l) (get_or l i d ∷ []) ∙ ap (λ (r : List B). flat_map f (take i l) ++ r) (append-nil (f (get_or l i d)))
 
   -- two ways to give the same for each element give the same for all
   pub flat-same : (g : A → List B) (l : List A) → ((x : A) → Has x l → f x ≡ g x) → flat_map f l ≡ flat_map g l
-  unfolding flat_map
   flat-same g [] h = refl
   flat-same g (x ∷ l) h = ap (λ (r : List B). r ++ flat_map f l) (h x (inl refl)) ∙ ap (λ (r : List B). g x ++ r) (flat-same g l (λ y m. h y (inr m)))
-
-pub map-flat : {A B : Type 0} (f : A → B) (l : List A) → flat_map (λ x. f x ∷ []) l ≡ map f l
-unfolding flat_map
-map-flat f [] = refl
-map-flat f (x ∷ l) = ap (λ (r : List _). f x ∷ r) (map-flat f l)
 
 pub united-append : {A : Type 0} (key : A → List ℕ) (t r s : List A) → united key t (r ++ s) ≡ united key (united key t r) s
 unfolding united
@@ -66,12 +52,7 @@ module _ (t : List Constraint) {rows : List Constraint} {table : Result Constrai
 -- a table that is joined by what f gives for the first elements of a list
 module _ {A : Type 0} (f : A → List Constraint) (t : List Constraint) where
   pub joins-start : (l : List A) {table : Result Constraints Refusal} → table ≡ table_of t → table ≡ table_of (united constraint_key t (flat_map f (take 0 l)))
-  unfolding flat_map
   joins-start l = joined-none t refl
-
-  -- the table of the rows so far is in order
-  pub joins-order : (l : List A) (i : ℕ) → Ascending constraint_key t → Ascending constraint_key (united constraint_key t (flat_map f (take i l)))
-  joins-order l i = ascending-united constraint_key t (flat_map f (take i l))
 
   pub joins-next : (l : List A) (i : ℕ) (d : A) {table : Result Constraints Refusal} → i < length l
       → table ≡ table_of (united constraint_key (united constraint_key t (flat_map f (take i l))) (f (get_or l i d))) → table ≡ table_of (united constraint_key t (flat_map f (take (i + 1) l)))
@@ -83,6 +64,6 @@ module _ {A : Type 0} (f : A → List Constraint) (t : List Constraint) where
   -- what has no place for the rows of the first elements has none for those of all
   pub joined-full : (l : List A) (i : ℕ) {r : Refusal} → Err r ≡ table_of (united constraint_key t (flat_map f (take i l))) → Err r ≡ table_of (united constraint_key t (flat_map f l))
   joined-full l i e =
-      let s : flat_map f (take i l) ++ flat_map f (drop i l) ≡ flat_map f l = sym (flat_append f (take i l) (drop i l)) ∙ ap (flat_map f) (take-append-drop i l) in
+      let s : flat_map f (take i l) ++ flat_map f (drop i l) ≡ flat_map f l = sym (flat_map-append f (take i l) (drop i l)) ∙ ap (flat_map f) (take-append-drop i l) in
       stays-full (united constraint_key t (flat_map f (take i l))) (flat_map f (drop i l)) e
       ∙ ap table_of (sym (united-append constraint_key t (flat_map f (take i l)) (flat_map f (drop i l))) ∙ ap (united constraint_key t) s)

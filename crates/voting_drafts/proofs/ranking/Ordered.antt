@@ -2,7 +2,7 @@
 use mathlib.Core.Path.{◌≡◌, ◌∙◌, ap}
 use mathlib.Core.Bool.{or-true}
 use mathlib.Core.List.{List, [], ◌∷◌}
-use Rattle.std.specs.Prelude.{Result}
+use Rattle.std.specs.Prelude.{Result, flat_map}
 use Rattle.refusals.specs.declared.Refusal.{Refusal}
 use Prim.Native.Nat.{ℕ, ◌+◌, ◌≤◌, ◌<◌}
 use borrow.Author.Tests.{eq-eqb, ne_eqb, lt-ltb, le-ltb}
@@ -14,7 +14,7 @@ use Rattle.record_tables.specs.Table.{constraint_key}
 use Rattle.voting.specs.Proposal.{before}
 use Rattle.record_joining.specs.declared.insertion.Constraints.{Constraints}
 use Rattle.record_joining.specs.insertion.Insertion.{table_of}
-use Rattle.voting_drafts.specs.ranking.Ranking.{flat_map, rank_order, pair_order}
+use Rattle.voting_drafts.specs.ranking.Ranking.{rank_order, pair_order}
 use Rattle.voting_drafts.proofs.ranking.Joins.{joins-next}
 
 -- case by case

@@ -1,12 +1,7 @@
 -- Inner: pairs that are ordered by the ranks of their edits; which orders a proposal has, says the crate `voting`. Assumes nothing.
-use Rattle.std.specs.Prelude.{cond, ◌||◌, List, [], ◌∷◌, ◌++◌, ℕ, eqb, ltb, get_or}
+use Rattle.std.specs.Prelude.{cond, ◌||◌, List, [], ◌∷◌, ℕ, eqb, ltb, get_or}
 use Rattle.record.specs.declared.Constraint.{Constraint}
 use Rattle.voting.specs.Proposal.{before}
-
--- what f gives for each element of a list, one after the other
-unfoldable pub flat_map : {A B : Type 0} → (A → List B) → List A → List B
-flat_map f [] = []
-flat_map f (x ∷ l) = f x ++ flat_map f l
 
 -- the rank of a name: from the index of each name, and the rank at each index
 abbrev pub rank_of : List ℕ → List ℕ → ℕ → ℕ

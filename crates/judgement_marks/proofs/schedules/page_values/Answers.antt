@@ -3,7 +3,7 @@ use Prim.Native.Nat.{◌-◌}
 use mathlib.Core.Path.{refl, ◌∙◌}
 use lib.ListN.{length-set}
 use native.Mathlib.Omega.{arith}
-use Rattle.judgement_marks.proofs.schedules.Paging.{paging-start, paging-step, paging-end, back, zero_left}
+use Rattle.judgement_marks.proofs.schedules.Paging.{paging-start, paging-step, paging-end, one-back, zero_left}
 use Rattle.judgement_marks.proofs.schedules.page_values.Goals as goal
 
 pub loop-k-init : goal.loop-k-init
@@ -15,7 +15,7 @@ loop-k-preserved c =
     let l = c.loop-k in (
       omega arith,
       length-set l.pages c.from.result (l.k - 1) ∙ l.invariant.1,
-      λ R list d few k. rw c.from.ensures (paging-step R d few c.args.row list (omega arith) k l.pages (l.k - 1) l.invariant.1 (omega arith) (rw (back l.k (omega arith)) (l.invariant.2 R list d few k))),
+      λ R list d few k. rw c.from.ensures (paging-step R d few c.args.row list (omega arith) k l.pages (l.k - 1) l.invariant.1 (omega arith) (rw (one-back l.k (omega arith)) (l.invariant.2 R list d few k))),
     )
 
 pub returns : goal.returns

@@ -11,7 +11,8 @@ use Rattle.record_joining.specs.insertion.Insertion.{table_of}
 use Rattle.voting.specs.Proposal.{unordered}
 use Rattle.graph.proofs.indexes.Fit.{checked-fit}
 use Rattle.voting_drafts.specs.draft.Draft.{Settles, settled_rank}
-use Rattle.voting_drafts.specs.ranking.Ranking.{flat_map, pair_order}
+use Rattle.std.specs.Prelude.{flat_map}
+use Rattle.voting_drafts.specs.ranking.Ranking.{pair_order}
 use Rattle.voting_drafts.proofs.draft.Settled.{firsts-by-rank}
 use Rattle.voting_drafts.proofs.draft.started.Goals as goal
 

@@ -5,7 +5,8 @@ use lib.ListN.{length, length-take}
 use borrow.Author.Rules.{rules}
 use borrow.Author.Tests.{tests}
 use Rattle.lists.proofs.Lists.{length-mapped}
-use Rattle.voting_drafts.proofs.pairs.Unordered.{is_unordered, TellsUnordered, pair-left-known, pair-right-known, held-constraints, pairs-selected}
+use Rattle.record_tables.proofs.Tables.{held-constraints}
+use Rattle.voting_drafts.proofs.pairs.Unordered.{is_unordered, TellsUnordered, pair-left-known, pair-right-known, pairs-selected}
 use Rattle.voting_drafts.proofs.pairs.unordered_pairs.Goals as goal
 
 pub select-count-requires-clause-places : goal.select-count-requires-clause-places
