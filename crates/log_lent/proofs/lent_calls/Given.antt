@@ -17,10 +17,11 @@ use Rattle.voting_roll.specs.Election.{Proposals, election_of}
 use Rattle.voting_count.specs.Count.{lent, Count, count_of}
 use Rattle.voting_bundles.specs.declared.Bundled.{Bundled}
 use Rattle.voting_bundles.specs.Bundles.{BundleAnswer, bundle_told, bundle_answer}
-use Rattle.std.specs.Prelude.{Result, Ok, Err, IsErr}
+use Rattle.std.specs.Prelude.{Result, Ok, Err, IsErr, IsErrAnd}
+use Rattle.std.proofs.lemmas.Result.{err_from_is_err_and}
 use Rattle.lists.proofs.Lists.{clash}
 use Rattle.refusals.specs.declared.Refusal.{Refusal}
-use Rattle.refusals.specs.Numbers.{number_of, Gives}
+use Rattle.refusals.specs.Numbers.{number, number_of, Gives}
 use Rattle.record.specs.Judgement.{sound_row}
 use Rattle.record_tables.specs.Table.{decoded}
 use Rattle.judgement.specs.lent_record.Lent.{record_fault}
@@ -33,10 +34,9 @@ use Rattle.log_lent.specs.Lent.{Lent, roll_places}
 use Rattle.log_lent.specs.lent_calls.Calls.{proposals_of, bundle_in, lent_row_fault, row_sound}
 use Rattle.log_lent.proofs.lent_calls.FirstRows.{first_counted, first-adopted}
 
--- an answer that is refused
-pub err-given : {A : Type 0} (r : Result A Refusal) (x : A) {n : ℕ} → IsErr r → number_of r ≡ n → Gives n x r
-err-given (Ok y) x e q = clash e refl
-err-given (Err s) x e q = (q, tt)
+-- an answer that is handed on as it was refused
+pub told-given : {A : Type 0} (told : Result A Refusal) (x : A) (r : Refusal) {n : ℕ} → IsErr told × IsErrAnd told (λ s. s ≡ r) → number r ≡ n → Gives n x told
+told-given told x r f q = let s = err_from_is_err_and told f.1 in rw (s.1, s.2) (q, tt)
 
 pub merge-refused : (bench : Bench) (r : Result CallResult Refusal) {n : ℕ} → IsErr r → number_of r ≡ n → told_outcome r bench ≡ refused_with bench n
 merge-refused bench (Ok y) e q = clash e refl

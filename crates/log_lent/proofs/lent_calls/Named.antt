@@ -1,6 +1,6 @@
 -- What two edits of a record suggest, found by their names. Assumes nothing.
 use mathlib.Core.Path.{◌≡◌, refl, sym, ap, ◌∙◌}
-use mathlib.Core.Bool.{true, false}
+use mathlib.Core.Bool.{true, false, cond}
 use mathlib.Core.List.{List, [], ◌∷◌, map}
 use Prim.Native.Nat.{ℕ, ◌≤◌, ◌<◌}
 use native.Mathlib.Omega.{arith}
@@ -14,14 +14,16 @@ use Rattle.record.specs.Stored.{filler_edit, edit_named}
 use Rattle.lists.proofs.Lists.{by, clash, mem_index}
 use Rattle.lists.proofs.Arrays.{get_or-any}
 use Rattle.record_rows.specs.row.Row.{Row, is_name, edit_row}
-use Rattle.std.specs.Prelude.{Option, Some, None, is_some, unwrap_or, ok_or, Result, Err}
+use Rattle.record_rows.proofs.row.Cells.{name-taken, name-refused}
+use Rattle.std.specs.Prelude.{Option, Some, None, is_some, unwrap_or, ok_or, Result, Ok, Err}
 use Rattle.refusals.specs.declared.Refusal.{Refusal}
-use Rattle.refusals.specs.declared.Refusal.TheVariants.{Unknown}
+use Rattle.refusals.specs.declared.Refusal.TheVariants.{OutOfRange, Unknown}
 use Rattle.refusals.specs.Numbers.{number, number_of, Gives}
 use Rattle.refusals.proofs.Numbers.{number-positive}
 use Rattle.record_tables.specs.Checked.{known_place}
 use Rattle.suggestions.specs.declared.Suggested.{Suggested}
-use Rattle.suggestions.specs.Suggest.{pair_fault, suggested_rules}
+use Rattle.suggestions.specs.Suggest.{suggested}
+use Rattle.suggestions.proofs.Advised.{suggested-gives}
 use Rattle.log_commands.specs.declared.Suggesting.{Suggesting}
 use Rattle.log_lent.specs.lent_calls.Calls.{suggest_fault, suggestion_fault, suggested_rules_in}
 use Rattle.log_lent.specs.lent_calls.Named.{row_known}
@@ -61,52 +63,72 @@ module _ (R : Record) (x : ℕ) {o : Option ℕ} (e : o ≡ known_place x (writt
 
 -- what the row of the edit of a name tells
 module _ (R : Record) (x : ℕ) where
-  pub none-known : row_known R x ≡ None → mem x (written R) ≡ false
+  none-known : row_known R x ≡ None → mem x (written R) ≡ false
   unfolding row_known
   none-known n = by (mem x (written R)) (λ (m : mem x (written R) ≡ true). clash refl (ap is_some (rw m at n))) (λ m. m)
 
-  pub some-known : {row : Row} → row_known R x ≡ Some row → mem x (written R) ≡ true
+  some-known : {row : Row} → row_known R x ≡ Some row → mem x (written R) ≡ true
   unfolding row_known
   some-known s = by (mem x (written R)) (λ m. m) (λ (m : mem x (written R) ≡ false). clash refl (sym (ap is_some (rw m at s))))
 
-  pub named-row-is : {row : Row} → row_known R x ≡ Some row → row ≡ edit_row (edit_named R.edits x)
+  named-row-is : {row : Row} → row_known R x ≡ Some row → row ≡ edit_row (edit_named R.edits x)
   unfolding row_known
   named-row-is {row} s = let m = some-known s in sym (ap (λ (q : Option Row). unwrap_or q []) (rw m at s))
 
 -- a name that the record does not know is refused with 5
-pub refused-unknown : (o : Option Row) (r : Refusal) → ◌≡◌ {A = Result Row Refusal} (Err r) (ok_or o Unknown) → (number r ≡ 5) × (o ≡ None)
+refused-unknown : (o : Option Row) (r : Refusal) → ◌≡◌ {A = Result Row Refusal} (Err r) (ok_or o Unknown) → (number r ≡ 5) × (o ≡ None)
 refused-unknown None r e = (ap number_of e, refl)
 refused-unknown (Some row) r e = absurd (number-positive r (ap number_of e))
 
+-- of two names what the code tells: that they are names, and the rows that the record has for them
 module _ (R : Record) (asked : Suggesting) where
-  pub first-unnamed : is_name asked.first ≡ false → 2 ≡ suggestion_fault R asked
+  pub first-unnamed : {r : Refusal} → Err r ≡ cond (is_name asked.first) (Ok asked.first) (Err OutOfRange) → number r ≡ suggestion_fault R asked
   unfolding suggestion_fault suggest_fault
-  first-unnamed e = rw e refl
+  first-unnamed p = let n = name-refused asked.first p in rw (n.1, n.0) refl
 
-  module _ (a : is_name asked.first ≡ true) where
-    pub second-unnamed : is_name asked.second ≡ false → 2 ≡ suggestion_fault R asked
+  module _ {x : ℕ} (p : Ok x ≡ cond (is_name asked.first) (Ok asked.first) (Err OutOfRange)) where
+    a : (is_name asked.first ≡ true) × (x ≡ asked.first)
+    a = name-taken asked.first p
+
+    pub second-unnamed : {r : Refusal} → Err r ≡ cond (is_name asked.second) (Ok asked.second) (Err OutOfRange) → number r ≡ suggestion_fault R asked
     unfolding suggestion_fault suggest_fault
-    second-unnamed e = rw (a, e) refl
+    second-unnamed q = let n = name-refused asked.second q in rw (n.1, a.0, n.0) refl
 
-    module _ (b : is_name asked.second ≡ true) where
+    module _ {y : ℕ} (q : Ok y ≡ cond (is_name asked.second) (Ok asked.second) (Err OutOfRange)) where
+      b : (is_name asked.second ≡ true) × (y ≡ asked.second)
+      b = name-taken asked.second q
+
       pub no-case : 1 < asked.case → 2 ≡ suggestion_fault R asked
       unfolding suggestion_fault suggest_fault
-      no-case h = let e : ltb asked.case 2 ≡ false = le-ltb asked.case 2 (omega arith) in rw (a, b, e) refl
+      no-case h = let e : ltb asked.case 2 ≡ false = le-ltb asked.case 2 (omega arith) in rw (a.0, b.0, e) refl
 
-      module _ (h : asked.case ≤ 1) where
+      module _ (h : asked.case ≤ 1) {o : Option Row} (e : o ≡ row_known R x) where
         fine : ltb asked.case 2 ≡ true
         fine = lt-ltb asked.case 2 (omega arith)
 
-        pub first-unknown : mem asked.first (written R) ≡ false → 5 ≡ suggestion_fault R asked
+        pub first-unknown : {r : Refusal} → ◌≡◌ {A = Result Row Refusal} (Err r) (ok_or o Unknown) → number r ≡ suggestion_fault R asked
         unfolding suggestion_fault suggest_fault
-        first-unknown e = rw (a, b, fine, e) refl
+        first-unknown {r} w =
+            let u = refused-unknown o r w in
+            let m = rw a.1 at (none-known R x (sym e ∙ u.1)) in
+            rw (a.0, b.0, fine, m) u.0
 
-        module _ (c : mem asked.first (written R) ≡ true) where
-          pub second-unknown : mem asked.second (written R) ≡ false → 5 ≡ suggestion_fault R asked
+        module _ {row : Row} (s : o ≡ Some row) {other : Option Row} (f : other ≡ row_known R y) where
+          c : mem asked.first (written R) ≡ true
+          c = rw a.1 at (some-known R x (sym e ∙ s))
+
+          pub second-unknown : {r : Refusal} → ◌≡◌ {A = Result Row Refusal} (Err r) (ok_or other Unknown) → number r ≡ suggestion_fault R asked
           unfolding suggestion_fault suggest_fault
-          second-unknown e = rw (a, b, fine, c, e) refl
+          second-unknown {r} w =
+              let u = refused-unknown other r w in
+              let m = rw b.1 at (none-known R y (sym f ∙ u.1)) in
+              rw (a.0, b.0, fine, c, m) u.0
 
-          pub both-named : mem asked.second (written R) ≡ true → {x y : Row} (r : Result Suggested Refusal) → Gives (pair_fault x y asked.case) (suggested_rules x y asked.case) r
-              → x ≡ edit_row (edit_named R.edits asked.first) → y ≡ edit_row (edit_named R.edits asked.second) → Gives (suggestion_fault R asked) (suggested_rules_in R asked) r
+          pub both-named : {next : Row} → other ≡ Some next → (r : Result Suggested Refusal) → r ≡ suggested row next asked.case
+              → Gives (suggestion_fault R asked) (suggested_rules_in R asked) r
           unfolding suggestion_fault suggest_fault suggested_rules_in
-          both-named d r q e f = rw (a, b, fine, c, d) (rw (e, f) at q)
+          both-named {next} t r g =
+              let d : mem asked.second (written R) ≡ true = rw b.1 at (some-known R y (sym f ∙ t)) in
+              let u = rw a.1 at (named-row-is R x (sym e ∙ s)) in
+              let v = rw b.1 at (named-row-is R y (sym f ∙ t)) in
+              rw (a.0, b.0, fine, c, d) (rw (u, v) at (suggested-gives row next asked.case g))

@@ -77,16 +77,28 @@ module _ (L : Lent) (asked : Proposing) where
   unfolding lent_proposal_fault
   old-elsewhere h = let e : ltb asked.old 9 ≡ false = le-ltb asked.old 9 h in rw (e, and-false (ltb asked.lent 9)) refl
 
-  module _ (h : asked.lent < 9) (i : asked.old < 9) {E C D F : Rows} (e : E ≡ L.edits asked.lent) (c : C ≡ L.constraints asked.lent) (d : D ≡ L.edits asked.old) (f : F ≡ L.constraints asked.old) where
+  module _ {i j : ℕ} (p : (i ≡ asked.lent) × (asked.lent < 9)) (q : (j ≡ asked.old) × (asked.old < 9)) {E C D F : Rows}
+      (s : i < 9 → (E ≡ L.edits i) × (C ≡ L.constraints i)) (t : j < 9 → (D ≡ L.edits j) × (F ≡ L.constraints j)) where
+    lent-rows : (E ≡ L.edits asked.lent) × (C ≡ L.constraints asked.lent)
+    lent-rows = rw p.0 at (s (omega (arith, p.0, p.1)))
+
+    old-rows : (D ≡ L.edits asked.old) × (F ≡ L.constraints asked.old)
+    old-rows = rw q.0 at (t (omega (arith, q.0, q.1)))
+
     inside : lent_proposal_fault L asked ≡ propose_fault (tables_with E C D F asked.edits asked.rules)
     unfolding lent_proposal_fault
-    inside = let a : ltb asked.lent 9 ≡ true = lt-ltb asked.lent 9 h in let b : ltb asked.old 9 ≡ true = lt-ltb asked.old 9 i in rw (a, b, e, c, d, f) refl
+    inside =
+        let a : ltb asked.lent 9 ≡ true = lt-ltb asked.lent 9 p.1 in
+        let b : ltb asked.old 9 ≡ true = lt-ltb asked.old 9 q.1 in
+        let (e, c) = lent-rows in
+        let (d, f) = old-rows in
+        rw (a, b, e, c, d, f) refl
 
     parts : lent_proposal_fault L asked ≡ (new_fault E C D F orelse (12 given too_short asked.edits asked.rules (made E C D F asked.edits asked.rules)))
     parts = inside ∙ fault-parts E C D F asked.edits asked.rules
 
     pub proposal-refused : (r : Refusal) → number r ≡ new_fault E C D F → number r ≡ lent_proposal_fault L asked
-    proposal-refused r q = q ∙ sym (parts ∙ orelse-first (new_fault E C D F) (12 given too_short asked.edits asked.rules (made E C D F asked.edits asked.rules)) (λ z. number-positive r (q ∙ z)))
+    proposal-refused r n = n ∙ sym (parts ∙ orelse-first (new_fault E C D F) (12 given too_short asked.edits asked.rules (made E C D F asked.edits asked.rules)) (λ z. number-positive r (n ∙ z)))
 
     module _ (z : 0 ≡ new_fault E C D F) where
       last-part : lent_proposal_fault L asked ≡ (12 given too_short asked.edits asked.rules (made E C D F asked.edits asked.rules))
@@ -95,12 +107,14 @@ module _ (L : Lent) (asked : Proposing) where
       made-is : lent_proposal_fault L asked ≡ 0 → proposal_made L asked ≡ made E C D F asked.edits asked.rules
       unfolding proposal_made new_proposal
       made-is w =
-          let a : ltb asked.lent 9 ≡ true = lt-ltb asked.lent 9 h in
-          let b : ltb asked.old 9 ≡ true = lt-ltb asked.old 9 i in
+          let a : ltb asked.lent 9 ≡ true = lt-ltb asked.lent 9 p.1 in
+          let b : ltb asked.old 9 ≡ true = lt-ltb asked.old 9 q.1 in
+          let (e, c) = lent-rows in
+          let (d, f) = old-rows in
           let y : eqb (propose_fault (tables_with E C D F asked.edits asked.rules)) 0 ≡ true = eq-eqb (propose_fault (tables_with E C D F asked.edits asked.rules)) 0 (sym inside ∙ w) in
           rw (a, b, ← e, ← c, ← d, ← f, y) refl
 
       pub proposal-given : (r : Result declared.Record Refusal) → Gives (12 given too_short asked.edits asked.rules (made E C D F asked.edits asked.rules)) (stored (made E C D F asked.edits asked.rules)) r
           → Gives (lent_proposal_fault L asked) (stored (proposal_made L asked)) r
       proposal-given (Ok y) g = let w = last-part ∙ sym g.0 in (sym w, g.1 ∙ ap stored (sym (made-is w)))
-      proposal-given (Err s) g = (g.0 ∙ sym last-part, tt)
+      proposal-given (Err r) g = (g.0 ∙ sym last-part, tt)

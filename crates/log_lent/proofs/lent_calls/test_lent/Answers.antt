@@ -1,16 +1,11 @@
 -- `lent_calls::test_lent` meets its contract. Assumes nothing.
-use mathlib.Core.Path.{◌≡◌, ap, ◌∙◌}
+use mathlib.Core.Path.{ap, ◌∙◌}
 use native.Mathlib.Omega.{arith}
-use borrow.Author.Rules.{rules}
-use Rattle.refusals.specs.Numbers.{number_of}
-use Rattle.log_lent.proofs.lent_calls.Given.{err-given, row-elsewhere, row-given}
+use Rattle.log_lent.proofs.lent_calls.Given.{told-given, row-elsewhere, row-given}
 use Rattle.log_lent.proofs.lent_calls.test_lent.Goals as goal
 
 pub returns-in_err-place : goal.returns-in_err-place
-returns-in_err-place c =
-    let e = c.in_err-place.ensures in
-    let n : number_of c.from_residual.result ≡ 2 = search rules in
-    λ L K. err-given _ _ c.from_residual.ensures.0 (n ∙ row-elsewhere L _ e.1)
+returns-in_err-place c = λ L K. let e = c.in_err-place.ensures in told-given _ _ _ c.from_residual.ensures (e.0 ∙ row-elsewhere L _ e.1)
 
 pub returns : goal.returns
 returns c =
