@@ -38,8 +38,8 @@ scheduled_of edits constraints =
 
 -- the ledger's answer to a second merge, the first being the only call before it
 unfoldable pub merged_of : Rows → Rows → Rows → Rows → Merged
-merged_of edits constraints others otherconstraints =
-    let a = (step (fed start (merge edits constraints ∷ [])) (merge others otherconstraints)).answer in
+merged_of edits constraints others other_constraints =
+    let a = (step (fed start (merge edits constraints ∷ [])) (merge others other_constraints)).answer in
     record { number = a.number; undone = a.undone; redone = a.redone }
 
 abbrev pub seat : ℕ → RollRow
@@ -54,6 +54,6 @@ abbrev pub halves : Rows → Rows → List Rows
 halves rows rivals = rows ∷ rows ∷ rows ∷ rows ∷ rivals ∷ rivals ∷ rivals ∷ rivals ∷ []
 
 unfoldable pub elected_of : ℕ → Rows → Rows → Rows → Rows → Elected
-elected_of edit edits constraints rivals rivalconstraints =
-    let a = election_of edit (lent_proposals (halves edits rivals) (halves constraints rivalconstraints)) equal_seats in
+elected_of edit edits constraints rivals rival_constraints =
+    let a = election_of edit (lent_proposals (halves edits rivals) (halves constraints rival_constraints)) equal_seats in
     record { number = a.number; won = cond a.won 1 0; greatest = a.greatest; silent = a.silent; total = a.total }

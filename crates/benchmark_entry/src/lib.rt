@@ -112,15 +112,15 @@ pub fn measure_merge(
     edits: &[EditRow],
     constraints: &[ConstraintRow],
     others: &[EditRow],
-    otherconstraints: &[ConstraintRow],
+    other_constraints: &[ConstraintRow],
 ) -> Merged
-    ensures { result ≡ merged_of edits.now constraints.now others.now otherconstraints.now }
+    ensures { result ≡ merged_of edits.now constraints.now others.now other_constraints.now }
 {
     let mut bench = bench::empty_bench();
     let _ = bench_edits::merge(&mut bench, LentRecord { edits, constraints });
     let other = LentRecord {
         edits: others,
-        constraints: otherconstraints,
+        constraints: other_constraints,
     };
     match bench_edits::merge(&mut bench, other) {
         Ok(answer) => Merged {
@@ -180,14 +180,14 @@ pub fn measure_election<'a>(
     edits: &'a [EditRow],
     constraints: &'a [ConstraintRow],
     rivals: &'a [EditRow],
-    rivalconstraints: &'a [ConstraintRow],
+    rival_constraints: &'a [ConstraintRow],
 ) -> Elected
-    ensures { result ≡ elected_of edit edits.now constraints.now rivals.now rivalconstraints.now }
+    ensures { result ≡ elected_of edit edits.now constraints.now rivals.now rival_constraints.now }
 {
     let one = LentRecord { edits, constraints };
     let rival = LentRecord {
         edits: rivals,
-        constraints: rivalconstraints,
+        constraints: rival_constraints,
     };
     let proposals = [one, one, one, one, rival, rival, rival, rival];
     let poll = Poll {

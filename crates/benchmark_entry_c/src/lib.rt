@@ -28,11 +28,11 @@ pub extern "C" fn measure_merge(
     edits: &[EditRow],
     constraints: &[ConstraintRow],
     others: &[EditRow],
-    otherconstraints: &[ConstraintRow],
+    other_constraints: &[ConstraintRow],
 ) -> Merged
-    ensures { result ≡ merged_of edits.now constraints.now others.now otherconstraints.now }
+    ensures { result ≡ merged_of edits.now constraints.now others.now other_constraints.now }
 {
-    benchmark_entry::measure_merge(edits, constraints, others, otherconstraints)
+    benchmark_entry::measure_merge(edits, constraints, others, other_constraints)
 }
 
 #[unsafe(no_mangle)]
@@ -41,9 +41,9 @@ pub extern "C" fn measure_election<'a>(
     edits: &'a [EditRow],
     constraints: &'a [ConstraintRow],
     rivals: &'a [EditRow],
-    rivalconstraints: &'a [ConstraintRow],
+    rival_constraints: &'a [ConstraintRow],
 ) -> Elected
-    ensures { result ≡ elected_of edit edits.now constraints.now rivals.now rivalconstraints.now }
+    ensures { result ≡ elected_of edit edits.now constraints.now rivals.now rival_constraints.now }
 {
-    benchmark_entry::measure_election(edit, edits, constraints, rivals, rivalconstraints)
+    benchmark_entry::measure_election(edit, edits, constraints, rivals, rival_constraints)
 }

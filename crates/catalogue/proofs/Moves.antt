@@ -50,29 +50,29 @@ common-le old new n m c e =
 -- a turn as the code makes it
 module _ (edits : List Edit) (opened page : ℕ) (view : View) (r : View) where
   pub turned_on : opened ≤ page → r ≡ stored_view (steps.forward chips opened (slice opened page edits) (content_of view))
-      → r ≡ stored_view (steps.turn chips edits opened page (content_of view))
-  unfolding steps.turn
+      → r ≡ stored_view (steps.turned_view chips edits opened page (content_of view))
+  unfolding steps.turned_view
   turned_on h e = rw (le-leb _ _ h) e
 
   pub turned-back : page < opened → r ≡ stored_view (steps.back chips page (slice page opened edits) (content_of view))
-      → r ≡ stored_view (steps.turn chips edits opened page (content_of view))
-  unfolding steps.turn
+      → r ≡ stored_view (steps.turned_view chips edits opened page (content_of view))
+  unfolding steps.turned_view
   turned-back h e = rw (lt-leb _ _ h) e
 
 -- the rows past a schedule's pages are not run
 turn-stored : (edits : List Edit) (opened page : ℕ) (view : pages.View chips) → opened ≤ length edits → page ≤ length edits
-    → steps.turn chips (padded rows filler_edit edits) opened page view ≡ steps.turn chips edits opened page view
-unfolding steps.turn
+    → steps.turned_view chips (padded rows filler_edit edits) opened page view ≡ steps.turned_view chips edits opened page view
+unfolding steps.turned_view
 turn-stored edits opened page view h k =
     let a = slice-padded rows filler_edit opened page edits k in
     let b = slice-padded rows filler_edit page opened edits h in
     λ i. cond (leb opened page) (steps.forward chips opened (a i) view) (steps.back chips page (b i) view)
 
-pub view-turn-opens : (schedule : Schedule) (opened page : ℕ) (view r : View) → r ≡ stored_view (steps.turn chips schedule.edits opened page (content_of view))
+pub view-turn-opens : (schedule : Schedule) (opened page : ℕ) (view r : View) → r ≡ stored_view (steps.turned_view chips schedule.edits opened page (content_of view))
     → ViewTurns schedule opened page view r
 unfolding ViewTurns chips_view schedule_of
 view-turn-opens schedule opened page view r e edits room s h k v =
-    e ∙ (λ i. stored_view (steps.turn chips (s i).edits opened page (content_of (v i))))
+    e ∙ (λ i. stored_view (steps.turned_view chips (s i).edits opened page (content_of (v i))))
     ∙ ap stored_view (turn-stored edits opened page (pages.view_of chips places rows (take opened edits)) h k ∙ pages-turn chips places rows edits opened page room h k)
 
 -- a change as the code makes it

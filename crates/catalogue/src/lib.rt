@@ -4,7 +4,7 @@
 ghost use Rattle.std.specs.Prelude.{◌≡◌, set, take};
 ghost use Rattle.std.proofs.Math.Seq.{slice};
 ghost use Rattle.pages.specs.Pages.{run_edit, touched};
-ghost use Rattle.pages.specs.Steps.{back, forward, turn};
+ghost use Rattle.pages.specs.Steps.{back, forward, turned_view};
 ghost use Rattle.catalogue.specs.Entries.{absent_entry, run_body};
 ghost use Rattle.catalogue.specs.Chips.{cells, chips, content_of, empty_view, stored_view};
 ghost use Rattle.catalogue.specs.Changes.{ViewChanges, ViewTurns, change_told, changed, common};
@@ -167,7 +167,7 @@ impl View {
 
     // From the open page to another page of the schedule.
     pub fn turn_to(&mut self, schedule: Schedule, opened: usize, page: usize)
-        ensures moves { self.new ≡ stored_view (turn chips schedule.edits opened page (content_of self.old)) }
+        ensures moves { self.new ≡ stored_view (turned_view chips schedule.edits opened page (content_of self.old)) }
         ensures opens { ViewTurns schedule opened page self.old self.new }
     {
         if opened <= page {

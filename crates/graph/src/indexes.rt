@@ -10,7 +10,7 @@ ghost use Rattle.graph.specs.links.Resolved.{Resolved};
 ghost use Rattle.graph.specs.indexes.Fit.{Fit};
 ghost use Rattle.graph.specs.indexes.Indexed.{Indexed};
 
-use crate::links::{ENABLES, Graph, Linking, NONCOMMUTING, Rows};
+use crate::links::{ENABLES_BASE, Graph, Linking, NONCOMMUTING_BASE, Rows};
 use record::Record;
 use record_rows::row::NAMES;
 use std::marker::Model;
@@ -113,8 +113,8 @@ fn key_of(rule: u8, right: usize) -> usize
     // Kept: the specification names a constraint's rule by number.
     match rule {
         0 => right,
-        1 => ENABLES + right,
-        _ => NONCOMMUTING + right,
+        1 => ENABLES_BASE + right,
+        _ => NONCOMMUTING_BASE + right,
     }
 }
 

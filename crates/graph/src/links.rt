@@ -31,11 +31,11 @@ pub const MARKS: usize = EDITS + 1;
 pub type Marks = [u8; MARKS];
 
 // The keys of a record's rows: the right index, above the base of the rule. The specs of `links` have the same numbers.
-pub const NOTAFTER: usize = 0;
+pub const NOTAFTER_BASE: usize = 0;
 
-pub const ENABLES: usize = MARKS;
+pub const ENABLES_BASE: usize = MARKS;
 
-pub const NONCOMMUTING: usize = 2 * MARKS;
+pub const NONCOMMUTING_BASE: usize = 2 * MARKS;
 
 // Linked rows in one array: the head of each key, then the link and then the left end of each row, of which a constraint has at most two.
 // Kept: one flat array: it is lent and given as a whole (`put_row`, `from_cells`, `cells`), and is one list to the clauses (`with_row`, `Safe`); an

@@ -51,7 +51,7 @@ pub fn judge_lent(lent: LentRecord) -> Result<Judgement, Refusal>
         place,
     } = crate::judge(multilog);
     Ok(Judgement {
-        count: multilog.editcount,
+        count: multilog.edit_count,
         must,
         never,
         settled,

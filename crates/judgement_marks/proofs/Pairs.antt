@@ -8,7 +8,7 @@ use native.Mathlib.Nat.{min-eq_left, min-eq_right, max-eq_left, max-eq_right}
 use borrow.Author.Tests.{not-true, not-false}
 use Rattle.record.specs.Record.{Record, written, has, notafter, noncommuting, WellFormed}
 use Rattle.record.specs.Judgement.{never, ordered, serialised}
-use Rattle.lists.proofs.Lists.{by, clash, or_l, or_r, or-no-l, or-no-r, any-by, not-any-all, all_in}
+use Rattle.lists.proofs.Lists.{by, clash, or_l, or_r, or-no-l, or-no-r, any-among-by, not-any-all, all_in}
 use Rattle.record.proofs.Records.{noncommuting-right, pair-by}
 use Rattle.graph.specs.links.Resolved.{Resolved}
 
@@ -45,7 +45,7 @@ module _ (R : Record) (w : WellFormed R) where
   open_by {ℓ} : {P : Type ℓ} (a : ℕ) → serialised R a ≡ false → ((b : ℕ) → noncommuting R a b ≡ true → ordered R a b ≡ false → P) → P
   unfolding serialised
   open_by a s f =
-      any-by (λ b. not (not (noncommuting R a b) || ordered R a b)) (written R) (not-any-all (λ b. not (noncommuting R a b) || ordered R a b) (written R) ∙ rw s)
+      any-among-by (λ b. not (not (noncommuting R a b) || ordered R a b)) (written R) (not-any-all (λ b. not (noncommuting R a b) || ordered R a b) (written R) ∙ rw s)
       (λ b i e. f b (not-false _ (or-no-l (not (noncommuting R a b)) _ (not-true _ e))) (or-no-r (not (noncommuting R a b)) _ (not-true _ e)))
 
 module _ (R : Record) (rows : List ℕ) (g : Resolved R rows) where

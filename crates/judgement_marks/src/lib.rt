@@ -14,7 +14,7 @@ ghost use Rattle.graph.specs.links.Reversed.{Reversed};
 ghost use Rattle.graph.specs.links.Resolved.{Resolved};
 ghost use Rattle.judgement_marks.specs.Opened.{Opened};
 
-use graph::links::{ENABLES, Graph, MARKS, Marks, NONCOMMUTING, NOTAFTER, Rows};
+use graph::links::{ENABLES_BASE, Graph, MARKS, Marks, NONCOMMUTING_BASE, NOTAFTER_BASE, Rows};
 
 // Kept: `x < mark_limit`: as in `graph::links`, where a type of indexes was tried.
 // Kept: `Resolved R graph.now.rows`, `graph.now.count ≡ length (names R)`, `Reversed R reversed.now`, `mustmarks ≡ marks_of R (must R)`,
@@ -27,7 +27,7 @@ use graph::links::{ENABLES, Graph, MARKS, Marks, NONCOMMUTING, NOTAFTER, Rows};
 pub fn must_marks(rows: &Rows) -> Marks
     ensures { (R : Record) → Resolved R rows.now → result ≡ marks_of R (must R) }
 {
-    rows.closed(ENABLES, [0; MARKS], 0)
+    rows.closed(ENABLES_BASE, [0; MARKS], 0)
 }
 
 // The needs of the edit at x, from the marks of what must stand. Pub for `judgement`.
@@ -36,7 +36,7 @@ pub fn needs_marks(rows: &Rows, mustmarks: Marks, x: usize) -> Marks
     ensures { (R : Record) → Resolved R rows.now → x < length (names R)
         → mustmarks ≡ marks_of R (must R) → result ≡ marks_of R (λ y. mem y (needs R (0 ∷ name_at R x ∷ []))) }
 {
-    rows.closed(ENABLES, mustmarks, x)
+    rows.closed(ENABLES_BASE, mustmarks, x)
 }
 
 // Whether an edit at x closes a ring when it enters a closed set without one, with its needs. It closes none where it enters alone and comes before
@@ -48,7 +48,7 @@ pub fn closes_ring(graph: &Graph, reversed: &Rows, old: &Marks, marks: Marks, x:
         → ((a b : ℕ) → enables R a b ≡ true → b among s → a among s) → s within names R → old.now ≡ marks_of R (λ y. mem y s) → ring R s ≡ false
         → marks ≡ marks_of R (λ y. mem y (needs R (name_at R x ∷ s))) → result ≡ ring R (needs R (name_at R x ∷ s)) }
 {
-    if graph.rows.any_row(ENABLES + x, old, 0) || reversed.any_row(x, &marks, 1) {
+    if graph.rows.any_row(ENABLES_BASE + x, old, 0) || reversed.any_row(x, &marks, 1) {
         return graph.has_new_ring(old, marks);
     }
     false
@@ -60,7 +60,7 @@ pub fn need_before(rows: &Rows, x: usize) -> usize
     ensures { (result ≤ x) × (result < mark_limit) × (0 < x → result < x) × ((R : Record) → Resolved R rows.now → x < length (names R)
         → (result < length (names R)) × (name_at R result among needs R (0 ∷ name_at R x ∷ []))) }
 {
-    match rows.lefts(ENABLES + x).next() {
+    match rows.lefts(ENABLES_BASE + x).next() {
         Some(a) if a < x => a,
         _ => 0,
     }
@@ -81,7 +81,7 @@ fn is_never(graph: &Graph, reversed: &Rows, mustmarks: Marks, nevermarks: &Marks
         return true;
     }
     let old = needs_marks(&graph.rows, mustmarks, a);
-    let marks = graph.rows.closed(ENABLES, old, x);
+    let marks = graph.rows.closed(ENABLES_BASE, old, x);
     closes_ring(graph, reversed, &old, marks, x)
 }
 
@@ -127,7 +127,7 @@ fn has_order(rows: &Rows, nevermarks: &Marks, a: usize, b: usize) -> bool
     if nevermarks[b] == 1 {
         return true;
     }
-    rows.leads_either_way(NOTAFTER, a, b)
+    rows.leads_either_way(NOTAFTER_BASE, a, b)
 }
 
 // Marks both edits of a pair that has no order.
@@ -150,7 +150,7 @@ fn open_pairs(rows: &Rows, nevermarks: &Marks, openmarks: &mut Marks, b: usize)
     ensures { (R : Record) → Resolved R rows.now
         → b < length (names R) → nevermarks.now ≡ marks_of R (never R) → Opened R b openmarks.old openmarks.new }
 {
-    for a in rows.lefts(NONCOMMUTING + b) {
+    for a in rows.lefts(NONCOMMUTING_BASE + b) {
         open_pair(rows, nevermarks, openmarks, a, b);
     }
 }

@@ -10,7 +10,7 @@ ghost use Rattle.graph.specs.links.Resolved.{Resolved};
 ghost use Rattle.judgement_marks.specs.schedules.Rows.{free, HeldBack, found, Hides, Clear, Missed, RowIs};
 
 use crate::row::Row;
-use graph::links::{ENABLES, Graph, MARKS, Marks, Rows};
+use graph::links::{ENABLES_BASE, Graph, MARKS, Marks, Rows};
 
 // Kept: `x < mark_limit`: as in `graph::links`, where a type of indexes was tried.
 // Kept: `Resolved R graph.now.rows`, `graph.now.count ≡ length (names R)`, `Reversed R reversed.now`, `mustmarks ≡ marks_of R (must R)`,
@@ -125,7 +125,7 @@ impl Admission<'_> {
         if !self.barring {
             return false;
         }
-        if self.graph.rows.any_row(ENABLES + x, old, 0) {
+        if self.graph.rows.any_row(ENABLES_BASE + x, old, 0) {
             return any_barred(self.graph, marks, self.hidden, self.mustmarks);
         }
         is_barred(marks, self.hidden, self.mustmarks, x)
@@ -148,7 +148,7 @@ impl Admission<'_> {
         if marks[need] != 1 {
             return marks;
         }
-        let more = graph.rows.closed(ENABLES, marks, x);
+        let more = graph.rows.closed(ENABLES_BASE, marks, x);
         if self.is_shut(&marks, &more, x) {
             return marks;
         }

@@ -87,20 +87,20 @@ module _ {A : Type 0} (key : A → List ℕ) where
   united-old a t (x ∷ s) h = united-old a (inserted key x t) s (has-old a x t h)
 
   -- no key stands in both with different elements
-  abbrev pub Agree : List A → List A → Type 0
-  Agree s t = (x r : A) → Has x s → Has r t → precedes (key x) (key r) ≡ false → precedes (key r) (key x) ≡ false → x ≡ r
+  abbrev pub SameByKey : List A → List A → Type 0
+  SameByKey s t = (x r : A) → Has x s → Has r t → precedes (key x) (key r) ≡ false → precedes (key r) (key x) ≡ false → x ≡ r
 
-  pub agree-self : (s : List A) → Ascending key s → Agree s s
+  pub agree-self : (s : List A) → Ascending key s → SameByKey s s
   agree-self [] a x r h k p q = absurd h
   agree-self (y ∷ s) a x r (inl e) (inl f) p q = e ∙ sym f
   agree-self (y ∷ s) a x r (inl e) (inr k) p q = clash (rw (sym e) at (below-has y r s a.0 k)) p
   agree-self (y ∷ s) a x r (inr h) (inl f) p q = clash (rw (sym f) at (below-has y x s a.0 h)) q
   agree-self (y ∷ s) a x r (inr h) (inr k) p q = agree-self s a.1 x r h k p q
 
-  pub agree-sym : (s t : List A) → Agree s t → Agree t s
+  pub agree-sym : (s t : List A) → SameByKey s t → SameByKey t s
   agree-sym s t f x r h k p q = sym (f r x k h q p)
 
-  pub united-new : (a : A) (t s : List A) → Agree s t → Agree s s → Has a s → Has a (united key t s)
+  pub united-new : (a : A) (t s : List A) → SameByKey s t → SameByKey s s → Has a s → Has a (united key t s)
   unfolding united
   united-new a t [] f g h = absurd h
   united-new a t (x ∷ s) f g (inl e) =
@@ -134,7 +134,7 @@ module _ {A : Type 0} (key : A → List ℕ) where
       cc
 
   -- joining in either order
-  pub united-comm : (s t : List A) → Ascending key s → Ascending key t → Agree s t → united key t s ≡ united key s t
+  pub united-comm : (s t : List A) → Ascending key s → Ascending key t → SameByKey s t → united key t s ≡ united key s t
   united-comm s t a b f =
       ascending-unique (united key t s) (united key s t) (ascending-united t s b) (ascending-united s t a)
       (λ x h. ⊎_elim (λ (k : Has x t). united-new x s t (agree-sym s t f) (agree-self t b) k) (λ (k : Has x s). united-old x s t k) (united-has x t s h))

@@ -26,4 +26,4 @@ abbrev pub stored_text : declared.Record → List ℕ
 stored_text r = text_of (record_of r)
 
 unfoldable pub record_text : declared.Record → Texts
-record_text r = fill counts_form (r.editcount ∷ r.constraintcount ∷ []) ∷ stored_text r ∷ []
+record_text r = fill counts_form (r.edit_count ∷ r.constraint_count ∷ []) ∷ stored_text r ∷ []

@@ -55,7 +55,7 @@ fn print_hidden_edits(printer: &mut Printer<'_>, edits: &[Edit], marks: &Marks)
 }
 
 pub fn print_hidden(printer: &mut Printer<'_>, bench: &Bench)
-    ensures { Printed (hidden_text (take bench.now.multilog.editcount bench.now.multilog.edits) bench.now.hidden) printer.old printer.new }
+    ensures { Printed (hidden_text (take bench.now.multilog.edit_count bench.now.multilog.edits) bench.now.hidden) printer.old printer.new }
 {
     let edits = bench.multilog.edit_slice();
     let count = count_hidden(&bench.hidden[1..=edits.len()]);

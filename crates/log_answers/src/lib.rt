@@ -39,7 +39,7 @@ pub fn print_text(printer: &mut Printer<'_>, content: &Record)
 pub fn print_record(printer: &mut Printer<'_>, content: &Record)
     ensures { Printed (record_text content.now) printer.old printer.new }
 {
-    let numbers = [content.editcount as u64, content.constraintcount as u64];
+    let numbers = [content.edit_count as u64, content.constraint_count as u64];
     printer.print(text_report::COUNTS_FORM, &numbers);
     print_text(printer, content);
 }

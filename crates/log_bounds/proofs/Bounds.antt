@@ -31,7 +31,7 @@ use Rattle.voting_proposals.specs.Propose.{propose_fault, new_proposal, record_m
 use Rattle.ledger.specs.Ledger.{Ledger, Call, CallAnswer, add_edit, add_constraint, merge, hide, show, turn, adopt, start, change, adopted, act, refusal, judge, step, fed}
 use Rattle.ledger.proofs.Undone.{fed-more}
 use Rattle.log_forms.specs.Printed.{Texts}
-use Rattle.log_bounds.proofs.Small.{Each, each_both, each_at}
+use Rattle.log_bounds.proofs.Small.{EachMember, each_both, each_at}
 use Rattle.log_commands.specs.declared.Lend.{Lend as Lends}
 use Rattle.log_commands.specs.declared.Lend.TheVariants.{EditRow, ConstraintRow, NoRows, BenchRows, RollRow, NoRoll, RowName, NoRow}
 use Rattle.log_commands.specs.declared.Call.{Call as Calls}
@@ -57,7 +57,7 @@ RowFits row = value_cell row < 4294967296
 abbrev pub SeatFits : Seat → Type 0
 SeatFits seat = seat.weight < 65536
 
-each-one : {A : Type 0} (P : A → Type 0) (x : A) → P x → Each P (x ∷ [])
+each-one : {A : Type 0} (P : A → Type 0) (x : A) → P x → EachMember P (x ∷ [])
 each-one P x p y (inl e) = rw e p
 each-one P x p y (inr m) = absurd m
 
@@ -69,25 +69,25 @@ row-decoded row v =
     (λ (h : edit_in_range row ≡ true). let e = edit-back row h in omega (arith, ap value_cell e))
     (λ (h : edit_in_range row ≡ false). let e = edit-filler row refl h in omega (arith, ap (λ (d : Edit). value_cell (edit_row d)) e))
 
-pub decoded-fits : (rows : Rows) → Each RowFits rows → Each EditFits (map edit_of rows)
+pub decoded-fits : (rows : Rows) → EachMember RowFits rows → EachMember EditFits (map edit_of rows)
 decoded-fits rows f e m = has-mapped edit_of e rows m (λ row n q. rw q (row-decoded row (f row n)))
 
-rows_fit : (R : Record) → Each EditFits R.edits → Each RowFits (edit_rows R)
+rows_fit : (R : Record) → EachMember EditFits R.edits → EachMember RowFits (edit_rows R)
 rows_fit R f row m = has-mapped edit_row row R.edits m (λ e n q. rw q (f e n))
 
-united-fits : (s t : List Edit) → Each EditFits s → Each EditFits t → Each EditFits (united edit_key s t)
+united-fits : (s t : List Edit) → EachMember EditFits s → EachMember EditFits t → EachMember EditFits (united edit_key s t)
 united-fits s t f g e m = ⊎_elim (f e) (g e) (united-has edit_key e s t m)
 
 -- bundles and votes
-pub bundle-fits : (R : Record) (e : ℕ) → Each EditFits R.edits → Each EditFits (bundle R e).edits
+pub bundle-fits : (R : Record) (e : ℕ) → EachMember EditFits R.edits → EachMember EditFits (bundle R e).edits
 unfolding bundle
 bundle-fits R e f x m = f x (filter-from (λ x. mem x.name (members R e)) R.edits x m).0
 
 abbrev VoteFits : Option Record → Type 0
 VoteFits none = Unit
-VoteFits (some B) = Each EditFits B.edits
+VoteFits (some B) = EachMember EditFits B.edits
 
-vote-fits : (R : Record) (e : ℕ) → Each EditFits R.edits → VoteFits (vote R e)
+vote-fits : (R : Record) (e : ℕ) → EachMember EditFits R.edits → VoteFits (vote R e)
 unfolding vote
 vote-fits R e f =
     by (mem e (written R) && eligible R e)
@@ -97,7 +97,7 @@ vote-fits R e f =
 abbrev BallotFits : Ballot → Type 0
 BallotFits b = VoteFits b.vote
 
-winner-fits : (l m : List Ballot) → Each BallotFits m → VoteFits (winner_of l m)
+winner-fits : (l m : List Ballot) → EachMember BallotFits m → VoteFits (winner_of l m)
 unfolding winner_of
 winner-fits l [] f = tt
 winner-fits l (b ∷ m) f =
@@ -106,9 +106,9 @@ winner-fits l (b ∷ m) f =
     (λ (e : ltb (total l) (2 * group l b.vote) ≡ false). rw e (winner-fits l m (λ x w. f x (inr w))))
 
 abbrev pub ProposalsFit : Proposals → Type 0
-ProposalsFit P = (i : ℕ) → Each RowFits (get_or P.edits i [])
+ProposalsFit P = (i : ℕ) → EachMember RowFits (get_or P.edits i [])
 
-pub held_fits : (P : Proposals) → ProposalsFit P → (k : ℕ) → Each EditFits (held P k).edits
+pub held_fits : (P : Proposals) → ProposalsFit P → (k : ℕ) → EachMember EditFits (held P k).edits
 unfolding held
 held_fits P f k = decoded-fits (get_or P.edits (k - 1) []) (f (k - 1))
 
@@ -122,18 +122,18 @@ won-fits e P roll f =
 abbrev pub CallFits : Call → Type 0
 CallFits (add_edit row) = RowFits row
 CallFits (add_constraint row) = Unit
-CallFits (merge edits constraints) = Each RowFits edits
+CallFits (merge edits constraints) = EachMember RowFits edits
 CallFits (hide x) = Unit
 CallFits (show x) = Unit
 CallFits (turn n) = Unit
-CallFits (adopt e P roll) = ProposalsFit P × Each SeatFits roll
+CallFits (adopt e P roll) = ProposalsFit P × EachMember SeatFits roll
 
-adopted-fits : (L : Ledger) (E : Election) (o : Option Record) → VoteFits o → Each EditFits L.multilog.edits → Each EditFits (adopted L E o).after.multilog.edits
+adopted-fits : (L : Ledger) (E : Election) (o : Option Record) → VoteFits o → EachMember EditFits L.multilog.edits → EachMember EditFits (adopted L E o).after.multilog.edits
 unfolding change unite
 adopted-fits L E none v f = f
 adopted-fits L E (some B) v f = united-fits L.multilog.edits B.edits f v
 
-act-fits : (L : Ledger) (call : Call) → CallFits call → Each EditFits L.multilog.edits → Each EditFits (act L call).after.multilog.edits
+act-fits : (L : Ledger) (call : Call) → CallFits call → EachMember EditFits L.multilog.edits → EachMember EditFits (act L call).after.multilog.edits
 unfolding act change unite
 act-fits L (add_edit row) c f = united-fits L.multilog.edits (map edit_of (row ∷ [])) f (decoded-fits (row ∷ []) (each-one RowFits row c))
 act-fits L (add_constraint row) c f = united-fits L.multilog.edits [] f (λ x m. absurd m)
@@ -143,7 +143,7 @@ act-fits L (show x) c f = f
 act-fits L (turn n) c f = f
 act-fits L (adopt e P roll) c f = adopted-fits L (counted (cast e P roll)) (winner (cast e P roll)) (won-fits e P roll c.0) f
 
-step_fits : (L : Ledger) (call : Call) → CallFits call → Each EditFits L.multilog.edits → Each EditFits (step L call).after.multilog.edits
+step_fits : (L : Ledger) (call : Call) → CallFits call → EachMember EditFits L.multilog.edits → EachMember EditFits (step L call).after.multilog.edits
 unfolding step refusal
 step_fits L call c f =
     by (eqb (judge L call) 0)
@@ -171,7 +171,7 @@ CallLineFits (Turn pages) = Unit
 CallLineFits (Adopt edit) = Unit
 
 pub proposals-fit : (D : Desk) → Bounded D → ProposalsFit (proposals_of D.lent)
-proposals-fit D B i = each_at (Each RowFits) (map D.lent.edits benches) i [] (λ rows m. has-mapped D.lent.edits rows benches m (λ k n q. rw q (B.lent k))) (λ x m. absurd m)
+proposals-fit D B i = each_at (EachMember RowFits) (map D.lent.edits benches) i [] (λ rows m. has-mapped D.lent.edits rows benches m (λ k n q. rw q (B.lent k))) (λ x m. absurd m)
 
 pub request-fits : (D : Desk) → Bounded D → (call : Calls) → CallLineFits call → RequestFits (request_of D call)
 unfolding request_of
@@ -188,24 +188,24 @@ call-bounded D B text call v = requested-bounded D B text (request_of D call) (r
 
 -- what is lent
 record LentFits (L : Lent) : Type 0 where
-  lent : (k : ℕ) → Each RowFits (L.edits k)
-  weights : Each SeatFits L.roll
+  lent : (k : ℕ) → EachMember RowFits (L.edits k)
+  weights : EachMember SeatFits L.roll
 
 lent_fits : (D : Desk) → Bounded D → LentFits D.lent
 lent_fits D B = record { lent = B.lent; weights = B.weights }
 
-with-fits : (k : ℕ) (rows : Rows) (tables : ℕ → Rows) → Each RowFits rows → ((j : ℕ) → Each RowFits (tables j)) → (j : ℕ) → Each RowFits (with k rows tables j)
+with-fits : (k : ℕ) (rows : Rows) (tables : ℕ → Rows) → EachMember RowFits rows → ((j : ℕ) → EachMember RowFits (tables j)) → (j : ℕ) → EachMember RowFits (with k rows tables j)
 unfolding with
 with-fits k rows tables f g j = by (eqb j k) (λ (e : eqb j k ≡ true). rw e f) (λ (e : eqb j k ≡ false). rw e (g j))
 
-added-fits : (places : ℕ) (tables : ℕ → Rows) (k : ℕ) (row : Row) → RowFits row → ((j : ℕ) → Each RowFits (tables j)) → (j : ℕ) → Each RowFits (added places tables k row j)
+added-fits : (places : ℕ) (tables : ℕ → Rows) (k : ℕ) (row : Row) → RowFits row → ((j : ℕ) → EachMember RowFits (tables j)) → (j : ℕ) → EachMember RowFits (added places tables k row j)
 unfolding added
 added-fits places tables k row v g j =
     by (eqb (rows_fault places tables k) 0)
     (λ (e : eqb (rows_fault places tables k) 0 ≡ true). rw e (with-fits k (tables k ++ (row ∷ [])) tables (each_both RowFits (tables k) (row ∷ []) (g k) (each-one RowFits row v)) g j))
     (λ (e : eqb (rows_fault places tables k) 0 ≡ false). rw e (g j))
 
-record-lent : (L : Lent) (k : ℕ) (R : Record) → LentFits L → Each EditFits R.edits → LentFits (with_record L k R)
+record-lent : (L : Lent) (k : ℕ) (R : Record) → LentFits L → EachMember EditFits R.edits → LentFits (with_record L k R)
 unfolding with_record
 record-lent L k R F f =
     by (is_lent k)
@@ -263,14 +263,14 @@ pub lend-bounded : (D : Desk) → Bounded D → (lend : Lends) → LendLineFits 
 lend-bounded D B lend v = lent-bounded D (lend_effect D lend).after B (lend-calls D lend) (lends-fit D B lend v)
 
 -- a new proposal
-pub new-proposal-fits : (t : proposal.LentToPropose) → Each RowFits t.edits → Each RowFits t.oldedits → Each EditFits (new_proposal t).edits
+pub new-proposal-fits : (t : proposal.LentToPropose) → EachMember RowFits t.edits → EachMember RowFits t.old_edits → EachMember EditFits (new_proposal t).edits
 unfolding new_proposal proposed finished started joined_constraints unite
 new-proposal-fits t f g =
     by (eqb (propose_fault t) 0)
-    (λ (e : eqb (propose_fault t) 0 ≡ true). rw e (united-fits (record_m t).edits (proposal_q t).edits (decoded-fits t.edits f) (decoded-fits t.oldedits g)))
+    (λ (e : eqb (propose_fault t) 0 ≡ true). rw e (united-fits (record_m t).edits (proposal_q t).edits (decoded-fits t.edits f) (decoded-fits t.old_edits g)))
     (λ (e : eqb (propose_fault t) 0 ≡ false). rw e (λ x m. absurd m))
 
-proposal-fits : (L : Lent) → LentFits L → (w : Proposing) → Each EditFits (proposal_made L w).edits
+proposal-fits : (L : Lent) → LentFits L → (w : Proposing) → EachMember EditFits (proposal_made L w).edits
 unfolding proposal_made
 proposal-fits L F w =
     by (is_lent w.lent && is_lent w.old)

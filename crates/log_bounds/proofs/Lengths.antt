@@ -53,7 +53,7 @@ use Rattle.log_forms.specs.Printed.{Texts}
 use Rattle.log_answers.specs.Answers.{answered_text, bit, stored_text}
 use Rattle.log_answers.specs.bench_answers.Asks.{hidden_text, schedule_text}
 use Rattle.log_bounds.proofs.Sizes.{size_of, size_none, size-both, size-one, line-size, head-size, bit-small, answered-size, SmallEdit, rule-line-size, SmallRecord, checked-small, stored-text-size, stored-size, record-size, hidden-size, schedule-size, catalogue-size, journal-size, page-size}
-use Rattle.log_bounds.proofs.Small.{Each, each_take, each-filled, each_both, entries-small, entries-few, journal-small}
+use Rattle.log_bounds.proofs.Small.{EachMember, each_take, each-filled, each_both, entries-small, entries-few, journal-small}
 use Rattle.log_commands.specs.declared.Ask.{Ask}
 use Rattle.log_commands.specs.declared.Ask.TheVariants.{Text, Report, Hidden, Schedule, Catalogue, Journal, Page}
 use Rattle.log_commands.specs.declared.Call.{Call as Calls}
@@ -85,7 +85,7 @@ filler-small : SmallEdit filler_edit
 unfolding edit_row
 filler-small = record { name = omega arith; place = omega arith; value = omega arith }
 
-named_small : (l : List Edit) → Each SmallEdit l → (x : ℕ) → SmallEdit (edit_named l x)
+named_small : (l : List Edit) → EachMember SmallEdit l → (x : ℕ) → SmallEdit (edit_named l x)
 unfolding edit_named
 named_small [] f x = filler-small
 named_small (e ∷ l) f x =
@@ -96,12 +96,12 @@ hidden-in R k marks =
     let q : (record_of (stored R)).edits ≡ R.edits = ap (λ (S : Record). S.edits) (stored_back R) in
     rw q (hidden-size R.edits k.editplaces k.edits marks)
 
-schedule-in : (l : List Edit) → length l ≤ 127 → Each SmallEdit l → size_of (schedule_text (take (length l) (padded 127 filler_edit l))) ≤ 7680
+schedule-in : (l : List Edit) → length l ≤ 127 → EachMember SmallEdit l → size_of (schedule_text (take (length l) (padded 127 filler_edit l))) ≤ 7680
 schedule-in l h f =
     let q : take (length l) (padded 127 filler_edit l) ≡ l = take-padded 127 filler_edit (length l) l (omega arith) ∙ take-length l in
     rw q (schedule-size l h f)
 
-padded-small : (l : List Edit) → Each SmallEdit l → Each SmallEdit (padded 127 filler_edit l)
+padded-small : (l : List Edit) → EachMember SmallEdit l → EachMember SmallEdit (padded 127 filler_edit l)
 unfolding padded
 padded-small l f = each_both SmallEdit l (replicate (127 - length l) filler_edit) f (each-filled SmallEdit (127 - length l) filler_edit filler-small)
 
@@ -109,11 +109,11 @@ module _ (D : Desk) (B : Bounded D) where
   ledger-small : SmallRecord (ledger_of D).multilog
   ledger-small = checked-small (ledger_of D).multilog (ledger-valid D).checked B.values
 
-  pages-small : Each SmallEdit (page_edits (ledger_of D))
+  pages-small : EachMember SmallEdit (page_edits (ledger_of D))
   unfolding page_edits
   pages-small e m = has-mapped (edit_named (ledger_of D).multilog.edits) e (pages (ledger_of D)) m (λ x n q. rw q (named_small (ledger_of D).multilog.edits ledger-small.edits x))
 
-  opened-small : Each SmallEdit (open_edits (ledger_of D))
+  opened-small : EachMember SmallEdit (open_edits (ledger_of D))
   unfolding open_edits
   opened-small = each_take SmallEdit (ledger_of D).opened (page_edits (ledger_of D)) pages-small
 
@@ -347,7 +347,7 @@ module _ (line : ℕ) (l : line < 2 ^ 64) where
   elect-size : (E : Election) → SmallElection E → size_of (answered_text E.number (election_line E) line) ≤ answer_limit
   elect-size E s = answered-size E.number line answer_limit (election_line E) s.number l (omega arith) (λ z. omega (arith, election-line-size E s))
 
-  winner-size : (edit : ℕ) (P : Proposals) (roll : List RollRow) → ProposalsFit P → Each SeatFits roll
+  winner-size : (edit : ℕ) (P : Proposals) (roll : List RollRow) → ProposalsFit P → EachMember SeatFits roll
       → size_of (answered_text (count_of edit P roll).election.number (winner_text edit (count_of edit P roll)) line) ≤ answer_limit
   unfolding count_of winner_text
   winner-size edit P roll f w =
@@ -357,7 +357,7 @@ module _ (line : ℕ) (l : line < 2 ^ 64) where
       answered-size E.number line answer_limit (election_line E ++ rest) s.number l (omega arith)
       (λ z. omega (arith, size-both (election_line E) rest, election-line-size E s, won-rest-size edit P roll f))
 
-  bundle-answer-size : (es cs : Rows) → Each RowFits es → (edit : ℕ) → size_of (answered_text (bundle_answer es cs edit).number (bundle_text (bundle_answer es cs edit)) line) ≤ answer_limit
+  bundle-answer-size : (es cs : Rows) → EachMember RowFits es → (edit : ℕ) → size_of (answered_text (bundle_answer es cs edit).number (bundle_text (bundle_answer es cs edit)) line) ≤ answer_limit
   unfolding bundle_answer
   bundle-answer-size es cs f edit =
       let n = lent_bundle_fault es cs edit in

@@ -106,10 +106,10 @@ pub propose-small : (t : proposal.LentToPropose) → propose_fault t ≤ 14
 unfolding propose_fault
 propose-small t =
     orelse-small 14 _ _ (lent-small empty_tables t.edits t.constraints)
-    (orelse-small 14 _ _ (lent-small (record_m t) t.oldedits t.oldconstraints)
+    (orelse-small 14 _ _ (lent-small (record_m t) t.old_edits t.old_constraints)
     (orelse-small 14 (draft_fault (record_m t) (proposal_q t)) _ (draft-small (record_m t) (proposal_q t))
     (first_small 14 11 (unkept (record_m t) (proposal_q t)) _ (omega arith)
-    (given-small 14 12 (too_short (length t.newedits) (length t.newconstraints) (proposed (record_m t) (proposal_q t))) (omega arith)))))
+    (given-small 14 12 (too_short (length t.new_edits) (length t.new_constraints) (proposed (record_m t) (proposal_q t))) (omega arith)))))
 
 pub bundle-number-small : (edits constraints : Rows) (e : ℕ) → (bundle_answer edits constraints e).number ≤ 14
 unfolding bundle_answer lent_bundle_fault

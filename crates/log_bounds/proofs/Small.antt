@@ -21,29 +21,29 @@ use Rattle.catalogue.specs.Chips.{cells, places, rows, chips, chips_view}
 use Rattle.log_bounds.proofs.Sizes.{ValueFits, SmallEdit, SmallEntry}
 
 module _ {A : Type 0} (P : A → Type 0) where
-  abbrev pub Each : List A → Type 0
-  Each l = (x : A) → Has x l → P x
+  abbrev pub EachMember : List A → Type 0
+  EachMember l = (x : A) → Has x l → P x
 
-  pub each_take : (n : ℕ) (l : List A) → Each l → Each (take n l)
+  pub each_take : (n : ℕ) (l : List A) → EachMember l → EachMember (take n l)
   each_take zero l f x m = absurd m
   each_take (suc n) [] f x m = absurd m
   each_take (suc n) (y ∷ l) f x (inl e) = f x (inl e)
   each_take (suc n) (y ∷ l) f x (inr m) = each_take n l (λ z w. f z (inr w)) x m
 
-  pub each-filled : (n : ℕ) (d : A) → P d → Each (replicate n d)
+  pub each-filled : (n : ℕ) (d : A) → P d → EachMember (replicate n d)
   each-filled zero d p x m = absurd m
   each-filled (suc n) d p x (inl e) = rw e p
   each-filled (suc n) d p x (inr m) = each-filled n d p x m
 
-  pub each_both : (s t : List A) → Each s → Each t → Each (s ++ t)
+  pub each_both : (s t : List A) → EachMember s → EachMember t → EachMember (s ++ t)
   each_both s t f g x m = has-append-by x s t m (f x) (g x)
 
-  pub each_at : (l : List A) (i : ℕ) (d : A) → Each l → P d → P (get_or l i d)
+  pub each_at : (l : List A) (i : ℕ) (d : A) → EachMember l → P d → P (get_or l i d)
   each_at [] i d f p = p
   each_at (y ∷ l) zero d f p = f y (inl refl)
   each_at (y ∷ l) (suc i) d f p = each_at l i d (λ z w. f z (inr w)) p
 
-  each_set : (l : List A) (i : ℕ) (v : A) → Each l → P v → Each (set l i v)
+  each_set : (l : List A) (i : ℕ) (v : A) → EachMember l → P v → EachMember (set l i v)
   each_set [] i v f p x m = absurd m
   each_set (y ∷ l) zero v f p x (inl e) = rw e p
   each_set (y ∷ l) zero v f p x (inr m) = f x (inr m)
@@ -75,22 +75,22 @@ body_run (Set place field value) v entry s =
     s
 body_run (Remove place) v entry s = absent-small
 
-touched-small : (entries : List Entry) (e : Edit) → Each SmallEntry entries → SmallEntry (touched chips entries e)
+touched-small : (entries : List Entry) (e : Edit) → EachMember SmallEntry entries → SmallEntry (touched chips entries e)
 unfolding touched
 touched-small entries e g = each_at SmallEntry entries (place_of e.body) (absent_entry cells) g absent-small
 
-edit-run : (entries : List Entry) (e : Edit) → SmallEdit e → Each SmallEntry entries → Each SmallEntry (run_edit chips entries e)
+edit-run : (entries : List Entry) (e : Edit) → SmallEdit e → EachMember SmallEntry entries → EachMember SmallEntry (run_edit chips entries e)
 unfolding run_edit edit_row
 edit-run entries e s g =
     each_set SmallEntry entries (place_of e.body) (run_body cells e.body (touched chips entries e)) g (body_run e.body s.value (touched chips entries e) (touched-small entries e g))
 
 -- and more
-all-run : (entries : List Entry) (edits : List Edit) → Each SmallEdit edits → Each SmallEntry entries → Each SmallEntry (run chips entries edits)
+all-run : (entries : List Entry) (edits : List Edit) → EachMember SmallEdit edits → EachMember SmallEntry entries → EachMember SmallEntry (run chips entries edits)
 unfolding run
 all-run entries [] f g = g
 all-run entries (e ∷ edits) f g = all-run (run_edit chips entries e) edits (λ x m. f x (inr m)) (edit-run entries e (f e (inl refl)) g)
 
-all-kept : (entries : List Entry) (edits : List Edit) → Each SmallEdit edits → Each SmallEntry entries → Each SmallEntry (kept chips entries edits)
+all-kept : (entries : List Entry) (edits : List Edit) → EachMember SmallEdit edits → EachMember SmallEntry entries → EachMember SmallEntry (kept chips entries edits)
 unfolding kept
 all-kept entries [] f g x m = absurd m
 all-kept entries (e ∷ edits) f g x (inl q) = rw q (touched-small entries e g)
@@ -102,12 +102,12 @@ length_run entries [] = refl
 length_run entries (e ∷ edits) = length_run (run_edit chips entries e) edits ∙ length-set entries (place_of e.body) (run_body cells e.body (touched chips entries e))
 
 -- what open edits make
-module _ (edits : List Edit) (small : Each SmallEdit edits) where
-  empty-small : Each SmallEntry (empty_catalogue chips places)
+module _ (edits : List Edit) (small : EachMember SmallEdit edits) where
+  empty-small : EachMember SmallEntry (empty_catalogue chips places)
   unfolding empty_catalogue
   empty-small = each-filled SmallEntry places (absent_entry cells) absent-small
 
-  pub entries-small : Each SmallEntry (chips_view edits).catalogue.entries
+  pub entries-small : EachMember SmallEntry (chips_view edits).catalogue.entries
   unfolding chips_view view_of
   entries-small = all-run (empty_catalogue chips places) edits small empty-small
 

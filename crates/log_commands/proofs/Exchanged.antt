@@ -19,7 +19,7 @@ use Rattle.text_lines.proofs.Says.{word-fits, word-same, word-large, word-refuse
 use Rattle.text_lines.proofs.Signs.{no-numeral, the-size, the-value, some-size, first-at}
 use Rattle.text_forms.proofs.decimal.RoundTrip.{saturated-test, saturated-same}
 use Rattle.text_forms.specs.Spelling.{bytes, starts_with, number_spelling}
-use Rattle.text_forms.specs.Form.{is_mark, spelling, more, begins_with, taken}
+use Rattle.text_forms.specs.Form.{is_mark, spelling, number_before, begins_with, taken}
 use Rattle.text_forms.proofs.Marks.{word-starts}
 use lib.Pointwise.{pointwise}
 use Rattle.std.specs.Prelude.{Option as Answer, Some, None, Result, Ok, Err}
@@ -146,9 +146,9 @@ lends-saturated n (Ok line) =
     (λ (e : fits_word n ≡ true). rw (saturated-same n (ltb-true n 4294967296 e)))
     (λ (e : fits_word n ≡ false). rw (saturated-test n, e))
 
-lends-read : (s t : List ℕ) (n : ℕ) → ((f : List ℕ) → taken (bytes "lent=# " ++ f) s ≡ more n (taken f t)) → parse Err (map lend_form shapes) s ≡ line_lends n (read_by shapes t)
+lends-read : (s t : List ℕ) (n : ℕ) → ((f : List ℕ) → taken (bytes "lent=# " ++ f) s ≡ number_before n (taken f t)) → parse Err (map lend_form shapes) s ≡ line_lends n (read_by shapes t)
 unfolding all
-lends-read s t n h = shapes-read lend_form (line_lends n) s t refl (λ shape q. h shape.form ∙ ap (more n) q) met shapes shapes-fair
+lends-read s t n h = shapes-read lend_form (line_lends n) s t refl (λ shape q. h shape.form ∙ ap (number_before n) q) met shapes shapes-fair
   where
     met : (shape : Shape) (ns : List ℕ) (other : Result Command Refusal) → Fair shape → taken shape.form t ≡ some ns
         → meant Err (lend_form shape).meaning (taken (bytes "lent=# " ++ shape.form) s) other ≡ line_lends n (said shape (some ns))
@@ -208,7 +208,7 @@ module _ (s : List ℕ) where
     h : lent.size ≢ 0
     h z = some-size after lent_is (sym size_is ∙ z)
 
-    number-taken : (f : List ℕ) → taken (bytes "lent=# " ++ f) s ≡ more (numeral_value after) (taken (32 ∷ f) (drop (5 + lent.size) s))
+    number-taken : (f : List ℕ) → taken (bytes "lent=# " ++ f) s ≡ number_before (numeral_value after) (taken (32 ∷ f) (drop (5 + lent.size) s))
     unfolding is_mark spelling number_spelling
     number-taken f =
         lent-taken f
@@ -221,17 +221,17 @@ module _ (s : List ℕ) where
       pub no-space : space ≢ 32 → Err NotInForm ≡ lent_line_read s
       unfolding is_mark
       no-space n =
-          none_lent (λ f. number-taken f ∙ ap (more (numeral_value after))
+          none_lent (λ f. number-taken f ∙ ap (number_before (numeral_value after))
           (byte-missing 32 f refl (drop (5 + lent.size) s) (begins-other 32 (drop (5 + lent.size) s) (λ z. n (b ∙ first-at (5 + lent.size) s ∙ z)))))
 
       module _ (x : space ≡ 32) where
         pub space-inside : 5 + lent.size + 1 ≤ length s
         space-inside = letter-inside s (5 + lent.size) (sym b ∙ x)
 
-        line_taken : (f : List ℕ) → taken (bytes "lent=# " ++ f) s ≡ more (numeral_value after) (taken f (drop (5 + lent.size + 1) s))
+        line_taken : (f : List ℕ) → taken (bytes "lent=# " ++ f) s ≡ number_before (numeral_value after) (taken f (drop (5 + lent.size + 1) s))
         unfolding is_mark
         line_taken f =
-            number-taken f ∙ ap (more (numeral_value after))
+            number-taken f ∙ ap (number_before (numeral_value after))
             (byte-taken 32 f refl (drop (5 + lent.size) s) (begins-so 31 (drop (5 + lent.size) s) space-begins) ∙ ap (taken f) (drop-drop 1 (5 + lent.size) s))
           where
             space-begins : get_or (drop (5 + lent.size) s) 0 0 ≡ 32

@@ -54,11 +54,11 @@ module _ (bench weight : ℕ) where
 
 -- the elements of a record as it is stored
 module _ (R : Record) (multilog : declared.Record) (q : multilog ≡ stored R) where
-  pub edits-held : take multilog.editcount multilog.edits ≡ R.edits
+  pub edits-held : take multilog.edit_count multilog.edits ≡ R.edits
   unfolding padded
   edits-held = rw q (take-append_seam R.edits _)
 
-  pub constraints-held : take multilog.constraintcount multilog.constraints ≡ R.constraints
+  pub constraints-held : take multilog.constraint_count multilog.constraints ≡ R.constraints
   unfolding padded
   constraints-held = rw q (take-append_seam R.constraints _)
 

@@ -18,7 +18,7 @@ use refusals::Refusal;
 fn fitted(new: Record, edits: u32, rules: u32) -> Result<Record, Refusal>
     ensures { (P : theory.Record) → new ≡ stored P → Gives (12 given too_short edits rules P) (stored P) result }
 {
-    if (edits as usize) < new.editcount || (rules as usize) < new.constraintcount {
+    if (edits as usize) < new.edit_count || (rules as usize) < new.constraint_count {
         return Err(Refusal::NoRoom);
     }
     Ok(new)

@@ -43,8 +43,8 @@ fn print_bundle(printer: &mut Printer<'_>, small: &Bundled)
         b"eligible=? edits=# rules=#\n",
         &[
             u64::from(small.eligible),
-            small.bundle.editcount as u64,
-            small.bundle.constraintcount as u64,
+            small.bundle.edit_count as u64,
+            small.bundle.constraint_count as u64,
         ],
     );
     log_answers::print_text(printer, &small.bundle);

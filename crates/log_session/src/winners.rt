@@ -46,8 +46,8 @@ pub fn print_won(printer: &mut Printer<'_>, edit: u32, bundle: &Record)
             u64::from(edit),
             u64::from(said.must),
             u64::from(said.never),
-            bundle.editcount as u64,
-            bundle.constraintcount as u64,
+            bundle.edit_count as u64,
+            bundle.constraint_count as u64,
         ],
     );
     log_answers::print_text(printer, bundle);

@@ -11,7 +11,7 @@ use lib.Seq.{slice, slice-cons, length-slice, length-take-le, take-take, take-su
 use borrow.Author.Tests.{leb-true, leb-false}
 use Rattle.lists.proofs.Lists.{by}
 use Rattle.pages.specs.Pages.{Shelf, View, view_of}
-use Rattle.pages.specs.Steps.{step_forward, step_back, forward, back, turn, rescheduled}
+use Rattle.pages.specs.Steps.{step_forward, step_back, forward, back, turned_view, rescheduled}
 use Rattle.pages.proofs.Pages.{view-more, view-less}
 
 -- the first rows up to one that is not past a later one
@@ -103,8 +103,8 @@ module _ (K : Shelf) where
 
     -- A turn from one open page to another comes to the view at that page.
     pub pages-turn : (es : List K.Edit) (p q : ℕ) → length es ≤ rows → p ≤ length es → q ≤ length es
-        → turn K es p q (view_of K places rows (take p es)) ≡ view_of K places rows (take q es)
-    unfolding turn
+        → turned_view K es p q (view_of K places rows (take p es)) ≡ view_of K places rows (take q es)
+    unfolding turned_view
     pages-turn es p q room h k =
         by (leb p q) (λ e. rw e (pages-forward es room p q (leb-true p q e) k))
         (λ e. let l : q < p = leb-false p q e in rw e (pages-back es room q p (omega arith) h))

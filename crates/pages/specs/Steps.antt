@@ -30,8 +30,8 @@ module _ (K : Shelf) where
   back row (edit ∷ edits) view = step_back row edit (back (suc row) edits view)
 
   -- a turn from one open page to another
-  unfoldable pub turn : List K.Edit → ℕ → ℕ → View K → View K
-  turn edits opened page view =
+  unfoldable pub turned_view : List K.Edit → ℕ → ℕ → View K → View K
+  turned_view edits opened page view =
       cond (leb opened page) (forward opened (slice opened page edits) view) (back page (slice page opened edits) view)
 
   -- a change from the open edits to new ones: back to the common beginning of c pages, and on

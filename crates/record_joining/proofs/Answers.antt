@@ -39,8 +39,8 @@ module _ (R : Record) (known : List ℕ) (adding : Bool) (es cs : Rows) (k : Che
       let h : join_fault R known adding es cs ≡ 0 = sym e in (
         e,
         u R (decoded es cs) f (g (joining-editplaces R known adding es cs k h) (joining-constraintplaces R known adding es cs k h))
-            (record { ownorder = k.editorder; joiningorder = joining-edits R known adding es cs k h; places = joined-editplaces R known adding es cs k h })
-            (record { ownorder = k.constraintorder; joiningorder = joining-constraints R known adding es cs k h; places = joined-constraintplaces R known adding es cs k h }),
+            (record { own_order = k.editorder; joining_order = joining-edits R known adding es cs k h; places = joined-editplaces R known adding es cs k h })
+            (record { own_order = k.constraintorder; joining_order = joining-constraints R known adding es cs k h; places = joined-constraintplaces R known adding es cs k h }),
       )
 
 -- one constraint that joins a record's table

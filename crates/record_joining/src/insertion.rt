@@ -43,7 +43,7 @@ impl Constraints {
         let rows = multilog.constraints;
         Constraints {
             rows,
-            count: multilog.constraintcount,
+            count: multilog.constraint_count,
         }
     }
 
@@ -72,7 +72,7 @@ impl Constraints {
         let constraints = self.rows;
         Record {
             constraints,
-            constraintcount: self.count,
+            constraint_count: self.count,
             ..multilog
         }
     }

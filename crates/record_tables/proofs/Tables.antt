@@ -34,23 +34,23 @@ unfolding padded
 empty-stored = refl
 
 module _ (r : declared.Record) (R : Record) (e : r ≡ stored R) where
-  pub held : record_of r ≡ R
-  held = ap record_of e ∙ stored_back R
+  pub held-record : record_of r ≡ R
+  held-record = ap record_of e ∙ stored_back R
 
-  pub constraint-count : r.constraintcount ≡ length R.constraints
-  constraint-count = ap (λ (x : declared.Record). x.constraintcount) e
+  pub constraint-count : r.constraint_count ≡ length R.constraints
+  constraint-count = ap (λ (x : declared.Record). x.constraint_count) e
 
-  pub held-edits : take r.editcount r.edits ≡ R.edits
-  held-edits = ap (λ (x : Record). x.edits) held
+  pub held-edits : take r.edit_count r.edits ≡ R.edits
+  held-edits = ap (λ (x : Record). x.edits) held-record
 
-  pub held-constraints : take r.constraintcount r.constraints ≡ R.constraints
-  held-constraints = ap (λ (x : Record). x.constraints) held
+  pub held-constraints : take r.constraint_count r.constraints ≡ R.constraints
+  held-constraints = ap (λ (x : Record). x.constraints) held-record
 
   pub stored-ordered : Checked R → OrderedTables r
   stored-ordered k =
       record {
-        editplaces = rw (ap (λ (x : declared.Record). x.editcount) e) k.editplaces;
-        constraintplaces = rw (ap (λ (x : declared.Record). x.constraintcount) e) k.constraintplaces;
+        editplaces = rw (ap (λ (x : declared.Record). x.edit_count) e) k.editplaces;
+        constraintplaces = rw (ap (λ (x : declared.Record). x.constraint_count) e) k.constraintplaces;
         editorder = rw held-edits k.editorder;
         constraintorder = rw held-constraints k.constraintorder;
       }
@@ -58,7 +58,7 @@ module _ (r : declared.Record) (R : Record) (e : r ≡ stored R) where
   -- the number of the edits, and of the constraints, as the walks give it
   module _ (k : Checked R) (es : Rows) {n : ℕ} (f : OrderedTables r → n ≡ table_fault edit_kind (edit_rows (record_of r)) es) where
     pub first-table : n ≡ table_fault edit_kind (edit_rows R) es
-    first-table = f (stored-ordered k) ∙ ap (λ (x : Record). table_fault edit_kind (edit_rows x) es) held
+    first-table = f (stored-ordered k) ∙ ap (λ (x : Record). table_fault edit_kind (edit_rows x) es) held-record
 
     module _ (cs : Rows) where
       pub lent-first : (n ≡ 0 → ⊥) → n ≡ lent_fault R es cs
@@ -74,7 +74,7 @@ module _ (r : declared.Record) (R : Record) (e : r ≡ stored R) where
           let q : table_fault edit_kind (edit_rows R) es ≡ 0 = sym first-table ∙ z in
           let good : all edit_in_range es ≡ true = all-by edit_in_range es (accepted-range edit_kind (edit_rows R) es q) in
           g (names_of es) (s good) (stored-ordered k)
-          ∙ ap (λ (x : Record). table_fault (constraint_kind (names_of es) false) (constraint_rows x) cs) held
+          ∙ ap (λ (x : Record). table_fault (constraint_kind (names_of es) false) (constraint_rows x) cs) held-record
           ∙ sym (orelse-second (table_fault edit_kind (edit_rows R) es) (table_fault (constraint_kind (names_of es) false) (constraint_rows R) cs) q)
 
   -- one row that is added
@@ -87,7 +87,7 @@ module _ (r : declared.Record) (R : Record) (e : r ≡ stored R) where
   unfolding join_fault first_fault written
   add-constraint k row marks s g =
       let named : MarksNames marks (map name_of (record_of r).edits) = s (rw held-edits k.editrange) in
-      g (map name_of (record_of r).edits) named (stored-ordered k) ∙ ap (λ (x : Record). table_fault (constraint_kind (written x) true) (constraint_rows x) (row ∷ [])) held
+      g (map name_of (record_of r).edits) named (stored-ordered k) ∙ ap (λ (x : Record). table_fault (constraint_kind (written x) true) (constraint_rows x) (row ∷ [])) held-record
 
 -- some row of a table, by the library's test of a list
 pub any-listed : {A : Type 0} (p : A → Bool) (l : List A) → list_any p l ≡ any p l

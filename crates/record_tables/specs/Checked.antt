@@ -25,8 +25,8 @@ pub record Checked (R : Record) : Type 0 where
 
 -- the part of it that the walks need, of a record as it is stored
 pub record OrderedTables (r : declared.Record) : Type 0 where
-  pub editplaces : r.editcount ≤ edit_limit
-  pub constraintplaces : r.constraintcount ≤ constraint_limit
+  pub editplaces : r.edit_count ≤ edit_limit
+  pub constraintplaces : r.constraint_count ≤ constraint_limit
   pub editorder : Ascending edit_key (record_of r).edits
   pub constraintorder : Ascending constraint_key (record_of r).constraints
 

@@ -104,12 +104,12 @@ module _ {A : Type 0} (key : A → List ℕ) where
   ascending-rest (x ∷ l) a = a.1
 
   -- the loop: q elements of the union are written, and P and Q are left of the two tables
-  pub record Joins (limit : ℕ) (z : A) (E S out P Q : List A) (q : ℕ) : Type 0 where
+  pub record Uniting (limit : ℕ) (z : A) (E S out P Q : List A) (q : ℕ) : Type 0 where
     pub written : out ≡ padded limit z (take q (united key E S))
     pub rest : drop q (united key E S) ≡ united key P Q
     pub short : q ≤ length (united key E S)
-    pub ownorder : Ascending key P
-    pub joiningorder : Ascending key Q
+    pub own_order : Ascending key P
+    pub joining_order : Ascending key Q
 
   -- one element more of a list
   put : (limit : ℕ) (z : A) (U : List A) (q : ℕ) (v : A) (rest out : List A) → length U ≤ limit → out ≡ padded limit z (take q U) → drop q U ≡ v ∷ rest
@@ -129,12 +129,12 @@ module _ {A : Type 0} (key : A → List ℕ) where
     -- what the loop keeps
     pub record UnionWalk (out P Q : List A) (q : ℕ) : Type 0 where
       pub size : length out ≡ limit
-      pub joins : Unites key limit E S → Joins limit z E S out P Q q
+      pub joins : Unites key limit E S → Uniting limit z E S out P Q q
 
     pub union-walk-start : {o : A} → o ≡ z → UnionWalk (replicate limit o) E S 0
     union-walk-start {o} e = record {
       size = length-replicate limit o;
-      joins = λ u. record { written = padded-begin limit z e; rest = refl; short = omega arith; ownorder = u.ownorder; joiningorder = u.joiningorder };
+      joins = λ u. record { written = padded-begin limit z e; rest = refl; short = omega arith; own_order = u.own_order; joining_order = u.joining_order };
     }
 
     module _ (out P Q : List A) (q : ℕ) (w : UnionWalk out P Q q) where
@@ -144,9 +144,9 @@ module _ {A : Type 0} (key : A → List ℕ) where
         size = length-set out q v ∙ w.size;
         joins = λ u.
             let s = w.joins u in
-            let t = put limit z U q v (united key P' Q') out u.places s.written (s.rest ∙ e s.ownorder s.joiningorder) in
+            let t = put limit z U q v (united key P' Q') out u.places s.written (s.rest ∙ e s.own_order s.joining_order) in
             let h : q < length U = t.0 in
-            record { written = t.1; rest = t.2; short = omega arith; ownorder = x s.ownorder; joiningorder = y s.joiningorder };
+            record { written = t.1; rest = t.2; short = omega arith; own_order = x s.own_order; joining_order = y s.joining_order };
       }
 
       module _ (even : (x y : A) → length (key x) ≡ length (key y)) {c : Option (Choice A)} (e : c ≡ chosen key P Q) where

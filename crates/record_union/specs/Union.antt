@@ -7,8 +7,8 @@ use Rattle.record_union.specs.declared.Choice.TheVariants.{Own, Joining, Both}
 
 -- two tables in order whose union has places
 pub record Unites {A : Type 0} (key : A → List ℕ) (limit : ℕ) (own joining : List A) : Type 0 where
-  pub ownorder : Ascending key own
-  pub joiningorder : Ascending key joining
+  pub own_order : Ascending key own
+  pub joining_order : Ascending key joining
   pub places : length (united key own joining) ≤ limit
 
 -- a table as it is stored, and how many elements it has

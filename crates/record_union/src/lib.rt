@@ -46,9 +46,9 @@ pub fn decode(lent: LentRecord) -> Record
     let constraints = &lent.constraints[..lent.constraints.len().min(CONSTRAINTS)];
     Record {
         edits: elements_of::<EDIT_CELLS, EDITS, Edit>(edits),
-        editcount: edits.len(),
+        edit_count: edits.len(),
         constraints: elements_of::<CONSTRAINT_CELLS, CONSTRAINTS, Constraint>(constraints),
-        constraintcount: constraints.len(),
+        constraint_count: constraints.len(),
     }
 }
 
@@ -104,25 +104,25 @@ fn unite<const CELLS: usize, const PLACES: usize, T: Element<CELLS>>(
     ensures { Unites T.key_of PLACES own.now joining.now → result ≡ united_in PLACES T.filler (united T.key_of own.now joining.now) }
 {
     let mut elements = [T::filler(); PLACES];
-    let mut ownrest = own;
-    let mut joiningrest = joining;
+    let mut own_rest = own;
+    let mut joining_rest = joining;
     for count in 0..PLACES {
-        let Some(choice) = choose::<CELLS, T>(ownrest, joiningrest) else {
+        let Some(choice) = choose::<CELLS, T>(own_rest, joining_rest) else {
             return (elements, count);
         };
         match choice {
             Choice::Own(x) => {
                 elements[count] = x;
-                ownrest = after_first(ownrest);
+                own_rest = after_first(own_rest);
             }
             Choice::Joining(y) => {
                 elements[count] = y;
-                joiningrest = after_first(joiningrest);
+                joining_rest = after_first(joining_rest);
             }
             Choice::Both(x) => {
                 elements[count] = x;
-                ownrest = after_first(ownrest);
-                joiningrest = after_first(joiningrest);
+                own_rest = after_first(own_rest);
+                joining_rest = after_first(joining_rest);
             }
         }
     }
@@ -133,18 +133,18 @@ fn unite<const CELLS: usize, const PLACES: usize, T: Element<CELLS>>(
 pub fn union(joined: Record, joining: Record) -> Record
     ensures { (R S : theory.Record) → joined ≡ stored R → joining ≡ stored S → Unites edit_key edit_limit R.edits S.edits → Unites constraint_key constraint_limit R.constraints S.constraints → result ≡ stored (unite R S) }
 {
-    let (edits, editcount) = unite::<EDIT_CELLS, EDITS, Edit>(
+    let (edits, edit_count) = unite::<EDIT_CELLS, EDITS, Edit>(
         joined.edit_slice(),
         joining.edit_slice(),
     );
-    let (constraints, constraintcount) = unite::<CONSTRAINT_CELLS, CONSTRAINTS, Constraint>(
+    let (constraints, constraint_count) = unite::<CONSTRAINT_CELLS, CONSTRAINTS, Constraint>(
         joined.constraint_slice(),
         joining.constraint_slice(),
     );
     Record {
         edits,
-        editcount,
+        edit_count,
         constraints,
-        constraintcount,
+        constraint_count,
     }
 }

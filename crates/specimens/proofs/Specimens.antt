@@ -21,7 +21,7 @@ use Rattle.record_rows.proofs.row.Compared.{same-eq}
 use Rattle.record.proofs.Records.{well-formed}
 use Rattle.record.proofs.Judged.{sound-is, must-is, never-is, settled_is, row_is}
 use Rattle.record.proofs.Scheduled.{schedule-sound}
-use Rattle.specimens.specs.Specimens.{Judged, Voted, Turned, Specimen, judged, voted, turn, specimen_record, agrees, judged_holds, ballots_of, voted_holds, turn_holds, holds, JudgedFacts, Expected, VotedFacts, Facts, Each, table}
+use Rattle.specimens.specs.Specimens.{Judged, Voted, Turned, Specimen, judgement_case, vote_case, turn_case, specimen_record, agrees, judged_holds, ballots_of, voted_holds, turn_holds, holds, JudgedFacts, Expected, VotedFacts, Facts, Each, table}
 
 -- a test that is a meaning, filtered out of a list
 filtered : {P : Type 0} (p : ℕ → Bool) (l t : List ℕ) → same (filter p l) t ≡ true → (e : ℕ) → e among l → (p e ≡ true ↔ P) → P ↔ e among t
@@ -81,16 +81,16 @@ voted-facts s h =
       total-is = eqb-true _ _ (and_r (eqb (silent l) s.silent) _ h₂);
     }
 
-turn-fact : (s : Turned) → turn_holds s ≡ true → Facts (turn s)
+turn-fact : (s : Turned) → turn_holds s ≡ true → Facts (turn_case s)
 unfolding turn_holds
 turn-fact s h =
     let t = turned s.opened s.last s.by in
     (eqb-true _ _ (and_l _ _ h), eqb-true _ _ (and_r (eqb (turn_fault t) s.number) _ h))
 
 fact : (s : Specimen) → holds s ≡ true → Facts s
-fact (judged s) h = expected s s.sound refl h
-fact (voted s) h = voted-facts s h
-fact (turn s) h = turn-fact s h
+fact (judgement_case s) h = expected s s.sound refl h
+fact (vote_case s) h = voted-facts s h
+fact (turn_case s) h = turn-fact s h
 
 all-facts : (l : List Specimen) → all holds l ≡ true → Each l
 unfolding all

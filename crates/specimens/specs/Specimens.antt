@@ -43,9 +43,9 @@ pub record Turned : Type 0 where
   pub page : ℕ
 
 pub data Specimen : Type 0 where
-  judged : Judged → Specimen
-  voted : Voted → Specimen
-  turn : Turned → Specimen
+  judgement_case : Judged → Specimen
+  vote_case : Voted → Specimen
+  turn_case : Turned → Specimen
 
 -- bodies play no part in the judgement
 abbrev pub specimen_record : Judged → Record
@@ -85,9 +85,9 @@ turn_holds s =
 
 -- the specimen's expectations, computed
 abbrev pub holds : Specimen → Bool
-holds (judged s) = judged_holds s
-holds (voted s) = voted_holds s
-holds (turn s) = turn_holds s
+holds (judgement_case s) = judged_holds s
+holds (vote_case s) = voted_holds s
+holds (turn_case s) = turn_holds s
 
 -- the same as facts of the definitions, of the declarative ones where there are
 pub record JudgedFacts (s : Judged) : Type 0 where
@@ -109,9 +109,9 @@ pub record VotedFacts (s : Voted) : Type 0 where
   pub total-is : total (ballots_of s) ≡ s.total
 
 abbrev pub Facts : Specimen → Type 0
-Facts (judged s) = Expected s s.sound
-Facts (voted s) = VotedFacts s
-Facts (turn s) = (turn_fault (turned s.opened s.last s.by) ≡ s.number) × (open_after s.opened (turned s.opened s.last s.by) ≡ s.page)
+Facts (judgement_case s) = Expected s s.sound
+Facts (vote_case s) = VotedFacts s
+Facts (turn_case s) = (turn_fault (turned s.opened s.last s.by) ≡ s.number) × (open_after s.opened (turned s.opened s.last s.by) ≡ s.page)
 
 abbrev pub Each : List Specimen → Type 0
 Each [] = Unit
@@ -137,35 +137,35 @@ one_and_three bench = cond (eqb bench 3) 1 bench
 unfoldable pub table : List Specimen
 table =
     -- P1
-    judged (record { names = []; constraints = []; hidden = []; sound = true; nevers = []; musts = []; settleds = []; row = 0 ∷ []; unsound = [] ∷ (257 ∷ []) ∷ (0 ∷ 0 ∷ []) ∷ [] }) ∷
+    judgement_case (record { names = []; constraints = []; hidden = []; sound = true; nevers = []; musts = []; settleds = []; row = 0 ∷ []; unsound = [] ∷ (257 ∷ []) ∷ (0 ∷ 0 ∷ []) ∷ [] }) ∷
     -- P2
-    judged (record { names = 257 ∷ []; constraints = con 257 0 257 ∷ []; hidden = []; sound = true; nevers = 257 ∷ []; musts = []; settleds = 257 ∷ []; row = 0 ∷ []; unsound = (0 ∷ 257 ∷ []) ∷ [] }) ∷
+    judgement_case (record { names = 257 ∷ []; constraints = con 257 0 257 ∷ []; hidden = []; sound = true; nevers = 257 ∷ []; musts = []; settleds = 257 ∷ []; row = 0 ∷ []; unsound = (0 ∷ 257 ∷ []) ∷ [] }) ∷
     -- P3
-    judged (record { names = 257 ∷ 258 ∷ []; constraints = pair; hidden = []; sound = true; nevers = []; musts = []; settleds = []; row = 0 ∷ 257 ∷ []; unsound = (0 ∷ 257 ∷ 258 ∷ []) ∷ (257 ∷ 0 ∷ []) ∷ (0 ∷ 257 ∷ 257 ∷ []) ∷ (257 ∷ []) ∷ [] }) ∷
+    judgement_case (record { names = 257 ∷ 258 ∷ []; constraints = pair; hidden = []; sound = true; nevers = []; musts = []; settleds = []; row = 0 ∷ 257 ∷ []; unsound = (0 ∷ 257 ∷ 258 ∷ []) ∷ (257 ∷ 0 ∷ []) ∷ (0 ∷ 257 ∷ 257 ∷ []) ∷ (257 ∷ []) ∷ [] }) ∷
     -- P4
-    judged (record { names = 257 ∷ 258 ∷ []; constraints = con 257 0 258 ∷ con 258 0 257 ∷ con 258 1 0 ∷ []; hidden = []; sound = true; nevers = 257 ∷ []; musts = 258 ∷ []; settleds = 257 ∷ 258 ∷ []; row = 0 ∷ 258 ∷ []; unsound = (0 ∷ []) ∷ (0 ∷ 257 ∷ []) ∷ [] }) ∷
+    judgement_case (record { names = 257 ∷ 258 ∷ []; constraints = con 257 0 258 ∷ con 258 0 257 ∷ con 258 1 0 ∷ []; hidden = []; sound = true; nevers = 257 ∷ []; musts = 258 ∷ []; settleds = 257 ∷ 258 ∷ []; row = 0 ∷ 258 ∷ []; unsound = (0 ∷ []) ∷ (0 ∷ 257 ∷ []) ∷ [] }) ∷
     -- P5
-    judged (record { names = 257 ∷ 258 ∷ []; constraints = con 257 0 258 ∷ con 257 1 0 ∷ con 258 0 257 ∷ con 258 1 0 ∷ []; hidden = []; sound = false; nevers = []; musts = []; settleds = []; row = []; unsound = [] }) ∷
+    judgement_case (record { names = 257 ∷ 258 ∷ []; constraints = con 257 0 258 ∷ con 257 1 0 ∷ con 258 0 257 ∷ con 258 1 0 ∷ []; hidden = []; sound = false; nevers = []; musts = []; settleds = []; row = []; unsound = [] }) ∷
     -- P6
-    judged (record { names = 257 ∷ 258 ∷ 259 ∷ []; constraints = con 257 0 258 ∷ con 257 1 259 ∷ con 258 0 257 ∷ con 258 1 259 ∷ []; hidden = []; sound = true; nevers = 259 ∷ []; musts = []; settleds = 259 ∷ []; row = 0 ∷ 257 ∷ []; unsound = (0 ∷ 259 ∷ []) ∷ [] }) ∷
+    judgement_case (record { names = 257 ∷ 258 ∷ 259 ∷ []; constraints = con 257 0 258 ∷ con 257 1 259 ∷ con 258 0 257 ∷ con 258 1 259 ∷ []; hidden = []; sound = true; nevers = 259 ∷ []; musts = []; settleds = 259 ∷ []; row = 0 ∷ 257 ∷ []; unsound = (0 ∷ 259 ∷ []) ∷ [] }) ∷
     -- P7
-    judged (record { names = 257 ∷ 258 ∷ 259 ∷ []; constraints = con 257 0 258 ∷ con 258 0 259 ∷ con 259 0 257 ∷ []; hidden = []; sound = true; nevers = []; musts = []; settleds = []; row = 0 ∷ 257 ∷ 258 ∷ []; unsound = (0 ∷ 258 ∷ 257 ∷ []) ∷ [] }) ∷
+    judgement_case (record { names = 257 ∷ 258 ∷ 259 ∷ []; constraints = con 257 0 258 ∷ con 258 0 259 ∷ con 259 0 257 ∷ []; hidden = []; sound = true; nevers = []; musts = []; settleds = []; row = 0 ∷ 257 ∷ 258 ∷ []; unsound = (0 ∷ 258 ∷ 257 ∷ []) ∷ [] }) ∷
     -- P8, hiding 258, then hiding 257
-    judged (record { names = 257 ∷ 258 ∷ []; constraints = con 257 1 258 ∷ []; hidden = 258 ∷ []; sound = true; nevers = []; musts = []; settleds = []; row = 0 ∷ 257 ∷ []; unsound = (0 ∷ 258 ∷ []) ∷ [] }) ∷
-    judged (record { names = 257 ∷ 258 ∷ []; constraints = con 257 1 258 ∷ []; hidden = 257 ∷ []; sound = true; nevers = []; musts = []; settleds = []; row = 0 ∷ []; unsound = [] }) ∷
+    judgement_case (record { names = 257 ∷ 258 ∷ []; constraints = con 257 1 258 ∷ []; hidden = 258 ∷ []; sound = true; nevers = []; musts = []; settleds = []; row = 0 ∷ 257 ∷ []; unsound = (0 ∷ 258 ∷ []) ∷ [] }) ∷
+    judgement_case (record { names = 257 ∷ 258 ∷ []; constraints = con 257 1 258 ∷ []; hidden = 257 ∷ []; sound = true; nevers = []; musts = []; settleds = []; row = 0 ∷ []; unsound = [] }) ∷
     -- a hidden edit that must stand bars nothing
-    judged (record { names = 257 ∷ 258 ∷ []; constraints = con 257 1 0 ∷ con 257 1 258 ∷ []; hidden = 257 ∷ []; sound = true; nevers = []; musts = 257 ∷ []; settleds = 257 ∷ []; row = 0 ∷ 257 ∷ 258 ∷ []; unsound = (0 ∷ []) ∷ [] }) ∷
+    judgement_case (record { names = 257 ∷ 258 ∷ []; constraints = con 257 1 0 ∷ con 257 1 258 ∷ []; hidden = 257 ∷ []; sound = true; nevers = []; musts = 257 ∷ []; settleds = 257 ∷ []; row = 0 ∷ 257 ∷ 258 ∷ []; unsound = (0 ∷ []) ∷ [] }) ∷
     -- the three-edit text
-    judged (record { names = 257 ∷ 258 ∷ 513 ∷ []; constraints = con 257 0 258 ∷ con 257 0 513 ∷ con 257 1 258 ∷ con 257 1 513 ∷ con 258 2 513 ∷ con 513 1 0 ∷ []; hidden = []; sound = true; nevers = []; musts = 257 ∷ 513 ∷ []; settleds = 257 ∷ []; row = 0 ∷ 257 ∷ 258 ∷ 513 ∷ []; unsound = (0 ∷ 257 ∷ 258 ∷ []) ∷ [] }) ∷
+    judgement_case (record { names = 257 ∷ 258 ∷ 513 ∷ []; constraints = con 257 0 258 ∷ con 257 0 513 ∷ con 257 1 258 ∷ con 257 1 513 ∷ con 258 2 513 ∷ con 513 1 0 ∷ []; hidden = []; sound = true; nevers = []; musts = 257 ∷ 513 ∷ []; settleds = 257 ∷ []; row = 0 ∷ 257 ∷ 258 ∷ 513 ∷ []; unsound = (0 ∷ 257 ∷ 258 ∷ []) ∷ [] }) ∷
     -- P9: weights 3, 2, 1, each group alone: 3 is open; 3 and 1 together win; exactly half stays open, and so does a zero total
-    voted (record { roll = row 1 3 ∷ row 2 2 ∷ row 3 1 ∷ []; chip = each_alone; won = false; greatest = 3; silent = 0; total = 6 }) ∷
-    voted (record { roll = row 1 3 ∷ row 2 2 ∷ row 3 1 ∷ []; chip = one_and_three; won = true; greatest = 4; silent = 0; total = 6 }) ∷
-    voted (record { roll = row 3 2 ∷ row 2 4 ∷ row 1 2 ∷ []; chip = one_and_three; won = false; greatest = 4; silent = 0; total = 8 }) ∷
-    voted (record { roll = row 1 0 ∷ row 2 0 ∷ []; chip = each_alone; won = false; greatest = 0; silent = 0; total = 0 }) ∷
-    voted (record { roll = []; chip = each_alone; won = false; greatest = 0; silent = 0; total = 0 }) ∷
+    vote_case (record { roll = row 1 3 ∷ row 2 2 ∷ row 3 1 ∷ []; chip = each_alone; won = false; greatest = 3; silent = 0; total = 6 }) ∷
+    vote_case (record { roll = row 1 3 ∷ row 2 2 ∷ row 3 1 ∷ []; chip = one_and_three; won = true; greatest = 4; silent = 0; total = 6 }) ∷
+    vote_case (record { roll = row 3 2 ∷ row 2 4 ∷ row 1 2 ∷ []; chip = one_and_three; won = false; greatest = 4; silent = 0; total = 8 }) ∷
+    vote_case (record { roll = row 1 0 ∷ row 2 0 ∷ []; chip = each_alone; won = false; greatest = 0; silent = 0; total = 0 }) ∷
+    vote_case (record { roll = []; chip = each_alone; won = false; greatest = 0; silent = 0; total = 0 }) ∷
     -- P10: three pages, open at 3: −3 goes to 0; −4 and +1 give 10
-    turn (record { opened = 3; last = 3; by = negsuc 2; number = 0; page = 0 }) ∷
-    turn (record { opened = 3; last = 3; by = negsuc 3; number = 10; page = 3 }) ∷
-    turn (record { opened = 3; last = 3; by = pos 1; number = 10; page = 3 }) ∷
-    turn (record { opened = 0; last = 3; by = negsuc 0; number = 10; page = 0 }) ∷
+    turn_case (record { opened = 3; last = 3; by = negsuc 2; number = 0; page = 0 }) ∷
+    turn_case (record { opened = 3; last = 3; by = negsuc 3; number = 10; page = 3 }) ∷
+    turn_case (record { opened = 3; last = 3; by = pos 1; number = 10; page = 3 }) ∷
+    turn_case (record { opened = 0; last = 3; by = negsuc 0; number = 10; page = 0 }) ∷
     []

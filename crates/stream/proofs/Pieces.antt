@@ -211,14 +211,14 @@ map-decided read decided [] = refl
 map-decided read decided (l ∷ ls) = rw (decided l, map-decided read decided ls)
 
 -- what the pieces of an input came to: its lines that have ended, up to the cut, and what waits
-pub record Follows (F : Stream) (s : List ℕ) : Type 0 where
+pub record FollowsInput (F : Stream) (s : List ℕ) : Type 0 where
   pub lines-told : map (take kept_bytes) F.told ≡ map (take kept_bytes) (lines (ended s))
   pub line-waits : F.waits ≡ waiting s
 
 abbrev cut : List (List ℕ) → List (List ℕ)
 cut = map (take kept_bytes)
 
-module _ (F : Stream) (s : List ℕ) (h : Follows F s) where
+module _ (F : Stream) (s : List ℕ) (h : FollowsInput F s) where
   waits-none : last_end F.waits ≡ 0
   unfolding waiting
   waits-none = rw h.line-waits (cut-none kept_bytes (unended s) (unended-none s))
@@ -234,7 +234,7 @@ module _ (F : Stream) (s : List ℕ) (h : Follows F s) where
       ∙ ap (λ (l : List (List ℕ)). cut (lines (ended s)) ++ l) (waits-lines q) ∙ sym (map-append (take kept_bytes) (lines (ended s)) (lines (unended s ++ q)))
       ∙ ap cut (sym (lines-parts s (unended s ++ q)) ∙ ap lines (sym (append_assoc (ended s) (unended s) q) ∙ ap (λ (l : List ℕ). l ++ q) (both-parts s)))
 
-  follows-some : (p : List ℕ) → eqb (last_end p) 0 ≡ false → Follows (fed_piece F p) (s ++ p)
+  follows-some : (p : List ℕ) → eqb (last_end p) 0 ≡ false → FollowsInput (fed_piece F p) (s ++ p)
   unfolding fed_piece waiting
   follows-some p e =
       let a = some-ended F.waits p e in
@@ -244,7 +244,7 @@ module _ (F : Stream) (s : List ℕ) (h : Follows F s) where
         line-waits = ap (take kept_bytes) (a.1 ∙ sym b.1);
       }
 
-  follows-none : (p : List ℕ) → eqb (last_end p) 0 ≡ true → Follows (fed_piece F p) (s ++ p)
+  follows-none : (p : List ℕ) → eqb (last_end p) 0 ≡ true → FollowsInput (fed_piece F p) (s ++ p)
   unfolding fed_piece waiting lines
   follows-none p e =
       let a = none-ended F.waits p e in
@@ -259,15 +259,15 @@ module _ (F : Stream) (s : List ℕ) (h : Follows F s) where
             ∙ ap (take kept_bytes) (sym b.1);
       }
 
-  follows-piece : (p : List ℕ) → Follows (fed_piece F p) (s ++ p)
+  follows-piece : (p : List ℕ) → FollowsInput (fed_piece F p) (s ++ p)
   follows-piece p = by (eqb (last_end p) 0) (follows-none p) (follows-some p)
 
-follows-pieces : (F : Stream) (s : List ℕ) (pieces : List (List ℕ)) → Follows F s → Follows (fed_pieces F pieces) (s ++ input_of pieces)
+follows-pieces : (F : Stream) (s : List ℕ) (pieces : List (List ℕ)) → FollowsInput F s → FollowsInput (fed_pieces F pieces) (s ++ input_of pieces)
 unfolding fed_pieces input_of
 follows-pieces F s [] h = rw append-nil h
 follows-pieces F s (p ∷ pieces) h = rw (← append_assoc s p (input_of pieces)) (follows-pieces (fed_piece F p) (s ++ p) pieces (follows-piece F s h p))
 
-follows_nothing : Follows no_input []
+follows_nothing : FollowsInput no_input []
 unfolding no_input waiting unended ended last_end lines
 follows_nothing = record { lines-told = refl; line-waits = refl }
 

@@ -14,7 +14,7 @@ use lib.Seq.{drop-append_seam, get_or-drop}
 use Rattle.lists.specs.Lists.{mem, all}
 use Rattle.lists.proofs.Lists.{by, clash, and_l, and_r, mem-append, none-some, or-no-l, or-no-r}
 use Rattle.text_forms.specs.Spelling.{name_spelling, number_spelling}
-use Rattle.text_forms.specs.Form.{is_mark, spelling, fill, more, begins_with, taken}
+use Rattle.text_forms.specs.Form.{is_mark, spelling, fill, number_before, begins_with, taken}
 use Rattle.text_forms.proofs.Lawful.{stopped, lawful}
 
 -- how many numbers a form takes
@@ -69,7 +69,7 @@ module _ (c : ℕ) (f : List ℕ) where
     unfolding fill
     fill-mark ns = rw m
 
-    pub mark-taken : (s : List ℕ) → (spelling c).size s ≢ 0 → taken (c ∷ f) s ≡ more ((spelling c).value s) (taken f (drop ((spelling c).size s) s))
+    pub mark-taken : (s : List ℕ) → (spelling c).size s ≢ 0 → taken (c ∷ f) s ≡ number_before ((spelling c).value s) (taken f (drop ((spelling c).size s) s))
     unfolding taken
     mark-taken s h = rw (m, ne_eqb ((spelling c).size s) 0 h)
 
@@ -124,7 +124,7 @@ write-some c n e = let b = (lawful c).begun n in let l : length ((spelling c).wr
 
 -- a spelling in front is passed
 written-taken : (c : ℕ) (f : List ℕ) (n : ℕ) (s : List ℕ) → is_mark c ≡ true → stopped (spelling c) s ≡ true
-    → taken (c ∷ f) ((spelling c).write n ++ s) ≡ more ((spelling c).value ((spelling c).write n ++ s)) (taken f s)
+    → taken (c ∷ f) ((spelling c).write n ++ s) ≡ number_before ((spelling c).value ((spelling c).write n ++ s)) (taken f s)
 written-taken c f n s m h =
     let z : (spelling c).size ((spelling c).write n ++ s) ≡ length ((spelling c).write n) = (lawful c).size_back n s h in
     mark-taken c f m ((spelling c).write n ++ s) (λ e. write-some c n (sym z ∙ e))
@@ -154,7 +154,7 @@ taken-fill (c ∷ f) ns p k l =
     rw (fill-byte c f m ns) (byte-taken c f m (c ∷ fill f ns) (eq-eqb c c refl) ∙ taken-fill f ns (rw m at p) (rw m at k) (rw m at l)))
 
 -- What is read of a text gives that text.
-more-some : {P : Type 0} (n : ℕ) (o : Option (List ℕ)) (ns : List ℕ) → more n o ≡ some ns → ((ms : List ℕ) → o ≡ some ms → ns ≡ n ∷ ms → P) → P
+more-some : {P : Type 0} (n : ℕ) (o : Option (List ℕ)) (ns : List ℕ) → number_before n o ≡ some ns → ((ms : List ℕ) → o ≡ some ms → ns ≡ n ∷ ms → P) → P
 more-some n none ns e k = let z : ◌≡◌ {A = ℕ} 0 1 = cc in absurd (omega arith)
 more-some n (some ms) ns e k = k ms refl (cc)
 
@@ -232,7 +232,7 @@ begin-alike c d f g ns e h =
     rw (fill-mark d g p ns) (byte-missing c f m _ (other_byte d (get_or ns 0 0) c (fill g (drop 1 ns)) q)))
     (λ (p : is_mark d ≡ false). rw (fill-byte d g p ns) (byte-missing c f m (d ∷ fill g ns) e)))
 
-more-none : (n : ℕ) {o : Option (List ℕ)} → o ≡ none → more n o ≡ none
+more-none : (n : ℕ) {o : Option (List ℕ)} → o ≡ none → number_before n o ≡ none
 more-none n e = rw e
 
 pub taken-other : (f g ns : List ℕ) → separate g ≡ true → differ f g ≡ true → taken f (fill g ns) ≡ none

@@ -16,7 +16,7 @@ use Rattle.lists.proofs.Lists.{by, le-by}
 use Rattle.text_forms.specs.decimal.Decimal.{saturated}
 use Rattle.text_forms.specs.declared.decimal.Numeral.{Numeral}
 use Rattle.text_forms.specs.Spelling.{Spelling, numeral_of}
-use Rattle.text_forms.specs.Form.{is_mark, spelling, more, taken, filled_of}
+use Rattle.text_forms.specs.Form.{is_mark, spelling, number_before, taken, filled_of}
 use Rattle.text_forms.proofs.Lawful.{lawful}
 use Rattle.text_forms.proofs.Forms.{mark-taken, mark-missing, byte-taken, byte-missing}
 use Rattle.std.proofs.lemmas.List.{nil_from_length}
@@ -72,7 +72,7 @@ told-start (some ns) =
     ∙ rw (← zeros-left (length vs) 8) (sym (sets-kept 8 vs [] (zeros 8) (omega arith))) in
     ap Some e
 
-told_more : (k n : ℕ) (xs : List ℕ) (o : Option (List ℕ)) → told_from k xs (more n o) ≡ told_from (suc k) (set xs k (saturated n)) o
+told_more : (k n : ℕ) (xs : List ℕ) (o : Option (List ℕ)) → told_from k xs (number_before n o) ≡ told_from (suc k) (set xs k (saturated n)) o
 told_more k n xs none = refl
 told_more k n xs (some ns) = refl
 

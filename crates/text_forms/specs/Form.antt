@@ -16,9 +16,9 @@ unfoldable pub fill : List ℕ → List ℕ → List ℕ
 fill [] ns = []
 fill (c ∷ form) ns = cond (is_mark c) ((spelling c).write (get_or ns 0 0) ++ fill form (drop 1 ns)) (c ∷ fill form ns)
 
-abbrev pub more : ℕ → Option (List ℕ) → Option (List ℕ)
-more n none = none
-more n (some ns) = some (n ∷ ns)
+abbrev pub number_before : ℕ → Option (List ℕ) → Option (List ℕ)
+number_before n none = none
+number_before n (some ns) = some (n ∷ ns)
 
 abbrev pub begins_with : ℕ → List ℕ → Bool
 begins_with c [] = false
@@ -30,7 +30,7 @@ taken [] [] = some []
 taken [] (x ∷ s) = none
 taken (c ∷ form) s =
     cond (is_mark c)
-    (cond (eqb ((spelling c).size s) 0) none (more ((spelling c).value s) (taken form (drop ((spelling c).size s) s))))
+    (cond (eqb ((spelling c).size s) 0) none (number_before ((spelling c).value s) (taken form (drop ((spelling c).size s) s))))
     (cond (begins_with c s) (taken form (drop 1 s)) none)
 
 -- What the code answers: the first eight numbers, cut off at 2^32, and 0 past those.

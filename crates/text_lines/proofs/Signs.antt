@@ -19,7 +19,7 @@ use Rattle.text_forms.specs.declared.decimal.Numeral.{Numeral}
 use Rattle.text_forms.proofs.decimal.Laws.{number_short}
 use Rattle.text_forms.proofs.decimal.RoundTrip.{size-nothing}
 use Rattle.text_forms.specs.Spelling.{bytes}
-use Rattle.text_forms.specs.Form.{is_mark, spelling, more, begins_with, taken}
+use Rattle.text_forms.specs.Form.{is_mark, spelling, number_before, begins_with, taken}
 use Rattle.text_forms.proofs.Lawful.{lawful}
 use Rattle.text_forms.proofs.Forms.{mark-taken, mark-missing, byte-taken, byte-missing, plain}
 use Rattle.std.proofs.lemmas.List.{take_rest}
@@ -65,7 +65,7 @@ module _ (x : ℕ) (form : List ℕ) (at : ℕ) (s : List ℕ) where
       (λ z. mark-missing x form m (drop at s) z)
       (λ z.
       let e : taken form (drop ((spelling x).size (drop at s)) (drop at s)) ≡ none = rw (drop-drop ((spelling x).size (drop at s)) at s) q in
-      mark-taken x form m (drop at s) z ∙ ap (more ((spelling x).value (drop at s))) e)
+      mark-taken x form m (drop at s) z ∙ ap (number_before ((spelling x).value (drop at s))) e)
 
   byte-passed : is_mark x ≡ false → taken form (drop (at + 1) s) ≡ none → taken (x ∷ form) (drop at s) ≡ none
   byte-passed m q =

@@ -94,10 +94,10 @@ module _ (text : List ℕ) where
         go (Accepted R) e q = let c : content ≡ stored R = cc in k R e c
         go (Refused n l) e q = absurd q
 
-    pub counts-small : content.editcount + content.constraintcount ≤ 639
+    pub counts-small : content.edit_count + content.constraint_count ≤ 639
     counts-small = accepted (λ R e c. let t = rows-took text R e in rw c (omega (arith, t.checked.editplaces, t.checked.constraintplaces)))
 
-    pub lines-counted : content.editcount + content.constraintcount ≡ length (lines text)
+    pub lines-counted : content.edit_count + content.constraint_count ≡ length (lines text)
     lines-counted = accepted (λ R e c. rw c (rows-took text R e).count)
 
     module _ {s : Bool} (f : (R : Record) → content ≡ stored R → Fit R → s ≡ sound R) where
@@ -108,7 +108,7 @@ module _ (text : List ℕ) where
           let u : sound R ≡ true = sym (f R c (checked-fit R (rows-took text R e).checked)) ∙ t in
           rw (e, u) (ap Ok c))
 
-      pub text-unsound : s ≡ false → {line : ℕ} → line ≡ content.editcount + content.constraintcount → Reads (read_text text) (Err (record { refusal = Unsound; line = line }))
+      pub text-unsound : s ≡ false → {line : ℕ} → line ≡ content.edit_count + content.constraint_count → Reads (read_text text) (Err (record { refusal = Unsound; line = line }))
       unfolding read_text
       text-unsound t {line} g =
           accepted (λ R e c.

@@ -84,9 +84,9 @@ fn row_fault<const CELLS: usize, T: Element<CELLS>>(
 #[derive(Drop)]
 struct RowsRead {
     edits: [EditRow; EDITS],
-    editcount: usize,
+    edit_count: usize,
     constraints: [ConstraintRow; CONSTRAINTS],
-    constraintcount: usize,
+    constraint_count: usize,
     marks: [u8; NAMES],
 }
 
@@ -96,9 +96,9 @@ impl Model for RowsRead {
 
     ghost Value = { HeldRows };
 
-    ghost view = { λ r. record { edits = take r.editcount r.edits; constraints = take r.constraintcount r.constraints } };
+    ghost view = { λ r. record { edits = take r.edit_count r.edits; constraints = take r.constraint_count r.constraints } };
 
-    ghost invariant = { λ r. EditsHeld r.edits r.marks r.editcount × ConstraintsHeld r.constraints r.constraintcount };
+    ghost invariant = { λ r. EditsHeld r.edits r.marks r.edit_count × ConstraintsHeld r.constraints r.constraint_count };
 }
 
 impl RowsRead {
@@ -109,9 +109,9 @@ impl RowsRead {
         marks[0] = 1;
         RowsRead {
             edits: [[0; EDIT_CELLS]; EDITS],
-            editcount: 0,
+            edit_count: 0,
             constraints: [[0; CONSTRAINT_CELLS]; CONSTRAINTS],
-            constraintcount: 0,
+            constraint_count: 0,
             marks,
         }
     }
@@ -120,19 +120,19 @@ impl RowsRead {
     fn next_line(&self) -> usize
         ensures { result ≡ lines_read self.now + 1 }
     {
-        self.editcount + self.constraintcount + 1
+        self.edit_count + self.constraint_count + 1
     }
 
     // The fault of an edit below the rows. Without fault it is one of them.
     fn take_edit(&mut self, row: EditRow) -> Result<(), Refusal>
         ensures { EditTaken self.old row (number_of result) self.new }
     {
-        row_fault::<EDIT_CELLS, Edit>(&self.edits[..self.editcount], &row, Ok(()))?;
-        if 0 < self.constraintcount {
+        row_fault::<EDIT_CELLS, Edit>(&self.edits[..self.edit_count], &row, Ok(()))?;
+        if 0 < self.constraint_count {
             return Err(Refusal::Misplaced);
         }
-        self.edits[self.editcount] = row;
-        self.editcount += 1;
+        self.edits[self.edit_count] = row;
+        self.edit_count += 1;
         self.marks[row[0] as usize] = 1;
         Ok(())
     }
@@ -143,12 +143,12 @@ impl RowsRead {
     {
         let further = record_tables::constraint_further(row, &self.marks, false);
         row_fault::<CONSTRAINT_CELLS, Constraint>(
-            &self.constraints[..self.constraintcount],
+            &self.constraints[..self.constraint_count],
             &row,
             further,
         )?;
-        self.constraints[self.constraintcount] = row;
-        self.constraintcount += 1;
+        self.constraints[self.constraint_count] = row;
+        self.constraint_count += 1;
         Ok(())
     }
 
@@ -166,8 +166,8 @@ impl RowsRead {
         ensures { result ≡ stored (decoded self.now.edits self.now.constraints) }
     {
         record_union::decode(LentRecord {
-            edits: &self.edits[..self.editcount],
-            constraints: &self.constraints[..self.constraintcount],
+            edits: &self.edits[..self.edit_count],
+            constraints: &self.constraints[..self.constraint_count],
         })
     }
 }
@@ -187,7 +187,7 @@ fn read_rows(text: &[u8]) -> Result<Record, Fault>
 // Reads a text: its rows, and then whether the record is sound; that it is not is told of its last line. An accepted text has a line for each row.
 pub fn read_text(text: &[u8]) -> Result<Record, Fault>
     ensures reads { Reads (read_text text.now) result }
-    ensures counted { IfOk result (λ content. content.editcount + content.constraintcount ≡ length (lines text.now)) }
+    ensures counted { IfOk result (λ content. content.edit_count + content.constraint_count ≡ length (lines text.now)) }
 {
     let content = read_rows(text)?;
     if judgement::sound(content) {
@@ -195,6 +195,6 @@ pub fn read_text(text: &[u8]) -> Result<Record, Fault>
     }
     Err(Fault {
         refusal: Refusal::Unsound,
-        line: content.editcount + content.constraintcount,
+        line: content.edit_count + content.constraint_count,
     })
 }

@@ -30,7 +30,7 @@ use Rattle.text_report.proofs.Numbers.{lines-are}
 
 -- the report by the code's lines
 module _ (content : declared.Record) (R : Record) (e : content ≡ stored R) (k : Checked R) {j : Judged} (f : (S : Record) → content ≡ stored S → Fit S → j ≡ judged_of S) {edits : List Edit} {constraints : List Constraint}
-    (a : edits ≡ take content.editcount content.edits) (b : constraints ≡ take content.constraintcount content.constraints) (lines : List ReportLine) (g : take (length edits) lines ≡ report_lines j 1 edits) where
+    (a : edits ≡ take content.edit_count content.edits) (b : constraints ≡ take content.constraint_count content.constraints) (lines : List ReportLine) (g : take (length edits) lines ≡ report_lines j 1 edits) where
   report-is : fill counts_form (length edits ∷ length constraints ∷ []) ++ joined_lines (map line_text (take (length edits) lines)) ≡ report_of R
   unfolding report_of padded
   report-is =

@@ -13,15 +13,15 @@ use Rattle.text.specs.Text.{joined_lines, rows_text, text_of}
 use Rattle.text_writer.specs.Placed.{edit_text, constraint_text}
 
 abbrev pub edits-text : declared.Record → List ℕ
-edits-text content = joined_lines (map edit_text (take content.editcount content.edits))
+edits-text content = joined_lines (map edit_text (take content.edit_count content.edits))
 
 abbrev pub constraints-text : declared.Record → List ℕ
-constraints-text content = joined_lines (map constraint_text (take content.constraintcount content.constraints))
+constraints-text content = joined_lines (map constraint_text (take content.constraint_count content.constraints))
 
 pub text-is : (content : declared.Record) → text_of (record_of content) ≡ edits-text content ++ constraints-text content
 unfolding rows_text
 text-is content =
-    rw (map-map edit_line edit_row (take content.editcount content.edits), map-map constraint_line constraint_row (take content.constraintcount content.constraints))
+    rw (map-map edit_line edit_row (take content.edit_count content.edits), map-map constraint_line constraint_row (take content.constraint_count content.constraints))
 
 -- what two texts leave of a room
 module _ (room m n : ℕ) where

@@ -14,7 +14,7 @@ use Rattle.lists.proofs.Lists.{by, clash, and_l, and_r, or-by, mem-head, cons-by
 use Rattle.record.proofs.Records.{filter-has, has-filter, not-init, noncommuting-left}
 use Rattle.record.proofs.Judged.{settled_is}
 use Rattle.record.proofs.Extended.{sound-extended}
-use Rattle.voting.specs.Bundle.{Member, itself, earlier, enabler, rival, leads, members, between, bundle, Eligible, eligible}
+use Rattle.voting.specs.Bundle.{Member, member-itself, member-earlier, member-enabler, rival, leads, members, between, bundle, Eligible, eligible}
 
 -- the names of filtered edits
 pub filter-names : (p : ℕ → Bool) (l : List Edit) → map name_of (filter (λ x. p x.name) l) ≡ filter p (map name_of l)
@@ -61,9 +61,9 @@ module _ {R : Record} (w : WellFormed R) where
     members-closed = closure-closed (leads R) (written R) (e ∷ []) leads-known
 
     member-into : {x : ℕ} → Member R e x → x among members R e
-    member-into itself = member-self R e
-    member-into (earlier {a} {b} m z h) = members-closed a b (leads-notafter a b h) (member-into m)
-    member-into (enabler {a} {b} m z h) = members-closed a b (leads-enables a b h) (member-into m)
+    member-into member-itself = member-self R e
+    member-into (member-earlier {a} {b} m z h) = members-closed a b (leads-notafter a b h) (member-into m)
+    member-into (member-enabler {a} {b} m z h) = members-closed a b (leads-enables a b h) (member-into m)
     member-into (rival {a} {b} m z h k) = members-closed a b (leads-rival a b h k) (member-into m)
 
     -- The bundle's computing closure is the smallest set.
@@ -72,8 +72,8 @@ module _ {R : Record} (w : WellFormed R) where
     members-is x = (
       λ m. member-into m,
       closure-least (leads R) (written R) (e ∷ []) (Member R e)
-          (λ a b h m. leads-by a b h (λ z i. earlier m z i) (λ z i. enabler m z i) (λ z i j. rival m z i j))
-          (λ y i. rw (only y e i) itself)
+          (λ a b h m. leads-by a b h (λ z i. member-earlier m z i) (λ z i. member-enabler m z i) (λ z i j. rival m z i j))
+          (λ y i. rw (only y e i) member-itself)
           x,
     )
 

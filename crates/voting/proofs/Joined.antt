@@ -12,7 +12,7 @@ use Rattle.lists.proofs.Lists.{by, clash, or-by, or_l, or_r, same_by}
 use Rattle.record.proofs.Records.{constraint-by, has-head, has-tail}
 use Rattle.lists.specs.Keyed.{Ascending, united}
 use Rattle.lists.proofs.Order.{less-total}
-use Rattle.lists.proofs.Union.{Agree, united-has, united-old, united-new, united-comm, united-part}
+use Rattle.lists.proofs.Union.{SameByKey, united-has, united-old, united-new, united-comm, united-part}
 use Rattle.record_tables.specs.Table.{edit_key, constraint_key, unite}
 use Rattle.record_tables.proofs.Unions.{mem-by, mem-has, united-extends, joining-extends}
 use Rattle.voting.specs.Proposal.{joined_constraints, Joinable}
@@ -40,7 +40,7 @@ has-append a k b [] t = refl
 has-append a k b (c ∷ s) t = by (is a k b c) (λ e. rw e) (λ e. rw e (has-append a k b s t))
 
 -- a constraint is its key
-pub constraints-agree : (s t : List Constraint) → Agree constraint_key s t
+pub constraints-agree : (s t : List Constraint) → SameByKey constraint_key s t
 constraints-agree s t x r h k p q =
     let e = less-total (constraint_key x) (constraint_key r) refl p q in
     let l : x.left ≡ r.left = cc in

@@ -10,9 +10,9 @@ use Rattle.record.specs.Judgement.{settled}
 -- The members of the bundle of e: the smallest set holding e, and for each member b every a other than 0 with: a notafter b; a enables b;
 -- or a noncommuting b without "b notafter a". "enables 0" is not followed: 0 is no member.
 pub data Member (R : Record) (e : ℕ) : ℕ → Type 0 where
-  itself : Member R e e
-  earlier : {a b : ℕ} → Member R e b → eqb a 0 ≡ false → notafter R a b ≡ true → Member R e a
-  enabler : {a b : ℕ} → Member R e b → eqb a 0 ≡ false → enables R a b ≡ true → Member R e a
+  member-itself : Member R e e
+  member-earlier : {a b : ℕ} → Member R e b → eqb a 0 ≡ false → notafter R a b ≡ true → Member R e a
+  member-enabler : {a b : ℕ} → Member R e b → eqb a 0 ≡ false → enables R a b ≡ true → Member R e a
   rival : {a b : ℕ} → Member R e b → eqb a 0 ≡ false → noncommuting R a b ≡ true → notafter R b a ≡ false → Member R e a
 
 -- as a test, and as a computing closure

@@ -90,8 +90,8 @@ impl Bundling {
             |constraint| is_between(table, &marks, constraint),
             &mut small.constraints,
         );
-        small.editcount = edits;
-        small.constraintcount = constraints;
+        small.edit_count = edits;
+        small.constraint_count = constraints;
         small
     }
 }

@@ -73,18 +73,18 @@ module _ {A B : Type 0} (rows : A → Rows) (cells : B → Rows) (es : List A) (
 
 -- the walk over the rows of the proposals: no fault below place k
 module _ {A B : Type 0} (rows : A → Rows) (cells : B → Rows) (es : List A) (cs : List B) where
-  abbrev pub Faultless : ℕ → Type 0
-  Faultless k = (j : ℕ) → j < k → proposal_fault (lent_proposals (map rows es) (map cells cs)) (get_or benches j 0) ≡ 0
+  abbrev pub FaultlessBelow : ℕ → Type 0
+  FaultlessBelow k = (j : ℕ) → j < k → proposal_fault (lent_proposals (map rows es) (map cells cs)) (get_or benches j 0) ≡ 0
 
-  module _ (k : ℕ) (h : k < 8) (a : A) (b : B) (ea : rows a ≡ []) (eb : cells b ≡ []) (n : ℕ) (e : n ≡ lent_fault empty_tables (rows (get_or es k a)) (cells (get_or cs k b))) (w : Faultless k) where
+  module _ (k : ℕ) (h : k < 8) (a : A) (b : B) (ea : rows a ≡ []) (eb : cells b ≡ []) (n : ℕ) (e : n ≡ lent_fault empty_tables (rows (get_or es k a)) (cells (get_or cs k b))) (w : FaultlessBelow k) where
     fault-is : proposal_fault (lent_proposals (map rows es) (map cells cs)) (get_or benches k 0) ≡ n
     fault-is = ap (proposal_fault (lent_proposals (map rows es) (map cells cs))) (bench-at k h) ∙ (fault-at rows cells es cs k a b ea eb ∙ sym e)
 
     pub first-fault : (n ≡ 0 → ⊥) → n ≡ first_given (proposal_fault (lent_proposals (map rows es) (map cells cs))) benches
     first-fault z = sym fault-is ∙ given-hit (proposal_fault (lent_proposals (map rows es) (map cells cs))) benches k h w (λ q. z (sym fault-is ∙ q))
 
-    pub count-no-fault : n ≡ 0 → Faultless (k + 1)
+    pub count-no-fault : n ≡ 0 → FaultlessBelow (k + 1)
     count-no-fault z j l = is-by j k (λ q. rw q (fault-is ∙ z)) (λ q. w j (omega (arith, q)))
 
-  pub all-faultless : (k : ℕ) → 8 ≤ k → Faultless k → 0 ≡ first_given (proposal_fault (lent_proposals (map rows es) (map cells cs))) benches
+  pub all-faultless : (k : ℕ) → 8 ≤ k → FaultlessBelow k → 0 ≡ first_given (proposal_fault (lent_proposals (map rows es) (map cells cs))) benches
   all-faultless k h w = benches-given-none (proposal_fault (lent_proposals (map rows es) (map cells cs))) benches (λ j l. w j (omega arith))

@@ -54,13 +54,13 @@ module _ (row : List ℕ) where
 
   module _ (R : Record) (k : Checked R) where
     pub edits-unite : Unites edit_key 127 R.edits []
-    edits-unite = record { ownorder = k.editorder; joiningorder = tt; places = rw (← united-none edit_key R.edits) k.editplaces }
+    edits-unite = record { own_order = k.editorder; joining_order = tt; places = rw (← united-none edit_key R.edits) k.editplaces }
 
     pub constraints-unite : length R.constraints ≤ 385 → Unites constraint_key 512 R.constraints (decisions row (written R))
     unfolding decisions written
     constraints-unite h = record {
-      ownorder = k.constraintorder;
-      joiningorder = decisions-ascend R.edits k.editorder;
+      own_order = k.constraintorder;
+      joining_order = decisions-ascend R.edits k.editorder;
       places = omega (arith, length-united constraint_key R.constraints (map (decision_on row) (map name_of R.edits)), length-map (map name_of R.edits) (decision_on row), length-map R.edits name_of, k.editplaces);
     }
 
@@ -75,10 +75,10 @@ pub only-start : (r : declared.Record) → r ≡ empty_record → r.constraints 
 unfolding padded
 only-start r e = ap (λ (x : declared.Record). x.constraints) e
 
-pub only-stored : (r : declared.Record) (n : ℕ) (l : List Constraint) → r.constraints ≡ padded 512 filler_constraint l → n ≡ length l → r.edits ≡ empty_record.edits → r.editcount ≡ empty_record.editcount
-    → record { edits = r.edits; editcount = r.editcount; constraints = r.constraints; constraintcount = n } ≡ stored (only_constraints l)
+pub only-stored : (r : declared.Record) (n : ℕ) (l : List Constraint) → r.constraints ≡ padded 512 filler_constraint l → n ≡ length l → r.edits ≡ empty_record.edits → r.edit_count ≡ empty_record.edit_count
+    → record { edits = r.edits; edit_count = r.edit_count; constraints = r.constraints; constraint_count = n } ≡ stored (only_constraints l)
 unfolding padded
-only-stored r n l e f g h = λ j. record { edits = g j; editcount = h j; constraints = e j; constraintcount = f j }
+only-stored r n l e f g h = λ j. record { edits = g j; edit_count = h j; constraints = e j; constraint_count = f j }
 
 pub decisions-many : (row : List ℕ) (R : Record) → length (decisions row (written R)) ≡ length R.edits
 unfolding decisions written

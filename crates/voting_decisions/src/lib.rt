@@ -69,7 +69,7 @@ fn decisions_of(multilog: Record, pages: &Marks) -> Record
     for (i, edit) in edits.iter().enumerate() {
         r.constraints[i] = decision(edit.name, pages[i + 1]);
     }
-    r.constraintcount = edits.len();
+    r.constraint_count = edits.len();
     r
 }
 
@@ -78,7 +78,7 @@ fn decided_table(multilog: Record, pages: &Marks) -> Result<Constraints, Refusal
     ensures { (R : theory.Record) (rest index : List ℕ) → multilog ≡ stored R → Checked R → Paged R rest index pages.now
         → result ≡ table_of (united constraint_key R.constraints (proposal.decisions (0 ∷ rest) (theory.written R))) }
 {
-    if UNDECIDED < multilog.constraintcount {
+    if UNDECIDED < multilog.constraint_count {
         return with_decisions(Constraints::of(multilog), multilog, pages);
     }
     let small = decisions_of(multilog, pages);

@@ -12,7 +12,7 @@ ghost use Rattle.voting.specs.Proposal.{unordered};
 
 use graph::indexes;
 use graph::indexes::IndexTable;
-use graph::links::{NOTAFTER, Rows};
+use graph::links::{NOTAFTER_BASE, Rows};
 use record::{CONSTRAINTS, Constraint, NONCOMMUTING, Record};
 
 // Noncommuting pairs; nothing is said of the rows past the count.
@@ -44,7 +44,7 @@ fn is_unordered(c: Constraint, index: &IndexTable, rows: &Rows) -> bool
     }
     let a = index.index_of(usize::from(c.left));
     let b = index.index_of(usize::from(c.right));
-    !rows.leads_either_way(NOTAFTER, a, b)
+    !rows.leads_either_way(NOTAFTER_BASE, a, b)
 }
 
 // The pairs with no order, in the table's order.

@@ -26,14 +26,14 @@ use Rattle.graph.specs.indexes.Fit.{Fit}
 use Rattle.graph.proofs.indexes.Tables.{names-few}
 use Rattle.graph.proofs.indexes.Resolving.{has-at, at_has, left-known, right-known}
 
-abbrev pub index_in : Record → ℕ → ℕ
-index_in R x = place_in (names R) x
+abbrev pub name_index : Record → ℕ → ℕ
+name_index R x = place_in (names R) x
 
 abbrev pub forward_key_of : Record → Constraint → ℕ
-forward_key_of R c = forward_key R (index_in R c.left) c.rule (index_in R c.right)
+forward_key_of R c = forward_key R (name_index R c.left) c.rule (name_index R c.right)
 
 abbrev pub backward_of : Record → Constraint → ℕ
-backward_of R c = backward_key R (index_in R c.left) c.rule (index_in R c.right)
+backward_of R c = backward_key R (name_index R c.left) c.rule (name_index R c.right)
 
 -- two rows to a constraint
 unfoldable pub both_of : (Constraint → ℕ) → (Constraint → ℕ) → List Constraint → List ℕ
@@ -63,7 +63,7 @@ abbrev pub member_keys_of : Record → List ℕ
 member_keys_of R = both_of (forward_key_of R) (backward_of R) R.constraints
 
 abbrev pub member_lefts_of : Record → List ℕ
-member_lefts_of R = both_of (λ c. index_in R c.left) (λ c. index_in R c.right) R.constraints
+member_lefts_of R = both_of (λ c. name_index R c.left) (λ c. name_index R c.right) R.constraints
 
 -- a row is one of the two of some constraint
 halves-by {ℓ} : {P : Type ℓ} (n : ℕ) → ((k : ℕ) → n ≡ 2 * k → P) → ((k : ℕ) → n ≡ 2 * k + 1 → P) → P
@@ -79,25 +79,25 @@ abbrev pub with_both : List ℕ → ℕ → ℕ → ℕ → ℕ → ℕ → List
 with_both rows j a b f g = with_row (with_row rows (2 * j) f a) (2 * j + 1) g b
 
 module _ (R : Record) (rows : List ℕ) (j a b f g : ℕ) (size : length rows ≡ 2432) (h : j < 512) (u : j < length R.constraints)
-    (ea : a ≡ index_in R (get_or R.constraints j filler_constraint).left) (eb : b ≡ index_in R (get_or R.constraints j filler_constraint).right)
+    (ea : a ≡ name_index R (get_or R.constraints j filler_constraint).left) (eb : b ≡ name_index R (get_or R.constraints j filler_constraint).right)
     (ef : f ≡ forward_key_of R (get_or R.constraints j filler_constraint)) (eg : g ≡ backward_of R (get_or R.constraints j filler_constraint)) (kf : f ≤ 128) (kg : g ≤ 128) where
   pub rowing-step : Rowing R rows j → Rowing R (with_both rows j a b f g) (j + 1)
   rowing-step w =
       let one = linking-step (member_keys_of R) (member_lefts_of R) rows (2 * j) f a size (omega arith) (omega arith)
-      (both_first (forward_key_of R) (backward_of R) R.constraints j filler_constraint u ∙ sym ef) (both_first (λ c. index_in R c.left) (λ c. index_in R c.right) R.constraints j filler_constraint u ∙ sym ea) w in
+      (both_first (forward_key_of R) (backward_of R) R.constraints j filler_constraint u ∙ sym ef) (both_first (λ c. name_index R c.left) (λ c. name_index R c.right) R.constraints j filler_constraint u ∙ sym ea) w in
       let two = linking-step (member_keys_of R) (member_lefts_of R) (with_row rows (2 * j) f a) (2 * j + 1) g b (with-row-size rows (2 * j) f a ∙ size) (omega arith) (omega arith)
-      (both-second (forward_key_of R) (backward_of R) R.constraints j filler_constraint u ∙ sym eg) (both-second (λ c. index_in R c.left) (λ c. index_in R c.right) R.constraints j filler_constraint u ∙ sym eb) one in
+      (both-second (forward_key_of R) (backward_of R) R.constraints j filler_constraint u ∙ sym eg) (both-second (λ c. name_index R c.left) (λ c. name_index R c.right) R.constraints j filler_constraint u ∙ sym eb) one in
       let e : 2 * (j + 1) ≡ 2 * j + 1 + 1 = omega arith in
       rw e two
 
 -- a name at its index
-at-index : (R : Record) (x : ℕ) → x among names R → name_at R (index_in R x) ≡ x
+at-index : (R : Record) (x : ℕ) → x among names R → name_at R (name_index R x) ≡ x
 at-index R x i = rw (place-known x (names R) i) (get_or-place x (names R) i)
 
-index-low : (R : Record) (x : ℕ) → x among names R → index_in R x < length (names R)
+index-low : (R : Record) (x : ℕ) → x among names R → name_index R x < length (names R)
 index-low R x i = rw (place-known x (names R) i) (mem_index x (names R) i)
 
-init-index : (R : Record) → index_in R 0 ≡ 0
+init-index : (R : Record) → name_index R 0 ≡ 0
 unfolding place_in names mem index_of
 init-index R = refl
 
@@ -110,7 +110,7 @@ module _ (R : Record) (f : Fit R) where
   right-not-init a k b h n = not-init f.formed b (right-written f.formed a k b h n)
 
   -- INIT alone has the index 0
-  index-init : (x : ℕ) → x among names R → index_in R x ≡ 0 → eqb x 0 ≡ true
+  index-init : (x : ℕ) → x among names R → name_index R x ≡ 0 → eqb x 0 ≡ true
   unfolding names
   index-init x i e = eq-eqb x 0 (sym (at-index R x i) ∙ ap (name_at R) e)
 
@@ -130,25 +130,25 @@ module _ (R : Record) (f : Fit R) where
 
   -- what the key of a constraint's row tells
   rival-leads : (a b y : ℕ) → noncommuting R a b ≡ true → a among names R → b among names R → eqb b 0 ≡ false → y < 128
-      → rival_key R (index_in R a) (index_in R b) ≡ y → (index_in R b ≡ y) × (leads_in R a b ≡ true)
+      → rival_key R (name_index R a) (name_index R b) ≡ y → (name_index R b ≡ y) × (leads_in R a b ≡ true)
   unfolding rival_key
   rival-leads a b y h i k n l e =
       let u = rw (at-index R a i, at-index R b k) at e in
       by (notafter R b a) (λ q. absurd (let z = rw q at u in omega arith)) (λ q. (rw q at u, leads-in R a b (leads-rival f.formed a b h q) n))
 
-  forward-leads : (a k b y : ℕ) → has a k b R.constraints ≡ true → y < 128 → forward_key R (index_in R a) k (index_in R b) ≡ y → (index_in R b ≡ y) × (leads_in R a b ≡ true)
+  forward-leads : (a k b y : ℕ) → has a k b R.constraints ≡ true → y < 128 → forward_key R (name_index R a) k (name_index R b) ≡ y → (name_index R b ≡ y) × (leads_in R a b ≡ true)
   unfolding forward_key enabled_key
   forward-leads a zero b y h l e = (e, leads-in R a b (leads-notafter f.formed a b h) (right-not-init a 0 b h (λ z. omega arith)))
   forward-leads a (suc zero) b y h l e =
-      by (eqb (index_in R b) 0)
+      by (eqb (name_index R b) 0)
       (λ q. absurd (let z = rw q at e in omega arith))
-      (λ q. let n : eqb b 0 ≡ false = by (eqb b 0) (λ z. absurd (eqb-false (index_in R b) 0 q (ap (index_in R) (eqb-true b 0 z) ∙ init-index R))) (λ z. z) in
+      (λ q. let n : eqb b 0 ≡ false = by (eqb b 0) (λ z. absurd (eqb-false (name_index R b) 0 q (ap (name_index R) (eqb-true b 0 z) ∙ init-index R))) (λ z. z) in
       (rw q at e, leads-in R a b (leads-enables f.formed a b h) n))
   forward-leads a (suc (suc k)) b y h l e =
       let p = pair-rule a k b h in
       rival-leads a b y (paired-either a b p).0 (left-known f.formed a 2 b p) (right-known f.formed a 2 b p) (right-not-init a 2 b p (λ z. omega arith)) l e
 
-  backward-leads : (a k b y : ℕ) → has a k b R.constraints ≡ true → y < 128 → backward_key R (index_in R a) k (index_in R b) ≡ y → (index_in R a ≡ y) × (leads_in R b a ≡ true)
+  backward-leads : (a k b y : ℕ) → has a k b R.constraints ≡ true → y < 128 → backward_key R (name_index R a) k (name_index R b) ≡ y → (name_index R a ≡ y) × (leads_in R b a ≡ true)
   unfolding backward_key
   backward-leads a zero b y h l e = absurd (omega arith)
   backward-leads a (suc zero) b y h l e = absurd (omega arith)
@@ -157,17 +157,17 @@ module _ (R : Record) (f : Fit R) where
       rival-leads b a y (paired-either a b p).1 (right-known f.formed a 2 b p) (left-known f.formed a 2 b p) (not-init f.formed a (f.formed.left a 2 b p)) l e
 
   module _ (rows : List ℕ) (j : ℕ) (e : j ≡ length R.constraints) (w : Rowing R rows j) where
-    forward-left : (i : ℕ) → i < length R.constraints → left_at rows (2 * i) ≡ index_in R (get_or R.constraints i filler_constraint).left
-    forward-left i h = w.left (2 * i) (omega arith) ∙ both_first (λ c. index_in R c.left) (λ c. index_in R c.right) R.constraints i filler_constraint h
+    forward-left : (i : ℕ) → i < length R.constraints → left_at rows (2 * i) ≡ name_index R (get_or R.constraints i filler_constraint).left
+    forward-left i h = w.left (2 * i) (omega arith) ∙ both_first (λ c. name_index R c.left) (λ c. name_index R c.right) R.constraints i filler_constraint h
 
-    backward-left : (i : ℕ) → i < length R.constraints → left_at rows (2 * i + 1) ≡ index_in R (get_or R.constraints i filler_constraint).right
-    backward-left i h = w.left (2 * i + 1) (omega arith) ∙ both-second (λ c. index_in R c.left) (λ c. index_in R c.right) R.constraints i filler_constraint h
+    backward-left : (i : ℕ) → i < length R.constraints → left_at rows (2 * i + 1) ≡ name_index R (get_or R.constraints i filler_constraint).right
+    backward-left i h = w.left (2 * i + 1) (omega arith) ∙ both-second (λ c. name_index R c.left) (λ c. name_index R c.right) R.constraints i filler_constraint h
 
     record Row (i y : ℕ) : Type 0 where
       pub left : left_at rows i < length (names R)
       pub holds : leads_in R (name_at R (left_at rows i)) (name_at R y) ≡ true
 
-    row_from : (i y a b : ℕ) → a among names R → b among names R → left_at rows i ≡ index_in R a → index_in R b ≡ y → leads_in R a b ≡ true → Row i y
+    row_from : (i y a b : ℕ) → a among names R → b among names R → left_at rows i ≡ name_index R a → name_index R b ≡ y → leads_in R a b ≡ true → Row i y
     row_from i y a b ka kb el er h = record {
       left = rw el (index-low R a ka);
       holds = rw (el, at-index R a ka, ← er, at-index R b kb) h;
@@ -206,7 +206,7 @@ module _ (R : Record) (f : Fit R) where
     Wanted a b = RowOf R 0 (member_keys_of R) rows a b
 
     -- the row of what leads: a constraint's forward one, or its backward one
-    forward-row : (a k b : ℕ) → has a k b R.constraints ≡ true → forward_key R (index_in R a) k (index_in R b) ≡ index_in R b → Wanted a b
+    forward-row : (a k b : ℕ) → has a k b R.constraints ≡ true → forward_key R (name_index R a) k (name_index R b) ≡ name_index R b → Wanted a b
     forward-row a k b h q =
         let ka = left-known f.formed a k b h in
         let kb = right-known f.formed a k b h in
@@ -215,11 +215,11 @@ module _ (R : Record) (f : Fit R) where
           low = omega (arith, both-length (forward_key_of R) (backward_of R) R.constraints);
           left-known = ka;
           right-known = kb;
-          left = forward-left i u ∙ (ap (index_in R) x ∙ place-known a (names R) ka);
+          left = forward-left i u ∙ (ap (name_index R) x ∙ place-known a (names R) ka);
           key = both_first (forward_key_of R) (backward_of R) R.constraints i filler_constraint u ∙ (rw (x, y, z) q ∙ (place-known b (names R) kb ∙ omega arith));
         })
 
-    backward-row : (a k b : ℕ) → has b k a R.constraints ≡ true → backward_key R (index_in R b) k (index_in R a) ≡ index_in R b → Wanted a b
+    backward-row : (a k b : ℕ) → has b k a R.constraints ≡ true → backward_key R (name_index R b) k (name_index R a) ≡ name_index R b → Wanted a b
     backward-row a k b h q =
         let ka = right-known f.formed b k a h in
         let kb = left-known f.formed b k a h in
@@ -228,15 +228,15 @@ module _ (R : Record) (f : Fit R) where
           low = omega (arith, both-length (forward_key_of R) (backward_of R) R.constraints);
           left-known = ka;
           right-known = kb;
-          left = backward-left i u ∙ (ap (index_in R) z ∙ place-known a (names R) ka);
+          left = backward-left i u ∙ (ap (name_index R) z ∙ place-known a (names R) ka);
           key = both-second (forward_key_of R) (backward_of R) R.constraints i filler_constraint u ∙ (rw (x, y, z) q ∙ (place-known b (names R) kb ∙ omega arith));
         })
 
-    enabled-index : (b : ℕ) → b among names R → eqb b 0 ≡ false → enabled_key (index_in R b) ≡ index_in R b
+    enabled-index : (b : ℕ) → b among names R → eqb b 0 ≡ false → enabled_key (name_index R b) ≡ name_index R b
     unfolding enabled_key
-    enabled-index b i n = by (eqb (index_in R b) 0) (λ q. clash (index-init b i (eqb-true (index_in R b) 0 q)) n) (λ q. rw q)
+    enabled-index b i n = by (eqb (name_index R b) 0) (λ q. clash (index-init b i (eqb-true (name_index R b) 0 q)) n) (λ q. rw q)
 
-    rival-index : (a b : ℕ) → a among names R → b among names R → notafter R b a ≡ false → rival_key R (index_in R a) (index_in R b) ≡ index_in R b
+    rival-index : (a b : ℕ) → a among names R → b among names R → notafter R b a ≡ false → rival_key R (name_index R a) (name_index R b) ≡ name_index R b
     unfolding rival_key
     rival-index a b i k n = rw (at-index R a i, at-index R b k, n)
 
@@ -286,7 +286,7 @@ module _ (R : Record) (w : WellFormed R) (e : ℕ) (i : e among written R) where
 
 -- one turn of the loop that links the rows: the indexes and keys as the code finds them
 module _ (table rows : List ℕ) (l : List Constraint) (j : ℕ) (d : Constraint) (a b f g : ℕ) (R : Record) (q : l ≡ R.constraints) (fit : Fit R)
-    (t : (x : ℕ) → get_or table x 0 ≡ index_in R x) (h : j < 512) (u : j < length l)
+    (t : (x : ℕ) → get_or table x 0 ≡ name_index R x) (h : j < 512) (u : j < length l)
     (ea : a ≡ get_or table (get_or l j d).left 0) (eb : b ≡ get_or table (get_or l j d).right 0)
     (ef : a < length (names R) → b < length (names R) → f ≡ forward_key R a (get_or l j d).rule b)
     (eg : a < length (names R) → b < length (names R) → g ≡ backward_key R a (get_or l j d).rule b) (kf : f ≤ 128) (kg : g ≤ 128) where
@@ -299,8 +299,8 @@ module _ (table rows : List ℕ) (l : List Constraint) (j : ℕ) (d : Constraint
   pub rowing-turn : length rows ≡ 2432 → Rowing R rows j → Rowing R (with_both rows j a b f g) (j + 1)
   rowing-turn size =
       let s = has-at R.constraints j filler_constraint within in
-      let pa : a ≡ index_in R (get_or R.constraints j filler_constraint).left = ea ∙ (t _ ∙ ap (λ c. index_in R c.left) same) in
-      let pb : b ≡ index_in R (get_or R.constraints j filler_constraint).right = eb ∙ (t _ ∙ ap (λ c. index_in R c.right) same) in
+      let pa : a ≡ name_index R (get_or R.constraints j filler_constraint).left = ea ∙ (t _ ∙ ap (λ c. name_index R c.left) same) in
+      let pb : b ≡ name_index R (get_or R.constraints j filler_constraint).right = eb ∙ (t _ ∙ ap (λ c. name_index R c.right) same) in
       let la : a < length (names R) = rw pa (index-low R _ (left-known fit.formed _ _ _ s)) in
       let lb : b < length (names R) = rw pb (index-low R _ (right-known fit.formed _ _ _ s)) in
       let pf : f ≡ forward_key_of R (get_or R.constraints j filler_constraint) = ef la lb ∙ (λ i. forward_key R (pa i) (same i).rule (pb i)) in
@@ -308,7 +308,7 @@ module _ (table rows : List ℕ) (l : List Constraint) (j : ℕ) (d : Constraint
       rowing-step R rows j a b f g size h within pa pb pf pg kf kg
 
 -- the marks of the closure from an edit's index are those of the members
-module _ (R : Record) (f : Fit R) (e : ℕ) (i : e among written R) (x : ℕ) (q : x ≡ index_in R e) where
+module _ (R : Record) (f : Fit R) (e : ℕ) (i : e among written R) (x : ℕ) (q : x ≡ name_index R e) where
   pub start-low : x < length (names R)
   start-low = rw q (index-low R e (written-names R e i))
 

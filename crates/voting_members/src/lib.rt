@@ -16,7 +16,7 @@ ghost use Rattle.voting_members.specs.Rows.{rival_key, enabled_key, forward_key,
 
 use graph::indexes;
 use graph::indexes::IndexTable;
-use graph::links::{Linking, MARKS, Marks, NOTAFTER, Rows};
+use graph::links::{Linking, MARKS, Marks, NOTAFTER_BASE, Rows};
 use record::Record;
 
 // The key of the row between two noncommuting edits; for none it is the count of indexes, which no edit has as its own.
@@ -26,7 +26,7 @@ fn rival_key(rows: &Rows, from: usize, to: usize) -> usize
     ensures { (result ≤ mark_limit) × ((R : theory.Record) → Resolved R rows.now → from < length (theory.names R)
         → to < length (theory.names R) → result ≡ rival_key R from to) }
 {
-    if rows.leads_to(NOTAFTER, to, from) {
+    if rows.leads_to(NOTAFTER_BASE, to, from) {
         MARKS
     } else {
         to

@@ -27,12 +27,12 @@ use Rattle.voting.specs.Tally.{same_edit, same_constraint, same_list, same_bundl
 use Rattle.voting.specs.Proposal.{keeps}
 use Rattle.voting.proofs.Proposed.{keeps-is}
 use Rattle.voting_mergeability.specs.Mergeability.{Voter, SoundTables, OneBody, EachSound, EachOneBody, Sending, HeldElection, Chosen, EachChosen, won_by, won_in, unite_all, Mergeable}
-use Rattle.voting_mergeability.specs.Examples.{old, new, bad, example_roll, sent, holding, elections, Results, Example, WithoutKeeping, half_winner_of, half_won_bundle, WithHalf, WithTwoRolls, aborted, Rivals}
+use Rattle.voting_mergeability.specs.Examples.{example_old, example_new, bad, example_roll, sent, holding, elections, Results, Example, WithoutKeeping, half_winner_of, half_won_bundle, WithHalf, WithTwoRolls, aborted, Rivals}
 use Rattle.voting_mergeability.proofs.Mergeability.{tables-sound, mergeability}
 
 -- those of the proposals that are sound, with one body to a name
 abbrev samples : List Record
-samples = old ∷ new ∷ bad ∷ aborted ∷ []
+samples = example_old ∷ example_new ∷ bad ∷ aborted ∷ []
 
 -- 257 inserts at place 5, 258 at place 6
 abbrev sample_body : ℕ → Body
@@ -43,21 +43,21 @@ on257 held = record { edit = 257; held = held }
 
 -- each bench requires 257, and later aborts it
 abbrev turned_sent : ℕ → List Record
-turned_sent k = old ∷ aborted ∷ []
+turned_sent k = example_old ∷ aborted ∷ []
 
 abbrev turned_elections : List HeldElection
-turned_elections = on257 (λ k. old) ∷ on257 (λ k. aborted) ∷ []
+turned_elections = on257 (λ k. example_old) ∷ on257 (λ k. aborted) ∷ []
 
 -- bench 1 requires 257, any other aborts it
 abbrev rival_sent : ℕ → List Record
-rival_sent k = cond (eqb k 1) (old ∷ []) (aborted ∷ [])
+rival_sent k = cond (eqb k 1) (example_old ∷ []) (aborted ∷ [])
 
 abbrev rival_elections : List HeldElection
-rival_elections = on257 (λ k. cond (eqb k 1) old aborted) ∷ []
+rival_elections = on257 (λ k. cond (eqb k 1) example_old aborted) ∷ []
 
 -- the proposal of one bench has not come yet
 abbrev half_elections : List HeldElection
-half_elections = on257 (λ k. cond (eqb k 1) old empty_tables) ∷ on257 (λ k. cond (eqb k 1) empty_tables aborted) ∷ []
+half_elections = on257 (λ k. cond (eqb k 1) example_old empty_tables) ∷ on257 (λ k. cond (eqb k 1) empty_tables aborted) ∷ []
 
 abbrev weights : ℕ → ℕ → List RollRow
 weights one two = record { bench = 1; weight = one } ∷ record { bench = 2; weight = two } ∷ []
@@ -66,15 +66,15 @@ weights one two = record { bench = 1; weight = one } ∷ record { bench = 2; wei
 record Computed : Type 0 where
   results : Results
   sound-all : all (λ R. well_formed R && sound R) samples ≡ true
-  kept_there : keeps old new ≡ true
-  must-there : must old 257 ≡ true
+  kept_there : keeps example_old example_new ≡ true
+  must-there : must example_old 257 ≡ true
   never-there : never aborted 257 ≡ true
-  rivals-formed : well_formed (unite_all empty_tables (old ∷ aborted ∷ [])) ≡ true
-  rivals-unsound : sound (unite_all empty_tables (old ∷ aborted ∷ [])) ≡ false
+  rivals-formed : well_formed (unite_all empty_tables (example_old ∷ aborted ∷ [])) ≡ true
+  rivals-unsound : sound (unite_all empty_tables (example_old ∷ aborted ∷ [])) ≡ false
   -- the votes of one bench that turned; those of two with half each; those of two on two rolls
-  turned-won : won_in (weights 1 0) turned_elections ≡ old ∷ aborted ∷ []
-  half-won : won_by (half_won_bundle (weights 1 1)) half_elections ≡ old ∷ aborted ∷ []
-  two-rolls-won : (won_in (weights 2 1) rival_elections ++ won_in (weights 1 2) rival_elections) ≡ old ∷ aborted ∷ []
+  turned-won : won_in (weights 1 0) turned_elections ≡ example_old ∷ aborted ∷ []
+  half-won : won_by (half_won_bundle (weights 1 1)) half_elections ≡ example_old ∷ aborted ∷ []
+  two-rolls-won : (won_in (weights 2 1) rival_elections ++ won_in (weights 1 2) rival_elections) ≡ example_old ∷ aborted ∷ []
 
 computed : Computed
 unfolding keeps sound must never settled serialised ordered well_formed ring order ready musts needs names written is has closure grown find any all filter mem ballots vote eligible bundle between members leads same_bundle same_list same_edit same_constraint edit_row constraint_row same won greatest greatest_of silent weigh total winner winner_of half_winner_of won_by unite_all unite united inserted precedes
@@ -91,10 +91,10 @@ computed = record {
   two-rolls-won = refl;
 }
 
-old-sample : Has old samples
+old-sample : Has example_old samples
 old-sample = inl refl
 
-new-sample : Has new samples
+new-sample : Has example_new samples
 new-sample = inr (inl refl)
 
 bad-sample : Has bad samples
@@ -120,9 +120,9 @@ sample-sound R h =
 
 -- the edits of all of them
 abbrev edits : List Edit
-edits = new.edits
+edits = example_new.edits
 
-old-edit : (e : Edit) → Has e old.edits → Has e edits
+old-edit : (e : Edit) → Has e example_old.edits → Has e edits
 old-edit e (inl q) = inl q
 old-edit e (inr z) = absurd z
 
@@ -171,11 +171,11 @@ sent-samples k v P h =
 premises : Sending example_roll sent
 premises = record {
   each-sound = samples-sound example_roll sent sent-samples;
-  each-kept = λ k v. voters k v (λ e. rw e ((keeps-is old new).0 computed.kept_there, tt)) (λ e. rw e tt) (λ e. rw e tt);
+  each-kept = λ k v. voters k v (λ e. rw e ((keeps-is example_old example_new).0 computed.kept_there, tt)) (λ e. rw e tt) (λ e. rw e tt);
   each-one-body = samples-one-body example_roll sent sent-samples;
 }
 
-held-chosen : (P : Record) → Has P (old ∷ new ∷ []) → Chosen example_roll sent (holding P)
+held-chosen : (P : Record) → Has P (example_old ∷ example_new ∷ []) → Chosen example_roll sent (holding P)
 unfolding Chosen
 held-chosen P h k v =
     voters k v
@@ -184,9 +184,9 @@ held-chosen P h k v =
     (λ e. subst (λ (i : ℕ). Has (holding P i) (empty_tables ∷ sent i)) (sym e) (inr (inl refl)))
 
 choices : EachChosen example_roll sent elections
-choices x (inl q) = rw q (held-chosen old (inl refl))
-choices x (inr (inl q)) = rw q (held-chosen old (inl refl))
-choices x (inr (inr (inl q))) = rw q (held-chosen new (inr (inl refl)))
+choices x (inl q) = rw q (held-chosen example_old (inl refl))
+choices x (inr (inl q)) = rw q (held-chosen example_old (inl refl))
+choices x (inr (inr (inl q))) = rw q (held-chosen example_new (inr (inl refl)))
 choices x (inr (inr (inr z))) = absurd z
 
 -- The example.
@@ -198,15 +198,15 @@ example = record {
   mergeable = rw (← computed.results.won-bundles) (mergeability premises elections choices);
 }
 
-must-old : Must old 257
-must-old = let s = sample-sound old old-sample in (must-is old s.formed (tables-sound s) 257).0 computed.must-there
+must-old : Must example_old 257
+must-old = let s = sample-sound example_old old-sample in (must-is example_old s.formed (tables-sound s) 257).0 computed.must-there
 
 never-aborted : Never aborted 257
 never-aborted = (never-is aborted (sample-sound aborted aborted-sample).formed 257).0 computed.never-there
 
-not-mergeable : Mergeable (old ∷ aborted ∷ []) → ⊥
+not-mergeable : Mergeable (example_old ∷ aborted ∷ []) → ⊥
 unfolding written mem
-not-mergeable m = m.no-rivals aborted old (inr (inl refl)) (inl refl) 257 refl never-aborted must-old
+not-mergeable m = m.no-rivals aborted example_old (inr (inl refl)) (inl refl) 257 refl never-aborted must-old
 
 -- The two bundles against which each premise is needed.
 pub rivals : Rivals
@@ -243,15 +243,15 @@ rival-premises example_roll = record {
 }
 
 -- what each of two benches holds is the empty proposal or what it sent
-one-sent : (b : Bool) → Has (cond b old empty_tables) (empty_tables ∷ cond b (old ∷ []) (aborted ∷ []))
+one-sent : (b : Bool) → Has (cond b example_old empty_tables) (empty_tables ∷ cond b (example_old ∷ []) (aborted ∷ []))
 one-sent true = inr (inl refl)
 one-sent false = inl refl
 
-other-sent : (b : Bool) → Has (cond b empty_tables aborted) (empty_tables ∷ cond b (old ∷ []) (aborted ∷ []))
+other-sent : (b : Bool) → Has (cond b empty_tables aborted) (empty_tables ∷ cond b (example_old ∷ []) (aborted ∷ []))
 other-sent true = inl refl
 other-sent false = inr (inl refl)
 
-both-sent : (b : Bool) → Has (cond b old aborted) (empty_tables ∷ cond b (old ∷ []) (aborted ∷ []))
+both-sent : (b : Bool) → Has (cond b example_old aborted) (empty_tables ∷ cond b (example_old ∷ []) (aborted ∷ []))
 both-sent true = inr (inl refl)
 both-sent false = inr (inl refl)
 

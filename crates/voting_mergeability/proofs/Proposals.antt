@@ -37,9 +37,9 @@ proposal-next t h =
     let M = record_m t in
     let Q = proposal_q t in
     let a = orelse-none (lent_fault empty_tables t.edits t.constraints) _ h in
-    let b = orelse-none (lent_fault M t.oldedits t.oldconstraints) _ a.1 in
+    let b = orelse-none (lent_fault M t.old_edits t.old_constraints) _ a.1 in
     let c = orelse-none (draft_fault M Q) _ b.1 in
     let d = orelse-none (11 given not (keeps Q (proposed M Q))) _ c.1 in
-    let k = joined-checked M t.oldedits t.oldconstraints (lent-checked t.edits t.constraints a.0) b.0 in
+    let k = joined-checked M t.old_edits t.old_constraints (lent-checked t.edits t.constraints a.0) b.0 in
     rw (eq-eqb (propose_fault t) 0 h)
     (drafted-sound M Q k c.0, (keeps-is Q (proposed M Q)).0 (not-false (keeps Q (proposed M Q)) (given-none 10 (not (keeps Q (proposed M Q))) d.0)))

@@ -7,7 +7,7 @@ use Rattle.record.specs.Record.{Record}
 use Rattle.lists.specs.Keyed.{Ascending, united}
 use Rattle.lists.specs.Lists.{Has}
 use Rattle.lists.proofs.Order.{less-total}
-use Rattle.lists.proofs.Union.{Agree, united-has, united-old, united-new, ascending-united}
+use Rattle.lists.proofs.Union.{SameByKey, united-has, united-old, united-new, ascending-united}
 use Rattle.record_tables.specs.Table.{edit_key, constraint_key, empty_tables, unite}
 use Rattle.voting.proofs.Joined.{constraints-agree}
 use Rattle.voting_mergeability.specs.Mergeability.{OneBody, UnionOf, unite_all}
@@ -16,7 +16,7 @@ use Rattle.voting_mergeability.specs.Mergeability.{OneBody, UnionOf, unite_all}
 module _ {A : Type 0} (key : A → List ℕ) (table : Record → List A) (joins : (R S : Record) → table (unite R S) ≡ united key (table R) (table S)) where
   -- no key stands in two of them with different elements
   EachAgree : Record → List Record → Type 0
-  EachAgree R l = (P Q : Record) → Has P (R ∷ l) → Has Q (R ∷ l) → Agree key (table P) (table Q)
+  EachAgree R l = (P Q : Record) → Has P (R ∷ l) → Has Q (R ∷ l) → SameByKey key (table P) (table Q)
 
   all_old : (R : Record) (l : List Record) (x : A) → Has x (table R) → Has x (table (unite_all R l))
   unfolding unite_all
@@ -73,7 +73,7 @@ unfolding unite
 constraints-join R S = refl
 
 -- an edit's key is its name
-bodies-agree : (P Q : Record) → OneBody P Q → Agree edit_key P.edits Q.edits
+bodies-agree : (P Q : Record) → OneBody P Q → SameByKey edit_key P.edits Q.edits
 unfolding OneBody
 bodies-agree P Q f d e h i p q =
     let k = less-total (edit_key d) (edit_key e) refl p q in

@@ -21,12 +21,12 @@ abbrev row : ℕ → ℕ → RollRow
 row bench weight = record { bench = bench; weight = weight }
 
 -- 257 is required
-abbrev pub old : Record
-old = record { edits = insert 257 5 ∷ []; constraints = con 257 1 0 ∷ [] }
+abbrev pub example_old : Record
+example_old = record { edits = insert 257 5 ∷ []; constraints = con 257 1 0 ∷ [] }
 
 -- besides, 258 is aborted; 257 comes before it and enables it
-abbrev pub new : Record
-new = record {
+abbrev pub example_new : Record
+example_new = record {
   edits = insert 257 5 ∷ insert 258 6 ∷ [];
   constraints = con 257 0 258 ∷ con 257 1 0 ∷ con 257 1 258 ∷ con 258 0 258 ∷ [];
 }
@@ -47,32 +47,32 @@ abbrev by_bench : {A : Type 0} → A → A → A → A → ℕ → A
 by_bench one two three others k = cond (eqb k 1) one (cond (eqb k 2) two (cond (eqb k 3) three others))
 
 abbrev pub sent : ℕ → List Record
-sent = by_bench (old ∷ new ∷ []) (bad ∷ []) (new ∷ []) (bad ∷ wild ∷ [])
+sent = by_bench (example_old ∷ example_new ∷ []) (bad ∷ []) (example_new ∷ []) (bad ∷ wild ∷ [])
 
 -- bench 1's proposal is the older or the newer one
 abbrev pub holding : Record → ℕ → Record
-holding P = by_bench P bad new wild
+holding P = by_bench P bad example_new wild
 
 abbrev pub elections : List HeldElection
-elections = record { edit = 257; held = holding old } ∷ record { edit = 258; held = holding old } ∷ record { edit = 258; held = holding new } ∷ []
+elections = record { edit = 257; held = holding example_old } ∷ record { edit = 258; held = holding example_old } ∷ record { edit = 258; held = holding example_new } ∷ []
 
 abbrev election_answer : Bool → ℕ → ℕ → Election
 election_answer won greatest silent = record { number = 0; won = won; greatest = greatest; silent = silent; total = 6 }
 
 -- The results: the first and the third are won, the second is open. The won bundles united are the newer proposal.
 pub record Results : Type 0 where
-  pub first : counted (ballots (holding old) 257 example_roll) ≡ election_answer true 4 0
-  pub second : counted (ballots (holding old) 258 example_roll) ≡ election_answer false 2 3
-  pub third : counted (ballots (holding new) 258 example_roll) ≡ election_answer true 4 0
-  pub won-bundles : won_in example_roll elections ≡ old ∷ new ∷ []
-  pub union-is : unite_all empty_tables (old ∷ new ∷ []) ≡ new
+  pub first : counted (ballots (holding example_old) 257 example_roll) ≡ election_answer true 4 0
+  pub second : counted (ballots (holding example_old) 258 example_roll) ≡ election_answer false 2 3
+  pub third : counted (ballots (holding example_new) 258 example_roll) ≡ election_answer true 4 0
+  pub won-bundles : won_in example_roll elections ≡ example_old ∷ example_new ∷ []
+  pub union-is : unite_all empty_tables (example_old ∷ example_new ∷ []) ≡ example_new
 
 -- The example meets the premises, so that the promise says this of it.
 pub record Example : Type 0 where
   pub premises : Sending example_roll sent
   pub choices : EachChosen example_roll sent elections
   pub results : Results
-  pub mergeable : Mergeable (old ∷ new ∷ [])
+  pub mergeable : Mergeable (example_old ∷ example_new ∷ [])
 
 -- The promise without keeping.
 abbrev pub WithoutKeeping : Type 0
@@ -106,7 +106,7 @@ abbrev pub aborted : Record
 aborted = record { edits = insert 257 5 ∷ []; constraints = con 257 0 257 ∷ [] }
 
 pub record Rivals : Type 0 where
-  pub unsound : SoundRecord (unite_all empty_tables (old ∷ aborted ∷ [])) → ⊥
-  pub must-old : Must old 257
+  pub unsound : SoundRecord (unite_all empty_tables (example_old ∷ aborted ∷ [])) → ⊥
+  pub must-old : Must example_old 257
   pub never-aborted : Never aborted 257
-  pub not-mergeable : Mergeable (old ∷ aborted ∷ []) → ⊥
+  pub not-mergeable : Mergeable (example_old ∷ aborted ∷ []) → ⊥

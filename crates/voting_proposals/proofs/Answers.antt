@@ -95,32 +95,32 @@ further a b c d f =
 
 module _ (t : LentToPropose) where
   abbrev pub fault : ℕ
-  fault = new_fault t.edits t.constraints t.oldedits t.oldconstraints
+  fault = new_fault t.edits t.constraints t.old_edits t.old_constraints
 
   abbrev pub new : Record
   new = proposed (record_m t) (proposal_q t)
 
   abbrev pub short : ℕ
-  short = 12 given too_short (length t.newedits) (length t.newconstraints) new
+  short = 12 given too_short (length t.new_edits) (length t.new_constraints) new
 
   pub fault-is : propose_fault t ≡ (fault orelse short)
   unfolding propose_fault
   fault-is =
-      further (lent_fault empty_tables t.edits t.constraints) (lent_fault (record_m t) t.oldedits t.oldconstraints) (draft_fault (record_m t) (proposal_q t)) (11 given unkept (record_m t) (proposal_q t)) short
+      further (lent_fault empty_tables t.edits t.constraints) (lent_fault (record_m t) t.old_edits t.old_constraints) (draft_fault (record_m t) (proposal_q t)) (11 given unkept (record_m t) (proposal_q t)) short
 
   -- refused: nothing is written
-  refused-is : (r : Refusal) → number r ≡ propose_fault t → Makes t (Err r) t.newedits t.newconstraints
+  refused-is : (r : Refusal) → number r ≡ propose_fault t → Makes t (Err r) t.new_edits t.new_constraints
   unfolding new_proposal
   refused-is r e =
       let b : eqb (propose_fault t) 0 ≡ false = ne_eqb (propose_fault t) 0 (λ q. number-positive r (e ∙ q)) in
       record { answers = (e, tt); editrows = rw b; constraintrows = rw b }
 
-  pub tables-refused : (r : Refusal) → number r ≡ fault → Makes t (Err r) t.newedits t.newconstraints
+  pub tables-refused : (r : Refusal) → number r ≡ fault → Makes t (Err r) t.new_edits t.new_constraints
   tables-refused r e = refused-is r (e ∙ sym (fault-is ∙ orelse-first fault short (λ q. number-positive r (e ∙ q))))
 
   -- the rows of the new proposal are at hand
   module _ {made : declared.Record} (none-new : 0 ≡ fault) (new-held : made ≡ stored new) {es : List Edit} {cs : List Constraint}
-      (e : es ≡ take made.editcount made.edits) (c : cs ≡ take made.constraintcount made.constraints) where
+      (e : es ≡ take made.edit_count made.edits) (c : cs ≡ take made.constraint_count made.constraints) where
     edits-are : es ≡ new.edits
     edits-are = e ∙ ap (λ (R : Record). R.edits) (ap record_of new-held ∙ stored_back new)
 
@@ -128,40 +128,40 @@ module _ (t : LentToPropose) where
     constraints-are = c ∙ ap (λ (R : Record). R.constraints) (ap record_of new-held ∙ stored_back new)
 
     -- 12: exactly enough is enough
-    pub few-edits : length t.newedits < length es → Makes t (Err NoRoom) t.newedits t.newconstraints
+    pub few-edits : length t.new_edits < length es → Makes t (Err NoRoom) t.new_edits t.new_constraints
     unfolding too_short
     few-edits h =
-        let l : ltb (length t.newedits) (length new.edits) ≡ true = lt-ltb (length t.newedits) (length new.edits) (omega (arith, ap length edits-are)) in
+        let l : ltb (length t.new_edits) (length new.edits) ≡ true = lt-ltb (length t.new_edits) (length new.edits) (omega (arith, ap length edits-are)) in
         refused-is NoRoom (sym (fault-is ∙ orelse-second fault short (sym none-new) ∙ rw l))
 
-    module _ (h : length es ≤ length t.newedits) where
-      enough : ltb (length t.newedits) (length new.edits) ≡ false
-      enough = le-ltb (length t.newedits) (length new.edits) (omega (arith, ap length edits-are))
+    module _ (h : length es ≤ length t.new_edits) where
+      enough : ltb (length t.new_edits) (length new.edits) ≡ false
+      enough = le-ltb (length t.new_edits) (length new.edits) (omega (arith, ap length edits-are))
 
-      pub few-constraints : length t.newconstraints < length cs → Makes t (Err NoRoom) t.newedits t.newconstraints
+      pub few-constraints : length t.new_constraints < length cs → Makes t (Err NoRoom) t.new_edits t.new_constraints
       unfolding too_short
       few-constraints i =
-          let l : ltb (length t.newconstraints) (length new.constraints) ≡ true = lt-ltb (length t.newconstraints) (length new.constraints) (omega (arith, ap length constraints-are)) in
+          let l : ltb (length t.new_constraints) (length new.constraints) ≡ true = lt-ltb (length t.new_constraints) (length new.constraints) (omega (arith, ap length constraints-are)) in
           refused-is NoRoom (sym (fault-is ∙ orelse-second fault short (sym none-new) ∙ rw (enough, l)))
 
-      module _ (i : length cs ≤ length t.newconstraints) where
+      module _ (i : length cs ≤ length t.new_constraints) where
         proposal-accepted : propose_fault t ≡ 0
         unfolding too_short
         proposal-accepted =
-            let l : ltb (length t.newconstraints) (length new.constraints) ≡ false = le-ltb (length t.newconstraints) (length new.constraints) (omega (arith, ap length constraints-are)) in
+            let l : ltb (length t.new_constraints) (length new.constraints) ≡ false = le-ltb (length t.new_constraints) (length new.constraints) (omega (arith, ap length constraints-are)) in
             fault-is ∙ orelse-second fault short (sym none-new) ∙ rw (enough, l)
 
         given-new : new ≡ new_proposal t
         unfolding new_proposal
         given-new = rw proposal-accepted
 
-        pub written_is : {editrows constraintrows : Rows} → editrows ≡ over (map edit_row es) t.newedits → constraintrows ≡ over (map constraint_row cs) t.newconstraints
-            → Makes t (Ok (record { editcount = length es; constraintcount = length cs })) editrows constraintrows
+        pub written_is : {editrows constraintrows : Rows} → editrows ≡ over (map edit_row es) t.new_edits → constraintrows ≡ over (map constraint_row cs) t.new_constraints
+            → Makes t (Ok (record { edit_count = length es; constraint_count = length cs })) editrows constraintrows
         written_is f g =
             let x : es ≡ (new_proposal t).edits = edits-are ∙ ap (λ (R : Record). R.edits) given-new in
             let y : cs ≡ (new_proposal t).constraints = constraints-are ∙ ap (λ (R : Record). R.constraints) given-new in
             record {
-              answers = (sym proposal-accepted, λ j. record { editcount = length (x j); constraintcount = length (y j) });
-              editrows = f ∙ ap (λ (l : List Edit). over (map edit_row l) t.newedits) x;
-              constraintrows = g ∙ ap (λ (l : List Constraint). over (map constraint_row l) t.newconstraints) y;
+              answers = (sym proposal-accepted, λ j. record { edit_count = length (x j); constraint_count = length (y j) });
+              editrows = f ∙ ap (λ (l : List Edit). over (map edit_row l) t.new_edits) x;
+              constraintrows = g ∙ ap (λ (l : List Constraint). over (map constraint_row l) t.new_constraints) y;
             }

@@ -35,25 +35,25 @@ too_short editplaces constraintplaces R = ltb editplaces (length R.edits) || ltb
 pub record LentToPropose : Type 0 where
   pub edits : Rows
   pub constraints : Rows
-  pub oldedits : Rows
-  pub oldconstraints : Rows
-  pub newedits : Rows
-  pub newconstraints : Rows
+  pub old_edits : Rows
+  pub old_constraints : Rows
+  pub new_edits : Rows
+  pub new_constraints : Rows
 
 abbrev pub record_m : LentToPropose → Record
 record_m t = decoded t.edits t.constraints
 
 abbrev pub proposal_q : LentToPropose → Record
-proposal_q t = decoded t.oldedits t.oldconstraints
+proposal_q t = decoded t.old_edits t.old_constraints
 
 -- the number: rows of M; rows of Q, which join M; the faults of the whole call
 unfoldable pub propose_fault : LentToPropose → ℕ
 propose_fault t =
     lent_fault empty_tables t.edits t.constraints
-    orelse lent_fault (record_m t) t.oldedits t.oldconstraints
+    orelse lent_fault (record_m t) t.old_edits t.old_constraints
     orelse draft_fault (record_m t) (proposal_q t)
     orelse 11 given unkept (record_m t) (proposal_q t)
-    orelse 12 given too_short (length t.newedits) (length t.newconstraints) (proposed (record_m t) (proposal_q t))
+    orelse 12 given too_short (length t.new_edits) (length t.new_constraints) (proposed (record_m t) (proposal_q t))
 
 -- what is given: the new proposal, and nothing where it is refused
 unfoldable pub new_proposal : LentToPropose → Record
@@ -61,17 +61,17 @@ new_proposal t = cond (eqb (propose_fault t) 0) (proposed (record_m t) (proposal
 
 -- THE ANSWER where it is not refused: how many rows of each table are written
 abbrev pub proposed_of : LentToPropose → Proposed
-proposed_of t = record { editcount = length (new_proposal t).edits; constraintcount = length (new_proposal t).constraints }
+proposed_of t = record { edit_count = length (new_proposal t).edits; constraint_count = length (new_proposal t).constraints }
 
 -- rows written over the first of a table; what stands after them stays
 abbrev pub over : Rows → Rows → Rows
 over rows table = rows ++ drop (length rows) table
 
 abbrev pub edits_after : LentToPropose → Rows
-edits_after t = over (edit_rows (new_proposal t)) t.newedits
+edits_after t = over (edit_rows (new_proposal t)) t.new_edits
 
 abbrev pub constraints_after : LentToPropose → Rows
-constraints_after t = over (constraint_rows (new_proposal t)) t.newconstraints
+constraints_after t = over (constraint_rows (new_proposal t)) t.new_constraints
 
 -- What making a proposal promises: the answer, and the whole content of both tables afterwards.
 pub record Makes (t : LentToPropose) (answer : Result Proposed Refusal) (edits constraints : Rows) : Type 0 where
@@ -81,7 +81,7 @@ pub record Makes (t : LentToPropose) (answer : Result Proposed Refusal) (edits c
 
 -- the same before the lent output is looked at. Inner: what is refused says proposal_fault
 abbrev pub new_fault : Rows → Rows → Rows → Rows → ℕ
-new_fault edits constraints oldedits oldconstraints =
+new_fault edits constraints old_edits old_constraints =
     let M = decoded edits constraints in
-    let Q = decoded oldedits oldconstraints in
-    lent_fault empty_tables edits constraints orelse lent_fault M oldedits oldconstraints orelse draft_fault M Q orelse 11 given unkept M Q
+    let Q = decoded old_edits old_constraints in
+    lent_fault empty_tables edits constraints orelse lent_fault M old_edits old_constraints orelse draft_fault M Q orelse 11 given unkept M Q

@@ -31,9 +31,9 @@ fn is_kept(old: &Bundling, new: &Bundling, name: u16) -> bool
 pub fn keeps(old: Record, new: Record) -> bool
     ensures { (Q P : theory.Record) → old ≡ stored Q → Fit Q → new ≡ stored P → Fit P → theory.written Q within theory.written P → result ≡ proposal.keeps Q P }
 {
-    let oldbundles = Bundling::new(old);
-    let newbundles = Bundling::new(new);
+    let old_bundles = Bundling::new(old);
+    let new_bundles = Bundling::new(new);
     old.edit_slice()
         .iter()
-        .all(|edit| is_kept(&oldbundles, &newbundles, edit.name))
+        .all(|edit| is_kept(&old_bundles, &new_bundles, edit.name))
 }

@@ -22,8 +22,8 @@ use voting_drafts::draft;
 // How many rows of each table are written.
 #[derive(Clone, Copy)]
 pub struct Proposed {
-    pub editcount: usize,
-    pub constraintcount: usize,
+    pub edit_count: usize,
+    pub constraint_count: usize,
 }
 
 // The finished proposal, not yet compared with the old one. both: the union of the record and the old proposal.
@@ -81,28 +81,28 @@ fn write_rows<const CELLS: usize, T: Element<CELLS>>(elements: &[T], table: &mut
 pub fn propose(
     lent: LentRecord,
     old: LentRecord,
-    newedits: &mut [EditRow],
-    newconstraints: &mut [ConstraintRow],
+    new_edits: &mut [EditRow],
+    new_constraints: &mut [ConstraintRow],
 ) -> Result<Proposed, Refusal>
     ensures { Makes (record {
       edits = lent.entry.edits.now;
       constraints = lent.entry.constraints.now;
-      oldedits = old.entry.edits.now;
-      oldconstraints = old.entry.constraints.now;
-      newedits = newedits.old;
-      newconstraints = newconstraints.old;
-    }) result newedits.new newconstraints.new }
+      old_edits = old.entry.edits.now;
+      old_constraints = old.entry.constraints.now;
+      new_edits = new_edits.old;
+      new_constraints = new_constraints.old;
+    }) result new_edits.new new_constraints.new }
 {
     let new = new_proposal(lent, old)?;
     let n = new.edit_slice().len();
     let m = new.constraint_slice().len();
-    if newedits.len() < n || newconstraints.len() < m {
+    if new_edits.len() < n || new_constraints.len() < m {
         return Err(Refusal::NoRoom);
     }
-    write_rows(new.edit_slice(), newedits);
-    write_rows(new.constraint_slice(), newconstraints);
+    write_rows(new.edit_slice(), new_edits);
+    write_rows(new.constraint_slice(), new_constraints);
     Ok(Proposed {
-        editcount: n,
-        constraintcount: m,
+        edit_count: n,
+        constraint_count: m,
     })
 }

@@ -105,8 +105,8 @@ abbrev pub none_yet : Record
 none_yet = record { edits = []; constraints = [] }
 
 -- what `same_bundle` says of a group
-abbrev pub Same : Bool → declared.Record → Group → Type 0
-Same b bundle group = (P Q : Record) → bundle ≡ stored P → group.bundle ≡ stored Q → b ≡ same_bundle P Q
+abbrev pub IsSameBundle : Bool → declared.Record → Group → Type 0
+IsSameBundle b bundle group = (P Q : Record) → bundle ≡ stored P → group.bundle ≡ stored Q → b ≡ same_bundle P Q
 
 first-mapped : {A B : Type 0} (f : A → B) (Yes No : B → Type 0) (s : List A) (r : Found ℕ)
     → MatchOption r (AllWithin No (map f s) 0 (length (map f s))) (λ i. (i < length (map f s)) × HoldsAt Yes (map f s) i × AllWithin No (map f s) 0 i)
@@ -120,13 +120,13 @@ first-mapped f Yes No s (Some i) h = (
 
 -- the first group that is the same stands at the bundle's place
 pub bundle-place : (bundle : declared.Record) (groups : List Group) (r : Found ℕ) (l : List Ballot) (s : List Record) (C : Record) → groups ≡ map (group_in l) s → bundle ≡ stored C
-    → MatchOption r (AllWithin (Same false bundle) groups 0 (length groups)) (λ i. (i < length groups) × HoldsAt (Same true bundle) groups i × AllWithin (Same false bundle) groups 0 i)
+    → MatchOption r (AllWithin (IsSameBundle false bundle) groups 0 (length groups)) (λ i. (i < length groups) × HoldsAt (IsSameBundle true bundle) groups i × AllWithin (IsSameBundle false bundle) groups 0 i)
     → unwrap_or r (length s) ≡ place C s
 unfolding place
 bundle-place bundle groups r l s C g p h =
-    sym (index_from_first (place C) (λ B. Same true bundle (group_in l B)) (λ B. Same false bundle (group_in l B)) refl
+    sym (index_from_first (place C) (λ B. IsSameBundle true bundle (group_in l B)) (λ B. IsSameBundle false bundle (group_in l B)) refl
     (λ B t y. let e = y C B p refl in rw (sym e)) (λ B t n. let e = n C B p refl in rw (sym e) (omega arith)) s r
-    (first-mapped (group_in l) (Same true bundle) (Same false bundle) s r (rw g at h)))
+    (first-mapped (group_in l) (IsSameBundle true bundle) (IsSameBundle false bundle) s r (rw g at h)))
 
 -- THE TALLY with one vote more
 module _ (tally : Tally) (l : List Ballot) (w : ℕ) (e : tally ≡ tally_of l) where

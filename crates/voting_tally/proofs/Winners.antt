@@ -62,16 +62,16 @@ winner-known l B h =
     (λ e. absurd (omega (arith, unknown-weightless l B e, ltb-true (total l) (2 * weigh (votes_for B) l) h)))
 
 -- what `is_won` says of a group
-abbrev pub Won : ℕ → Bool → Group → Type 0
-Won whole b group = b ≡ ltb whole (2 * group.weight)
+abbrev pub IsWon : ℕ → Bool → Group → Type 0
+IsWon whole b group = b ≡ ltb whole (2 * group.weight)
 
 module _ (tally : Tally) (l : List Ballot) (e : tally ≡ tally_of l) where
-  wins-is : (B : Record) (b : Bool) → Won tally.election.total b (group_in l B) → b ≡ wins l B
+  wins-is : (B : Record) (b : Bool) → IsWon tally.election.total b (group_in l B) → b ≡ wins l B
   unfolding wins
   wins-is B b h = rw (total-is tally l 0 e) at h
 
   -- none of the groups has won
-  no-winner : (groups : List Group) → groups ≡ take tally.count tally.groups → AllWithin (Won tally.election.total false) groups 0 (length groups) → None ≡ held_bundle (winner l)
+  no-winner : (groups : List Group) → groups ≡ take tally.count tally.groups → AllWithin (IsWon tally.election.total false) groups 0 (length groups) → None ≡ held_bundle (winner l)
   no-winner groups g h = go (winner l) refl
     where
       go : (v : Option Record) → winner l ≡ v → None ≡ held_bundle v
@@ -83,23 +83,23 @@ module _ (tally : Tally) (l : List Ballot) (e : tally ≡ tally_of l) where
           let j = place B s in
           let q : j < length s = place_found B s k in
           let m = rw (g, groups-taken tally l 0 e) at h in
-          let n : Won tally.election.total false (group_in l (get_or s j none_yet)) = rw (get_or-map (group_in l) s j none_yet) at (m j (group_in l none_yet) (omega arith) (omega (arith, length-map s (group_in l)))) in
+          let n : IsWon tally.election.total false (group_in l (get_or s j none_yet)) = rw (get_or-map (group_in l) s j none_yet) at (m j (group_in l none_yet) (omega arith) (omega (arith, length-map s (group_in l)))) in
           clash a (sym (wins-is B false (rw (place-stands B s k) at n)))
 
   -- a group that has won holds the winner
-  the-winner : (groups : List Group) (x : Group) → groups ≡ take tally.count tally.groups → Won tally.election.total true x → (i : ℕ) → i < length groups → HoldsAt (λ y. y ≡ x) groups i
+  the-winner : (groups : List Group) (x : Group) → groups ≡ take tally.count tally.groups → IsWon tally.election.total true x → (i : ℕ) → i < length groups → HoldsAt (λ y. y ≡ x) groups i
       → Some x.bundle ≡ held_bundle (winner l)
   the-winner groups x g w i h q =
       let s = bundles l in
       let B = get_or s i none_yet in
       let r : group_in l B ≡ x = rw (g, groups-taken tally l 0 e, get_or-map (group_in l) s i none_yet) at (q (group_in l none_yet)) in
-      let a : wins l B ≡ true = sym (wins-is B true (subst (λ y. Won tally.election.total true y) (sym r) w)) in
+      let a : wins l B ≡ true = sym (wins-is B true (subst (λ y. IsWon tally.election.total true y) (sym r) w)) in
       rw (winner-is l B a) (ap (λ y. Some y.bundle) (sym r))
 
   -- what `find` finds
   pub winner-found : (groups : List Group) (r : Found (Bor Group)) → groups ≡ take tally.count tally.groups
-      → MatchOption r (AllWithin (Won tally.election.total false) groups 0 (length groups))
-      (λ x. Won tally.election.total true x.now × (i : ℕ) × (i < length groups) × HoldsAt (λ y. y ≡ x.now) groups i × AllWithin (Won tally.election.total false) groups 0 i)
+      → MatchOption r (AllWithin (IsWon tally.election.total false) groups 0 (length groups))
+      (λ x. IsWon tally.election.total true x.now × (i : ℕ) × (i < length groups) × HoldsAt (λ y. y ≡ x.now) groups i × AllWithin (IsWon tally.election.total false) groups 0 i)
       → option_map (λ x. x.now.bundle) r ≡ held_bundle (winner l)
   winner-found groups None g h = no-winner groups g h
   winner-found groups (Some x) g h = the-winner groups x.now g h.0 h.1 h.2 h.3

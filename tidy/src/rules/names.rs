@@ -6,12 +6,6 @@ use crate::source::Source;
 use std::collections::{BTreeMap, BTreeSet};
 use std::fmt::Write;
 
-/// Names that still have two meanings, a definition's and a law's most of them, once for each further one. No other may.
-const STILL: &str =
-    "Agree Each Faultless Follows Joins Same Won Writing any-by any-no earlier enabler \
-    group held index_in itself judged last lines more new placed \
-    taken turn turn written";
-
 #[derive(Clone, Copy, PartialEq, Eq, PartialOrd, Ord)]
 enum Sort {
     /// Definitions, their constructors, and laws.
@@ -73,8 +67,7 @@ fn sort(source: &Source) -> Sort {
 pub fn faults(sources: &[Source]) -> Vec<Fault> {
     let mut found = Vec::new();
     for ((sort, name), places) in shared(sources) {
-        let still = STILL.split(' ').filter(|still| *still == name).count();
-        if sort == Sort::Code || places.len() <= still + 1 {
+        if sort == Sort::Code {
             continue;
         }
         for (at, place) in places.iter().enumerate() {
@@ -136,14 +129,6 @@ mod tests {
                 [first, second].into()
             );
         }
-    }
-
-    #[test]
-    fn what_still_has_two_meanings_gets_no_third() {
-        let first = ("crates/a/specs/A.antt", "pub held : A\n");
-        let second = ("crates/a/proofs/A.antt", "pub held : A\n");
-        assert!(whats(&[first, second]).is_empty());
-        assert_eq!(whats(&[first, second, ("crates/b/specs/B.antt", "pub held : A\n")]).len(), 3);
     }
 
     #[test]

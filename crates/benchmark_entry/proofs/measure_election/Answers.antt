@@ -11,10 +11,10 @@ pub returns-in-Ok : goal.returns-in-Ok
 unfolding equal_seats
 returns-in-Ok c =
     let answer = c.in-Ok.answer in
-    measured-election c.args.edit c.args.edits.now c.args.constraints.now c.args.rivals.now c.args.rivalconstraints.now
+    measured-election c.args.edit c.args.edits.now c.args.constraints.now c.args.rivals.now c.args.rival_constraints.now
     (election_told (Ok answer)) c.in-Ok.ensures c.from.result (c.from.ensures ∙ byte-bit answer.won)
 
 pub returns-in-Err : goal.returns-in-Err
 unfolding equal_seats
 returns-in-Err c =
-    election-refused c.args.edit c.args.edits.now c.args.constraints.now c.args.rivals.now c.args.rivalconstraints.now c.in-Err.refusal c.in-Err.ensures c.number.result c.number.ensures
+    election-refused c.args.edit c.args.edits.now c.args.constraints.now c.args.rivals.now c.args.rival_constraints.now c.in-Err.refusal c.in-Err.ensures c.number.result c.number.ensures

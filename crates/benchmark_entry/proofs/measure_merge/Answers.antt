@@ -7,10 +7,10 @@ use Rattle.benchmark_entry.proofs.measure_merge.Goals as goal
 pub returns-in-Ok : goal.returns-in-Ok
 returns-in-Ok c =
     merged-twice c.empty_bench-bench.result (told_outcome c.merge.result c.merge.new.bench) (told_outcome (Ok c.in-Ok.answer) c.merge-2.new.bench) c.args.edits.now c.args.constraints.now c.args.others.now
-    c.args.otherconstraints.now c.empty_bench-bench.ensures c.merge.ensures (rw c.in-Ok.is at c.merge-2.ensures)
+    c.args.other_constraints.now c.empty_bench-bench.ensures c.merge.ensures (rw c.in-Ok.is at c.merge-2.ensures)
 
 pub returns-in-Err : goal.returns-in-Err
 returns-in-Err c =
     rw c.number.ensures
     (merged-twice c.empty_bench-bench.result (told_outcome c.merge.result c.merge.new.bench) (told_outcome (Err c.in-Err.refusal) c.merge-2.new.bench) c.args.edits.now c.args.constraints.now c.args.others.now
-    c.args.otherconstraints.now c.empty_bench-bench.ensures c.merge.ensures (rw c.in-Err.is at c.merge-2.ensures))
+    c.args.other_constraints.now c.empty_bench-bench.ensures c.merge.ensures (rw c.in-Err.is at c.merge-2.ensures))

@@ -63,10 +63,10 @@ indexing-step R f table k name size h e g x =
 pub indexing-end : (R : Record) (table : List ℕ) (k : ℕ) → length (names R) ≤ k → Indexing R table k → Indexed R table
 indexing-end R table k h g x = g x ∙ ap (λ l. place_in l x) (take_all k (names R) h)
 
-pub stored-edits : (r : declared.Record) (R : Record) (l : List Edit) → r ≡ stored R → l ≡ take r.editcount r.edits → l ≡ R.edits
+pub stored-edits : (r : declared.Record) (R : Record) (l : List Edit) → r ≡ stored R → l ≡ take r.edit_count r.edits → l ≡ R.edits
 stored-edits r R l e q = q ∙ ap (λ z. z.edits) (ap record_of e ∙ stored_back R)
 
-pub stored-constraints : (r : declared.Record) (R : Record) (l : List Constraint) → r ≡ stored R → l ≡ take r.constraintcount r.constraints → l ≡ R.constraints
+pub stored-constraints : (r : declared.Record) (R : Record) (l : List Constraint) → r ≡ stored R → l ≡ take r.constraint_count r.constraints → l ≡ R.constraints
 stored-constraints r R l e q = q ∙ ap (λ z. z.constraints) (ap record_of e ∙ stored_back R)
 
 -- one turn of the loop that fills the table

@@ -9,7 +9,7 @@ use borrow.Author.Tests.{not-true}
 use Rattle.lists.specs.Lists.{any, mem, index_of, ◌among◌, ◌within◌}
 use Rattle.record.specs.Record.{Record, names, notafter}
 use Rattle.record.specs.Schedule.{order, ring}
-use Rattle.lists.proofs.Lists.{by, clash, any-by, mem_index}
+use Rattle.lists.proofs.Lists.{by, clash, any-among-by, mem_index}
 use Rattle.record.proofs.Order.{order-placed, ring-order, left_by_lem}
 use Rattle.graph.specs.links.Marks.{name_at, marks_of}
 use Rattle.graph.specs.links.Links.{left_at, Leads}
@@ -38,7 +38,7 @@ module _ (R : Record) (u t : List ℕ) (k : t within names R) (calm : ring R u �
   unfolding ring
   ring-new =
       by (ring R t)
-      (λ r. any-by _ t r (λ x i m. left_by_lem R t k x i (not-true _ m) (λ a q p e. by (mem a u)
+      (λ r. any-among-by _ t r (λ x i m. left_by_lem R t k x i (not-true _ m) (λ a q p e. by (mem a u)
       (λ v. clash (old-placed (suc (index_of a (order R u))) a (omega arith) v q) p)
       (λ v. clash (new a x e i q v) p))))
       (λ r. r)

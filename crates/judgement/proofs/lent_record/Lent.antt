@@ -51,7 +51,7 @@ unfolding marked_edits
 none-marked-edits R = filter_none (λ x. eqb (get_or (replicate 128 0) (index_of x (names R)) 0) 1) (names R) (λ x. rw (get_or-zeros 128 (index_of x (names R))))
 
 pub judgement-told : (R : Record) (r : declared.Record) → r ≡ stored R → (d : Judged) → d ≡ judged_of R
-    → ◌≡◌ {A = Judgement} (record { count = r.editcount; must = d.must; never = d.never; settled = d.settled; place = d.place }) (judgement_is R)
+    → ◌≡◌ {A = Judgement} (record { count = r.edit_count; must = d.must; never = d.never; settled = d.settled; place = d.place }) (judgement_is R)
 judgement-told R r e d q =
-    let c : r.editcount ≡ length R.edits = ap (λ (x : declared.Record). x.editcount) e in
+    let c : r.edit_count ≡ length R.edits = ap (λ (x : declared.Record). x.edit_count) e in
     λ i. record { count = c i; must = (q i).must; never = (q i).never; settled = (q i).settled; place = (q i).place }

@@ -16,7 +16,7 @@ use Rattle.lists.specs.Lists.{any, mem, index_of, ◌among◌, ◌within◌}
 use Rattle.record.specs.Record.{Record, names, written, enables, WellFormed}
 use Rattle.record.specs.Schedule.{needs, musts, order, ring, bars, barred, admit, admits, scheduled, schedule}
 use Rattle.record.specs.Judgement.{must}
-use Rattle.lists.proofs.Lists.{by, clash, is-by, and_l, and_r, and_i, or-by, or_l, or_r, or-no-r, same_by, mem-head, mem-tail, nil-no, cons-by, cons-within, one-within, any-by, any-in, no-any, any-no, mem_index, closure-least}
+use Rattle.lists.proofs.Lists.{by, clash, is-by, and_l, and_r, and_i, or-by, or_l, or_r, or-no-r, same_by, mem-head, mem-tail, nil-no, cons-by, cons-within, one-within, any-among-by, any-in, no-any, any-among-no, mem_index, closure-least}
 use Rattle.record.proofs.Order.{needs-holds, needs-closed, needs-known, needs-within, ring-grows}
 use Rattle.record.proofs.Records.{written-names}
 use Rattle.record.proofs.Judged.{init-must}
@@ -93,16 +93,16 @@ module _ (R : Record) (w : WellFormed R) (hiddens t : List ℕ) (g : Clear R hid
   unfolding barred
   bars-barred =
       same_by _ _
-      (λ h. any-by (bars R hiddens) (needs R (x ∷ t)) h
+      (λ h. any-among-by (bars R hiddens) (needs R (x ∷ t)) h
       (λ y i e. or-by (mem y t) _ (needs-split y i) (λ j. clash e (g.clear y j)) (λ j. any-in (bars R hiddens) (needs R (0 ∷ x ∷ [])) y j e)))
-      (λ h. any-by (bars R hiddens) (needs R (0 ∷ x ∷ [])) h (λ y i e. any-in (bars R hiddens) (needs R (x ∷ t)) y (needs-part y i) e))
+      (λ h. any-among-by (bars R hiddens) (needs R (0 ∷ x ∷ [])) h (λ y i e. any-in (bars R hiddens) (needs R (x ∷ t)) y (needs-part y i) e))
 
   -- where x enters alone, just x can be
   pub bars-alone : needs R (x ∷ t) within x ∷ t → (mem x (needs R (x ∷ t)) && bars R hiddens x) ≡ any (bars R hiddens) (needs R (x ∷ t))
   bars-alone only =
       same_by _ _
       (λ h. any-in (bars R hiddens) (needs R (x ∷ t)) x (needs-holds R (x ∷ t) x (mem-head x t)) (and_r (mem x (needs R (x ∷ t))) _ h))
-      (λ h. any-by (bars R hiddens) (needs R (x ∷ t)) h
+      (λ h. any-among-by (bars R hiddens) (needs R (x ∷ t)) h
       (λ y i e. cons-by y x t (only y i) (λ q. and_i _ _ (rw q at i) (rw q at e)) (λ j. clash e (g.clear y j))))
 
   pub admit-had : x among t → admit R hiddens t x ≡ t
@@ -126,7 +126,7 @@ module _ (R : Record) (w : WellFormed R) (hiddens t : List ℕ) (g : Clear R hid
     closed = needs-closed R w (x ∷ t);
     init-in = needs-holds R (x ∷ t) 0 (mem-tail 0 x t g.init-in);
     known = needs-known R w (x ∷ t) (cons-within x t (names R) i g.known);
-    clear = any-no (bars R hiddens) (needs R (x ∷ t)) b;
+    clear = any-among-no (bars R hiddens) (needs R (x ∷ t)) b;
   }
 
   pub clear-admit : x among names R → Clear R hiddens (admit R hiddens t x)
@@ -148,7 +148,7 @@ module _ (R : Record) (w : WellFormed R) (hiddens t : List ℕ) (g : Clear R hid
   unfolding admit barred
   admit-need a i j k h =
       or-by (barred R hiddens a) _ h
-      (λ b. let z : barred R hiddens x ≡ true = any-by _ (needs R (0 ∷ a ∷ [])) b (λ y q e. any-in _ (needs R (0 ∷ x ∷ [])) y (need-needs w a x k y q) e) in
+      (λ b. let z : barred R hiddens x ≡ true = any-among-by _ (needs R (0 ∷ a ∷ [])) b (λ y q e. any-in _ (needs R (0 ∷ x ∷ [])) y (need-needs w a x k y q) e) in
       rw (z, or-true (mem x t)))
       (λ r. admit-ring (ring-grows R R (needs R (a ∷ t)) (needs R (x ∷ t)) (λ b c e. e) (needs-known R w (a ∷ t) (cons-within a t (names R) j g.known))
       (needs-within R w (a ∷ t) (x ∷ t) (cons-within a t _ (needs-part a k) (λ y q. needs-holds R (x ∷ t) y (mem-tail y x t q)))) r))
@@ -174,7 +174,7 @@ clear-musts R w hiddens = record {
 
 -- a part of what holds nothing that is barred holds nothing that is
 pub part-bars : (R : Record) (hiddens t : List ℕ) → any (bars R hiddens) (names R) ≡ false → t within names R → any (bars R hiddens) t ≡ false
-part-bars R hiddens t h k = no-any (bars R hiddens) t (λ y i. any-no (bars R hiddens) (names R) h y (k y i))
+part-bars R hiddens t h k = no-any (bars R hiddens) t (λ y i. any-among-no (bars R hiddens) (names R) h y (k y i))
 
 pub needs-cons : (R : Record) → WellFormed R → (t : List ℕ) (x : ℕ) → x among names R → t within names R → needs R (x ∷ t) within names R
 needs-cons R w t x i k = needs-known R w (x ∷ t) (cons-within x t (names R) i k)

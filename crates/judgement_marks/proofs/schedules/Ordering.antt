@@ -14,7 +14,7 @@ use borrow.Author.Tests.{eq-eqb, ne_eqb, not-false}
 use Rattle.lists.specs.Lists.{any, mem, index_of, ◌within◌, distinct, find, grown}
 use Rattle.record.specs.Record.{Record, names, notafter}
 use Rattle.record.specs.Schedule.{ready, order}
-use Rattle.lists.proofs.Lists.{by, clash, is-by, le-by, and_l, and_r, and_i, same_by, mem-append, any-by, any-in, no-any, mem_index, grown-some, grown-none}
+use Rattle.lists.proofs.Lists.{by, clash, is-by, le-by, and_l, and_r, and_i, same_by, mem-append, any-among-by, any-in, no-any, mem_index, grown-some, grown-none}
 use Rattle.graph.specs.links.Marks.{name_at, marks_of}
 use Rattle.graph.specs.links.Links.{left_at, FirstRow, Walks, NoRow, SomeRow}
 use Rattle.graph.specs.links.Reach.{On, Off}
@@ -68,7 +68,7 @@ module _ (R : Record) (test later : ℕ → Bool) (waits : List ℕ) (x : ℕ) (
   still-held y l n h f =
       by (later (name_at R y))
       (λ p. let t : test (name_at R y) ≡ true = sym (later-other y l n) ∙ p in
-      any-by (λ a. notafter R a (name_at R y) && test a) (names R) (not-false _ (rw t at f))
+      any-among-by (λ a. notafter R a (name_at R y) && test a) (names R) (not-false _ (rw t at f))
       (λ a i z. let w : later a ≡ test a = rw (get_or-place a (names R) i) at (later-other (index_of a (names R)) (mem_index a (names R) i)
       (λ r. let v : name_at R x ≡ a = ap (name_at R) (sym r) ∙ get_or-place a (names R) i in clash (and_l (notafter R a (name_at R y)) _ z) (rw v at h))) in
       let u : any (λ a. notafter R a (name_at R y) && later a) (names R) ≡ true =
@@ -158,8 +158,8 @@ module _ (R : Record) (t placed : List ℕ) (sub : t within names R) where
   any-waiting : (x : ℕ) → any (λ a. notafter R a x && (mem a t && not (mem a placed))) (names R) ≡ any (λ a. notafter R a x && not (mem a placed)) t
   any-waiting x =
       same_by _ _
-      (λ h. any-by _ (names R) h (λ a i e. let u = and_r (notafter R a x) _ e in any-in _ t a (and_l _ _ u) (and_i (notafter R a x) _ (and_l (notafter R a x) _ e) (and_r (mem a t) _ u))))
-      (λ h. any-by _ t h (λ a i e. any-in _ (names R) a (sub a i) (and_i (notafter R a x) _ (and_l (notafter R a x) _ e) (and_i _ _ i (and_r (notafter R a x) _ e)))))
+      (λ h. any-among-by _ (names R) h (λ a i e. let u = and_r (notafter R a x) _ e in any-in _ t a (and_l _ _ u) (and_i (notafter R a x) _ (and_l (notafter R a x) _ e) (and_r (mem a t) _ u))))
+      (λ h. any-among-by _ t h (λ a i e. any-in _ (names R) a (sub a i) (and_i (notafter R a x) _ (and_l (notafter R a x) _ e) (and_i _ _ i (and_r (notafter R a x) _ e)))))
 
   free-ready : (x : ℕ) → free R (is_waiting t placed) x ≡ (not (mem x placed) && ready R t placed x)
   unfolding free ready

@@ -14,7 +14,7 @@ use Rattle.lists.proofs.Lists.{by, is-by, clash, and_l, and_r, none-some}
 use Rattle.lists.proofs.Logic.{all-has}
 use Rattle.text_forms.specs.decimal.Decimal.{numeral_size}
 use Rattle.text_forms.specs.Spelling.{name_spelling, number_spelling}
-use Rattle.text_forms.specs.Form.{is_mark, spelling, more, begins_with, taken}
+use Rattle.text_forms.specs.Form.{is_mark, spelling, number_before, begins_with, taken}
 use Rattle.text_forms.proofs.Lawful.{lawful}
 use Rattle.text_forms.proofs.Forms.{differ, unlike, mark-taken, mark-missing, byte-taken, byte-missing}
 use Rattle.refusals.specs.declared.Refusal.{Refusal}
@@ -50,7 +50,7 @@ abbrev is_taken : Option (List ℕ) → Bool
 is_taken none = false
 is_taken (some ns) = true
 
-taken_more : (n : ℕ) (o : Option (List ℕ)) → is_taken (more n o) ≡ is_taken o
+taken_more : (n : ℕ) (o : Option (List ℕ)) → is_taken (number_before n o) ≡ is_taken o
 taken_more n none = refl
 taken_more n (some ns) = refl
 

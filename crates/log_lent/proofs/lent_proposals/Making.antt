@@ -36,25 +36,25 @@ orelse-fifth a b c d e =
 
 -- a new proposal and the places for it
 module _ (P : Record) (n m : ℕ) {new : declared.Record} (q : new ≡ stored P) where
-  edits-are : new.editcount ≡ length P.edits
-  edits-are = ap (λ (x : declared.Record). x.editcount) q
+  edits-are : new.edit_count ≡ length P.edits
+  edits-are = ap (λ (x : declared.Record). x.edit_count) q
 
-  constraints-are : new.constraintcount ≡ length P.constraints
-  constraints-are = ap (λ (x : declared.Record). x.constraintcount) q
+  constraints-are : new.constraint_count ≡ length P.constraints
+  constraints-are = ap (λ (x : declared.Record). x.constraint_count) q
 
-  pub few-edit-places : n < new.editcount → 12 ≡ (12 given too_short n m P)
+  pub few-edit-places : n < new.edit_count → 12 ≡ (12 given too_short n m P)
   unfolding too_short
   few-edit-places h = let e : ltb n (length P.edits) ≡ true = lt-ltb n (length P.edits) (omega (arith, edits-are)) in rw e refl
 
-  module _ (h : new.editcount ≤ n) where
+  module _ (h : new.edit_count ≤ n) where
     enough-edits : ltb n (length P.edits) ≡ false
     enough-edits = le-ltb n (length P.edits) (omega (arith, edits-are))
 
-    pub few-constraint-places : m < new.constraintcount → 12 ≡ (12 given too_short n m P)
+    pub few-constraint-places : m < new.constraint_count → 12 ≡ (12 given too_short n m P)
     unfolding too_short
     few-constraint-places i = let e : ltb m (length P.constraints) ≡ true = lt-ltb m (length P.constraints) (omega (arith, constraints-are)) in rw (enough-edits, e) refl
 
-    pub places-enough : new.constraintcount ≤ m → 0 ≡ (12 given too_short n m P)
+    pub places-enough : new.constraint_count ≤ m → 0 ≡ (12 given too_short n m P)
     unfolding too_short
     places-enough i = let e : ltb m (length P.constraints) ≡ false = le-ltb m (length P.constraints) (omega (arith, constraints-are)) in rw (enough-edits, e) refl
 

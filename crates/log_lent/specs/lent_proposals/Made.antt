@@ -10,13 +10,13 @@ use Rattle.log_lent.specs.Lent.{Lent, is_lent}
 
 -- from the tables of a record and of the old proposal, into tables of n and m places
 abbrev pub tables_with : Rows → Rows → Rows → Rows → ℕ → ℕ → proposal.LentToPropose
-tables_with edits constraints oldedits oldconstraints n m = record {
+tables_with edits constraints old_edits old_constraints n m = record {
   edits = edits;
   constraints = constraints;
-  oldedits = oldedits;
-  oldconstraints = oldconstraints;
-  newedits = replicate n [];
-  newconstraints = replicate m [];
+  old_edits = old_edits;
+  old_constraints = old_constraints;
+  new_edits = replicate n [];
+  new_constraints = replicate m [];
 }
 
 -- what a line asks for

@@ -37,10 +37,10 @@ pub proposal-checked : (t : proposal.LentToPropose) → propose_fault t ≡ 0 �
 unfolding new_proposal propose_fault
 proposal-checked t z =
     let a = orelse-none (lent_fault empty_tables t.edits t.constraints) _ z in
-    let b = orelse-none (lent_fault (record_m t) t.oldedits t.oldconstraints) _ a.1 in
+    let b = orelse-none (lent_fault (record_m t) t.old_edits t.old_constraints) _ a.1 in
     let d = orelse-none (draft_fault (record_m t) (proposal_q t)) _ b.1 in
     let e : eqb (propose_fault t) 0 ≡ true = eq-eqb (propose_fault t) 0 z in
-    rw e (drafted-checked (record_m t) (proposal_q t) (joined-checked (record_m t) t.oldedits t.oldconstraints (lent-checked t.edits t.constraints a.0) b.0) d.0)
+    rw e (drafted-checked (record_m t) (proposal_q t) (joined-checked (record_m t) t.old_edits t.old_constraints (lent-checked t.edits t.constraints a.0) b.0) d.0)
 
 pub made-checked : (L : Lent) (w : Proposing) → lent_proposal_fault L w ≡ 0 → Checked (proposal_made L w)
 unfolding lent_proposal_fault proposal_made

@@ -210,7 +210,7 @@ alone w head tail e = rw e (append-nil head)
 
 module _ (edit : ℕ) {before middle : Printer} where
   pub won-printed : (R : Record) (b : declared.Record) → b ≡ stored R → {v : Verdict} → v ≡ record { must = must R edit; never = never R edit }
-      → Printed (answer_line "edit=@ must=? never=? edits=# rules=#\n" (edit ∷ bit v.must ∷ bit v.never ∷ b.editcount ∷ b.constraintcount ∷ [])) before middle
+      → Printed (answer_line "edit=@ must=? never=? edits=# rules=#\n" (edit ∷ bit v.must ∷ bit v.never ∷ b.edit_count ∷ b.constraint_count ∷ [])) before middle
       → {after : Printer} → Printed (stored_text b ∷ []) middle after → Printed (won_text edit b) before after
   unfolding won_text
   won-printed R b q {v} s p r =

@@ -14,7 +14,7 @@ abbrev pub text_in : Bench → Texts
 text_in b = record_text b.multilog
 
 abbrev pub hidden_in : Bench → Texts
-hidden_in b = hidden_text (take b.multilog.editcount b.multilog.edits) b.hidden
+hidden_in b = hidden_text (take b.multilog.edit_count b.multilog.edits) b.hidden
 
 abbrev pub schedule_in : Bench → Texts
 schedule_in b = schedule_text (take b.schedule.count b.schedule.edits)

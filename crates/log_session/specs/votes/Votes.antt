@@ -26,7 +26,7 @@ election_line E = answer_line "won=? greatest=# silent=# total=#\n" (bit E.won �
 
 unfoldable pub bundle_text : BundleAnswer → Texts
 bundle_text b =
-    answer_line "eligible=? edits=# rules=#\n" (bit b.eligible ∷ b.bundle.editcount ∷ b.bundle.constraintcount ∷ []) ++ (stored_text b.bundle ∷ [])
+    answer_line "eligible=? edits=# rules=#\n" (bit b.eligible ∷ b.bundle.edit_count ∷ b.bundle.constraint_count ∷ []) ++ (stored_text b.bundle ∷ [])
 
 -- THE EFFECT of a line that makes a proposal: kept, an accepted one takes the place of the old one
 unfoldable pub proposal_effect : Desk → Proposing → Effect
@@ -53,7 +53,7 @@ test_line sound = answer_line "sound=?\n" (bit sound ∷ [])
 unfoldable pub won_text : ℕ → declared.Record → Texts
 won_text edit b =
     let R = record_of b in
-    answer_line "edit=@ must=? never=? edits=# rules=#\n" (edit ∷ bit (must R edit) ∷ bit (never R edit) ∷ b.editcount ∷ b.constraintcount ∷ [])
+    answer_line "edit=@ must=? never=? edits=# rules=#\n" (edit ∷ bit (must R edit) ∷ bit (never R edit) ∷ b.edit_count ∷ b.constraint_count ∷ [])
     ++ (stored_text b ∷ [])
 
 -- an open election has nothing more to tell

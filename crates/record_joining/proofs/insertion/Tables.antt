@@ -75,9 +75,9 @@ module _ (table : Constraints) (l : List Constraint) (e : Ok table ≡ table_of 
     rows_are : table.rows ≡ padded 512 filler_constraint l
     rows_are = ap (λ (t : Constraints). t.rows) is_held
 
-    pub taken : take n table.rows ≡ l
+    pub held-rows : take n table.rows ≡ l
     unfolding padded
-    taken = rw (held-count-is, rows_are) (take-append_seam l (replicate (512 - length l) filler_constraint))
+    held-rows = rw (held-count-is, rows_are) (take-append_seam l (replicate (512 - length l) filler_constraint))
 
     module _ (c : Constraint) (p : ℕ) (q : Place constraint_key c l p) where
       at_place : Place constraint_key c l p
@@ -151,10 +151,10 @@ module _ (table : Constraints) (l : List Constraint) (e : Ok table ≡ table_of 
               w ∙ sym (table-held (inserted constraint_key c l) a)
 
 -- the table of a record
-pub of-record : (r : declared.Record) (R : Record) → r ≡ stored R → length R.constraints ≤ 512 → Ok (record { rows = r.constraints; count = r.constraintcount }) ≡ table_of R.constraints
+pub of-record : (r : declared.Record) (R : Record) → r ≡ stored R → length R.constraints ≤ 512 → Ok (record { rows = r.constraints; count = r.constraint_count }) ≡ table_of R.constraints
 of-record r R e h = rw e (sym (table-held R.constraints h))
 
 -- a record with the constraints of a table
 pub with-table-is : (r : declared.Record) (R : Record) (table : Constraints) (l : List Constraint) → r ≡ stored R → Ok table ≡ table_of l
-    → record { edits = r.edits; editcount = r.editcount; constraints = table.rows; constraintcount = table.count } ≡ stored (record { edits = R.edits; constraints = l })
+    → record { edits = r.edits; edit_count = r.edit_count; constraints = table.rows; constraint_count = table.count } ≡ stored (record { edits = R.edits; constraints = l })
 with-table-is r R table l e f = rw (e, is_held table l f)

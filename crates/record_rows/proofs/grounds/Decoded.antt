@@ -9,7 +9,7 @@ use lib.ListN.{length, take, length-map}
 use Rattle.lists.specs.Keyed.{Ascending, united}
 use Rattle.lists.specs.Lists.{Has}
 use Rattle.lists.proofs.Logic.{has-map, has-mapped, map-back}
-use Rattle.lists.proofs.Union.{ascending-map, map-united, Agree, united-comm, length-grown}
+use Rattle.lists.proofs.Union.{ascending-map, map-united, SameByKey, united-comm, length-grown}
 use Rattle.record_rows.specs.row.Row.{Row, same}
 use Rattle.record_rows.proofs.row.Compared.{neither-same}
 use Rattle.record_rows.specs.grounds.Ground.{Rows, table_fault}
@@ -78,7 +78,7 @@ module _ (K : Elements) (C : Coding K) where
         omega (arith, long, w)
 
     -- a known key has the same element
-    pub lent-agree : ((x : K.A) → Has x E → K.kind.in_range (K.row_of x) ≡ true) → Agree C.key (map C.of t) E
+    pub lent-agree : ((x : K.A) → Has x E → K.kind.in_range (K.row_of x) ≡ true) → SameByKey C.key (map C.of t) E
     lent-agree f x r m n p q =
         has-mapped C.of x t m
         (λ row k e.

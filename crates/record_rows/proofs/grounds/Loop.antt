@@ -19,7 +19,7 @@ use Rattle.record_rows.specs.row.Row.{Row, same}
 use Rattle.record_rows.specs.grounds.Ground.{Rows, TableKind, alike, known, no_place, other_body, misplaced, row_fault, first_fault, table_fault, ◌given◌, ◌orelse◌}
 use Rattle.record_rows.specs.grounds.Walk.{row_joins, place_fault, PlaceOf}
 use Rattle.record_rows.proofs.grounds.Grounds.{scan-here, scan-more, scan-end, orelse-first, orelse-second, orelse-assoc, before-none}
-use Rattle.record_rows.proofs.grounds.Walks.{Walk, walk_start, walk-on, place-counted, place-on, placed, place-number, place-again}
+use Rattle.record_rows.proofs.grounds.Walks.{Walk, walk_start, walk-on, place-counted, place-on, row_placed, place-number, place-again}
 
 -- before row i: from rows of the joined table are passed, count places are taken, and the first fault is that of the rest
 abbrev pub State : {A : Type 0} → TableKind → (A → Row) → List A → Rows → ℕ → ℕ → ℕ → Type 0
@@ -72,7 +72,7 @@ module _ (K : Elements) where
       late-once o p e s =
           let v : PlaceOf key J row p = rw e (place-counted key row K.row_of own) in
           rw (s, ← drop-map K.row_of p own)
-          (place-number key row J limit count p above o (placed key row J key (keys-wide own) a (key-wide row long) p v (leb limit count)))
+          (place-number key row J limit count p above o (row_placed key row J key (keys-wide own) a (key-wide row long) p v (leb limit count)))
 
     module _ (t : Rows) where
       pub state-start : State K.kind K.row_of own t 0 (length own) 0
@@ -108,7 +108,7 @@ module _ (K : Elements) where
             unfolding misplaced
             state-place e =
                 rw (e, ← drop-map K.row_of (from + q) own)
-                (place-number key row J limit count (from + q) above (before-none key row above ordered).0 (placed key row J key (keys-wide own) a (key-wide row long) (from + q) here (leb limit count)))
+                (place-number key row J limit count (from + q) above (before-none key row above ordered).0 (row_placed key row J key (keys-wide own) a (key-wide row long) (from + q) here (leb limit count)))
 
           module _ (fitting : K.kind.in_range row ≡ true) (n : ℕ) (joins : n ≡ place_fault key limit J count above row) where
             fault_is : row_fault K.kind J above row ≡ n orelse K.kind.further row orelse 13 given misplaced key above row

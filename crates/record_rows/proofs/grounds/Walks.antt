@@ -111,9 +111,9 @@ module _ (k : ℕ) (row : Row) where
       fresh : known k row J ≡ false → clashes k row J ≡ false → row_joins k (drop p J) row full ≡ as_new full → RowPlaced p full
 
     module _ (w : ℕ) (wide : (r : Row) → Has r J → length (take k r) ≡ w) (a : Ascending (take k) J) (long : length (take k row) ≡ w) (p : ℕ) (v : PlaceOf k J row p) (full : Bool) where
-      pub placed : RowPlaced p full
+      pub row_placed : RowPlaced p full
       unfolding row_joins misplaced
-      placed =
+      row_placed =
           by (ltb p (length J))
           (λ (f : ltb p (length J) ≡ true).
           let h : p < length J = ltb-true p (length J) f in
@@ -215,7 +215,7 @@ module _ (k w : ℕ) (joined t : Rows) (wide : (r : Row) → Has r joined → le
   new_of (Err r) = false
 
   pub walk-on : (full new : Bool) → row_joins k (drop p joined) row full ≡ Ok new → Walk k joined t p (count + cond new 1 0) (i + 1)
-  walk-on full new e = go (placed k row joined w wide a long p u full)
+  walk-on full new e = go (row_placed k row joined w wide a long p u full)
     where
       as-fresh : (b : Bool) → as_new b ≡ Ok new → new ≡ true
       as-fresh true z = let n : ◌≡◌ {A = ℕ} 3 0 = ap number_of z in absurd (omega (arith, n))

@@ -59,7 +59,7 @@ two-digits n (b ∷ []) h m l = absurd (omega (arith, two-room n m l))
 two-digits n (b ∷ (c ∷ bs)) h m l = rw (decimal-two n m l) (refl, refl)
 
 -- n is written from its last digit on: the i digits that are left spell rest, and what stands after them is done
-pub record Writing (n : ℕ) (before : List ℕ) (i rest : ℕ) (out : List ℕ) : Type 0 where
+pub record WritingDigits (n : ℕ) (before : List ℕ) (i rest : ℕ) (out : List ℕ) : Type 0 where
   pub room : length (decimal n) ≤ length before
   pub same : length out ≡ length before
   pub near : i ≤ length (decimal n)
@@ -85,10 +85,10 @@ last-digit digits j rest h e =
     here = sym (get_or-take (suc j) digits j 0 (omega arith))
 
 module _ (n : ℕ) (before : List ℕ) {rest : ℕ} {out : List ℕ} where
-  pub writing-next : {i : ℕ} → Writing n before i rest out → 0 < i → Writing n before (i - 1) (rest / 10) (set out (i - 1) (48 + rest % 10))
+  pub writing-next : {i : ℕ} → WritingDigits n before i rest out → 0 < i → WritingDigits n before (i - 1) (rest / 10) (set out (i - 1) (48 + rest % 10))
   writing-next {i} w h = let e : i ≡ suc (i - 1) = omega arith in step (i - 1) (rw e at w)
     where
-      step : (j : ℕ) → Writing n before (suc j) rest out → Writing n before j (rest / 10) (set out j (48 + rest % 10))
+      step : (j : ℕ) → WritingDigits n before (suc j) rest out → WritingDigits n before j (rest / 10) (set out j (48 + rest % 10))
       step j w =
           let l : j < length (decimal n) = w.near in
           let o : j < length out = omega (arith, w.same, w.room) in

@@ -49,11 +49,11 @@ name-known d (x ∷ l) (inl e) = rw e (mem-head x.name (map name_of l))
 name-known d (x ∷ l) (inr h) = mem-tail d.name x.name (map name_of l) (name-known d l h)
 
 module _ (r : declared.Record) (R : Record) (q : r ≡ stored R) (f : Fit R) where
-  pub edit-known : (d : Edit) → Has d (take r.editcount r.edits) → d.name among names R
+  pub edit-known : (d : Edit) → Has d (take r.edit_count r.edits) → d.name among names R
   unfolding names written
   edit-known d h = mem-tail d.name 0 (map name_of R.edits) (name-known d R.edits (rw (edits-kept r R q) at h))
 
-  pub ends-known : (c : Constraint) → Has c (take r.constraintcount r.constraints) → (c.left among names R) × (c.right among names R)
+  pub ends-known : (c : Constraint) → Has c (take r.constraint_count r.constraints) → (c.left among names R) × (c.right among names R)
   ends-known c h =
       let s = in-has c R.constraints (rw (constraints-kept r R q) at h) in
       (left-known f.formed c.left c.rule c.right s, right-known f.formed c.left c.rule c.right s)
@@ -65,13 +65,13 @@ selected-stored n filler l = rw (drop-replicate (length l) n filler)
 
 -- THE BUNDLE, selected from a stored record
 pub bundle-selected : (r : declared.Record) (R : Record) (x : ℕ) → r ≡ stored R → (a : List Edit) (n : ℕ) (b : List Constraint) (m : ℕ)
-    → (n ≡ length (filter (λ d. mem d.name (members R x)) (take r.editcount r.edits)))
-    × (a ≡ filter (λ d. mem d.name (members R x)) (take r.editcount r.edits) ++ drop (length (filter (λ d. mem d.name (members R x)) (take r.editcount r.edits))) (replicate edit_limit filler_edit))
-    → (m ≡ length (filter (λ c. between (members R x) c.left c.right) (take r.constraintcount r.constraints)))
-    × (b ≡ filter (λ c. between (members R x) c.left c.right) (take r.constraintcount r.constraints) ++ drop (length (filter (λ c. between (members R x) c.left c.right) (take r.constraintcount r.constraints))) (replicate constraint_limit filler_constraint))
-    → record { edits = a; editcount = n; constraints = b; constraintcount = m } ≡ stored (bundle R x)
+    → (n ≡ length (filter (λ d. mem d.name (members R x)) (take r.edit_count r.edits)))
+    × (a ≡ filter (λ d. mem d.name (members R x)) (take r.edit_count r.edits) ++ drop (length (filter (λ d. mem d.name (members R x)) (take r.edit_count r.edits))) (replicate edit_limit filler_edit))
+    → (m ≡ length (filter (λ c. between (members R x) c.left c.right) (take r.constraint_count r.constraints)))
+    × (b ≡ filter (λ c. between (members R x) c.left c.right) (take r.constraint_count r.constraints) ++ drop (length (filter (λ c. between (members R x) c.left c.right) (take r.constraint_count r.constraints))) (replicate constraint_limit filler_constraint))
+    → record { edits = a; edit_count = n; constraints = b; constraint_count = m } ≡ stored (bundle R x)
 unfolding bundle
 bundle-selected r R x q a n b m e c =
     let p = rw (edits-kept r R q, selected-stored edit_limit filler_edit) at e in
     let s = rw (constraints-kept r R q, selected-stored constraint_limit filler_constraint) at c in
-    λ j. record { edits = p.1 j; editcount = p.0 j; constraints = s.1 j; constraintcount = s.0 j }
+    λ j. record { edits = p.1 j; edit_count = p.0 j; constraints = s.1 j; constraint_count = s.0 j }

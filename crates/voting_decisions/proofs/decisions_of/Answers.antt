@@ -18,7 +18,7 @@ use Rattle.voting_decisions.proofs.Joined.{only-start, only-stored, decisions-ma
 use Rattle.voting_decisions.proofs.decisions_of.Goals as goal
 
 pub loop-i-init : goal.loop-i-init
-loop-i-init c = let e = c.empty-r.ensures in (search (rules, length-mapped), ap (λ (r : Record). r.edits) e, ap (λ (r : Record). r.editcount) e, λ R rest index q g. only-start c.empty-r.result e)
+loop-i-init c = let e = c.empty-r.ensures in (search (rules, length-mapped), ap (λ (r : Record). r.edits) e, ap (λ (r : Record). r.edit_count) e, λ R rest index q g. only-start c.empty-r.result e)
 
 pub loop-i-preserved : goal.loop-i-preserved
 loop-i-preserved c =
@@ -31,7 +31,7 @@ loop-i-preserved c =
           let items = c.edit_slice-edits.result.now in
           let s : items ≡ R.edits = c.edit_slice-edits.ensures ∙ held-edits c.args.multilog R q in
           let y : length c.args.multilog.edits ≡ 127 = search (rules, length-mapped) in
-          let z : length items ≤ 127 = rw c.edit_slice-edits.ensures (omega (arith, length-take c.args.multilog.editcount c.args.multilog.edits)) in
+          let z : length items ≤ 127 = rw c.edit_slice-edits.ensures (omega (arith, length-take c.args.multilog.edit_count c.args.multilog.edits)) in
           let w = (decisions-named R rest index c.args.pages.now g items s l.i filler_edit h).0 in
           decode-next 512 filler_constraint (decision_on (0 ∷ rest)) (written R) l.r.constraints l.i 0 w (written-few R items s z) (l.invariant.3 R rest index q g)
           (decision-here R rest index c.args.pages.now g items s l.i filler_edit h c.decision.ensures),

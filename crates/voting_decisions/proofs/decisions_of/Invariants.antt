@@ -9,5 +9,5 @@ use Rattle.voting_decisions.specs.Decisions.{Paged}
 use Rattle.voting_decisions.proofs.decisions_of.Given as goal
 
 abbrev pub invariant-loop-i : goal.invariant-loop-i
-invariant-loop-i l = (length l.r.constraints ≡ 512) × (l.r.edits ≡ empty_record.edits) × (l.r.editcount ≡ empty_record.editcount)
+invariant-loop-i l = (length l.r.constraints ≡ 512) × (l.r.edits ≡ empty_record.edits) × (l.r.edit_count ≡ empty_record.edit_count)
     × ((R : Record) (rest index : List ℕ) → l.fn.multilog ≡ stored R → Paged R rest index l.pages → l.r.constraints ≡ padded 512 filler_constraint (map (decision_on (0 ∷ rest)) (take l.i (written R))))

@@ -12,7 +12,7 @@ use Rattle.voting_drafts.proofs.pairs.unordered_pairs.Goals as goal
 pub select-count-requires-clause-places : goal.select-count-requires-clause-places
 select-count-requires-clause-places c =
     let z : length c.args.multilog.constraints ≡ 512 = search (rules, length-mapped) in
-    rw c.constraint_slice.ensures (omega (arith, length-take c.args.multilog.constraintcount c.args.multilog.constraints))
+    rw c.constraint_slice.ensures (omega (arith, length-take c.args.multilog.constraint_count c.args.multilog.constraints))
 
 pub returns-clause-pairs : goal.returns-clause-pairs
 returns-clause-pairs c R e f =

@@ -11,9 +11,9 @@ use Rattle.voting_proposals.proofs.keeping.keeps.Goals as goal
 pub returns : goal.returns
 returns c = λ Q P e f g h w.
     let s = c.edit_slice.ensures ∙ edits-kept c.args.old Q e in
-    let o = c.new-oldbundles.ensures ∙ e in
-    let n = c.new-newbundles.ensures ∙ g in
+    let o = c.new-old_bundles.ensures ∙ e in
+    let n = c.new-new_bundles.ensures ∙ g in
     kept-all Q P _
     (cases_from_all _ _ _ (KeptAs Q P true) (KeptAs Q P false) c.all.ensures.ran (YieldsList-from_slice Q.edits (cc))
-    (λ x q k. let is : TellsKept c.new-oldbundles.result c.new-newbundles.result x.now.name true = search (rules, tests) in (search (rules, tests), λ m. is Q P o f n h m (w _ m)))
-    (λ x q k. let is : TellsKept c.new-oldbundles.result c.new-newbundles.result x.now.name false = search (rules, tests) in λ m. is Q P o f n h m (w _ m)))
+    (λ x q k. let is : TellsKept c.new-old_bundles.result c.new-new_bundles.result x.now.name true = search (rules, tests) in (search (rules, tests), λ m. is Q P o f n h m (w _ m)))
+    (λ x q k. let is : TellsKept c.new-old_bundles.result c.new-new_bundles.result x.now.name false = search (rules, tests) in λ m. is Q P o f n h m (w _ m)))

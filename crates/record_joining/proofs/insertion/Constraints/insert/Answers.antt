@@ -8,21 +8,21 @@ use lib.Seq.{length-take-le}
 use borrow.Author.Rules.{rules}
 use Rattle.record.specs.Stored.{filler_constraint}
 use Rattle.record_joining.proofs.insertion.Moves.{put-moved}
-use Rattle.record_joining.proofs.insertion.Tables.{taken, known_is, overflows, joins}
+use Rattle.record_joining.proofs.insertion.Tables.{held-rows, known_is, overflows, joins}
 use Rattle.record_joining.proofs.insertion.Constraints.insert.Goals as goal
 
 pub returns-then-stands : goal.returns-then-stands
 returns-then-stands c =
     λ l e a.
     let t = c.args.self in
-    let k = taken t l e c.min-n.result c.min-n.ensures in
+    let k = held-rows t l e c.min-n.result c.min-n.ensures in
     known_is t l e c.min-n.result c.min-n.ensures c.args.c c.place-p.result ((rw k at c.place-p.ensures.0) a) (rw k at c.stands.ensures) c.if-stands.true
 
 pub returns-then-n-ge-CONSTRAINTS : goal.returns-then-n-ge-CONSTRAINTS
 returns-then-n-ge-CONSTRAINTS c =
     λ l e a.
     let t = c.args.self in
-    let k = taken t l e c.min-n.result c.min-n.ensures in
+    let k = held-rows t l e c.min-n.result c.min-n.ensures in
     overflows t l e c.min-n.result c.min-n.ensures c.args.c c.place-p.result ((rw k at c.place-p.ensures.0) a) (rw k at c.stands.ensures) c.if-stands.false c.if-n-ge-CONSTRAINTS.true
 
 pub returns : goal.returns
@@ -31,7 +31,7 @@ returns c =
     let t = c.args.self in
     let n = c.min-n.result in
     let p = c.place-p.result in
-    let k = taken t l e n c.min-n.ensures in
+    let k = held-rows t l e n c.min-n.ensures in
     let size : length t.rows ≡ 512 = search rules in
     let near : p ≤ n = omega (arith, c.place-p.ensures.1, length-take-le n t.rows (omega arith)) in
     joins t l e n c.min-n.ensures c.args.c p ((rw k at c.place-p.ensures.0) a) (rw k at c.stands.ensures) c.if-stands.false c.if-n-ge-CONSTRAINTS.false

@@ -14,13 +14,13 @@ pub select-edits-requires-clause-places : goal.select-edits-requires-clause-plac
 select-edits-requires-clause-places c =
     let y = c.self.invariant.0 in
     let z : length c.empty-small.result.edits ≡ 127 = search (rules, length-mapped) in
-    rw c.edit_slice.ensures (omega (arith, length-take c.self.inside.multilog.editcount c.self.inside.multilog.edits))
+    rw c.edit_slice.ensures (omega (arith, length-take c.self.inside.multilog.edit_count c.self.inside.multilog.edits))
 
 pub select-constraints-requires-clause-places : goal.select-constraints-requires-clause-places
 select-constraints-requires-clause-places c =
     let y = c.self.invariant.1 in
     let z : length c.empty-small.result.constraints ≡ 512 = search (rules, length-mapped) in
-    rw c.constraint_slice.ensures (omega (arith, length-take c.self.inside.multilog.constraintcount c.self.inside.multilog.constraints))
+    rw c.constraint_slice.ensures (omega (arith, length-take c.self.inside.multilog.constraint_count c.self.inside.multilog.constraints))
 
 pub returns : goal.returns
 returns c = λ R q f i.
