@@ -28,14 +28,14 @@ use Rattle.voting.specs.Proposal.{joined_constraints, started, finished, propose
 use Rattle.voting_roll.specs.Election.{Proposals, benches, held, cast}
 use Rattle.voting_proposals.specs.Propose as proposal
 use Rattle.voting_proposals.specs.Propose.{propose_fault, new_proposal, record_m, proposal_q}
-use Rattle.ledger.specs.Ledger.{Ledger, Call, CallAnswer, add_edit, add_constraint, merge, hide, show, turn, adopt, start, change, adopted, act, refusal, judge, step, fed}
+use Rattle.ledger.specs.Ledger.{Ledger, Call, CallAnswer, add_edit, add_constraint, merge, adopt, start, change, adopted, act, refusal, judge, step, fed}
 use Rattle.ledger.proofs.Undone.{fed-more}
 use Rattle.log_forms.specs.Printed.{Texts}
 use Rattle.log_bounds.proofs.Small.{EachMember, each_both, each_at}
 use Rattle.log_commands.specs.declared.Lend.{Lend as Lends}
 use Rattle.log_commands.specs.declared.Lend.TheVariants.{EditRow, ConstraintRow, NoRows, BenchRows, RollRow, NoRoll, RowName, NoRow}
 use Rattle.log_commands.specs.declared.Call.{Call as Calls}
-use Rattle.log_commands.specs.declared.Call.TheVariants.{AddEdit, AddConstraint, Merge, Hide, Show, Turn, Adopt}
+use Rattle.log_commands.specs.declared.Call.TheVariants.{AddEdit, Merge, Adopt}
 use Rattle.log_commands.specs.declared.Proposing.{Proposing}
 use Rattle.log_lent.specs.Lent.{Lent, nothing_lent, is_lent, edit_places, rows_fault, with, added, with_edit, with_constraint, with_record, seat_number, with_seat, without_roll, name_number, with_name, without_row}
 use Rattle.log_lent.specs.lent_calls.Calls.{proposals_of}
@@ -121,12 +121,9 @@ won-fits e P roll f =
 -- calls
 abbrev pub CallFits : Call → Type 0
 CallFits (add_edit row) = RowFits row
-CallFits (add_constraint row) = Unit
 CallFits (merge edits constraints) = EachMember RowFits edits
-CallFits (hide x) = Unit
-CallFits (show x) = Unit
-CallFits (turn n) = Unit
 CallFits (adopt e P roll) = ProposalsFit P × EachMember SeatFits roll
+CallFits call = Unit
 
 adopted-fits : (L : Ledger) (E : Election) (o : Option Record) → VoteFits o → EachMember EditFits L.multilog.edits → EachMember EditFits (adopted L E o).after.multilog.edits
 unfolding change unite
@@ -138,10 +135,8 @@ unfolding act change unite
 act-fits L (add_edit row) c f = united-fits L.multilog.edits (map edit_of (row ∷ [])) f (decoded-fits (row ∷ []) (each-one RowFits row c))
 act-fits L (add_constraint row) c f = united-fits L.multilog.edits [] f (λ x m. absurd m)
 act-fits L (merge edits constraints) c f = united-fits L.multilog.edits (map edit_of edits) f (decoded-fits edits c)
-act-fits L (hide x) c f = f
-act-fits L (show x) c f = f
-act-fits L (turn n) c f = f
 act-fits L (adopt e P roll) c f = adopted-fits L (counted (cast e P roll)) (winner (cast e P roll)) (won-fits e P roll c.0) f
+act-fits L call c f = f
 
 step_fits : (L : Ledger) (call : Call) → CallFits call → EachMember EditFits L.multilog.edits → EachMember EditFits (step L call).after.multilog.edits
 unfolding step refusal
@@ -163,12 +158,7 @@ requested-bounded D B text (make call) r =
 -- a line that makes a call
 abbrev pub CallLineFits : Calls → Type 0
 CallLineFits (AddEdit cells) = cells.value < 4294967296
-CallLineFits (AddConstraint cells) = Unit
-CallLineFits (Merge k) = Unit
-CallLineFits (Hide edit) = Unit
-CallLineFits (Show edit) = Unit
-CallLineFits (Turn pages) = Unit
-CallLineFits (Adopt edit) = Unit
+CallLineFits call = Unit
 
 pub proposals-fit : (D : Desk) → Bounded D → ProposalsFit (proposals_of D.lent)
 proposals-fit D B i = each_at (EachMember RowFits) (map D.lent.edits benches) i [] (λ rows m. has-mapped D.lent.edits rows benches m (λ k n q. rw q (B.lent k))) (λ x m. absurd m)
@@ -176,12 +166,9 @@ proposals-fit D B i = each_at (EachMember RowFits) (map D.lent.edits benches) i 
 pub request-fits : (D : Desk) → Bounded D → (call : Calls) → CallLineFits call → RequestFits (request_of D call)
 unfolding request_of
 request-fits D B (AddEdit cells) v = v
-request-fits D B (AddConstraint cells) v = tt
 request-fits D B (Merge k) v = by (is_lent k) (λ (e : ltb k 9 ≡ true). rw e (B.lent k)) (λ (e : ltb k 9 ≡ false). rw e tt)
-request-fits D B (Hide edit) v = tt
-request-fits D B (Show edit) v = tt
-request-fits D B (Turn pages) v = tt
 request-fits D B (Adopt edit) v = (proposals-fit D B, B.weights)
+request-fits D B call v = tt
 
 pub call-bounded : (D : Desk) → Bounded D → (text : CallAnswer → Ledger → Texts) (call : Calls) → CallLineFits call → Bounded (requested D text (request_of D call)).after
 call-bounded D B text call v = requested-bounded D B text (request_of D call) (request-fits D B call v)
@@ -235,13 +222,7 @@ name-lent L name F =
 -- a line that lends
 abbrev pub LendLineFits : Lends → Type 0
 LendLineFits (EditRow k cells) = cells.value < 4294967296
-LendLineFits (ConstraintRow k cells) = Unit
-LendLineFits (NoRows k) = Unit
-LendLineFits (BenchRows k) = Unit
-LendLineFits (RollRow seat weight) = Unit
-LendLineFits NoRoll = Unit
-LendLineFits (RowName name) = Unit
-LendLineFits NoRow = Unit
+LendLineFits lend = Unit
 
 lends-fit : (D : Desk) → Bounded D → (lend : Lends) → LendLineFits lend → LentFits (lend_effect D lend).after.lent
 unfolding lend_effect with_edit with_constraint without_roll without_row

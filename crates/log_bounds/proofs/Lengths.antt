@@ -57,7 +57,7 @@ use Rattle.log_bounds.proofs.Small.{EachMember, each_take, each-filled, each_bot
 use Rattle.log_commands.specs.declared.Ask.{Ask}
 use Rattle.log_commands.specs.declared.Ask.TheVariants.{Text, Report, Hidden, Schedule, Catalogue, Journal, Page}
 use Rattle.log_commands.specs.declared.Call.{Call as Calls}
-use Rattle.log_commands.specs.declared.Call.TheVariants.{AddEdit, AddConstraint, Merge, Hide, Show, Turn, Adopt}
+use Rattle.log_commands.specs.declared.Call.TheVariants.{Adopt}
 use Rattle.log_commands.specs.declared.Lend.{Lend as Lends}
 use Rattle.log_commands.specs.declared.Proposing.{Proposing}
 use Rattle.log_commands.specs.declared.Suggesting.{Suggesting}
@@ -193,15 +193,10 @@ pages-size a opened last s h i = line-size (bytes "undone=# redone=# open=# last
 
 call-text-size : (call : Calls) (a : CallAnswer) (opened last : ℕ) → SmallAnswer a → opened < 4294967296 → last < 4294967296 → size_of (call_text call a opened last) ≤ 200
 unfolding call_text adoption_text room bytes is_mark
-call-text-size (AddEdit cells) a opened last s h i = pages-size a opened last s h i
-call-text-size (AddConstraint cells) a opened last s h i = pages-size a opened last s h i
-call-text-size (Merge k) a opened last s h i = pages-size a opened last s h i
-call-text-size (Hide edit) a opened last s h i = pages-size a opened last s h i
-call-text-size (Show edit) a opened last s h i = pages-size a opened last s h i
-call-text-size (Turn pages) a opened last s h i = pages-size a opened last s h i
 call-text-size (Adopt edit) a opened last s h i =
     line-size (bytes "won=? greatest=# silent=# total=# undone=# redone=# open=# last=#\n") (bit a.won ∷ a.greatest ∷ a.silent ∷ a.total ∷ a.undone ∷ a.redone ∷ opened ∷ last ∷ []) 200
     (bit-small a.won, (s.greatest, (s.silent, (s.total, (s.undone, (s.redone, (h, (i, tt)))))))) refl
+call-text-size call a opened last s h i = pages-size a opened last s h i
 
 -- a refusal, or texts that are short
 answer-size : (number line : ℕ) (texts : Texts) → number ≤ 14 → line < 2 ^ 64 → (number ≡ 0 → size_of texts ≤ answer_limit) → size_of (answered_text number texts line) ≤ answer_limit
