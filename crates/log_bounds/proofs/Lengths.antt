@@ -1,5 +1,5 @@
 -- The answer to a line whose numbers fit, on a desk whose numbers fit, is never longer than the limit: by the kind of line. Assumes nothing.
-use mathlib.Core.Path.{◌≡◌, refl, ap, ◌∙◌}
+use mathlib.Core.Path.{◌≡◌, refl, sym, ap, ◌∙◌}
 use mathlib.Core.Bool.{Bool, true, false, cond, ◌&&◌}
 use mathlib.Core.Logic.{inl, inr}
 use mathlib.Core.List.{List, [], ◌∷◌, ◌++◌}
@@ -24,7 +24,7 @@ use Rattle.record_rows.specs.row.Row.{Row, name_cell, edit_in_range, edit_row}
 use Rattle.record_rows.specs.grounds.Ground.{Rows}
 use Rattle.record_rows.proofs.grounds.Grounds.{orelse-none}
 use Rattle.record_rows.proofs.row.Cells.{name-small, edit-bounds}
-use Rattle.record_tables.specs.Table.{empty_tables, decoded, lent_fault}
+use Rattle.record_tables.specs.Table.{decoded}
 use Rattle.record_tables.proofs.Tables.{stored_back}
 use Rattle.record_tables.proofs.Records.{lent-checked}
 use Rattle.catalogue.specs.Chips.{rows, chips_view, schedule_of}
@@ -78,6 +78,7 @@ use Rattle.log_session.proofs.calls.Telling.{lend-text}
 use Rattle.log_bounds.proofs.Numbers.{judge-small, propose-small, bundle-number-small, test-number-small, suggest-number-small, lend-number-small, SmallElection, counted-small, election-small}
 use Rattle.log_bounds.proofs.Bounds.{RowFits, SeatFits, decoded-fits, ProposalsFit, held_fits, CallFits, RequestFits, CallLineFits, proposals-fit, request-fits, new-proposal-fits}
 use Rattle.log_session.proofs.votes.Making.{proposal-checked}
+use Rattle.voting_bundles.proofs.Judging.{bundle-checked}
 use Rattle.log_session.proofs.winners.Won.{winner-holds, vote-bundle, faultless, seat-checked, won-bundle}
 
 -- the edits of a desk
@@ -250,10 +251,6 @@ bundle-text-size b R k q =
     rw q (stored-size R k (bytes "eligible=? edits=# rules=#\n") (bit b.eligible ∷ length R.edits ∷ length R.constraints ∷ [])
     (bit-small b.eligible, (omega (arith, k.editplaces), (omega (arith, k.constraintplaces), tt))) refl)
 
-lent-faultless : (es cs : Rows) (edit : ℕ) → lent_bundle_fault es cs edit ≡ 0 → lent_fault empty_tables es cs ≡ 0
-unfolding lent_bundle_fault
-lent-faultless es cs edit z = (orelse-none (lent_fault empty_tables es cs) _ z).0
-
 -- suggested constraints
 suggestion-size : (advice : Advice) (a b : ℕ) → a < 2304 → b < 2304 → size_of (suggestion_text (given (rows_of advice a b))) ≤ 162
 unfolding suggestion_text room bytes is_mark
@@ -360,7 +357,7 @@ module _ (line : ℕ) (l : line < 2 ^ 64) where
       answer-size (bundle_answer es cs edit).number line (bundle_text (bundle_answer es cs edit)) (bundle-number-small es cs edit) l
       (by (eqb n 0)
       (λ (e : eqb n 0 ≡ true) z.
-      let k = bundle-small R edit (checked-small R (lent-checked es cs (lent-faultless es cs edit (eqb-true n 0 e))) (decoded-fits es f)) in
+      let k = bundle-small R edit (checked-small R (lent-checked es cs (sym (bundle-checked es cs edit (sym (eqb-true n 0 e))))) (decoded-fits es f)) in
       omega (arith, bundle-text-size (bundle_answer es cs edit) (bundle R edit) k (rw e refl)))
       (λ (e : eqb n 0 ≡ false) z. absurd (eqb-false n 0 e (rw e at z))))
 

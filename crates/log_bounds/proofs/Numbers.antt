@@ -51,9 +51,6 @@ join-small R names adding edits constraints =
     (first-fault-small 14 (row_fault edit_kind (edit_rows R)) (λ above row. row-fault-small 14 (omega arith) edit_kind (edit_rows R) above row (omega arith)) [] edits)
     (first-fault-small 14 (row_fault (constraint_kind names adding) (constraint_rows R)) (λ above row. row-fault-small 14 (omega arith) (constraint_kind names adding) (constraint_rows R) above row (further-small 14 (omega arith) names adding row)) [] constraints)
 
-lent-small : (R : Record) (edits constraints : Rows) → join_fault R (names_of edits) false edits constraints ≤ 14
-lent-small R edits constraints = join-small R (names_of edits) false edits constraints
-
 firsts-small : (f : ℕ → ℕ) → ((k : ℕ) → f k ≤ 14) → (l : List ℕ) → first_given f l ≤ 14
 unfolding first_given
 firsts-small f h [] = omega arith
@@ -61,7 +58,7 @@ firsts-small f h (k ∷ l) = orelse-small 14 (f k) (first_given f l) (h k) (firs
 
 proposal-fault-small : (P : Proposals) (k : ℕ) → proposal_fault P k ≤ 14
 unfolding proposal_fault
-proposal-fault-small P k = lent-small empty_tables (get_or P.edits (k - 1) []) (get_or P.constraints (k - 1) [])
+proposal-fault-small P k = join-small empty_tables (names_of (get_or P.edits (k - 1) [])) false (get_or P.edits (k - 1) []) (get_or P.constraints (k - 1) [])
 
 election-fault-small : (e : ℕ) (P : Proposals) (roll : List RollRow) → election_fault e P roll ≤ 14
 unfolding election_fault
@@ -73,7 +70,7 @@ election-fault-small e P roll =
 
 bundle-small : (R : Record) (o : Option Record) → bundle_fault R o ≤ 14
 bundle-small R none = omega arith
-bundle-small R (some B) = orelse-small 14 (record_join_fault R B) _ (lent-small R (edit_rows B) (constraint_rows B)) (given-small 14 8 (not (sound (unite R B))) (omega arith))
+bundle-small R (some B) = orelse-small 14 (record_join_fault R B) _ (join-small R (names_of (edit_rows B)) false (edit_rows B) (constraint_rows B)) (given-small 14 8 (not (sound (unite R B))) (omega arith))
 
 turn_small : (page : prelude.Option ℕ) → turn_fault page ≤ 14
 turn_small (Some page) = omega arith
@@ -84,7 +81,7 @@ unfolding judge
 judge-small L (add_edit row) = orelse-small 14 _ _ (join-small L.multilog (written L.multilog) true (row ∷ []) []) (given-small 14 8 (not (sound (unite L.multilog (decoded (row ∷ []) [])))) (omega arith))
 judge-small L (add_constraint row) = orelse-small 14 _ _ (join-small L.multilog (written L.multilog) true [] (row ∷ [])) (given-small 14 8 (not (sound (unite L.multilog (decoded [] (row ∷ []))))) (omega arith))
 judge-small L (merge edits constraints) =
-    orelse-small 14 _ _ (lent-small L.multilog edits constraints)
+    orelse-small 14 _ _ (join-small L.multilog (names_of edits) false edits constraints)
     (given-small 14 8 (not (sound (decoded edits constraints) && sound (unite L.multilog (decoded edits constraints)))) (omega arith))
 judge-small L (hide x) =
     first_small 14 2 (not (is_name x)) _ (omega arith)
@@ -105,8 +102,8 @@ draft-small M Q =
 pub propose-small : (t : proposal.LentToPropose) → propose_fault t ≤ 14
 unfolding propose_fault
 propose-small t =
-    orelse-small 14 _ _ (lent-small empty_tables t.edits t.constraints)
-    (orelse-small 14 _ _ (lent-small (record_m t) t.old_edits t.old_constraints)
+    orelse-small 14 _ _ (join-small empty_tables (names_of t.edits) false t.edits t.constraints)
+    (orelse-small 14 _ _ (join-small (record_m t) (names_of t.old_edits) false t.old_edits t.old_constraints)
     (orelse-small 14 (draft_fault (record_m t) (proposal_q t)) _ (draft-small (record_m t) (proposal_q t))
     (first_small 14 11 (unkept (record_m t) (proposal_q t)) _ (omega arith)
     (given-small 14 12 (too_short (length t.new_edits) (length t.new_constraints) (proposed (record_m t) (proposal_q t))) (omega arith)))))
@@ -115,14 +112,14 @@ pub bundle-number-small : (edits constraints : Rows) (e : ℕ) → (bundle_answe
 unfolding bundle_answer lent_bundle_fault
 bundle-number-small edits constraints e =
     let n = lent_bundle_fault edits constraints e in
-    let s : n ≤ 14 = orelse-small 14 _ _ (lent-small empty_tables edits constraints)
+    let s : n ≤ 14 = orelse-small 14 _ _ (join-small empty_tables (names_of edits) false edits constraints)
     (first_small 14 2 (not (is_name e)) _ (omega arith)
     (first_small 14 5 (not (mem e (written (decoded edits constraints)))) _ (omega arith) (given-small 14 8 (not (sound (decoded edits constraints))) (omega arith)))) in
     by (eqb n 0) (λ (q : eqb n 0 ≡ true). rw q (omega arith)) (λ (q : eqb n 0 ≡ false). rw q s)
 
 tested-small : (edits constraints : Rows) → record_fault edits constraints ≤ 14
 unfolding record_fault
-tested-small edits constraints = orelse-small 14 _ _ (lent-small empty_tables edits constraints) (given-small 14 8 (not (sound (decoded edits constraints))) (omega arith))
+tested-small edits constraints = orelse-small 14 _ _ (join-small empty_tables (names_of edits) false edits constraints) (given-small 14 8 (not (sound (decoded edits constraints))) (omega arith))
 
 pub test-number-small : (L : Lent) (k : ℕ) → tested_fault L k ≤ 14
 unfolding tested_fault

@@ -6,12 +6,10 @@ use Prim.Native.Nat.{ℕ, ◌≤◌, ◌<◌}
 use native.Mathlib.Omega.{arith}
 use lib.Dec.{eqb, leb, ltb}
 use lib.ListN.{length, take, length-append, length-take}
-use lib.Seq.{take_all, take-append-le, take-append_seam}
+use lib.Seq.{take_all, take-append-le}
 use borrow.Author.Tests.{lt-ltb, le-ltb, eq-eqb, ne_eqb, le-leb, lt-leb}
 use Rattle.arrayvec.specs.ArrayVec.{ArrayVec}
-use Rattle.record.specs.declared.Record as declared
 use Rattle.record.specs.Record.{Record}
-use Rattle.record.specs.Stored.{stored, padded}
 use Rattle.lists.proofs.Lists.{by}
 use Rattle.record_tables.specs.Table.{edit_rows, constraint_rows}
 use Rattle.refusals.specs.declared.Refusal.{Refusal}
@@ -51,16 +49,6 @@ module _ (bench weight : ℕ) where
   pub seat-fits : bench < 256 → weight < 65536 → 0 ≡ seat_number bench weight
   unfolding seat_number
   seat-fits a b = let d : ltb bench 256 ≡ true = lt-ltb bench 256 a in let e : ltb weight 65536 ≡ true = lt-ltb weight 65536 b in rw (d, e) refl
-
--- the elements of a record as it is stored
-module _ (R : Record) (multilog : declared.Record) (q : multilog ≡ stored R) where
-  pub edits-held : take multilog.edit_count multilog.edits ≡ R.edits
-  unfolding padded
-  edits-held = rw q (take-append_seam R.edits _)
-
-  pub constraints-held : take multilog.constraint_count multilog.constraints ≡ R.constraints
-  unfolding padded
-  constraints-held = rw q (take-append_seam R.constraints _)
 
 module _ {L : Lent} {lending : Lending} (K : Kept L lending) where
   module _ (k : ℕ) (R : Record) {edits : LentTables 5 edit_places} (S : Tables (cond (is_lent k) (with k (edit_rows R) L.edits) L.edits) edits.tables) where

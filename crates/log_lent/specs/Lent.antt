@@ -1,9 +1,10 @@
 -- What the lines of a call log lend: nine records as tables of rows with any numbers, a roll, and a row to be tested. Assumes nothing.
-use Rattle.std.specs.Prelude.{Bool, not, ◌&&◌, cond, List, [], ◌∷◌, ◌++◌, ℕ, eqb, leb, ltb, length}
+use Rattle.std.specs.Prelude.{Bool, not, ◌&&◌, cond, List, [], ◌∷◌, ◌++◌, ℕ, ◌+◌, eqb, leb, ltb, length}
 use Rattle.record.specs.Record.{Record}
-use Rattle.record_rows.specs.row.Row.{Row}
+use Rattle.record_rows.specs.row.Row.{Row, bench_limit}
 use Rattle.record_rows.specs.grounds.Ground.{Rows, ◌given◌, ◌orelse◌}
 use Rattle.record_tables.specs.Table.{edit_rows, constraint_rows}
+use Rattle.record.specs.Stored.{edit_limit, constraint_limit}
 use Rattle.voting.specs.declared.RollRow.{RollRow}
 
 -- Record 0 is loose, records 1 to 8 are the proposals by bench.
@@ -17,7 +18,7 @@ unfoldable pub nothing_lent : Lent
 nothing_lent = record { edits = λ k. []; constraints = λ k. []; roll = []; row = [] }
 
 abbrev pub lent_records : ℕ
-lent_records = 9
+lent_records = bench_limit + 1
 
 abbrev pub is_lent : ℕ → Bool
 is_lent k = ltb k lent_records
@@ -28,18 +29,18 @@ with k rows tables j = cond (eqb j k) rows (tables j)
 
 -- One more row than can join any record: a longer table has its fault at or before this row.
 abbrev pub edit_places : ℕ
-edit_places = 128
+edit_places = edit_limit + 1
 
 abbrev pub constraint_places : ℕ
-constraint_places = 513
+constraint_places = constraint_limit + 1
 
 -- one more than a roll without fault can have: with this row it is faulty, and later rows change no answer
 abbrev pub roll_places : ℕ
-roll_places = 9
+roll_places = bench_limit + 1
 
 -- one more than a sound schedule can have
 abbrev pub row_places : ℕ
-row_places = 129
+row_places = edit_limit + 2
 
 -- 2: no such record; 3: a new row has no place left
 unfoldable pub rows_fault : ℕ → (ℕ → Rows) → ℕ → ℕ
@@ -65,9 +66,16 @@ with_record L k R =
 abbrev pub record_number : ℕ → ℕ
 record_number k = 2 given not (is_lent k)
 
+-- numbers of 8 bits are below it, and weights, which have 16
+abbrev pub byte_limit : ℕ
+byte_limit = 256
+
+abbrev pub weight_limit : ℕ
+weight_limit = 65536
+
 -- a row of the roll: its numbers fit a bench and a weight
 unfoldable pub seat_number : ℕ → ℕ → ℕ
-seat_number bench weight = 2 given not (ltb bench 256 && ltb weight 65536)
+seat_number bench weight = 2 given not (ltb bench byte_limit && ltb weight weight_limit)
 
 unfoldable pub with_seat : Lent → ℕ → ℕ → Lent
 with_seat L bench weight =

@@ -1,32 +1,24 @@
 -- The bytes that are kept of a line decide it, so that a log in pieces is run as the whole log. Assumes nothing.
 use mathlib.Core.Path.{◌≡◌, refl, ap, sym, ◌∙◌}
 use mathlib.Core.List.{List, [], ◌∷◌, map}
-use Prim.Native.Nat.{ℕ, ◌<◌}
+use Prim.Native.Nat.{ℕ}
 use native.Mathlib.Omega.{arith}
-use borrow.Author.Tests.{lt-ltb}
 use lib.ListN.{length, take}
 use lib.Seq.{take_all, length-take-le}
-use Rattle.std.specs.Prelude.{Err}
-use Rattle.refusals.specs.declared.Refusal.TheVariants.{NotInForm}
 use Rattle.lists.proofs.Lists.{le-by}
 use Rattle.text_lines.specs.Lines.{lines}
-use Rattle.text_lines.specs.Line.{line_limit}
 use Rattle.stream.specs.Pieces.{kept_bytes, no_input, fed_pieces, stream_lines, input_of}
 use Rattle.stream.proofs.Pieces.{cut-anywhere}
 use Rattle.log_commands.specs.Grammar.{command_read}
+use Rattle.log_commands.proofs.Arms.{long_line}
 use Rattle.log_run.specs.Log.{Run, run_line, run_lines}
-
--- a longer line is not in form, whatever it says
-too_long : (line : List ℕ) → line_limit < length line → command_read line ≡ Err NotInForm
-unfolding command_read
-too_long line h = rw (lt-ltb line_limit (length line) h)
 
 -- 102 BYTES DECIDE A LINE
 command-decided : (line : List ℕ) → command_read (take kept_bytes line) ≡ command_read line
 command-decided line =
     le-by (length line) kept_bytes
     (λ h. ap command_read (take_all kept_bytes line h))
-    (λ h. too_long (take kept_bytes line) (omega (arith, length-take-le kept_bytes line (omega arith))) ∙ sym (too_long line (omega arith)))
+    (λ h. long_line (take kept_bytes line) (omega (arith, length-take-le kept_bytes line (omega arith))) ∙ sym (long_line line (omega arith)))
 
 line-decided : (r : Run) (line : List ℕ) → run_line r (take kept_bytes line) ≡ run_line r line
 unfolding run_line

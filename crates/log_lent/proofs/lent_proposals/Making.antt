@@ -11,12 +11,11 @@ use Rattle.std.specs.Prelude.{Result, Ok, Err}
 use Rattle.refusals.specs.declared.Refusal.{Refusal}
 use Rattle.refusals.specs.Numbers.{number, Gives}
 use Rattle.refusals.proofs.Numbers.{number-positive}
-use Rattle.lists.proofs.Lists.{by}
 use Rattle.record.specs.declared.Record as declared
 use Rattle.record.specs.Record.{Record}
 use Rattle.record.specs.Stored.{stored}
 use Rattle.record_rows.specs.grounds.Ground.{Rows, ◌given◌, ◌orelse◌}
-use Rattle.record_rows.proofs.grounds.Grounds.{orelse-first, orelse-second}
+use Rattle.record_rows.proofs.grounds.Grounds.{orelse-first, orelse-second, orelse-assoc}
 use Rattle.record_tables.specs.Table.{empty_tables, decoded, lent_fault}
 use Rattle.voting.specs.Proposal.{proposed}
 use Rattle.voting_proposals.specs.Propose.{propose_fault, draft_fault, unkept, new_proposal, new_fault, too_short}
@@ -24,15 +23,12 @@ use Rattle.log_commands.specs.declared.Proposing.{Proposing}
 use Rattle.log_lent.specs.Lent.{Lent}
 use Rattle.log_lent.specs.lent_proposals.Made.{tables_with, lent_proposal_fault, proposal_made}
 
--- the first of a number and two more is the first of both and the last
-orelse-last : (a b c : ℕ) → (a orelse (b orelse c)) ≡ ((a orelse b) orelse c)
-orelse-last a b c = by (eqb a 0) (λ (e : eqb a 0 ≡ true). rw e refl) (λ (e : eqb a 0 ≡ false). rw (e, e) refl)
-
+-- the first of five numbers is the first of four and the last
 orelse-fifth : (a b c d e : ℕ) → (a orelse (b orelse (c orelse (d orelse e)))) ≡ ((a orelse (b orelse (c orelse d))) orelse e)
 orelse-fifth a b c d e =
-    let x = orelse-last c d e in
-    let y = ap (λ (z : ℕ). b orelse z) x ∙ orelse-last b (c orelse d) e in
-    ap (λ (z : ℕ). a orelse z) y ∙ orelse-last a (b orelse (c orelse d)) e
+    let x = orelse-assoc c d e in
+    let y = ap (λ (z : ℕ). b orelse z) x ∙ orelse-assoc b (c orelse d) e in
+    ap (λ (z : ℕ). a orelse z) y ∙ orelse-assoc a (b orelse (c orelse d)) e
 
 -- a new proposal and the places for it
 module _ (P : Record) (n m : ℕ) {new : declared.Record} (q : new ≡ stored P) where
