@@ -11,7 +11,7 @@ use Rattle.lists.specs.Lists.{all, mem, filter}
 use Rattle.lists.proofs.Lists.{by, clash}
 use Rattle.text_forms.specs.decimal.Decimal.{numeral_size}
 use Rattle.text_forms.specs.Spelling.{bytes, starts_with, number_spelling}
-use Rattle.text_forms.specs.Form.{is_mark, spelling, taken}
+use Rattle.text_forms.specs.Form.{is_mark, spelling, taken, number_places}
 use Rattle.text_forms.proofs.Forms.{slots}
 use Rattle.text_lines.specs.Line.{set_form, edit_form, rule_form, set_shapes, rule_shapes, shapes, line_limit, line_read}
 use Rattle.text_lines.proofs.Signs.{line-ends, otherwise, ruled_out, ends-number, ends-run}
@@ -66,7 +66,7 @@ lent_left f = choosing.letter_leaves (bytes "lent=# ") (get_or f 7 0) (forms_aft
 -- one is left at least, with no more numbers than the code keeps
 abbrev pub is_first : List (Production (Result Command Refusal)) → Bool
 is_first [] = false
-is_first (production ∷ rest) = leb (slots production.form) 8
+is_first (production ∷ rest) = leb (slots production.form) number_places
 
 first_of : (productions : List (Production (Result Command Refusal))) (s : List ℕ) {r : Result Command Refusal} → is_first productions ≡ true → {w : Result (List ℕ) Refusal} → w ≡ words_of (taken (choosing.first_form productions) s)
     → w ≢ Err NotInForm → r ≡ choosing.made Err w (choosing.first_meaning Err productions) → r ≡ parse Err productions s

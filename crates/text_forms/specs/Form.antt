@@ -33,7 +33,11 @@ taken (c ∷ form) s =
     (cond (eqb ((spelling c).size s) 0) none (number_before ((spelling c).value s) (taken form (drop ((spelling c).size s) s))))
     (cond (begins_with c s) (taken form (drop 1 s)) none)
 
--- What the code answers: the first eight numbers, cut off at 2^32, and 0 past those.
+-- so many numbers of a form count
+abbrev pub number_places : ℕ
+number_places = 8
+
+-- What the code answers: the first numbers, cut off at 2^32, and 0 past those.
 abbrev pub filled_of : Option (List ℕ) → Answer (List ℕ)
 filled_of none = None
-filled_of (some ns) = Some (take 8 (map saturated ns ++ replicate 8 0))
+filled_of (some ns) = Some (take number_places (map saturated ns ++ replicate number_places 0))

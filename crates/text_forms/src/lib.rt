@@ -11,7 +11,7 @@ ghost use Rattle.std.specs.Prelude.{◌≡◌, ◌≤◌, [], ◌∷◌, ◌++�
 ghost use Rattle.text_forms.specs.decimal.Decimal.{decimal};
 ghost use Rattle.text_forms.specs.decimal.Written.{Written};
 ghost use Rattle.text_forms.specs.Spelling.{name_spelling, answer_spelling, numeral_of};
-ghost use Rattle.text_forms.specs.Form.{is_mark, spelling, fill, taken, filled_of};
+ghost use Rattle.text_forms.specs.Form.{is_mark, spelling, fill, taken, number_places, filled_of};
 ghost use Rattle.text_forms.specs.Fit.{room_after};
 
 use crate::decimal::Numeral;
@@ -203,7 +203,7 @@ fn store(numbers: &mut [u64; NUMBERS], k: usize, n: u64)
 // Kept: into an array that is lent, and not inlined: an Option of the array is copied as a whole right after a single number was stored, and waits for it.
 #[inline(never)]
 fn store_numbers(form: &[u8], bytes: &[u8], numbers: &mut [u64; NUMBERS]) -> Option<()>
-    requires { numbers.old ≡ replicate 8 0 }
+    requires { numbers.old ≡ replicate number_places 0 }
     ensures { MatchOption result (None ≡ filled_of (taken form.now bytes.now)) (λ u. Some numbers.new ≡ filled_of (taken form.now bytes.now)) }
 {
     let mut rest = bytes;

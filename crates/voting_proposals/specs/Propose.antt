@@ -2,6 +2,7 @@
 -- Q, and what is answered and written. Assumes nothing.
 use Rattle.std.specs.Prelude.{◌≡◌, Bool, not, ◌||◌, cond, ◌++◌, ℕ, eqb, ltb, length, drop, Result}
 use Rattle.record.specs.Record.{Record}
+use Rattle.record.specs.Stored.{constraint_limit}
 use Rattle.record.specs.Judgement.{sound}
 use Rattle.record_rows.specs.grounds.Ground.{Rows, ◌given◌, ◌orelse◌}
 use Rattle.refusals.specs.declared.Refusal.{Refusal}
@@ -12,7 +13,7 @@ use Rattle.voting_proposals.specs.declared.Proposed.{Proposed}
 
 -- 3: some of the rows had no place left
 unfoldable pub overfull : Record → Bool
-overfull R = ltb 512 (length R.constraints)
+overfull R = ltb constraint_limit (length R.constraints)
 
 -- The union with the rows "b notafter a": lack of place ahead of 8. An unsound Q is 8 at once, since settled is said of a sound record; an unsound M
 -- shows as 8 of the union. Then the decisions and orders, which come after the scheduling.

@@ -2,7 +2,7 @@
 use Rattle.std.specs.Prelude.{ℕ, cond, List, ◌++◌, get_or, take, replicate, Result, Ok, Err}
 use Rattle.std.proofs.Math.Option.{Option, none, some}
 use Rattle.lists.specs.Lists.{all}
-use Rattle.text_forms.specs.Form.{taken}
+use Rattle.text_forms.specs.Form.{taken, number_places}
 use Rattle.text_lines.specs.Line.{fits_word}
 use Rattle.refusals.specs.declared.Refusal.{Refusal}
 use Rattle.refusals.specs.declared.Refusal.TheVariants.{NotInForm, OutOfRange}
@@ -15,9 +15,9 @@ word_at words k = get_or words k 0
 unfoldable pub words_kept : List ℕ → Result (List ℕ) Refusal
 words_kept cells = cond (all fits_word cells) (Ok cells) (Err OutOfRange)
 
--- the first eight numbers, and 0 past those
+-- the first numbers, and 0 past those
 abbrev pub eight_of : List ℕ → List ℕ
-eight_of ns = take 8 (ns ++ replicate 8 0)
+eight_of ns = take number_places (ns ++ replicate number_places 0)
 
 abbrev pub words_of : Option (List ℕ) → Result (List ℕ) Refusal
 words_of none = Err NotInForm
