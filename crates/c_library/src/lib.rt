@@ -196,7 +196,7 @@ pub fn catalogue_continue(kept: &[u8], log: &[u8], work: &mut [u8], out: &mut [u
 }
 
 // How united the benches are, from a table of election answers.
-// Kept: no twin: like `voting_count::is_sound` it is one call made of another's answer, but no function that it calls is called there.
+// Kept: one call made of another's answer, as the answers above are, but neither of its functions is called there.
 pub fn catalogue_unity(answers: &[ElectionRow]) -> Unity
     ensures { result ≡ unity_reply (unity_of (map weights_of answers.now)) }
 {

@@ -17,7 +17,7 @@ pub struct RollRow {
 }
 
 // What an election comes to, where nothing is refused.
-#[derive(Clone, Copy)]
+#[derive(Clone, Copy, Default)]
 pub struct ElectionResult {
     pub won: bool,
     pub greatest: u32,

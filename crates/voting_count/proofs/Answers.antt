@@ -1,7 +1,6 @@
 -- The answer of a count by its grounds. Assumes nothing.
 use mathlib.Core.Path.{◌≡◌, refl, sym, ap, ◌∙◌}
-use mathlib.Core.Bool.{Bool, true, false, cond}
-use native.Mathlib.Omega.{arith}
+use mathlib.Core.Bool.{Bool, true, false, not, cond}
 use Rattle.std.specs.Prelude.{Option as Given, unwrap_or, Ok, Err}
 use mathlib.Core.List.{List}
 use Prim.Native.Nat.{ℕ}
@@ -11,7 +10,8 @@ use Rattle.record.specs.declared.Record as declared
 use Rattle.lists.specs.Lists.{any, all, mem}
 use Rattle.record.specs.Record.{written}
 use Rattle.record.specs.Stored.{empty_record}
-use Rattle.record_rows.specs.grounds.Ground.{◌given◌}
+use Rattle.record_rows.specs.grounds.Ground.{◌given◌, ◌orelse◌}
+use Rattle.record_rows.proofs.grounds.Grounds.{orelse-first, orelse-assoc}
 use Rattle.record.specs.Judgement.{sound}
 use Rattle.record_rows.specs.row.Row.{is_name}
 use Rattle.record_rows.proofs.row.Cells.{name-taken, name-refused}
@@ -20,21 +20,40 @@ use Rattle.refusals.specs.declared.Refusal.TheVariants.{OutOfRange}
 use Rattle.refusals.specs.Numbers.{number}
 use Rattle.refusals.proofs.Numbers.{number-positive}
 use Rattle.voting.specs.declared.RollRow.{RollRow}
-use Rattle.voting.specs.Tally.{Ballot, winner, election_told}
+use Rattle.voting.specs.Tally.{winner, election_told}
 use Rattle.voting_roll.specs.Roll.{roll_faulty}
 use Rattle.voting_tally.specs.declared.Tally.{Tally}
-use Rattle.voting_tally.specs.Groups.{result_of, tally_of, winner_stored, held_bundle}
+use Rattle.voting_tally.specs.Groups.{tally_of, winner_stored, held_bundle}
 use Rattle.voting_tally.proofs.Winners.{winner-held}
 use Rattle.voting_count.specs.Count.{Faultless, refused_count, count_told, count_of}
+use Rattle.voting_count.specs.Counting.{known_name_fault, whole_fault}
 use Rattle.voting_roll.specs.Election.{Proposals, held, proposal_fault, first_given, benches, election_fault, cast, refused_election, election_of}
 
-result-held : (tally : Tally) (l : List Ballot) → tally ≡ tally_of l → tally.election ≡ result_of l
-unfolding tally_of
-result-held tally l q = ap (λ t. t.election) q
+-- the faults of the whole call, where no row of the proposals has one
+module _ (e : ℕ) (P : Proposals) where
+  pub name-no-name : {r : Refusal} → Err r ≡ cond (is_name e) (Ok e) (Err OutOfRange) → number r ≡ known_name_fault e P
+  unfolding known_name_fault
+  name-no-name q = let n = name-refused e q in rw (n.1, n.0)
 
-roll-given : (b : Bool) → 0 ≡ 14 given b → b ≡ false
-roll-given true h = absurd (omega (arith, h))
-roll-given false h = refl
+  module _ (z : Faultless P) {x : ℕ} (q : Ok x ≡ cond (is_name e) (Ok e) (Err OutOfRange)) {known : Bool} (told : Faultless P → known ≡ any (λ k. mem x (written (held P k))) benches) where
+    knows : {b : Bool} → known ≡ b → any (λ k. mem e (written (held P k))) benches ≡ b
+    knows k = rw (name-taken e q).1 at (sym (told z) ∙ k)
+
+    pub name-unknown : known ≡ false → 5 ≡ known_name_fault e P
+    unfolding known_name_fault
+    name-unknown k = rw ((name-taken e q).0, knows k)
+
+    pub name-known : known ≡ true → (0 ≡ known_name_fault e P) × (x ≡ e)
+    unfolding known_name_fault
+    name-known k = (rw ((name-taken e q).0, knows k), (name-taken e q).1)
+
+  pub whole-of-name : {n : ℕ} → n ≡ known_name_fault e P → (n ≡ 0 → ⊥) → n ≡ whole_fault e P
+  unfolding whole_fault
+  whole-of-name q h = q ∙ sym (orelse-first (known_name_fault e P) (8 given not (all (λ k. sound (held P k)) benches)) (λ z. h (q ∙ z)))
+
+  pub whole-of-sound : {b : Bool} → 0 ≡ known_name_fault e P → b ≡ all (λ k. sound (held P k)) benches → 8 given not b ≡ whole_fault e P
+  unfolding whole_fault
+  whole-of-sound q s = rw (s, ← q) refl
 
 module _ (e : ℕ) (P : Proposals) (rows : List RollRow) where
   pub count-rows-refused : (r : Refusal) → number r ≡ first_given (proposal_fault P) benches → number r ≡ election_fault e P rows
@@ -42,42 +61,17 @@ module _ (e : ℕ) (P : Proposals) (rows : List RollRow) where
   count-rows-refused r q =
       let z : eqb (first_given (proposal_fault P) benches) 0 ≡ false = ne_eqb (first_given (proposal_fault P) benches) 0 (λ y. number-positive r (q ∙ y)) in rw z q
 
-  module _ (z : 0 ≡ first_given (proposal_fault P) benches) where
-    pub roll-refused : (r : Refusal) → number r ≡ 14 given roll_faulty rows → number r ≡ election_fault e P rows
-    unfolding election_fault
-    roll-refused r q = let y : eqb (14 given roll_faulty rows) 0 ≡ false = ne_eqb (14 given roll_faulty rows) 0 (λ y. number-positive r (q ∙ y)) in rw (sym z, y) q
-
-    module _ (g : 0 ≡ 14 given roll_faulty rows) where
-      roll-accepted : roll_faulty rows ≡ false
-      roll-accepted = roll-given (roll_faulty rows) g
-
-      pub count-name-refused : {r : Refusal} → Err r ≡ cond (is_name e) (Ok e) (Err OutOfRange) → number r ≡ election_fault e P rows
-      unfolding election_fault
-      count-name-refused q = let n = name-refused e q in rw (n.1, sym z, roll-accepted, n.0)
-
-      module _ {x : ℕ} (q : Ok x ≡ cond (is_name e) (Ok e) (Err OutOfRange)) {known : Bool} (told : Faultless P → known ≡ any (λ k. mem x (written (held P k))) benches) where
-        knows : {b : Bool} → known ≡ b → any (λ k. mem e (written (held P k))) benches ≡ b
-        knows k = rw (name-taken e q).1 at (sym (told (sym z)) ∙ k)
-
-        pub count-unknown-refused : known ≡ false → 5 ≡ election_fault e P rows
-        unfolding election_fault
-        count-unknown-refused k = rw (sym z, roll-accepted, (name-taken e q).0, knows k)
-
-        module _ (k : known ≡ true) {whole : Bool} (test : Faultless P → whole ≡ all (λ k. sound (held P k)) benches) where
-          pub count-unsound-refused : whole ≡ false → 8 ≡ election_fault e P rows
-          unfolding election_fault
-          count-unsound-refused s = let u : all (λ k. sound (held P k)) benches ≡ false = sym (test (sym z)) ∙ s in rw (sym z, roll-accepted, (name-taken e q).0, knows k, u)
-
-          pub count-accepted : whole ≡ true → {tally : Tally} → (Faultless P → roll_faulty rows ≡ false → tally ≡ tally_of (cast x P rows))
-              → (0 ≡ election_fault e P rows) × (tally ≡ tally_of (cast e P rows))
-          unfolding election_fault
-          count-accepted s made =
-              let u : all (λ k. sound (held P k)) benches ≡ true = sym (test (sym z)) ∙ s in
-              (rw (sym z, roll-accepted, (name-taken e q).0, knows k, u), rw (name-taken e q).1 at (made (sym z) roll-accepted))
+  -- the grounds, where no row of the proposals has one: the roll's, then those of the whole call
+  pub grounds-left : {n : ℕ} → 0 ≡ first_given (proposal_fault P) benches → n ≡ whole_fault e P → 14 given roll_faulty rows orelse n ≡ election_fault e P rows
+  unfolding election_fault whole_fault known_name_fault
+  grounds-left z q =
+      rw (q, ← z)
+      (ap (λ m. 14 given roll_faulty rows orelse m)
+      (sym (orelse-assoc (2 given not (is_name e)) (5 given not (any (λ k. mem e (written (held P k))) benches)) (8 given not (all (λ k. sound (held P k)) benches)))))
 
   pub election-answered : 0 ≡ election_fault e P rows → (t : Tally) → t ≡ tally_of (cast e P rows) → election_told (Ok t.election) ≡ election_of e P rows
-  unfolding election_of
-  election-answered z t q = rw (sym z) (ap (λ r. election_told (Ok r)) (result-held t (cast e P rows) q))
+  unfolding election_of tally_of
+  election-answered z t q = rw (sym z) (ap (λ (t : Tally). election_told (Ok t.election)) q)
 
   pub election-faulty : (n : ℕ) → n ≡ election_fault e P rows → (n ≡ 0 → ⊥) → refused_election n ≡ election_of e P rows
   unfolding election_of

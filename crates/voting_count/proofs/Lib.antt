@@ -1,7 +1,9 @@
 pub mod Benches
+pub mod Beginnings
 pub mod Proposals
 pub mod Rolled
 pub mod Answers
+pub mod Tallied
 pub mod Known
 pub mod Won
 pub mod Told

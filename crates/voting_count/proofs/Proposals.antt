@@ -11,19 +11,24 @@ use lib.ListN.{length, get_or, length-map}
 use borrow.Author.Tests.{leb-true}
 use Rattle.record.specs.declared.Record as declared
 use Rattle.lists.specs.Lists.{all}
-use Rattle.record.specs.Stored.{stored}
+use Rattle.record.specs.Record.{Record}
+use Rattle.record.specs.Stored.{stored, empty_record}
 use Rattle.record.specs.Judgement.{sound}
-use Rattle.lists.proofs.Lists.{and_l, and_r}
+use Rattle.graph.specs.indexes.Fit.{Fit}
+use Rattle.graph.proofs.indexes.Fit.{checked-fit}
+use Rattle.lists.proofs.Lists.{and_l, and_r, get_or-mapped}
+use Rattle.std.proofs.lemmas.List.FromFn.{fill_by_all}
 use Rattle.record_rows.specs.row.Row.{edit_of, constraint_of}
 use Rattle.record_rows.specs.grounds.Ground.{Rows}
 use Rattle.record_rows.proofs.grounds.Grounds.{orelse-none}
-use Rattle.record_tables.specs.Table.{empty_tables, decoded, lent_fault}
+use Rattle.record_tables.specs.Table.{decoded}
 use Rattle.record_tables.specs.Checked.{Checked}
 use Rattle.record_tables.proofs.Records.{lent-checked}
 use Rattle.voting.specs.declared.RollRow.{RollRow}
 use Rattle.lists.proofs.Front.{all-broken}
 use Rattle.voting_roll.specs.Roll.{is_bench}
 use Rattle.voting_count.specs.Count.{lent_proposals, Faultless}
+use Rattle.voting_count.specs.Counting.{decoded_proposals}
 use Rattle.voting_count.proofs.Benches.{bench-at, held_at, fault-at}
 use Rattle.voting_roll.specs.Election.{Proposals, benches, held, proposal_fault, first_given}
 
@@ -50,29 +55,46 @@ proposal-stored rows cells es cs k a b ea eb r f h =
     let c = lent-checked x y (sym (fault-at rows cells es cs k a b ea eb) ∙ h) in
     f (omega (arith, c.editplaces, length-map x edit_of)) (omega (arith, c.constraintplaces, length-map y constraint_of)) ∙ ap stored (sym (held_at rows cells es cs k a b ea eb))
 
--- what a record tells of its soundness, where its rows have no fault
-abbrev pub Tells : Rows → Rows → Bool → Type 0
-Tells E C b = lent_fault empty_tables E C ≡ 0 → b ≡ sound (decoded E C)
+-- the eight decoded records are the proposals
+module _ {A B : Type 0} (rows : A → Rows) (cells : B → Rows) (es : List A) (cs : List B) (a : A) (b : B) (ea : rows a ≡ []) (eb : cells b ≡ []) where
+  pub proposals-decoded : (l : List declared.Record) → length l ≡ 8
+      → ((k : ℕ) (d : declared.Record) → k < 8 → length (rows (get_or es k a)) ≤ 127 → length (cells (get_or cs k b)) ≤ 512 → get_or l k d ≡ stored (decoded (rows (get_or es k a)) (cells (get_or cs k b))))
+      → Faultless (lent_proposals (map rows es) (map cells cs)) → l ≡ decoded_proposals (lent_proposals (map rows es) (map cells cs))
+  unfolding decoded_proposals
+  proposals-decoded l e f h =
+      let P = lent_proposals (map rows es) (map cells cs) in
+      fill_by_all (λ k. stored (held P (k + 1))) l 8 empty_record e
+      (λ k lt. proposal-stored rows cells es cs k a b ea eb (get_or l k empty_record) (f k empty_record lt) (bench-faultless P h k lt))
+
+-- the proposal of bench k + 1 among them
+pub decoded-at : (P : Proposals) (l : List declared.Record) → l ≡ decoded_proposals P → (k : ℕ) (d : declared.Record) → k < 8 → get_or l k d ≡ stored (held P (k + 1))
+unfolding decoded_proposals
+decoded-at P l e k d h = rw e (get_or-mapped (λ b. stored (held P b)) benches k 0 d h ∙ ap (λ b. stored (held P b)) (bench-at k h))
+
+-- what the judgement tells of a stored record
+abbrev pub Judges : declared.Record → Bool → Type 0
+Judges r b = (R : Record) → r ≡ stored R → Fit R → b ≡ sound R
 
 every : (p : ℕ → Bool) (l : List ℕ) → ((k : ℕ) → k < length l → true ≡ p (get_or l k 0)) → true ≡ all p l
 unfolding all
 every p [] h = refl
 every p (x ∷ l) h = rw (← h 0 (omega arith)) (every p l (λ k e. h (suc k) (omega arith)))
 
--- the eight lent records, and the benches
-module _ {A : Type 0} (edits constraints : A → Rows) (es : List A) (a : A) (ea : edits a ≡ []) (ec : constraints a ≡ []) (l : length es ≡ 8) where
-  abbrev P : Proposals
-  P = lent_proposals (map edits es) (map constraints es)
+module _ (P : Proposals) (l : List declared.Record) (e : l ≡ decoded_proposals P) (h : Faultless P) where
+  sound-at : (k : ℕ) → k < 8 → (b : Bool) → Judges (get_or l k empty_record) b → b ≡ sound (held P (get_or benches k 0))
+  sound-at k i b f =
+      f (held P (k + 1)) (decoded-at P l e k empty_record i) (checked-fit (held P (k + 1)) (held-checked P (k + 1) (bench-faultless P h k i))) ∙ ap (λ x. sound (held P x)) (sym (bench-at k i))
 
-  sound-at : Faultless P → (k : ℕ) → k < 8 → (b : Bool) → Tells (edits (get_or es k a)) (constraints (get_or es k a)) b → b ≡ sound (held P (get_or benches k 0))
-  sound-at h k e b f =
-      f (sym (fault-at edits constraints es es k a a ea ec) ∙ bench-faultless P h k e) ∙ ap sound (sym (held_at edits constraints es es k a a ea ec) ∙ ap (held P) (sym (bench-at k e)))
+  decoded-length : length l ≡ 8
+  unfolding decoded_proposals
+  decoded-length = rw e (length-map benches (λ k. stored (held P k)))
 
-  pub all-sound : Faultless P → (r : Bool)
-      → MatchBool r (AllWithin (λ x. Tells (edits x) (constraints x) true) es 0 (length es)) ((k : ℕ) × (k < length es) × HoldsAt (λ x. Tells (edits x) (constraints x) false) es k)
-      → r ≡ all (λ k. sound (held P k)) benches
-  all-sound h true w = every (λ k. sound (held P k)) benches (λ k e. sound-at h k e true (w k a (omega arith) (omega arith)))
-  all-sound h false w = let e : w.0 < 8 = omega (arith, w.1) in sym (all-broken (λ k. sound (held P k)) benches 8 w.0 0 e (omega arith) (sym (sound-at h w.0 e false (w.2 a))))
+  pub all-sound : (r : Bool)
+      → MatchBool r (AllWithin (λ x. Judges x true) l 0 (length l)) ((k : ℕ) × (k < length l) × HoldsAt (λ x. Judges x false) l k) → r ≡ all (λ k. sound (held P k)) benches
+  all-sound true w = every (λ k. sound (held P k)) benches (λ k i. sound-at k i true (w k empty_record (omega arith) (omega (arith, decoded-length))))
+  all-sound false w =
+      let i : w.0 < 8 = omega (arith, w.1, decoded-length) in
+      sym (all-broken (λ k. sound (held P k)) benches 8 w.0 0 i (omega arith) (sym (sound-at w.0 i false (w.2 empty_record))))
 
 -- a bench of the roll
 pub proposal-bench-low : (row : RollRow) → is_bench row ≡ true → (1 ≤ row.bench) × (row.bench ≤ 8)

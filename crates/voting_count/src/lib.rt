@@ -1,27 +1,33 @@
-// Elections over eight lent proposals and a roll (document 01, "Proposals and votes" and "What is turned away").
+// Elections over eight lent proposals and a roll (document 01, "Proposals and votes" and "What is turned away"). The roll's rows are counted one by one,
+// and before the first and after each the tally holds the election's answer on the rows so far (document 02, A4).
 #![tactic(auto)]
 
-ghost use Rattle.std.specs.Prelude.{◌≡◌, false, ◌+◌, ◌<◌, ◌≤◌, IfOk};
+ghost use Rattle.std.specs.Prelude.{◌≡◌, ◌≤◌, IfOk};
 ghost use Rattle.std.proofs.Math.Option.{none};
 ghost use Rattle.record.specs.Record as theory;
 ghost use Rattle.lists.specs.Lists.{any, all, mem};
 ghost use Rattle.record.specs.Stored.{stored};
 ghost use Rattle.record.specs.Judgement.{sound};
-ghost use Rattle.refusals.specs.Numbers.{number_of, Gives};
-ghost use Rattle.record_tables.specs.Table.{empty_tables, decoded, lent_fault, names_of};
+ghost use Rattle.refusals.specs.Numbers.{number, number_of, Gives};
+ghost use Rattle.record_rows.specs.grounds.Ground.{◌given◌, ◌orelse◌};
+ghost use Rattle.record_tables.specs.Table.{names_of};
 ghost use Rattle.record_tables.specs.Checked.{Checked};
 ghost use Rattle.voting.specs.Bundle as vote;
 ghost use Rattle.voting.specs.Tally.{winner, election_told};
 ghost use Rattle.voting_roll.specs.Roll.{roll_faulty};
-ghost use Rattle.voting_tally.specs.Groups.{cast_of, tally_of, held_bundle};
-ghost use Rattle.voting_roll.specs.Election.{held, proposal_fault, first_given, benches, cast, election_fault, election_of};
+ghost use Rattle.voting_tally.specs.Groups.{cast_of, held_bundle};
+ghost use Rattle.voting_roll.specs.Election.{Proposals, held, proposal_fault, first_given, benches, cast, election_fault, election_of};
 ghost use Rattle.voting_count.specs.Count.{lent, Faultless, count_told, count_of};
+ghost use Rattle.voting_count.specs.Tallied.{tallied_told, tallied_of};
+ghost use Rattle.voting_count.specs.Counting.{decoded_proposals, known_name_fault, counting_of};
 
+use arrayvec::ArrayVec;
 use record::Record;
 use record_rows::row;
 use record_rows::row::{EditRow, LentRecord};
 use record_tables::lookup;
 use refusals::Refusal;
+use std::array;
 use voting::{BENCHES, ElectionResult, RollRow};
 use voting_tally::{Cast, Tally, Vote};
 
@@ -35,6 +41,12 @@ pub struct Poll<'a> {
     pub roll: &'a [RollRow],
 }
 
+// How many answers a tally gives at most: before the first row of the roll and after each.
+pub const ANSWERS: usize = BENCHES + 1;
+
+// The election's answers on the rows so far, one after the other.
+pub type AnswersSoFar = ArrayVec<ElectionResult, ANSWERS>;
+
 // What an election comes to, and the won bundle; none while it is open.
 // Kept: `won` stands beside the bundle, for an election that is answered without its bundle (`election`) says it too. That both agree follows from
 // the two clauses of `count` and is a clause where it is used (`log_lent`); as a field of this struct it would be a third place for it.
@@ -42,6 +54,13 @@ pub struct Poll<'a> {
 pub struct Counted {
     pub election: ElectionResult,
     pub bundle: Option<Record>,
+}
+
+// The count of a roll's rows: their tally, and the answers of the election before the first of them and after each.
+#[derive(Drop)]
+struct Counting {
+    tally: Tally,
+    answers: AnswersSoFar,
 }
 
 fn silent() -> Cast
@@ -81,14 +100,6 @@ fn proposals_fault(proposals: &LentProposals) -> Result<(), Refusal>
     Ok(())
 }
 
-// The proposal of bench k + 1, where its rows have no fault.
-fn proposal_at(proposals: &LentProposals, k: usize) -> Record
-    requires { k < 8 }
-    ensures { proposal_fault (lent proposals.now) (k + 1) ≡ 0 → result ≡ stored (held (lent proposals.now) (k + 1)) }
-{
-    record_union::decode(proposals[k])
-}
-
 // Whether a row of a lent table has this name.
 fn has_name(edits: &[EditRow], name: u16) -> bool
     ensures { result ≡ mem name (names_of edits.now) }
@@ -105,55 +116,85 @@ fn is_known(proposals: &LentProposals, name: u16) -> bool
         .any(|proposal| has_name(proposal.edits, name))
 }
 
-// Whether a proposal is sound, where its rows have no fault.
-// Kept: `judgement::sound` and `record_union::decode` are what it shares with other functions; what is left is one call inside the other.
-fn is_sound(proposal: LentRecord) -> bool
-    ensures { lent_fault empty_tables proposal.entry.edits.now proposal.entry.constraints.now ≡ 0 → result ≡ sound (decoded proposal.entry.edits.now proposal.entry.constraints.now) }
+// The name of an edit that a proposal knows.
+fn known_name(edit: u32, proposals: &LentProposals) -> Result<u16, Refusal>
+    ensures { Faultless (lent proposals.now) → Gives (known_name_fault edit (lent proposals.now)) edit result }
 {
-    judgement::sound(record_union::decode(proposal))
+    let name = row::name(edit)?;
+    if !is_known(proposals, name) {
+        return Err(Refusal::Unknown);
+    }
+    Ok(name)
+}
+
+// The proposals as records, where their rows have no fault.
+fn decoded(proposals: &LentProposals) -> [Record; BENCHES]
+    ensures { Faultless (lent proposals.now) → result ≡ decoded_proposals (lent proposals.now) }
+{
+    array::from_fn(|k| record_union::decode(proposals[k]))
 }
 
 // Whether all eight proposals are sound, those off the roll too.
-fn all_sound(proposals: &LentProposals) -> bool
-    ensures { Faultless (lent proposals.now) → result ≡ all (λ k. sound (held (lent proposals.now) k)) benches }
+fn all_sound(proposals: &[Record; BENCHES]) -> bool
+    ensures { (P : Proposals) → Faultless P → proposals.now ≡ decoded_proposals P → result ≡ all (λ k. sound (held P k)) benches }
 {
-    proposals.iter().all(|proposal| is_sound(*proposal))
+    proposals.iter().all(|proposal| judgement::sound(*proposal))
 }
 
 // The vote of a bench: that of its proposal.
-fn vote_in(name: u16, proposals: &LentProposals, bench: u8) -> Cast
-    ensures { Faultless (lent proposals.now) → 1 ≤ bench → bench ≤ 8 → result ≡ cast_of (vote.vote (held (lent proposals.now) bench) name) }
+fn vote_in(name: u16, proposals: &[Record; BENCHES], bench: u8) -> Cast
+    ensures { (P : Proposals) → Faultless P → proposals.now ≡ decoded_proposals P → 1 ≤ bench → bench ≤ 8 → result ≡ cast_of (vote.vote (held P bench) name) }
 {
     let k = usize::from(bench).clamp(1, BENCHES) - 1;
-    vote_of(proposal_at(proposals, k), name)
+    vote_of(proposals[k], name)
 }
 
-// The tally of the roll's rows, one after the other. Benches off the roll cast no vote.
-fn tally_of(name: u16, poll: &Poll) -> Tally
-    ensures { Faultless (lent poll.now.proposals) → roll_faulty poll.now.roll.now ≡ false → result ≡ tally_of (cast name (lent poll.now.proposals) poll.now.roll.now) }
+// The count of a roll's rows, in one walk: a row without fault is handed in to the tally, and the answer on the rows so far is kept; at the first faulty
+// one all is refused. Benches off the roll cast no vote.
+fn count_rows(
+    name: u16,
+    proposals: &[Record; BENCHES],
+    roll: &[RollRow],
+) -> Result<Counting, Refusal>
+    ensures { (P : Proposals) → Faultless P → proposals.now ≡ decoded_proposals P → Gives (14 given roll_faulty roll.now) (counting_of name P roll.now) result }
 {
     let mut tally = voting_tally::no_votes();
-    for row in poll.roll {
-        let cast = vote_in(name, &poll.proposals, row.bench);
+    let mut answers = AnswersSoFar::new();
+    answers.push(tally.election);
+    for (i, row) in roll.iter().enumerate() {
+        voting_roll::row_fault(&roll[..i], *row)?;
+        let cast = vote_in(name, proposals, row.bench);
         tally.add_vote(row.weight, &cast);
+        answers.push(tally.election);
     }
-    tally
+    Ok(Counting { tally, answers })
 }
 
-// The tally of an election on an edit. The grounds: rows of the proposals by bench, the roll, then the faults of the whole call.
-fn tally_for(edit: u32, poll: &Poll) -> Result<Tally, Refusal>
-    ensures { Gives (election_fault edit (lent poll.now.proposals) poll.now.roll.now) (tally_of (cast edit (lent poll.now.proposals) poll.now.roll.now)) result }
+// The refusal of a call for a fault of the whole: a fault of the roll comes before it.
+fn after_roll(roll: &[RollRow], refusal: Refusal) -> Refusal
+    ensures { number result ≡ 14 given roll_faulty roll.now orelse number refusal }
+{
+    match voting_roll::fault(roll) {
+        Ok(()) => refusal,
+        Err(fault) => fault,
+    }
+}
+
+// The count of an election on an edit. The grounds: rows of the proposals by bench, the roll, then the faults of the whole call. These are looked for
+// before a vote is made; where there is one, the roll is walked for its own fault alone.
+fn counting_for(edit: u32, poll: &Poll) -> Result<Counting, Refusal>
+    ensures { Gives (election_fault edit (lent poll.now.proposals) poll.now.roll.now) (counting_of edit (lent poll.now.proposals) poll.now.roll.now) result }
 {
     proposals_fault(&poll.proposals)?;
-    voting_roll::fault(poll.roll)?;
-    let name = row::name(edit)?;
-    if !is_known(&poll.proposals, name) {
-        return Err(Refusal::Unknown);
+    let name = match known_name(edit, &poll.proposals) {
+        Ok(name) => name,
+        Err(refusal) => return Err(after_roll(poll.roll, refusal)),
+    };
+    let proposals = decoded(&poll.proposals);
+    if !all_sound(&proposals) {
+        return Err(after_roll(poll.roll, Refusal::Unsound));
     }
-    if !all_sound(&poll.proposals) {
-        return Err(Refusal::Unsound);
-    }
-    Ok(tally_of(name, poll))
+    count_rows(name, &proposals, poll.roll)
 }
 
 // THE COUNT of an election on an edit.
@@ -161,7 +202,7 @@ pub fn count(edit: u32, poll: &Poll) -> Result<Counted, Refusal>
     ensures told { count_told result ≡ count_of edit (lent poll.now.proposals) poll.now.roll.now }
     ensures bundle { IfOk result (λ c. c.bundle ≡ held_bundle (winner (cast edit (lent poll.now.proposals) poll.now.roll.now))) }
 {
-    let tally = tally_for(edit, poll)?;
+    let tally = counting_for(edit, poll)?.tally;
     Ok(Counted {
         election: tally.election,
         bundle: tally.won_bundle(),
@@ -172,5 +213,12 @@ pub fn count(edit: u32, poll: &Poll) -> Result<Counted, Refusal>
 pub fn election(edit: u32, poll: &Poll) -> Result<ElectionResult, Refusal>
     ensures { election_told result ≡ election_of edit (lent poll.now.proposals) poll.now.roll.now }
 {
-    Ok(tally_for(edit, poll)?.election)
+    Ok(counting_for(edit, poll)?.tally.election)
+}
+
+// THE ANSWERS SO FAR of an election on an edit: before the first row of the roll and after each.
+pub fn tally(edit: u32, poll: &Poll) -> Result<AnswersSoFar, Refusal>
+    ensures { tallied_told result ≡ tallied_of edit (lent poll.now.proposals) poll.now.roll.now }
+{
+    Ok(counting_for(edit, poll)?.answers)
 }

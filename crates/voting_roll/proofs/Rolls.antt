@@ -13,6 +13,9 @@ use Rattle.lists.proofs.Lists.{by, clash}
 use Rattle.voting.specs.declared.RollRow.{RollRow}
 use Rattle.lists.proofs.Front.{all_append, take_more}
 use Rattle.record_rows.specs.grounds.Ground.{◌given◌}
+use Rattle.refusals.specs.declared.Refusal.{Refusal}
+use Rattle.refusals.specs.Numbers.{number}
+use Rattle.refusals.proofs.Numbers.{number-positive}
 use Rattle.lists.proofs.Tests.{eqb-swapped}
 use Rattle.voting_roll.specs.Roll.{roll_bench, is_bench, roll_faulty, row_faulty}
 
@@ -76,13 +79,29 @@ fault-stays-over rows (row ∷ more) h = rw (append_assoc rows (row ∷ []) more
 fault-stays : (rows : List RollRow) (n : ℕ) → roll_faulty (take n rows) ≡ true → roll_faulty rows ≡ true
 fault-stays rows n h = rw (take-append-drop n rows) at (fault-stays-over (take n rows) (drop n rows) h)
 
+-- A BEGINNING OF A ROLL WITHOUT FAULT HAS NONE
+pub beginning-faultless : (rows : List RollRow) (n : ℕ) → roll_faulty rows ≡ false → roll_faulty (take n rows) ≡ false
+beginning-faultless rows n h = by (roll_faulty (take n rows)) (λ e. clash (fault-stays rows n e) h) (λ e. e)
+
+-- a fault by its number
+fault-given : (b : Bool) (r : Refusal) → number r ≡ 14 given b → (b ≡ true) × (number r ≡ 14)
+fault-given true r h = (refl, h)
+fault-given false r h = absurd (number-positive r h)
+
+pub no-rows-faultless : roll_faulty [] ≡ false
+unfolding roll_faulty all distinct
+no-rows-faultless = refl
+
 -- THE FAULT of a roll, read row by row: the rows before place i have none
-module _ (rows : List RollRow) (i : ℕ) (h : i < length rows) (w : roll_faulty (take i rows) ≡ false) (d : RollRow) (f : Bool) (q : f ≡ row_faulty (take i rows) (get_or rows i d) (length (take i rows))) where
-  fault-next : roll_faulty (take (i + 1) rows) ≡ f
-  fault-next = rw (take_more rows i d h) (fault-more (take i rows) (get_or rows i d) w ∙ sym q)
+module _ (rows : List RollRow) (i : ℕ) (h : i < length rows) (w : roll_faulty (take i rows) ≡ false) (d : RollRow) where
+  fault-next : roll_faulty (take (i + 1) rows) ≡ row_faulty (take i rows) (get_or rows i d) (length (take i rows))
+  fault-next = rw (take_more rows i d h) (fault-more (take i rows) (get_or rows i d) w)
 
-  pub rows-faultless : f ≡ false → roll_faulty (take (i + 1) rows) ≡ false
-  rows-faultless e = fault-next ∙ e
+  pub row-passed : row_faulty (take i rows) (get_or rows i d) (length (take i rows)) ≡ false → roll_faulty (take (i + 1) rows) ≡ false
+  row-passed e = fault-next ∙ e
 
-  pub rows-fault : f ≡ true → 14 ≡ 14 given roll_faulty rows
-  rows-fault e = rw (fault-stays rows (i + 1) (fault-next ∙ e))
+  pub row-refused : (r : Refusal) → number r ≡ 14 given row_faulty (take i rows) (get_or rows i d) (length (take i rows)) → number r ≡ 14 given roll_faulty rows
+  row-refused r e =
+      let f = fault-given (row_faulty (take i rows) (get_or rows i d) (length (take i rows))) r e in
+      let g = fault-stays rows (i + 1) (fault-next ∙ f.0) in
+      rw g f.1

@@ -27,15 +27,22 @@ fn is_faulty(rows: &[RollRow], row: RollRow) -> bool
         || has_bench(rows, row.bench)
 }
 
-// THE FAULT of a roll: a bench that is not 1 to 8 or that stands twice, or a ninth row. Every fault is 14.
-#[tactic(auto, unfolding(crate::specs::Roll::roll_faulty, lists::specs::Lists::all, lists::specs::Lists::distinct))]
+// The fault of a row after others that have none: a bench that is not 1 to 8 or that stands there, or a ninth row. Every fault is 14.
+pub fn row_fault(rows: &[RollRow], row: RollRow) -> Result<(), Refusal>
+    ensures { number_of result ≡ 14 given row_faulty rows.now row (length rows.now) }
+{
+    if is_faulty(rows, row) {
+        return Err(Refusal::FaultyRoll);
+    }
+    Ok(())
+}
+
+// THE FAULT of a roll: that of its first faulty row.
 pub fn fault(rows: &[RollRow]) -> Result<(), Refusal>
     ensures { number_of result ≡ 14 given roll_faulty rows.now }
 {
     for (i, row) in rows.iter().enumerate() {
-        if is_faulty(&rows[..i], *row) {
-            return Err(Refusal::FaultyRoll);
-        }
+        row_fault(&rows[..i], *row)?;
     }
     Ok(())
 }

@@ -1,7 +1,9 @@
 -- `count` meets its contract. Assumes nothing.
+use mathlib.Core.Path.{ap}
 use Rattle.std.proofs.lemmas.Result.{err_from_is_err_and}
 use Rattle.refusals.specs.Numbers.{number}
 use Rattle.refusals.proofs.Numbers.{number-positive}
+use Rattle.voting_count.specs.declared.Counting.{Counting}
 use Rattle.voting_count.specs.Count.{lent}
 use Rattle.voting_count.proofs.Answers.{count-answered, count-refused}
 use Rattle.voting_roll.specs.Election.{cast}
@@ -18,7 +20,8 @@ returns-clause-told c =
     let P = lent c.args.poll.now.proposals in
     let rows = c.args.poll.now.roll.now in
     let p = c.in_ok-tally.ensures in
-    count-answered c.args.edit P rows p.0 _ p.1 c.won_bundle.result (c.won_bundle.ensures (cast c.args.edit P rows) p.1)
+    let t = ap (λ (k : Counting). k.tally) p.1 in
+    count-answered c.args.edit P rows p.0 _ t c.won_bundle.result (c.won_bundle.ensures (cast c.args.edit P rows) t)
 
 pub returns-clause-bundle : goal.returns-clause-bundle
-returns-clause-bundle c = c.won_bundle.ensures (cast c.args.edit (lent c.args.poll.now.proposals) c.args.poll.now.roll.now) c.in_ok-tally.ensures.1
+returns-clause-bundle c = c.won_bundle.ensures (cast c.args.edit (lent c.args.poll.now.proposals) c.args.poll.now.roll.now) (ap (λ (k : Counting). k.tally) c.in_ok-tally.ensures.1)
