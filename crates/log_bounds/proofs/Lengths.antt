@@ -40,6 +40,7 @@ use Rattle.voting.specs.Tally.{Election, winner, counted}
 use Rattle.voting_roll.specs.Roll.{is_bench}
 use Rattle.voting_roll.specs.Election.{Proposals, held, election_fault, cast, election_of}
 use Rattle.voting_count.specs.Count.{count_of}
+use Rattle.voting_count.specs.Tallied.{Tallied, tallied_of}
 use Rattle.voting_bundles.specs.Bundles.{BundleAnswer, lent_bundle_fault, bundle_answer}
 use Rattle.voting_proposals.specs.Propose.{propose_fault, new_proposal}
 use Rattle.suggestions.specs.declared.Advice.{Advice}
@@ -52,7 +53,7 @@ use Rattle.bench.proofs.Pages.{last-room}
 use Rattle.log_forms.specs.Printed.{Texts}
 use Rattle.log_answers.specs.Answers.{answered_text, bit, stored_text}
 use Rattle.log_answers.specs.bench_answers.Asks.{hidden_text, schedule_text}
-use Rattle.log_bounds.proofs.Sizes.{size_of, size_none, size-both, size-one, line-size, head-size, bit-small, answered-size, SmallEdit, rule-line-size, SmallRecord, checked-small, stored-text-size, stored-size, record-size, hidden-size, schedule-size, catalogue-size, journal-size, page-size}
+use Rattle.log_bounds.proofs.Sizes.{size_of, size_none, size-both, size-one, from-size, line-size, head-size, bit-small, answered-size, SmallEdit, rule-line-size, SmallRecord, checked-small, stored-text-size, stored-size, record-size, hidden-size, schedule-size, catalogue-size, journal-size, page-size}
 use Rattle.log_bounds.proofs.Small.{EachMember, each_take, each-filled, each_both, entries-small, entries-few, journal-small}
 use Rattle.log_commands.specs.declared.Ask.{Ask}
 use Rattle.log_commands.specs.declared.Ask.TheVariants.{Text, Report, Hidden, Schedule, Catalogue, Journal, Page}
@@ -62,7 +63,7 @@ use Rattle.log_commands.specs.declared.Lend.{Lend as Lends}
 use Rattle.log_commands.specs.declared.Proposing.{Proposing}
 use Rattle.log_commands.specs.declared.Suggesting.{Suggesting}
 use Rattle.log_commands.specs.declared.Vote.{Vote}
-use Rattle.log_commands.specs.declared.Vote.TheVariants.{Elect, Bundle, Suggest, Test, Winner}
+use Rattle.log_commands.specs.declared.Vote.TheVariants.{Elect, Bundle, Suggest, Test, Winner, Tally}
 use Rattle.log_lent.specs.Lent.{is_lent}
 use Rattle.log_lent.specs.lent_calls.Calls.{proposals_of, bundle_in, lent_row_fault, row_sound, suggest_fault, suggestion_fault, suggested_rules_in}
 use Rattle.log_lent.specs.lent_proposals.Made.{tables_of, lent_proposal_fault, proposal_made}
@@ -72,10 +73,10 @@ use Rattle.log_session.specs.Lends.{lend_effect}
 use Rattle.log_session.specs.Requests.{request_of}
 use Rattle.log_session.specs.calls.Lines.{pages_text, adoption_text, call_text, call_effect}
 use Rattle.log_session.specs.questions.Questions.{ask_text}
-use Rattle.log_session.specs.votes.Votes.{election_line, bundle_text, suggestion_text, test_line, won_text, winner_text, proposal_effect, vote_effect}
+use Rattle.log_session.specs.votes.Votes.{election_line, bundle_text, suggestion_text, test_line, won_text, winner_text, tally_text, proposal_effect, vote_effect}
 use Rattle.log_session.proofs.Cases.{ledger-valid}
 use Rattle.log_session.proofs.calls.Telling.{lend-text}
-use Rattle.log_bounds.proofs.Numbers.{judge-small, propose-small, bundle-number-small, test-number-small, suggest-number-small, lend-number-small, SmallElection, counted-small, election-small}
+use Rattle.log_bounds.proofs.Numbers.{judge-small, propose-small, bundle-number-small, test-number-small, suggest-number-small, lend-number-small, SmallElection, counted-small, election-small, SmallTally, tally-small}
 use Rattle.log_bounds.proofs.Bounds.{RowFits, SeatFits, decoded-fits, ProposalsFit, held_fits, CallFits, RequestFits, CallLineFits, proposals-fit, request-fits, new-proposal-fits}
 use Rattle.log_session.proofs.votes.Making.{proposal-checked}
 use Rattle.voting_bundles.proofs.Judging.{bundle-checked}
@@ -299,6 +300,11 @@ unfolding election_line room bytes is_mark
 election-line-size E s =
     line-size (bytes "won=? greatest=# silent=# total=#\n") (bit E.won ∷ E.greatest ∷ E.silent ∷ E.total ∷ []) 100 (bit-small E.won, (s.greatest, (s.silent, (s.total, tt)))) refl
 
+-- an election's answers on the rows so far
+tally-text-size : (t : Tallied) → SmallTally t → size_of (tally_text t.answers) ≤ 900
+unfolding tally_text
+tally-text-size t s = omega (arith, s.few, from-size (λ i E. election_line E) 100 9 0 t.answers (omega (arith, s.few)) (λ i E h m. election-line-size E (s.each E m)))
+
 -- what an election has won
 winner-small : (e : ℕ) (P : Proposals) (roll : List RollRow) → ProposalsFit P → election_fault e P roll ≡ 0 → (B : Record) → winner (cast e P roll) ≡ some B → SmallRecord B
 unfolding winner cast
@@ -338,6 +344,9 @@ module _ (line : ℕ) (l : line < 2 ^ 64) where
 
   elect-size : (E : Election) → SmallElection E → size_of (answered_text E.number (election_line E) line) ≤ answer_limit
   elect-size E s = answered-size E.number line answer_limit (election_line E) s.number l (omega arith) (λ z. omega (arith, election-line-size E s))
+
+  tally-size : (t : Tallied) → SmallTally t → size_of (answered_text t.number (tally_text t.answers) line) ≤ answer_limit
+  tally-size t s = answer-size t.number line (tally_text t.answers) s.number l (λ z. omega (arith, tally-text-size t s))
 
   winner-size : (edit : ℕ) (P : Proposals) (roll : List RollRow) → ProposalsFit P → EachMember SeatFits roll
       → size_of (answered_text (count_of edit P roll).election.number (winner_text edit (count_of edit P roll)) line) ≤ answer_limit
@@ -383,6 +392,7 @@ module _ (D : Desk) (B : Bounded D) (line : ℕ) (l : line < 2 ^ 64) where
       (λ z. omega (arith, suggested-size R w z))
   vote-size (Test k) = test-size k
   vote-size (Winner edit) = winner-size line l edit (proposals_of D.lent) D.lent.roll (proposals-fit D B) B.weights
+  vote-size (Tally edit) = tally-size line l (tallied_of edit (proposals_of D.lent) D.lent.roll) (tally-small edit (proposals_of D.lent) D.lent.roll B.weights)
 
   -- A LINE THAT LENDS
   pub lend-size : (lend : Lends) → size_of (printed_of (lend_effect D lend) line) ≤ answer_limit

@@ -1,23 +1,23 @@
 -- The numbers of refusals, of elections and of answers are small. Assumes nothing.
-use mathlib.Core.Path.{◌≡◌, refl}
+use mathlib.Core.Path.{◌≡◌, refl, ap}
 use mathlib.Core.Bool.{Bool, true, false, not, ◌&&◌, ◌||◌}
 use mathlib.Core.Logic.{inl, inr}
 use mathlib.Core.List.{List, [], ◌∷◌}
 use mathlib.Core.Option.{Option, none, some}
 use Prim.Native.Nat.{ℕ, ◌*◌, ◌-◌, ◌≤◌, ◌<◌}
 use native.Mathlib.Omega.{arith}
-use borrow.Author.Tests.{eqb-true}
+use borrow.Author.Tests.{eqb-true, eqb-false}
 use lib.Dec.{eqb, leb, ltb}
 use lib.ListN.{length, get_or}
 use Rattle.std.specs.Prelude as prelude
 use Rattle.std.specs.Prelude.{Some, None}
 use Rattle.lists.specs.Lists.{any, all, mem, Has}
 use Rattle.lists.proofs.Lists.{by}
+use Rattle.lists.proofs.Logic.{has-mapped}
 use Rattle.record.specs.Record.{Record, written}
 use Rattle.record.specs.Judgement.{sound, must}
 use Rattle.record_rows.specs.row.Row.{Row, is_name, edit_in_range}
-use Rattle.record_rows.specs.grounds.Ground.{Rows, row_fault, first_fault, ◌given◌}
-use Rattle.record_rows.proofs.grounds.Grounds.{orelse-none, given-none}
+use Rattle.record_rows.specs.grounds.Ground.{Rows, row_fault, first_fault}
 use Rattle.record_rows.proofs.grounds.Small.{orelse-small, given-small, first_small, row-fault-small, first-fault-small}
 use Rattle.record_tables.proofs.Further.{further-small}
 use Rattle.record_tables.specs.Table.{edit_rows, constraint_rows, decoded, empty_tables, edit_kind, constraint_kind, names_of, join_fault, record_join_fault, unite}
@@ -28,7 +28,10 @@ use Rattle.voting.specs.Proposal.{started, proposed}
 use Rattle.voting.proofs.Elections.{weigh-le, greatest-le}
 use Rattle.voting_roll.specs.Roll.{roll_faulty}
 use Rattle.voting_roll.specs.Election.{Proposals, benches, held, proposal_fault, first_given, election_fault, cast, election_of}
+use Rattle.voting_count.specs.Tallied.{beginnings, Tallied, tallied_of}
+use Rattle.voting_count.proofs.Beginnings.{beginnings-within}
 use Rattle.voting_count.proofs.Rolled.{rows_few}
+use Rattle.voting_count.proofs.Tallied.{accepted-roll, tallied-accepted, tallied-length, tallied-refused}
 use Rattle.voting_bundles.specs.Bundles.{lent_bundle_fault, bundle_answer}
 use Rattle.voting_proposals.specs.Propose as proposal
 use Rattle.voting_proposals.specs.Propose.{overfull, draft_fault, unkept, too_short, record_m, proposal_q, propose_fault}
@@ -167,11 +170,10 @@ cast-total e P (row ∷ roll) f = omega (arith, f row (inl refl), cast-total e P
 
 module _ (e : ℕ) (P : Proposals) (roll : List RollRow) (f : (row : RollRow) → Has row roll → row.weight < 65536) where
   pub counted-small : election_fault e P roll ≡ 0 → SmallElection (counted (cast e P roll))
-  unfolding election_fault greatest silent
+  unfolding greatest silent
   counted-small z =
       let l = cast e P roll in
-      let r : roll_faulty roll ≡ false = given-none 13 (roll_faulty roll) (orelse-none (14 given roll_faulty roll) _ (orelse-none (first_given (proposal_fault P) benches) _ z).1).0 in
-      let t : total l < 4294967296 = omega (arith, cast-total e P roll f, rows_few roll r) in
+      let t : total l < 4294967296 = omega (arith, cast-total e P roll f, rows_few roll (accepted-roll e P roll z)) in
       record { number = omega arith; greatest = omega (arith, greatest-le l l); silent = omega (arith, weigh-le is_silent l); total = t }
 
   pub election-small : SmallElection (election_of e P roll)
@@ -181,3 +183,25 @@ module _ (e : ℕ) (P : Proposals) (roll : List RollRow) (f : (row : RollRow) �
       by (eqb n 0)
       (λ (q : eqb n 0 ≡ true). rw q (counted-small (eqb-true n 0 q)))
       (λ (q : eqb n 0 ≡ false). rw q (record { number = omega (arith, election-fault-small e P roll); greatest = omega arith; silent = omega arith; total = omega arith }))
+
+-- the answers of a tally: elections on beginnings of the roll, which has at most eight rows
+pub record SmallTally (t : Tallied) : Type 0 where
+  pub number : t.number ≤ 14
+  pub few : length t.answers ≤ 9
+  pub each : (E : Election) → Has E t.answers → SmallElection E
+
+pub tally-small : (e : ℕ) (P : Proposals) (roll : List RollRow) → ((row : RollRow) → Has row roll → row.weight < 65536) → SmallTally (tallied_of e P roll)
+tally-small e P roll f =
+    let n = election_fault e P roll in
+    by (eqb n 0)
+    (λ (q : eqb n 0 ≡ true).
+    let z = eqb-true n 0 q in
+    let a = tallied-accepted e P roll z in
+    record {
+      number = omega (arith, ap (λ (t : Tallied). t.number) a);
+      few = omega (arith, tallied-length e P roll z, rows_few roll (accepted-roll e P roll z));
+      each = λ E m. has-mapped (election_of e P) E (beginnings roll) (rw a at m)
+          (λ rows b r. rw r (election-small e P rows (λ row o. f row (beginnings-within roll rows b row o))));
+    })
+    (λ (q : eqb n 0 ≡ false).
+    rw (← tallied-refused e P roll n refl (eqb-false n 0 q)) (record { number = election-fault-small e P roll; few = omega arith; each = λ E m. absurd m }))

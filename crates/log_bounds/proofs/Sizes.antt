@@ -64,7 +64,7 @@ pub head-size : (form ns : List ℕ) (bound : ℕ) (rest : Texts) → AllSmall n
 head-size form ns bound rest s h k = omega (arith, size-both (fill form ns ∷ []) rest, line-size form ns 60 s h)
 
 -- the texts of each element
-from-size : {A : Type 0} (text : ℕ → A → Texts) (bound m k : ℕ) (l : List A) → k + length l ≤ m → ((i : ℕ) (x : A) → i < m → Has x l → size_of (text i x) ≤ bound)
+pub from-size : {A : Type 0} (text : ℕ → A → Texts) (bound m k : ℕ) (l : List A) → k + length l ≤ m → ((i : ℕ) (x : A) → i < m → Has x l → size_of (text i x) ≤ bound)
     → size_of (texts_from text k l) ≤ bound * length l
 unfolding texts_from joined_lines
 from-size text bound m k [] h f = omega arith

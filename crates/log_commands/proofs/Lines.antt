@@ -32,7 +32,7 @@ use Rattle.log_commands.specs.Grammar.{turn_forward, turn_back, command_forms, e
 use Rattle.log_commands.specs.Groups.{line_adds}
 use Rattle.log_commands.specs.declared.Lend.TheVariants.{EditRow}
 use Rattle.log_commands.specs.declared.Call.TheVariants.{AddEdit, AddConstraint, Merge, Hide, Show, Turn, Adopt}
-use Rattle.log_commands.specs.declared.Vote.TheVariants.{Winner}
+use Rattle.log_commands.specs.declared.Vote.TheVariants.{Winner, Tally}
 use Rattle.log_commands.specs.declared.Command.{Command}
 use Rattle.log_commands.specs.declared.Command.TheVariants.{Lend, Call, Vote}
 use Rattle.log_commands.proofs.Exchanged.{line-added}
@@ -71,7 +71,7 @@ line_read_lem production m ns l k h =
     ∙ rw h
 
 -- the number of forms
-grammar-size : length grammar ≡ 45
+grammar-size : length grammar ≡ 46
 unfolding command_forms grammar shapes set_shapes rule_shapes
 grammar-size = refl
 
@@ -117,6 +117,10 @@ module _ (n : ℕ) (h : n < 4294967296) where
   pub winner-line : command_read (bytes "do=winner edit=" ++ (decimal n ++ bytes "\n")) ≡ Ok (Vote (Winner n))
   unfolding command_forms grammar formed starts_with bytes is_mark spelling number_spelling fill slots spelled
   winner-line = number_read ("do=winner edit=#" means (λ n. Ok (Vote (Winner (n 0))))) refl n refl refl h
+
+  pub tally-line : command_read (bytes "do=tally edit=" ++ (decimal n ++ bytes "\n")) ≡ Ok (Vote (Tally n))
+  unfolding command_forms grammar formed starts_with bytes is_mark spelling number_spelling fill slots spelled
+  tally-line = number_read ("do=tally edit=#" means (λ n. Ok (Vote (Tally (n 0))))) refl n refl refl h
 
 -- the number of pages of a turn is any i32
 pub turn-line : (n : ℕ) → n < 2147483648 → command_read (bytes "do=turn pages=" ++ (decimal n ++ bytes "\n")) ≡ Ok (Call (Turn (pos n)))

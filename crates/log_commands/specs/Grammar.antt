@@ -11,7 +11,7 @@ use Rattle.log_commands.specs.declared.EditCells.{EditCells}
 use Rattle.log_commands.specs.declared.ConstraintCells.{ConstraintCells}
 use Rattle.log_commands.specs.declared.Lend.TheVariants.{EditRow, ConstraintRow, NoRows, BenchRows, RollRow, NoRoll, RowName, NoRow}
 use Rattle.log_commands.specs.declared.Call.TheVariants.{AddEdit, AddConstraint, Merge, Hide, Show, Turn, Adopt}
-use Rattle.log_commands.specs.declared.Vote.TheVariants.{Elect, Bundle, Suggest, Test, Winner}
+use Rattle.log_commands.specs.declared.Vote.TheVariants.{Elect, Bundle, Suggest, Test, Winner, Tally}
 use Rattle.log_commands.specs.declared.Ask.TheVariants.{Text, Report, Hidden, Schedule, Catalogue, Journal, Page}
 use Rattle.log_commands.specs.declared.Command.{Command}
 use Rattle.log_commands.specs.declared.Command.TheVariants.{Lend, Propose, Call, Vote, Ask}
@@ -54,6 +54,7 @@ command_forms =
     ∷ "do=suggest first=# second=# case=#" means (λ n. Ok (Vote (Suggest (record { first = n 0; second = n 1; case = n 2 }))))
     ∷ "do=test lent=#" means (λ n. Ok (Vote (Test (n 0))))
     ∷ "do=winner edit=#" means (λ n. Ok (Vote (Winner (n 0))))
+    ∷ "do=tally edit=#" means (λ n. Ok (Vote (Tally (n 0))))
     -- questions
     ∷ "ask=text" means (λ n. Ok (Ask Text))
     ∷ "ask=report" means (λ n. Ok (Ask Report))

@@ -136,6 +136,7 @@ pub enum Vote {
     Suggest(Suggesting),
     Test(u32),
     Winner(u32),
+    Tally(u32),
 }
 
 // Questions.
@@ -215,13 +216,14 @@ fn read_turn(bytes: &[u8]) -> Result<Command, Refusal>
 }
 
 #[tactic(auto, using(crate::proofs::Arms::told_arms), unfolding(crate::proofs::Arms::computed))]
-fn read_turn_or_test(bytes: &[u8]) -> Result<Command, Refusal>
+fn read_turn_test_or_tally(bytes: &[u8]) -> Result<Command, Refusal>
     ensures { result ≡ read_starting "do=t" bytes.now }
 {
     let letter = text_lines::byte_at(bytes, 4);
     match letter {
         b'u' => read_turn(bytes),
         b'e' => Ok(Command::Vote(Vote::Test(read_number(b"do=test lent=#\n", bytes)?))),
+        b'a' => Ok(Command::Vote(Vote::Tally(read_number(b"do=tally edit=#\n", bytes)?))),
         _ => Err(Refusal::NotInForm),
     }
 }
@@ -257,7 +259,7 @@ fn read_do(bytes: &[u8]) -> Result<Command, Refusal>
         b'm' => Ok(Command::Call(Call::Merge(read_number(b"do=merge lent=#\n", bytes)?))),
         b'h' => Ok(Command::Call(Call::Hide(read_number(b"do=hide edit=#\n", bytes)?))),
         b's' => read_show_or_suggest(bytes),
-        b't' => read_turn_or_test(bytes),
+        b't' => read_turn_test_or_tally(bytes),
         b'a' => Ok(Command::Call(Call::Adopt(read_number(b"do=adopt edit=#\n", bytes)?))),
         b'e' => Ok(Command::Vote(Vote::Elect(read_number(b"do=elect edit=#\n", bytes)?))),
         b'b' => {

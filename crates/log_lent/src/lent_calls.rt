@@ -8,6 +8,7 @@ ghost use Rattle.voting.specs.Tally.{election_told};
 ghost use Rattle.voting_roll.specs.Election.{election_of};
 ghost use Rattle.voting_bundles.specs.Bundles.{bundle_told};
 ghost use Rattle.voting_count.specs.Count.{count_of, count_told};
+ghost use Rattle.voting_count.specs.Tallied.{tallied_told, tallied_of};
 ghost use Rattle.ledger.specs.Ledger.{Call};
 ghost use Rattle.ledger.specs.Bench.{Answers, told_outcome};
 ghost use Rattle.bench.specs.Changes.{refused_with};
@@ -29,7 +30,7 @@ use refusals::Refusal;
 use suggestions::Suggested;
 use voting::ElectionResult;
 use voting_bundles::Bundled;
-use voting_count::Counted;
+use voting_count::{AnswersSoFar, Counted};
 
 // Record k is merged.
 pub fn merge_lent(bench: &mut Bench, lending: &Lending, k: u32) -> Result<CallResult, Refusal>
@@ -41,7 +42,7 @@ pub fn merge_lent(bench: &mut Bench, lending: &Lending, k: u32) -> Result<CallRe
 }
 
 // The election on an edit over records 1 to 8 and the roll, with its won bundle.
-// Kept: one line each over an operation of `voting_count`, which are two: an election alone makes no bundle.
+// Kept: one line each over an operation of `voting_count`, which are three: an election alone makes no bundle, a tally answers row by row.
 pub fn count_lent(lending: &Lending, edit: u32) -> Result<Counted, Refusal>
     ensures told { (L : Lent) → Kept L lending.now → count_told result ≡ count_of edit (proposals_of L) L.roll }
     ensures bundle { IfOk result (λ c. c.election.won ≡ is_some c.bundle) }
@@ -55,6 +56,14 @@ pub fn elect_lent(lending: &Lending, edit: u32) -> Result<ElectionResult, Refusa
     ensures { (L : Lent) → Kept L lending.now → election_told result ≡ election_of edit (proposals_of L) L.roll }
 {
     voting_count::election(edit, &lending.poll())
+}
+
+// The answers of the election on the rows so far.
+// Kept: as the count.
+pub fn tally_lent(lending: &Lending, edit: u32) -> Result<AnswersSoFar, Refusal>
+    ensures { (L : Lent) → Kept L lending.now → tallied_told result ≡ tallied_of edit (proposals_of L) L.roll }
+{
+    voting_count::tally(edit, &lending.poll())
 }
 
 // The bundle of an edit in record k, and whether it is eligible.

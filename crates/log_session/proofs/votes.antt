@@ -1,2 +1,3 @@
 pub mod Voting
 pub mod Making
+pub mod Tallying

@@ -1,5 +1,5 @@
 // The lines of a call log about votes, proposals, suggestions and the test of a row: what each prints.
-ghost use Rattle.std.specs.Prelude.{◌≡◌, List, Ok, is_some};
+ghost use Rattle.std.specs.Prelude.{◌≡◌, List, map, Ok, is_some};
 ghost use Rattle.refusals.specs.Numbers.{number_of};
 ghost use Rattle.voting.specs.declared.RollRow.{RollRow};
 ghost use Rattle.voting.specs.Tally.{election_told};
@@ -9,7 +9,7 @@ ghost use Rattle.voting_count.specs.Count.{count_of, count_told};
 ghost use Rattle.log_forms.specs.Printed.{Printed};
 ghost use Rattle.log_lent.specs.Kept.{Kept};
 ghost use Rattle.log_session.specs.Desk.{Desk, bench_in, printed_of, accepted_text};
-ghost use Rattle.log_session.specs.votes.Votes.{election_line, bundle_text, rule_line, suggestion_text, test_line, winner_text, proposal_effect, vote_effect};
+ghost use Rattle.log_session.specs.votes.Votes.{election_line, bundle_text, rule_line, suggestion_text, test_line, winner_text, tally_text, proposal_effect, vote_effect};
 
 use crate::{Session, winners};
 use log_commands::{Proposing, Vote};
@@ -96,6 +96,15 @@ fn print_winner(printer: &mut Printer<'_>, edit: u32, counted: &Counted)
     }
 }
 
+// The election's answers on the rows so far.
+fn print_tally(printer: &mut Printer<'_>, answers: &[ElectionResult])
+    ensures { Printed (tally_text (map (λ r. election_told (Ok r)) answers.now)) printer.old printer.new }
+{
+    for answer in answers {
+        print_election(printer, *answer);
+    }
+}
+
 // Prints what an accepted line about votes answers.
 fn answer_vote(printer: &mut Printer<'_>, session: &Session, vote: Vote) -> Result<(), Refusal>
     ensures { (D : Desk) → Kept D.lent session.now.lending → session.now.bench.multilog ≡ (bench_in D).multilog
@@ -111,6 +120,10 @@ fn answer_vote(printer: &mut Printer<'_>, session: &Session, vote: Vote) -> Resu
         }
         Vote::Test(k) => print_test(printer, lent_calls::test_lent(lending, k)?),
         Vote::Winner(edit) => print_winner(printer, edit, &lent_calls::count_lent(lending, edit)?),
+        Vote::Tally(edit) => print_tally(
+            printer,
+            lent_calls::tally_lent(lending, edit)?.as_slice(),
+        ),
     }
     Ok(())
 }

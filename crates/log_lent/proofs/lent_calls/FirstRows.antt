@@ -1,21 +1,24 @@
 -- Nine rows of a roll are enough: with them it is faulty already, and later rows change no answer. Assumes nothing.
 use mathlib.Core.Path.{◌≡◌, refl, sym, ap, ◌∙◌}
-use mathlib.Core.Bool.{true, false, not, or-true}
-use mathlib.Core.List.{List, map}
+use mathlib.Core.Bool.{true, not, or-true}
+use mathlib.Core.List.{List, [], map}
 use Prim.Native.Nat.{ℕ, ◌≤◌}
 use native.Mathlib.Omega.{arith}
-use lib.Dec.{eqb, ltb}
+use lib.Dec.{ltb}
 use lib.ListN.{length, take}
 use lib.Seq.{take_all, length-take-le}
-use borrow.Author.Tests.{lt-ltb, ne_eqb, eq-eqb}
+use borrow.Author.Tests.{lt-ltb}
 use Rattle.lists.specs.Lists.{all, distinct}
-use Rattle.lists.proofs.Lists.{by, clash, le-by}
+use Rattle.lists.proofs.Lists.{clash, le-by}
 use Rattle.record_rows.proofs.grounds.Grounds.{orelse-first}
 use Rattle.voting.specs.declared.RollRow.{RollRow}
 use Rattle.voting.specs.Tally.{winner}
 use Rattle.voting_roll.specs.Roll.{roll_bench, is_bench, roll_faulty}
-use Rattle.voting_roll.specs.Election.{Proposals, first_given, proposal_fault, benches, election_fault, cast, refused_election, election_of}
+use Rattle.voting_roll.specs.Election.{Proposals, election_fault, cast}
 use Rattle.voting_count.specs.Count.{refused_count, count_of}
+use Rattle.voting_count.specs.Tallied.{tallied_of}
+use Rattle.voting_count.proofs.Answers.{count-refused}
+use Rattle.voting_count.proofs.Tallied.{accepted-roll, tallied-refused}
 use Rattle.ledger.specs.declared.Bench.{Bench}
 use Rattle.ledger.specs.Ledger.{Ledger, adopt, start, fed, bundle_fault, judge, refusal, step}
 use Rattle.ledger.specs.Bench.{Outcome, outcome, Answers}
@@ -32,44 +35,37 @@ module _ (x : ℕ) (P : Proposals) where
   unfolding election_fault
   faulty-number a b p q = rw (p, q) refl
 
-  module _ (a : List RollRow) (p : roll_faulty a ≡ true) where
-    faulty-refused : election_fault x P a ≡ 0 → ⊥
-    unfolding election_fault
-    faulty-refused z =
-        by (eqb (first_given (proposal_fault P) benches) 0)
-        (λ (e : eqb (first_given (proposal_fault P) benches) 0 ≡ true). let n : 14 ≡ 0 = rw (e, p) at z in omega arith)
-        (λ (e : eqb (first_given (proposal_fault P) benches) 0 ≡ false). clash (eq-eqb (first_given (proposal_fault P) benches) 0 (rw e at z)) e)
+  faulty-refused : (a : List RollRow) → roll_faulty a ≡ true → election_fault x P a ≡ 0 → ⊥
+  faulty-refused a p z = clash p (accepted-roll x P a z)
 
-    faulty-election : election_of x P a ≡ refused_election (election_fault x P a)
-    unfolding election_of
-    faulty-election = let e : eqb (election_fault x P a) 0 ≡ false = ne_eqb (election_fault x P a) 0 faulty-refused in rw e refl
-
-    faulty-count : count_of x P a ≡ refused_count (election_fault x P a)
-    unfolding count_of
-    faulty-count = let e : eqb (election_fault x P a) 0 ≡ false = ne_eqb (election_fault x P a) 0 faulty-refused in rw (e, faulty-election) refl
-
-    faulty-judged : (L : Ledger) → judge L (adopt x P a) ≡ election_fault x P a
+  -- an adoption whose election is refused
+  module _ (L : Ledger) (rows : List RollRow) (n : ℕ) (q : n ≡ election_fault x P rows) (h : n ≡ 0 → ⊥) where
+    adoption-judged : judge L (adopt x P rows) ≡ n
     unfolding judge
-    faulty-judged L = orelse-first (election_fault x P a) (bundle_fault L.multilog (winner (cast x P a))) faulty-refused
+    adoption-judged = orelse-first (election_fault x P rows) (bundle_fault L.multilog (winner (cast x P rows))) (λ z. h (q ∙ z)) ∙ sym q
 
-    faulty-adoption : (L : Ledger) → step L (adopt x P a) ≡ refusal L (election_fault x P a)
-    faulty-adoption L = step-refused L (adopt x P a) (λ z. faulty-refused (sym (faulty-judged L) ∙ z)) ∙ ap (refusal L) (faulty-judged L)
+    adoption-refused : refusal L n ≡ step L (adopt x P rows)
+    adoption-refused = sym (step-refused L (adopt x P rows) (λ z. h (sym adoption-judged ∙ z)) ∙ ap (refusal L) adoption-judged)
 
   module _ (roll : List RollRow) where
-    first-faulty : roll_places ≤ length roll → roll_faulty (take roll_places roll) ≡ true
-    first-faulty h = faulty-by-length (take roll_places roll) (let e = length-take-le roll_places roll h in omega arith)
+    -- an answer that is its refusal's where the election is refused
+    first-answered : {A : Type 0} (answer : List RollRow → A) (refused : ℕ → A)
+        → ((rows : List RollRow) (n : ℕ) → n ≡ election_fault x P rows → (n ≡ 0 → ⊥) → refused n ≡ answer rows) → answer (take roll_places roll) ≡ answer roll
+    first-answered answer refused f = le-by roll_places (length roll)
+        (λ h. let rows = take roll_places roll in
+        let p = faulty-by-length rows (let e = length-take-le roll_places roll h in omega arith) in
+        let r = faulty-refused rows p in
+        sym (f rows (election_fault x P rows) refl r) ∙ f roll (election_fault x P rows) (faulty-number rows roll p (faulty-by-length roll h)) r)
+        (λ h. ap answer (take_all roll_places roll (omega arith)))
 
     pub first_counted : count_of x P (take roll_places roll) ≡ count_of x P roll
-    first_counted = le-by roll_places (length roll)
-        (λ h. let p = first-faulty h in let q = faulty-by-length roll h in
-        faulty-count (take roll_places roll) p ∙ ap refused_count (faulty-number (take roll_places roll) roll p q) ∙ sym (faulty-count roll q))
-        (λ h. ap (count_of x P) (take_all roll_places roll (omega arith)))
+    first_counted = first-answered (count_of x P) refused_count (count-refused x P)
+
+    pub first-tallied : tallied_of x P (take roll_places roll) ≡ tallied_of x P roll
+    first-tallied = first-answered (tallied_of x P) (λ n. record { number = n; answers = [] }) (tallied-refused x P)
 
     first-stepped : (L : Ledger) → step L (adopt x P (take roll_places roll)) ≡ step L (adopt x P roll)
-    first-stepped L = le-by roll_places (length roll)
-        (λ h. let p = first-faulty h in let q = faulty-by-length roll h in
-        faulty-adoption (take roll_places roll) p L ∙ ap (refusal L) (faulty-number (take roll_places roll) roll p q) ∙ sym (faulty-adoption roll q L))
-        (λ h. ap (λ (rows : List RollRow). step L (adopt x P rows)) (take_all roll_places roll (omega arith)))
+    first-stepped L = first-answered (λ rows. step L (adopt x P rows)) (refusal L) (adoption-refused L)
 
     pub first-adopted : (bench : Bench) (r : Outcome) → Answers bench (adopt x P (take roll_places roll)) r → Answers bench (adopt x P roll) r
     unfolding Answers

@@ -15,6 +15,7 @@ use Rattle.voting.specs.declared.RollRow.{RollRow}
 use Rattle.voting.specs.Tally.{Election}
 use Rattle.voting_roll.specs.Election.{Proposals, election_of}
 use Rattle.voting_count.specs.Count.{lent, Count, count_of}
+use Rattle.voting_count.specs.Tallied.{Tallied, tallied_of}
 use Rattle.voting_bundles.specs.declared.Bundled.{Bundled}
 use Rattle.voting_bundles.specs.Bundles.{BundleAnswer, bundle_told, bundle_answer}
 use Rattle.std.specs.Prelude.{Result, Ok, Err, IsErr, IsErrAnd}
@@ -32,7 +33,7 @@ use Rattle.ledger.specs.Bench.{Outcome, Answers, told_outcome}
 use Rattle.bench.specs.Changes.{refused_with}
 use Rattle.log_lent.specs.Lent.{Lent, roll_places}
 use Rattle.log_lent.specs.lent_calls.Calls.{proposals_of, bundle_in, lent_row_fault, row_sound}
-use Rattle.log_lent.proofs.lent_calls.FirstRows.{first_counted, first-adopted}
+use Rattle.log_lent.proofs.lent_calls.FirstRows.{first_counted, first-tallied, first-adopted}
 
 -- an answer that is handed on as it was refused
 pub told-given : {A : Type 0} (told : Result A Refusal) (x : A) (r : Refusal) {n : ℕ} → IsErr told × IsErrAnd told (λ s. s ≡ r) → number r ≡ n → Gives n x told
@@ -65,6 +66,9 @@ module _ (L : Lent) where
     pub election-given : {r : Election} → r ≡ election_of x P seats → r ≡ election_of x (proposals_of L) L.roll
     unfolding count_of
     election-given q = (rw (e, g) at q) ∙ ap (λ (c : Count). c.election) (first_counted x (proposals_of L) L.roll)
+
+    pub tallied-given : {r : Tallied} → r ≡ tallied_of x P seats → r ≡ tallied_of x (proposals_of L) L.roll
+    tallied-given q = (rw (e, g) at q) ∙ first-tallied x (proposals_of L) L.roll
 
     pub adoption-given : (bench : Bench) (r : Outcome) → Answers bench (adopt x P seats) r → Answers bench (adopt x (proposals_of L) L.roll) r
     adoption-given bench r a = first-adopted x (proposals_of L) L.roll bench r (rw (e, g) at a)

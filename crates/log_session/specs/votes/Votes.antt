@@ -1,5 +1,5 @@
 -- The lines of a call log about votes, proposals, suggestions and the test of a row, each with its effect. Assumes nothing.
-use Rattle.std.specs.Prelude.{Bool, cond, ◌&&◌, [], ◌∷◌, ◌++◌, map, ℕ, eqb, length}
+use Rattle.std.specs.Prelude.{Bool, cond, ◌&&◌, List, [], ◌∷◌, ◌++◌, map, ℕ, eqb, length}
 use Rattle.record.specs.declared.Record as declared
 use Rattle.record.specs.Stored.{stored, record_of}
 use Rattle.record.specs.Judgement.{must, never}
@@ -7,15 +7,16 @@ use Rattle.record_rows.specs.row.Row.{Row}
 use Rattle.voting.specs.Tally.{Election}
 use Rattle.voting_roll.specs.Election.{election_of}
 use Rattle.voting_count.specs.Count.{Count, count_of}
+use Rattle.voting_count.specs.Tallied.{tallied_of}
 use Rattle.voting_bundles.specs.Bundles.{BundleAnswer}
 use Rattle.suggestions.specs.declared.Suggested.{Suggested}
 use Rattle.suggestions.specs.Suggest.{rules_of}
 use Rattle.text_lines.specs.Line.{constraint_line}
-use Rattle.log_forms.specs.Printed.{Texts}
+use Rattle.log_forms.specs.Printed.{Texts, texts_from}
 use Rattle.log_answers.specs.Answers.{answer_line, bit, stored_text, record_text}
 use Rattle.log_commands.specs.declared.Proposing.{Proposing}
 use Rattle.log_commands.specs.declared.Vote.{Vote}
-use Rattle.log_commands.specs.declared.Vote.TheVariants.{Elect, Bundle, Suggest, Test, Winner}
+use Rattle.log_commands.specs.declared.Vote.TheVariants.{Elect, Bundle, Suggest, Test, Winner, Tally}
 use Rattle.log_lent.specs.Lent.{with_record}
 use Rattle.log_lent.specs.lent_calls.Calls.{proposals_of, bundle_in, lent_row_fault, row_sound, suggestion_fault, suggested_rules_in}
 use Rattle.log_lent.specs.lent_proposals.Made.{lent_proposal_fault, proposal_made}
@@ -60,6 +61,10 @@ won_text edit b =
 unfoldable pub winner_text : ℕ → Count → Texts
 winner_text edit c = election_line c.election ++ cond c.election.won (won_text edit c.bundle) []
 
+-- the election's answers on the rows so far, a line each
+unfoldable pub tally_text : List Election → Texts
+tally_text answers = texts_from (λ i E. election_line E) 0 answers
+
 -- THE EFFECT of a line about votes
 unfoldable pub vote_effect : Desk → Vote → Effect
 vote_effect D (Elect edit) = let E = election_of edit (proposals_of D.lent) D.lent.roll in tells D E.number (election_line E)
@@ -69,3 +74,4 @@ vote_effect D (Suggest w) =
     tells D (suggestion_fault R w) (suggestion_text (suggested_rules_in R w))
 vote_effect D (Test k) = tells D (lent_row_fault D.lent k) (test_line (row_sound D.lent k))
 vote_effect D (Winner edit) = let c = count_of edit (proposals_of D.lent) D.lent.roll in tells D c.election.number (winner_text edit c)
+vote_effect D (Tally edit) = let t = tallied_of edit (proposals_of D.lent) D.lent.roll in tells D t.number (tally_text t.answers)

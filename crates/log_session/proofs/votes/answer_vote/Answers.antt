@@ -2,8 +2,9 @@
 use mathlib.Core.Path.{ap}
 use Rattle.voting.specs.Tally.{Election}
 use Rattle.voting_count.specs.Count.{Count}
+use Rattle.voting_count.specs.Tallied.{Tallied}
 use Rattle.voting_bundles.specs.Bundles.{BundleAnswer}
-use Rattle.log_session.specs.votes.Votes.{election_line, bundle_text, suggestion_text, test_line, winner_text, vote_effect}
+use Rattle.log_session.specs.votes.Votes.{election_line, bundle_text, suggestion_text, test_line, winner_text, tally_text, vote_effect}
 use Rattle.log_session.proofs.Cases.{multilog-stored, ledger-valid}
 use Rattle.log_session.proofs.votes.Voting.{vote-accepted, vote-refused}
 use Rattle.log_session.proofs.votes.answer_vote.Goals as goal
@@ -81,3 +82,18 @@ returns-in_ok-count_lent-in-Winner c =
     let e = c.in_ok-count_lent-in-Winner.ensures.told D.lent K in
     vote-accepted D c.in-Winner.is (ap (λ (n : Count). n.election.number) e) (ap (winner_text c.in-Winner.edit) e)
     (c.print_winner.ensures _ _ e c.in_ok-count_lent-in-Winner.ensures.bundle)
+
+pub returns-in_err-tally_lent-in-Tally : goal.returns-in_err-tally_lent-in-Tally
+unfolding vote_effect
+returns-in_err-tally_lent-in-Tally c =
+    λ D K m.
+    let e = c.in_err-tally_lent-in-Tally.ensures D.lent K in
+    let r = c.from_residual-in_err-tally_lent-in-Tally in
+    vote-refused D c.in-Tally.is r.result _ c.args.printer.now r.ensures (ap (λ (t : Tallied). t.number) e)
+
+pub returns-in_ok-tally_lent-in-Tally : goal.returns-in_ok-tally_lent-in-Tally
+unfolding vote_effect
+returns-in_ok-tally_lent-in-Tally c =
+    λ D K m.
+    let e = c.in_ok-tally_lent-in-Tally.ensures D.lent K in
+    vote-accepted D c.in-Tally.is (ap (λ (t : Tallied). t.number) e) (ap (λ (t : Tallied). tally_text t.answers) e) (rw c.as_slice.ensures.value at c.print_tally.ensures)
