@@ -1,5 +1,7 @@
 //! What occurred in the logs and texts, and what must have occurred.
 
+mod tallies;
+
 use crate::log::{self, Kind};
 use crate::model::Ground;
 use crate::table::{write_table, Row};
@@ -24,7 +26,8 @@ pub struct Parts {
 
 /// How often each kind of line had each outcome. An outcome is `accepted`, the
 /// answer's first word where answers differ in that, what becomes of the edit of a
-/// won election, the counts of a full record, or `refused=N`.
+/// won election, the counts of a full record, or `refused=N`. An accepted tally is also
+/// counted by what the rows of its roll do.
 #[derive(Default)]
 pub struct Coverage {
     counts: BTreeMap<(&'static str, String), u64>,
@@ -42,6 +45,9 @@ impl Coverage {
             refused => result(refused, answer),
         };
         self.add(line, result);
+        if outcome.kind == Some(Kind::Tally) {
+            tallies::names(answer).into_iter().for_each(|name| self.add(line, name.to_string()));
+        }
         self.lines += 1;
     }
 
@@ -156,7 +162,8 @@ fn wanted_of_logs() -> Vec<(&'static str, String)> {
         let refused = numbers(kind).iter().map(|number| format!("refused={number}"));
         accepted.chain(refused).map(move |result| (form, result))
     });
-    lines.chain([(NO_FORM, "refused=1".to_string())]).collect()
+    let tallies = tallies::CASES.map(|(name, _)| (form_of(Kind::Tally), name.to_string()));
+    lines.chain(tallies).chain([(NO_FORM, "refused=1".to_string())]).collect()
 }
 
 fn wanted_of_texts() -> Vec<(&'static str, String)> {
@@ -194,7 +201,7 @@ fn numbers(kind: Kind) -> &'static [u8] {
         Kind::Hide | Kind::Show => &[2, 5, 9],
         Kind::TurnForward | Kind::TurnBack => &[2, 10],
         Kind::Adopt => &[2, 3, 4, 5, 6, 8, 13, 14],
-        Kind::Elect | Kind::Winner => &[2, 3, 5, 6, 8, 13, 14],
+        Kind::Elect | Kind::Winner | Kind::Tally => &[2, 3, 5, 6, 8, 13, 14],
         Kind::Bundle | Kind::Test => &[2, 3, 5, 6, 8, 13],
         Kind::Propose => &[2, 3, 4, 5, 6, 8, 11, 12, 13],
         Kind::Suggest => &[2, 5],

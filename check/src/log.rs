@@ -8,7 +8,7 @@ use crate::model::text::{
     put, write_constraint, write_counts, write_report, write_text, yes_or_no,
 };
 use crate::model::{
-    election, is_eligible, is_sound_schedule, propose, suggest_named, Bench, Bundles,
+    election, is_eligible, is_sound_schedule, propose, suggest_named, tally, Bench, Bundles,
     ConstraintRow, EditRow, Election, Entry, Ground, Pages, Record, RollRow, Room, Sound, Tables,
     BENCHES,
 };
@@ -44,6 +44,7 @@ pub enum Kind {
     Suggest,
     Test,
     Winner,
+    Tally,
     AskText,
     AskReport,
     AskHidden,
@@ -53,7 +54,7 @@ pub enum Kind {
     AskPage,
 }
 
-pub const FORMS: [(Kind, &str); 35] = [
+pub const FORMS: [(Kind, &str); 36] = [
     (Kind::LentEdit, "lent=# edit=# kind=# chip=# field=# value=#"),
     (Kind::LentConstraint, "lent=# left=# rule=# right=#"),
     (Kind::LentInsert, "lent=# edit=@ do=insert chip=#"),
@@ -82,6 +83,7 @@ pub const FORMS: [(Kind, &str); 35] = [
     (Kind::Suggest, "do=suggest first=# second=# case=#"),
     (Kind::Test, "do=test lent=#"),
     (Kind::Winner, "do=winner edit=#"),
+    (Kind::Tally, "do=tally edit=#"),
     (Kind::AskText, "ask=text"),
     (Kind::AskReport, "ask=report"),
     (Kind::AskHidden, "ask=hidden"),
@@ -203,6 +205,7 @@ impl Session {
             Kind::Suggest => self.suggest(first, second, third, out),
             Kind::Test => self.test(first, out),
             Kind::Winner => self.winner(first, out),
+            Kind::Tally => self.tally(first, out),
             _ => {
                 self.answer(kind, out);
                 Ok(())
@@ -282,6 +285,14 @@ impl Session {
             let (must, never) = (yes_or_no(sound.must(index)), yes_or_no(sound.never(index)));
             out.extend_from_slice(format!("edit={edit} must={must} never={never} ").as_bytes());
             write_record(bundle, out);
+        }
+        Ok(())
+    }
+
+    /// The election on the rows of the roll so far, before the first row and after each.
+    fn tally(&self, edit: u32, out: &mut Vec<u8>) -> Result<(), Ground> {
+        for election in tally(proposals(&self.lent), &self.roll, edit)? {
+            put(out, format_args!("{}", show_election(&election)));
         }
         Ok(())
     }
@@ -490,6 +501,72 @@ mod tests {
     }
 
     #[test]
+    fn a_tally_answers_before_the_first_row_and_after_each() {
+        let lent = "lent=1 edit=257 do=insert chip=5\nlent=1 left=257 rule=enables right=0\n\
+                    lent=2 edit=257 do=insert chip=5\nlent=2 left=257 rule=enables right=0\n\
+                    lent=3 edit=257 do=insert chip=5\nlent=3 left=257 rule=notafter right=257\n";
+        let cases = [
+            (
+                "roll=4 weight=1\nroll=1 weight=3\nroll=3 weight=2\nroll=2 weight=2\n",
+                "won=no greatest=0 silent=0 total=0\n\
+                 won=no greatest=0 silent=1 total=1\n\
+                 won=yes greatest=3 silent=1 total=4\n\
+                 won=no greatest=3 silent=1 total=6\n\
+                 won=yes greatest=5 silent=1 total=8\n",
+            ),
+            (
+                "roll=1 weight=2\nroll=3 weight=2\n",
+                "won=no greatest=0 silent=0 total=0\n\
+                 won=yes greatest=2 silent=0 total=2\n\
+                 won=no greatest=2 silent=0 total=4\n",
+            ),
+            (
+                "roll=1 weight=0\nroll=2 weight=0\n",
+                "won=no greatest=0 silent=0 total=0\n\
+                 won=no greatest=0 silent=0 total=0\n\
+                 won=no greatest=0 silent=0 total=0\n",
+            ),
+            ("", "won=no greatest=0 silent=0 total=0\n"),
+        ];
+        for (roll, expected) in cases {
+            assert_eq!(answers(&format!("{lent}{roll}do=tally edit=257\n")), expected, "{roll}");
+        }
+    }
+
+    /// Lines of a tally are those of elections on rolls that have some of the rows.
+    #[test]
+    fn a_tally_is_the_election_on_each_beginning_of_the_roll() {
+        let mut accepted = 0;
+        for seed in 0..100 {
+            let mut session = Session::default();
+            for line in form::lines(&crate::random::log(seed, 100)) {
+                let mut answer = Vec::new();
+                let outcome = session.line(line, &mut answer);
+                if outcome == (Outcome { kind: Some(Kind::Tally), refused: None }) {
+                    let election = String::from_utf8_lossy(line.bytes).replace("tally", "elect");
+                    assert_eq!(answer, elections_so_far(&session, &election));
+                    accepted += 1;
+                }
+            }
+        }
+        assert!(accepted > 10);
+    }
+
+    /// The answers to an election before the first row of the roll and after each.
+    fn elections_so_far(session: &Session, election: &str) -> Vec<u8> {
+        let mut so_far = session.clone();
+        so_far.roll.clear();
+        let mut answers = Vec::new();
+        let line = form::Line { bytes: election.as_bytes(), ended: true };
+        so_far.line(line, &mut answers);
+        for &row in &session.roll {
+            so_far.roll.push(row);
+            so_far.line(line, &mut answers);
+        }
+        answers
+    }
+
+    #[test]
     fn refusals_name_their_line() {
         let cases = [
             ("", ""),
@@ -517,6 +594,10 @@ mod tests {
             ("do=elect edit=257\n", "refused=5 line=1\n"),
             ("do=winner edit=256\n", "refused=2 line=1\n"),
             ("do=winner edit=257\n", "refused=5 line=1\n"),
+            ("do=tally edit=256\n", "refused=2 line=1\n"),
+            ("do=tally edit=257\n", "refused=5 line=1\n"),
+            ("do=tally edit=257 \n", "refused=1 line=1\n"),
+            ("roll=1 weight=1\nroll=1 weight=1\ndo=tally edit=257\n", "refused=14 line=3\n"),
             ("do=suggest first=257 second=0 case=0\n", "refused=2 line=1\n"),
             ("do=suggest first=257 second=258 case=2\n", "refused=2 line=1\n"),
             ("do=suggest first=257 second=258 case=1\n", "refused=5 line=1\n"),

@@ -5,7 +5,7 @@
 //! A history is made by the calls themselves. Proposals are what they answer, and
 //! what has to hold is read off their answers.
 
-mod answers;
+pub(crate) mod answers;
 mod counts;
 mod elections;
 mod findings;

@@ -27,4 +27,4 @@ pub use record::{
 };
 pub use sound::{is_sound_schedule, Sound};
 pub use suggestion::{suggest, suggest_named, Case};
-pub use vote::{election, Election, RollRow, BENCHES};
+pub use vote::{election, tally, Election, RollRow, BENCHES};

@@ -59,6 +59,18 @@ pub fn election(
     Ok(elect(&proposals, roll, number as u16))
 }
 
+/// The election's answers on the rows of the roll so far, before the first row and
+/// after each: on every beginning of the roll it is held anew.
+pub fn tally(
+    proposals: &[Tables; BENCHES],
+    roll: &[RollRow],
+    number: u32,
+) -> Result<Vec<Election>, Ground> {
+    let proposals = checked_ballot(proposals, roll, number)?;
+    let beginnings = (0..=roll.len()).map(|count| &roll[..count]);
+    Ok(beginnings.map(|rows| elect(&proposals, rows, number as u16)).collect())
+}
+
 /// The election on an edit's name over checked proposals and a checked roll.
 fn elect(proposals: &[Record], roll: &[RollRow], name: u16) -> Election {
     let mut groups: Vec<(Record, u32)> = Vec::new();

@@ -140,7 +140,7 @@ impl Maker {
         match self.mood {
             Mood::Bench if favourite => self.on_the_bench(),
             Mood::Lending if favourite => self.lend_and_use(),
-            Mood::Votes if favourite => self.vote(),
+            Mood::Votes if favourite => self.any_vote(),
             Mood::Proposals if favourite => self.propose_and_vote(),
             Mood::Crowd if favourite => self.crowded_proposal(),
             Mood::Full if favourite => self.at_the_limits(),
@@ -155,7 +155,7 @@ impl Maker {
             9 => self.suggest(),
             10 | 11 => self.lend_and_use(),
             12 => self.merge_known(),
-            13 => self.vote(),
+            13 => self.any_vote(),
             14 => self.contrary_vote(),
             15 => self.propose_and_vote(),
             16 => self.hidden_must(),

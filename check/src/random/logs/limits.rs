@@ -151,6 +151,7 @@ impl Maker {
         self.say(&format!("do=test lent={slot}"));
         self.say(&format!("do=elect edit={edit}"));
         self.say(&format!("do=winner edit={edit}"));
+        self.say(&format!("do=tally edit={edit}"));
         self.say(&format!("do=adopt edit={edit}"));
         self.propose_from(slot);
         self.say(&format!("lent={slot} rows=none"));

@@ -2,10 +2,17 @@
 
 use super::super::tables::spoil;
 use super::Maker;
-use crate::model::{Constraint, Record, Tables, BENCHES};
+use crate::model::{Constraint, Edit, Record, Tables, BENCHES};
 
 impl Maker {
-    pub(super) fn vote(&mut self) {
+    pub(super) fn any_vote(&mut self) {
+        match self.random.one_in(3) {
+            true => self.close_vote(),
+            false => self.vote(),
+        }
+    }
+
+    fn vote(&mut self) {
         let base = self.world.decided_record(&mut self.random);
         let agreeing = self.random.pick(&[30, 60, 90]);
         for bench in 1..=BENCHES {
@@ -41,6 +48,48 @@ impl Maker {
         self.lend(bench, &tables);
     }
 
+    /// Few bundles of one edit, and many benches: while the rows of the roll come in,
+    /// an election is won and open by turns.
+    pub(super) fn close_vote(&mut self) {
+        let edit = self.world.any_edit(&mut self.random);
+        let rivals = [self.proposal_on(edit), self.proposal_on(edit)];
+        for bench in 1..=BENCHES {
+            let record = match self.random.below(5) {
+                0 => self.proposal_on(edit),
+                1 | 2 => rivals[0].clone(),
+                _ => rivals[1].clone(),
+            };
+            self.lend(bench, &Tables::from(&record));
+        }
+        self.lend_roll();
+        self.say(&format!("do=tally edit={}", edit.name));
+        self.vote_on(1);
+    }
+
+    /// A bundle of the edit or none, which other proposals may have too.
+    fn proposal_on(&mut self, edit: Edit) -> Record {
+        let required = Constraint::required(edit.name);
+        let other = Edit { body: self.world.any_body(&mut self.random), ..edit };
+        let (edits, constraints) = match self.random.below(8) {
+            0 => (vec![], vec![]),
+            1 => (vec![edit], vec![]),
+            2 => (vec![other], vec![required]),
+            3 | 4 => (vec![edit], vec![Constraint::aborted(edit.name)]),
+            5 => (self.beside(edit), vec![required]),
+            _ => (vec![edit], vec![required]),
+        };
+        Record { edits, constraints }
+    }
+
+    /// The edit with others of the world, in order.
+    fn beside(&mut self, edit: Edit) -> Vec<Edit> {
+        let mut edits = self.world.some_edits(3, &mut self.random);
+        edits.retain(|other| other.name != edit.name);
+        edits.push(edit);
+        edits.sort_unstable_by_key(|edit| edit.name);
+        edits
+    }
+
     /// All benches would do the contrary of what the bench has decided.
     pub(super) fn contrary_vote(&mut self) {
         let edits = &self.session.bench.record().edits;
@@ -65,7 +114,7 @@ impl Maker {
 
     pub(super) fn vote_on(&mut self, slot: usize) {
         let edit = self.lent_name(slot);
-        let call = self.random.pick(&["elect", "winner", "adopt"]);
+        let call = self.random.pick(&["elect", "winner", "tally", "adopt"]);
         self.say(&format!("do={call} edit={edit}"));
     }
 
