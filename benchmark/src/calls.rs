@@ -97,10 +97,10 @@ fn plain_election(edit: u32, first: &Tables, rival: &Tables) -> Elected {
     match plain::election(proposals, &EQUAL_ROLL, edit) {
         Ok(election) => Elected {
             number: 0,
-            won: election.won.is_some().into(),
-            greatest: election.greatest,
-            silent: election.silent,
-            total: election.total,
+            won: election.outcome.won.into(),
+            greatest: election.outcome.greatest,
+            silent: election.outcome.silent,
+            total: election.outcome.total,
         },
         Err(ground) => {
             let number = ground.number().into();

@@ -59,7 +59,7 @@ impl Bench {
         if new_place.is_some() && self.record.constraints.len() >= CONSTRAINT_LIMIT {
             return Err(Ground::NoPlace);
         }
-        self.record.check_pair(constraint)?;
+        self.record.link(constraint)?;
         if constraint.is_decision() {
             return Err(Ground::Decision);
         }
@@ -77,7 +77,7 @@ impl Bench {
     }
 
     pub fn merge(&mut self, tables: &Tables) -> Result<Pages, Ground> {
-        let lent = Record::joining(tables, &self.record)?;
+        let lent = Joining::of(tables, &self.record)?.record;
         self.unite(&lent)
     }
 

@@ -5,7 +5,7 @@ use super::record::Record;
 use super::sound::Sound;
 use check::model::{Constraint, Edit, Rule};
 
-#[derive(Clone, Default)]
+#[derive(Clone)]
 pub struct Bundle {
     pub edits: Vec<Edit>,
     pub constraints: Vec<Constraint>,
@@ -77,7 +77,12 @@ impl<'record> Bundles<'record> {
 
     /// The members with the constraints whose ends are members, or a member and 0.
     fn part(&self, members: &[bool; SIZE_LIMIT]) -> Bundle {
-        let mut bundle = Bundle::default();
+        let count = self.graph.links().len();
+        let mut bundle = Bundle {
+            edits: Vec::with_capacity(self.record.edits.len()),
+            constraints: Vec::with_capacity(count),
+            links: Vec::with_capacity(count),
+        };
         let mut indexes = [0; SIZE_LIMIT];
         for (place, &edit) in self.record.edits.iter().enumerate() {
             if members[place + 1] {

@@ -134,7 +134,8 @@ impl Graph {
     /// Takes an edit and its needs into the set; gives what is new in it.
     pub fn take_needs(&self, edit: usize, set: &mut Set) -> Vec<u8> {
         set[edit] = State::Waiting;
-        let mut added = vec![edit as u8];
+        let mut added = Vec::with_capacity(SIZE_LIMIT);
+        added.push(edit as u8);
         let mut next = 0;
         while next < added.len() {
             for &enabler in &self.enablers[usize::from(added[next])] {

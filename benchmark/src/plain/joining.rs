@@ -1,12 +1,20 @@
 //! Rows that join a record, each judged as it comes.
 
+use super::graph::{Graph, Link};
 use super::record::Record;
-use check::model::{Constraint, Edit, Ground, CONSTRAINT_LIMIT, EDIT_LIMIT};
+use super::sound::Sound;
+use check::model::{Constraint, Edit, Ground, Tables, CONSTRAINT_LIMIT, EDIT_LIMIT};
+use std::sync::LazyLock;
+
+/// What a record joins that is lent alone.
+static NOTHING: LazyLock<Record> = LazyLock::new(Record::default);
 
 pub struct Joining<'base> {
     base: &'base Record,
     /// The rows so far.
     pub record: Record,
+    /// Their constraints by the indexes of their edits.
+    links: Vec<Link>,
     /// How many of them the joined record doesn't have.
     new_edits: usize,
     new_constraints: usize,
@@ -15,10 +23,43 @@ pub struct Joining<'base> {
     passed: usize,
 }
 
+impl Joining<'static> {
+    /// No rows yet, of a record that joins none.
+    pub fn alone() -> Joining<'static> {
+        Joining::new(&NOTHING)
+    }
+
+    /// The lent record, if none of its rows has a fault.
+    pub fn lent(tables: &Tables) -> Result<Joining<'static>, Ground> {
+        Joining::of(tables, &NOTHING)
+    }
+}
+
 impl<'base> Joining<'base> {
     pub fn new(base: &'base Record) -> Joining<'base> {
-        let record = Record::default();
-        Joining { base, record, new_edits: 0, new_constraints: 0, passed: 0 }
+        let (record, links) = (Record::default(), Vec::new());
+        Joining { base, record, links, new_edits: 0, new_constraints: 0, passed: 0 }
+    }
+
+    /// The lent record that is to join another, if none of its rows has a fault.
+    pub fn of(tables: &Tables, base: &'base Record) -> Result<Joining<'base>, Ground> {
+        let mut joining = Joining::new(base);
+        joining.record.edits.reserve(tables.edits.len());
+        joining.record.constraints.reserve(tables.constraints.len());
+        joining.links.reserve(tables.constraints.len());
+        for &row in &tables.edits {
+            joining.edit(row.edit()?)?;
+        }
+        for &row in &tables.constraints {
+            joining.constraint(row.constraint()?)?;
+        }
+        Ok(joining)
+    }
+
+    /// The rows as a record of their own, if it is sound.
+    pub fn judged(self) -> Result<(Record, Sound), Ground> {
+        let sound = Sound::of(Graph::new(self.record.size(), self.links))?;
+        Ok((self.record, sound))
     }
 
     /// The next edit; the lowest number that applies to it is its fault.
@@ -52,12 +93,13 @@ impl<'base> Joining<'base> {
         if is_new && self.base.constraints.len() + self.new_constraints >= CONSTRAINT_LIMIT {
             return Err(Ground::NoPlace);
         }
-        self.record.check_pair(constraint)?;
+        let link = self.record.link(constraint)?;
         if !follows {
             return Err(Ground::Order);
         }
         self.new_constraints += usize::from(is_new);
         self.record.constraints.push(constraint);
+        self.links.push(link);
         Ok(())
     }
 

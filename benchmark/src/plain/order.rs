@@ -18,6 +18,7 @@ pub enum Order {
     Suggest { first: u32, second: u32, case: u32 },
     Test { lent: u32 },
     Winner { edit: u32 },
+    Tally { edit: u32 },
     Ask(Question),
 }
 
@@ -249,6 +250,7 @@ impl<'line> Reader<'line> {
             }
             b"test" => Some(Order::Test { lent: self.number_of(b" lent=")? }),
             b"winner" => Some(Order::Winner { edit: self.number_of(b" edit=")? }),
+            b"tally" => Some(Order::Tally { edit: self.number_of(b" edit=")? }),
             _ => None,
         }
     }

@@ -2,6 +2,7 @@
 
 use super::bundle::Bundles;
 use super::graph::Graph;
+use super::joining::Joining;
 use super::record::Record;
 use super::sound::Sound;
 use check::model::{Constraint, Ground, Tables};
@@ -9,9 +10,8 @@ use check::model::{Constraint, Ground, Tables};
 /// A proposal from a record and the bench's old proposal, into an output that has
 /// so many rows for edits and for constraints.
 pub fn propose(from: &Tables, old: &Tables, room: (u32, u32)) -> Result<Record, Ground> {
-    let from = Record::lent(from)?;
-    let old = Record::joining(old, &from)?;
-    let old_sound = Sound::new(&old)?;
+    let from = Joining::lent(from)?.record;
+    let (old, old_sound) = Joining::of(old, &from)?.judged()?;
     let mut proposal = from.union(&old);
     proposal.take_in(settled_first(&proposal, &old, &old_sound))?;
     proposal.take_in(decisions(&proposal, &Sound::new(&proposal)?))?;

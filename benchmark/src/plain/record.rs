@@ -1,6 +1,6 @@
 //! Records, with the index of each name at hand.
 
-use super::joining::Joining;
+use super::graph::Link;
 use check::model::{is_name, Constraint, Edit, Ground, Tables, CONSTRAINT_LIMIT};
 
 /// One past the greatest name.
@@ -22,23 +22,6 @@ impl Default for Record {
 }
 
 impl Record {
-    /// The lent record, if none of its rows has a fault.
-    pub fn lent(tables: &Tables) -> Result<Record, Ground> {
-        Record::joining(tables, &Record::default())
-    }
-
-    /// The same of a record that is to join another.
-    pub fn joining(tables: &Tables, base: &Record) -> Result<Record, Ground> {
-        let mut joining = Joining::new(base);
-        for &row in &tables.edits {
-            joining.edit(row.edit()?)?;
-        }
-        for &row in &tables.constraints {
-            joining.constraint(row.constraint()?)?;
-        }
-        Ok(joining.record)
-    }
-
     pub fn tables(&self) -> Tables {
         Tables::new(&self.edits, &self.constraints)
     }
@@ -75,13 +58,12 @@ impl Record {
         self.constraints.binary_search(&constraint).is_ok()
     }
 
-    /// Both ends known and the pair allowed.
-    pub fn check_pair(&self, constraint: Constraint) -> Result<(), Ground> {
-        if self.index(constraint.left).is_none() || self.index(constraint.right).is_none() {
-            return Err(Ground::Unknown);
-        }
+    /// A constraint by indexes, if both ends are known and the pair is allowed.
+    pub fn link(&self, constraint: Constraint) -> Result<Link, Ground> {
+        let ends = (self.index(constraint.left), self.index(constraint.right));
+        let (Some(left), Some(right)) = ends else { return Err(Ground::Unknown) };
         match constraint.is_allowed() {
-            true => Ok(()),
+            true => Ok(Link::new(left, constraint.rule, right)),
             false => Err(Ground::Pair),
         }
     }

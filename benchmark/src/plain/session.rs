@@ -2,12 +2,12 @@
 
 use super::bench::Bench;
 use super::bundle::Bundles;
-use super::election::{election, Election};
+use super::election::{election, tally, Outcome};
+use super::joining::Joining;
 use super::order::{self, Change, Lend, Order, Question};
 use super::print::{self, Print};
 use super::proposal::propose;
-use super::record::Record;
-use super::sound::{is_sound_schedule, Sound};
+use super::sound::is_sound_schedule;
 use check::lent::{
     push_roll, push_within, record_number, LENT_CONSTRAINT_LIMIT, LENT_EDIT_LIMIT, ROW_LIMIT,
 };
@@ -59,6 +59,7 @@ impl Session {
             Order::Suggest { first, second, case } => self.suggest(first, second, case, out),
             Order::Test { lent } => self.test(lent, out),
             Order::Winner { edit } => self.winner(edit, out),
+            Order::Tally { edit } => self.tally(edit, out),
             Order::Ask(question) => {
                 self.answer(question, out);
                 Ok(())
@@ -124,7 +125,7 @@ impl Session {
 
     fn adopt(&mut self, edit: u32, out: &mut Vec<u8>) -> Result<(), Ground> {
         let (election, pages) = self.bench.adopt(proposals(&self.lent), &self.roll, edit)?;
-        print_election(&election, out);
+        print_outcome(election.outcome, out);
         out.text(" ");
         self.print_change(pages, out);
         Ok(())
@@ -132,14 +133,14 @@ impl Session {
 
     fn elect(&self, edit: u32, out: &mut Vec<u8>) -> Result<(), Ground> {
         let election = election(proposals(&self.lent), &self.roll, edit)?;
-        print_election(&election, out);
+        print_outcome(election.outcome, out);
         out.text("\n");
         Ok(())
     }
 
     fn winner(&self, edit: u32, out: &mut Vec<u8>) -> Result<(), Ground> {
         let election = election(proposals(&self.lent), &self.roll, edit)?;
-        print_election(&election, out);
+        print_outcome(election.outcome, out);
         out.text("\n");
         if let Some(bundle) = &election.won {
             let (must, never) = bundle.verdict(edit as u16);
@@ -150,10 +151,18 @@ impl Session {
         Ok(())
     }
 
+    fn tally(&self, edit: u32, out: &mut Vec<u8>) -> Result<(), Ground> {
+        for outcome in tally(proposals(&self.lent), &self.roll, edit)? {
+            print_outcome(outcome, out);
+            out.text("\n");
+        }
+        Ok(())
+    }
+
     fn bundle(&self, edit: u32, lent: u32, out: &mut Vec<u8>) -> Result<(), Ground> {
-        let record = Record::lent(&self.lent[record_number(lent)?])?;
-        let edit = record.named(edit)?;
-        let sound = Sound::new(&record)?;
+        let joining = Joining::lent(&self.lent[record_number(lent)?])?;
+        let edit = joining.record.named(edit)?;
+        let (record, sound) = joining.judged()?;
         let bundle = Bundles::new(&record, &sound).of(edit);
         out.text("eligible=").yes_or_no(bundle.is_eligible()).text(" ");
         print::rows(&bundle.edits, &bundle.constraints, out);
@@ -187,8 +196,7 @@ impl Session {
     }
 
     fn test(&self, lent: u32, out: &mut Vec<u8>) -> Result<(), Ground> {
-        let record = Record::lent(&self.lent[record_number(lent)?])?;
-        let sound = Sound::new(&record)?;
+        let (record, sound) = Joining::lent(&self.lent[record_number(lent)?])?.judged()?;
         out.text("sound=").yes_or_no(is_sound_schedule(&record, &sound, &self.row)).text("\n");
         Ok(())
     }
@@ -247,8 +255,8 @@ fn proposals(lent: &[Tables; BENCHES + 1]) -> [&Tables; BENCHES] {
     std::array::from_fn(|place| &lent[place + 1])
 }
 
-fn print_election(election: &Election, out: &mut Vec<u8>) {
-    out.text("won=").yes_or_no(election.won.is_some());
-    out.text(" greatest=").number(election.greatest);
-    out.text(" silent=").number(election.silent).text(" total=").number(election.total);
+fn print_outcome(outcome: Outcome, out: &mut Vec<u8>) {
+    out.text("won=").yes_or_no(outcome.won);
+    out.text(" greatest=").number(outcome.greatest);
+    out.text(" silent=").number(outcome.silent).text(" total=").number(outcome.total);
 }

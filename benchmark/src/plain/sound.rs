@@ -1,6 +1,7 @@
 //! Soundness, must, never, settled and the bench schedule.
 
 use super::graph::{Graph, Link, Set, State, EMPTY, SIZE_LIMIT};
+use super::joining::Joining;
 use super::record::Record;
 use check::model::{Ground, Rule, Tables};
 
@@ -117,12 +118,12 @@ pub struct Judgement {
 
 /// The judgement of a lent record.
 pub fn judgement(tables: &Tables) -> Result<Judgement, Ground> {
-    Ok(Sound::new(&Record::lent(tables)?)?.judgement())
+    Ok(Joining::lent(tables)?.judged()?.1.judgement())
 }
 
 /// The bench schedule of a lent record with nothing hidden, INIT first.
 pub fn schedule(tables: &Tables) -> Result<Vec<u8>, Ground> {
-    Ok(Sound::new(&Record::lent(tables)?)?.schedule(&[false; SIZE_LIMIT]))
+    Ok(Joining::lent(tables)?.judged()?.1.schedule(&[false; SIZE_LIMIT]))
 }
 
 /// Whether a row of any numbers is a sound schedule of a sound record.

@@ -3,8 +3,6 @@
 use super::joining::Joining;
 use super::order::{self, Change, Order};
 use super::print;
-use super::record::Record;
-use super::sound::Sound;
 use check::model::Ground;
 
 /// Why a text is turned away, and at which line, from 1.
@@ -16,15 +14,13 @@ pub struct Fault {
 
 /// Appends the report on a text.
 pub fn report(text: &[u8], out: &mut Vec<u8>) -> Result<(), Fault> {
-    let empty = Record::default();
-    let mut joining = Joining::new(&empty);
+    let mut joining = Joining::alone();
     let mut line = 0;
     for bytes in text.split_inclusive(|&byte| byte == b'\n') {
         line += 1;
         read_line(bytes, &mut joining).map_err(|ground| Fault { ground, line })?;
     }
-    let record = joining.record;
-    let sound = Sound::new(&record).map_err(|ground| Fault { ground, line })?;
+    let (record, sound) = joining.judged().map_err(|ground| Fault { ground, line })?;
     print::report(&record, &sound, out);
     Ok(())
 }
