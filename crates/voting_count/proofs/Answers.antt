@@ -64,10 +64,7 @@ module _ (e : ℕ) (P : Proposals) (rows : List RollRow) where
   -- the grounds, where no row of the proposals has one: the roll's, then those of the whole call
   pub grounds-left : {n : ℕ} → 0 ≡ first_given (proposal_fault P) benches → n ≡ whole_fault e P → 14 given roll_faulty rows orelse n ≡ election_fault e P rows
   unfolding election_fault whole_fault known_name_fault
-  grounds-left z q =
-      rw (q, ← z)
-      (ap (λ m. 14 given roll_faulty rows orelse m)
-      (sym (orelse-assoc (2 given not (is_name e)) (5 given not (any (λ k. mem e (written (held P k))) benches)) (8 given not (all (λ k. sound (held P k)) benches)))))
+  grounds-left z q = rw (q, ← z) (ap (λ m. 14 given roll_faulty rows orelse m) (sym (orelse-assoc (2 given not (is_name e)) _ _)))
 
   pub election-answered : 0 ≡ election_fault e P rows → (t : Tally) → t ≡ tally_of (cast e P rows) → election_told (Ok t.election) ≡ election_of e P rows
   unfolding election_of tally_of

@@ -1,6 +1,6 @@
 -- The tally while the rows of the roll come in: before the first and after each it holds the election's answer on the rows so far. Assumes nothing.
 use mathlib.Core.Path.{◌≡◌, refl, sym, ap, ◌∙◌}
-use mathlib.Core.Bool.{false, not}
+use mathlib.Core.Bool.{false}
 use mathlib.Core.List.{List, [], ◌∷◌, ◌++◌, map, map-map, append-nil, append_assoc}
 use Prim.Native.Nat.{ℕ, ◌+◌, ◌≤◌}
 use native.Mathlib.Omega.{arith}
@@ -10,19 +10,15 @@ use lib.Seq.{take-take}
 use borrow.Author.Tests.{ne_eqb}
 use Rattle.std.specs.Prelude.{Ok}
 use Rattle.arrayvec.specs.ArrayVec.{ArrayVec}
-use Rattle.lists.specs.Lists.{any, all, mem}
 use Rattle.lists.proofs.Lists.{get_or-mapped}
-use Rattle.record.specs.Record.{written}
-use Rattle.record.specs.Judgement.{sound}
-use Rattle.record_rows.specs.row.Row.{is_name}
-use Rattle.record_rows.specs.grounds.Ground.{◌given◌, ◌orelse◌}
+use Rattle.record_rows.specs.grounds.Ground.{◌given◌}
 use Rattle.record_rows.proofs.grounds.Grounds.{orelse-none, given-none}
 use Rattle.refusals.specs.Numbers.{number}
 use Rattle.voting.specs.declared.ElectionResult.{ElectionResult}
 use Rattle.voting.specs.declared.RollRow.{RollRow}
 use Rattle.voting.specs.Tally.{Election, election_told, ballots, weigh, is_silent, greatest_of, greatest, silent, total, won}
 use Rattle.voting_roll.specs.Roll.{roll_faulty}
-use Rattle.voting_roll.specs.Election.{Proposals, held, proposal_fault, first_given, benches, election_fault, cast, election_of}
+use Rattle.voting_roll.specs.Election.{Proposals, proposal_fault, first_given, benches, election_fault, cast, election_of}
 use Rattle.voting_roll.proofs.Rolls.{beginning-faultless}
 use Rattle.voting_tally.specs.Groups.{result_of, tally_of}
 use Rattle.voting_tally.proofs.Counts.{total-more, weigh-more, greatest-more}
@@ -34,23 +30,20 @@ use Rattle.voting_count.proofs.Beginnings.{beginnings-length, beginning-at, begi
 use Rattle.voting_count.proofs.Rolled.{cast-more}
 
 module _ (e : ℕ) (P : Proposals) (rows : List RollRow) where
-  -- of two rolls without fault the grounds are the same
-  grounds-alike : (roll : List RollRow) → roll_faulty rows ≡ false → roll_faulty roll ≡ false → election_fault e P rows ≡ election_fault e P roll
+  -- of the rows themselves the grounds ask no more than whether they have a fault
+  pub grounds-alike : (roll : List RollRow) → roll_faulty rows ≡ roll_faulty roll → election_fault e P rows ≡ election_fault e P roll
   unfolding election_fault
-  grounds-alike roll p q = rw (p, q) refl
+  grounds-alike roll q = rw q refl
 
   -- an election that is accepted has a roll without fault
   pub accepted-roll : election_fault e P rows ≡ 0 → roll_faulty rows ≡ false
   unfolding election_fault
-  accepted-roll z =
-      let rest : ℕ = 2 given not (is_name e) orelse 5 given not (any (λ k. mem e (written (held P k))) benches) orelse 8 given not (all (λ k. sound (held P k)) benches) in
-      let a = orelse-none (first_given (proposal_fault P) benches) (14 given roll_faulty rows orelse rest) z in
-      given-none 13 (roll_faulty rows) (orelse-none (14 given roll_faulty rows) rest a.1).0
+  accepted-roll z = given-none 13 (roll_faulty rows) (orelse-none (14 given roll_faulty rows) _ (orelse-none (first_given (proposal_fault P) benches) _ z).1).0
 
   module _ (z : election_fault e P rows ≡ 0) where
     -- where an election is accepted it is so on each beginning of the roll
     pub beginning-accepted : (k : ℕ) → election_fault e P (take k rows) ≡ 0
-    beginning-accepted k = let f = accepted-roll z in sym (grounds-alike (take k rows) f (beginning-faultless rows k f)) ∙ z
+    beginning-accepted k = let f = accepted-roll z in sym (grounds-alike (take k rows) (f ∙ sym (beginning-faultless rows k f))) ∙ z
 
     -- THE TALLY SO FAR: after k rows the tally holds the election's answer on these
     pub tally-so-far : (k : ℕ) → election_told (Ok (tally_of (cast e P (take k rows))).election) ≡ election_of e P (take k rows)

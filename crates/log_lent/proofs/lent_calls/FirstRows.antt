@@ -1,24 +1,22 @@
 -- Nine rows of a roll are enough: with them it is faulty already, and later rows change no answer. Assumes nothing.
 use mathlib.Core.Path.{◌≡◌, refl, sym, ap, ◌∙◌}
-use mathlib.Core.Bool.{true, not, or-true}
-use mathlib.Core.List.{List, [], map}
+use mathlib.Core.Bool.{true}
+use mathlib.Core.List.{List, []}
 use Prim.Native.Nat.{ℕ, ◌≤◌}
 use native.Mathlib.Omega.{arith}
-use lib.Dec.{ltb}
 use lib.ListN.{length, take}
 use lib.Seq.{take_all, length-take-le}
-use borrow.Author.Tests.{lt-ltb}
-use Rattle.lists.specs.Lists.{all, distinct}
-use Rattle.lists.proofs.Lists.{clash, le-by}
+use Rattle.lists.proofs.Lists.{by, clash, le-by}
 use Rattle.record_rows.proofs.grounds.Grounds.{orelse-first}
 use Rattle.voting.specs.declared.RollRow.{RollRow}
 use Rattle.voting.specs.Tally.{winner}
-use Rattle.voting_roll.specs.Roll.{roll_bench, is_bench, roll_faulty}
+use Rattle.voting_roll.specs.Roll.{roll_faulty}
 use Rattle.voting_roll.specs.Election.{Proposals, election_fault, cast}
 use Rattle.voting_count.specs.Count.{refused_count, count_of}
 use Rattle.voting_count.specs.Tallied.{tallied_of}
 use Rattle.voting_count.proofs.Answers.{count-refused}
-use Rattle.voting_count.proofs.Tallied.{accepted-roll, tallied-refused}
+use Rattle.voting_count.proofs.Rolled.{rows_few}
+use Rattle.voting_count.proofs.Tallied.{grounds-alike, accepted-roll, tallied-refused}
 use Rattle.ledger.specs.declared.Bench.{Bench}
 use Rattle.ledger.specs.Ledger.{Ledger, adopt, start, fed, bundle_fault, judge, refusal, step}
 use Rattle.ledger.specs.Bench.{Outcome, outcome, Answers}
@@ -26,15 +24,9 @@ use Rattle.ledger.proofs.Undone.{step-refused}
 use Rattle.log_lent.specs.Lent.{roll_places}
 
 faulty-by-length : (rows : List RollRow) → roll_places ≤ length rows → roll_faulty rows ≡ true
-unfolding roll_faulty
-faulty-by-length rows h = let e : ltb 8 (length rows) ≡ true = lt-ltb 8 (length rows) (omega arith) in rw (e, or-true (not (distinct (map roll_bench rows))), or-true (not (all is_bench rows))) refl
+faulty-by-length rows h = by (roll_faulty rows) (λ e. e) (λ f. absurd (omega (arith, rows_few rows f)))
 
 module _ (x : ℕ) (P : Proposals) where
-  -- the number of a faulty roll hangs on none of its rows
-  faulty-number : (a b : List RollRow) → roll_faulty a ≡ true → roll_faulty b ≡ true → election_fault x P a ≡ election_fault x P b
-  unfolding election_fault
-  faulty-number a b p q = rw (p, q) refl
-
   faulty-refused : (a : List RollRow) → roll_faulty a ≡ true → election_fault x P a ≡ 0 → ⊥
   faulty-refused a p z = clash p (accepted-roll x P a z)
 
@@ -55,7 +47,7 @@ module _ (x : ℕ) (P : Proposals) where
         (λ h. let rows = take roll_places roll in
         let p = faulty-by-length rows (let e = length-take-le roll_places roll h in omega arith) in
         let r = faulty-refused rows p in
-        sym (f rows (election_fault x P rows) refl r) ∙ f roll (election_fault x P rows) (faulty-number rows roll p (faulty-by-length roll h)) r)
+        sym (f rows (election_fault x P rows) refl r) ∙ f roll (election_fault x P rows) (grounds-alike x P rows roll (p ∙ sym (faulty-by-length roll h))) r)
         (λ h. ap answer (take_all roll_places roll (omega arith)))
 
     pub first_counted : count_of x P (take roll_places roll) ≡ count_of x P roll
