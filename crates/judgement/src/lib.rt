@@ -2,6 +2,7 @@
 // promise is for one that is stored with checked tables.
 #![tactic(auto)]
 
+pub mod lent_edit;
 pub mod lent_record;
 pub mod row_test;
 

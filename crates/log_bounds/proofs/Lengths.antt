@@ -41,7 +41,8 @@ use Rattle.voting_roll.specs.Roll.{is_bench}
 use Rattle.voting_roll.specs.Election.{Proposals, held, election_fault, cast, election_of}
 use Rattle.voting_count.specs.Count.{count_of}
 use Rattle.voting_count.specs.Tallied.{Tallied, tallied_of}
-use Rattle.voting_bundles.specs.Bundles.{BundleAnswer, lent_bundle_fault, bundle_answer}
+use Rattle.judgement.specs.lent_edit.Asked.{lent_edit_fault}
+use Rattle.voting_bundles.specs.Bundles.{BundleAnswer, bundle_answer}
 use Rattle.voting_proposals.specs.Propose.{propose_fault, new_proposal}
 use Rattle.suggestions.specs.declared.Advice.{Advice}
 use Rattle.suggestions.specs.declared.Advice.TheVariants.{Nothing, Notafter, NotafterEnables, Noncommuting}
@@ -361,7 +362,7 @@ module _ (line : ℕ) (l : line < 2 ^ 64) where
   bundle-answer-size : (es cs : Rows) → EachMember RowFits es → (edit : ℕ) → size_of (answered_text (bundle_answer es cs edit).number (bundle_text (bundle_answer es cs edit)) line) ≤ answer_limit
   unfolding bundle_answer
   bundle-answer-size es cs f edit =
-      let n = lent_bundle_fault es cs edit in
+      let n = lent_edit_fault es cs edit in
       let R = decoded es cs in
       answer-size (bundle_answer es cs edit).number line (bundle_text (bundle_answer es cs edit)) (bundle-number-small es cs edit) l
       (by (eqb n 0)

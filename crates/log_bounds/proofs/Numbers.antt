@@ -32,7 +32,8 @@ use Rattle.voting_count.specs.Tallied.{beginnings, Tallied, tallied_of}
 use Rattle.voting_count.proofs.Beginnings.{beginnings-within}
 use Rattle.voting_count.proofs.Rolled.{rows_few}
 use Rattle.voting_count.proofs.Tallied.{accepted-roll, tallied-accepted, tallied-length, tallied-refused}
-use Rattle.voting_bundles.specs.Bundles.{lent_bundle_fault, bundle_answer}
+use Rattle.judgement.specs.lent_edit.Asked.{named_fault, lent_edit_fault}
+use Rattle.voting_bundles.specs.Bundles.{bundle_answer}
 use Rattle.voting_proposals.specs.Propose as proposal
 use Rattle.voting_proposals.specs.Propose.{overfull, draft_fault, unkept, too_short, record_m, proposal_q, propose_fault}
 use Rattle.judgement.specs.lent_record.Lent.{record_fault}
@@ -112,12 +113,13 @@ propose-small t =
     (given-small 14 12 (too_short (length t.new_edits) (length t.new_constraints) (proposed (record_m t) (proposal_q t))) (omega arith)))))
 
 pub bundle-number-small : (edits constraints : Rows) (e : ℕ) → (bundle_answer edits constraints e).number ≤ 14
-unfolding bundle_answer lent_bundle_fault
+unfolding bundle_answer lent_edit_fault named_fault
 bundle-number-small edits constraints e =
-    let n = lent_bundle_fault edits constraints e in
+    let n = lent_edit_fault edits constraints e in
     let s : n ≤ 14 = orelse-small 14 _ _ (join-small empty_tables (names_of edits) false edits constraints)
-    (first_small 14 2 (not (is_name e)) _ (omega arith)
-    (first_small 14 5 (not (mem e (written (decoded edits constraints)))) _ (omega arith) (given-small 14 8 (not (sound (decoded edits constraints))) (omega arith)))) in
+    (orelse-small 14 _ _
+    (first_small 14 2 (not (is_name e)) _ (omega arith) (given-small 14 5 (not (mem e (written (decoded edits constraints)))) (omega arith)))
+    (given-small 14 8 (not (sound (decoded edits constraints))) (omega arith))) in
     by (eqb n 0) (λ (q : eqb n 0 ≡ true). rw q (omega arith)) (λ (q : eqb n 0 ≡ false). rw q s)
 
 tested-small : (edits constraints : Rows) → record_fault edits constraints ≤ 14

@@ -2,14 +2,14 @@
 use Rattle.std.specs.Prelude.{◌≡◌, refl, cond, ℕ, eqb, Result, Ok, Err}
 use native.Mathlib.Omega.{arith}
 use Rattle.refusals.specs.declared.Refusal.{Refusal}
-use Rattle.refusals.specs.declared.Refusal.TheVariants.{NotInForm, OutOfRange, NoPlace, OtherBody, Unknown, NotAllowed, Decision, Unsound, NotHideable, NoPage, NotKept, NoRoom, Misplaced, FaultyRoll, TooWide}
+use Rattle.refusals.specs.declared.Refusal.TheVariants.{NotInForm, OutOfRange, NoPlace, OtherBody, Unknown, NotAllowed, Decision, Unsound, NotHideable, NoPage, NotKept, NoRoom, Misplaced, FaultyRoll, NoReason, TooWide}
 use Rattle.refusals.specs.Numbers.{number, Gives}
 use mathlib.Core.Path.{sym, ◌∙◌, ap}
 
 -- the ground of a number
 abbrev refusal_at : ℕ → Refusal
 refusal_at n =
-    cond (eqb n 1) NotInForm (cond (eqb n 2) OutOfRange (cond (eqb n 3) NoPlace (cond (eqb n 4) OtherBody (cond (eqb n 5) Unknown (cond (eqb n 6) NotAllowed (cond (eqb n 7) Decision (cond (eqb n 8) Unsound (cond (eqb n 9) NotHideable (cond (eqb n 10) NoPage (cond (eqb n 11) NotKept (cond (eqb n 12) NoRoom (cond (eqb n 13) Misplaced (cond (eqb n 14) FaultyRoll (TooWide))))))))))))))
+    cond (eqb n 1) NotInForm (cond (eqb n 2) OutOfRange (cond (eqb n 3) NoPlace (cond (eqb n 4) OtherBody (cond (eqb n 5) Unknown (cond (eqb n 6) NotAllowed (cond (eqb n 7) Decision (cond (eqb n 8) Unsound (cond (eqb n 9) NotHideable (cond (eqb n 10) NoPage (cond (eqb n 11) NotKept (cond (eqb n 12) NoRoom (cond (eqb n 13) Misplaced (cond (eqb n 14) FaultyRoll (cond (eqb n 15) NoReason (TooWide)))))))))))))))
 
 number-back : (r : Refusal) → refusal_at (number r) ≡ r
 number-back NotInForm = refl
@@ -26,6 +26,7 @@ number-back NotKept = refl
 number-back NoRoom = refl
 number-back Misplaced = refl
 number-back FaultyRoll = refl
+number-back NoReason = refl
 number-back TooWide = refl
 
 pub number-injective : (r s : Refusal) → number r ≡ number s → r ≡ s
@@ -47,6 +48,7 @@ number-positive NotKept e = absurd (omega (arith, e))
 number-positive NoRoom e = absurd (omega (arith, e))
 number-positive Misplaced e = absurd (omega (arith, e))
 number-positive FaultyRoll e = absurd (omega (arith, e))
+number-positive NoReason e = absurd (omega (arith, e))
 number-positive TooWide e = absurd (omega (arith, e))
 
 -- what an answer is refused with, and what it gives, is the answer

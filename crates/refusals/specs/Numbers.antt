@@ -1,7 +1,7 @@
 -- Document 01, "What is turned away": the number of each ground, and an answer that is refused by a number. Assumes nothing.
 use Rattle.std.specs.Prelude.{◌≡◌, ℕ, Result, Ok, Err, IfOk}
 use Rattle.refusals.specs.declared.Refusal.{Refusal}
-use Rattle.refusals.specs.declared.Refusal.TheVariants.{NotInForm, OutOfRange, NoPlace, OtherBody, Unknown, NotAllowed, Decision, Unsound, NotHideable, NoPage, NotKept, NoRoom, Misplaced, FaultyRoll, TooWide}
+use Rattle.refusals.specs.declared.Refusal.TheVariants.{NotInForm, OutOfRange, NoPlace, OtherBody, Unknown, NotAllowed, Decision, Unsound, NotHideable, NoPage, NotKept, NoRoom, Misplaced, FaultyRoll, NoReason, TooWide}
 
 abbrev pub number : Refusal → ℕ
 number NotInForm = 1
@@ -18,6 +18,7 @@ number NotKept = 11
 number NoRoom = 12
 number Misplaced = 13
 number FaultyRoll = 14
+number NoReason = 15
 number TooWide = 17
 
 -- 0 is given where nothing is refused

@@ -1,10 +1,10 @@
-// The grounds on which a call is turned away (document 01, "What is turned away"; document 02, A9).
+// The grounds on which a call is turned away (document 01, "What is turned away"; document 02, A3 and A9).
 #![tactic(auto)]
 
 ghost use Rattle.std.specs.Prelude.{◌≡◌};
 ghost use Rattle.refusals.specs.Numbers.{number, number_of};
 
-// Each has the number that the documents give it. 15 and 16 belong to requests that have not landed.
+// Each has the number that the documents give it. 16 belongs to a request that has not landed.
 #[derive(Clone, Copy, PartialEq, Eq, PartialOrd, Ord)]
 pub enum Refusal {
     NotInForm = 1,
@@ -21,6 +21,7 @@ pub enum Refusal {
     NoRoom = 12,
     Misplaced = 13,
     FaultyRoll = 14,
+    NoReason = 15,
     TooWide = 17,
 }
 

@@ -7,34 +7,25 @@ use native.Mathlib.Omega.{arith}
 use lib.Dec.{eqb}
 use lib.ListN.{length, take, drop, length-map}
 use lib.Seq.{take_all, take-append-le}
-use Rattle.std.specs.Prelude.{Ok, Err}
 use Rattle.std.specs.List.{list_all}
 use borrow.Author.Tests.{ne_eqb, lt-ltb}
 use Rattle.record.specs.declared.Record as declared
 use Rattle.lists.specs.Lists.{all, filter, mem, ◌among◌, ascending}
 use Rattle.record.specs.Record.{Record, name_of, names, written}
 use Rattle.record.specs.Stored.{padded, stored}
-use Rattle.record.specs.Judgement.{sound, settled}
+use Rattle.record.specs.Judgement.{settled}
 use Rattle.lists.proofs.Lists.{by, cons-by, ascending-tail, ascending-head, mem-head, mem-tail}
 use Rattle.record.proofs.Records.{written-names}
-use Rattle.record_rows.specs.row.Row.{is_name}
-use Rattle.record_rows.proofs.row.Cells.{name-taken, name-refused}
-use Rattle.refusals.specs.declared.Refusal.{Refusal}
-use Rattle.refusals.specs.declared.Refusal.TheVariants.{OutOfRange}
-use Rattle.refusals.specs.Numbers.{number}
-use Rattle.refusals.proofs.Numbers.{number-positive}
 use Rattle.record_rows.specs.grounds.Ground.{Rows}
 use Rattle.record_tables.specs.Table.{empty_tables, decoded, lent_fault}
-use Rattle.record_tables.specs.Checked.{Checked}
-use Rattle.record_tables.proofs.Records.{lent-checked}
 use Rattle.graph.specs.links.Marks.{marks_of, values_of}
 use Rattle.voting.specs.Bundle.{members, between, bundle, eligible}
 use Rattle.voting.proofs.Bundles.{bundle-extended, bundle-well-formed, filter-names}
 use Rattle.lists.proofs.Front.{filter-length}
-use Rattle.voting_bundles.specs.Bundles.{lent_bundle_fault, refused_bundle, bundle_answer}
+use Rattle.voting_bundles.specs.Bundles.{refused_bundle, bundle_answer}
+use Rattle.judgement.specs.lent_edit.Asked.{lent_edit_fault}
 use Rattle.record_rows.proofs.grounds.Grounds.{orelse-none}
 use Rattle.graph.specs.indexes.Fit.{Fit}
-use Rattle.graph.proofs.indexes.Fit.{checked-fit}
 use Rattle.lists.proofs.Tests.{bit_is}
 
 -- what is filtered out of ascending names ascends
@@ -87,55 +78,18 @@ pub eligible-all : (R : Record) (e : ℕ) → all (settled (bundle R e)) (writte
 unfolding eligible
 eligible-all R e = refl
 
--- the grounds one by one, as the code tells them
+-- the answer about a lent record
 module _ (es cs : Rows) (e : ℕ) where
-  pub bundle-rows-refused : (r : Refusal) → number r ≡ lent_fault empty_tables es cs → number r ≡ lent_bundle_fault es cs e
-  unfolding lent_bundle_fault
-  bundle-rows-refused r q = let z : eqb (lent_fault empty_tables es cs) 0 ≡ false = ne_eqb (lent_fault empty_tables es cs) 0 (λ y. number-positive r (q ∙ y)) in rw z q
-
-  module _ {multilog : declared.Record} (p : (0 ≡ lent_fault empty_tables es cs) × (multilog ≡ stored (decoded es cs))) where
-    pub bundle-name-refused : {r : Refusal} → Err r ≡ cond (is_name e) (Ok e) (Err OutOfRange) → number r ≡ lent_bundle_fault es cs e
-    unfolding lent_bundle_fault
-    bundle-name-refused q = let n = name-refused e q in rw (n.1, sym p.0, n.0)
-
-    checked : Checked (decoded es cs)
-    checked = lent-checked es cs (sym p.0)
-
-    fit : Fit (decoded es cs)
-    fit = checked-fit (decoded es cs) checked
-
-    module _ {x : ℕ} (q : Ok x ≡ cond (is_name e) (Ok e) (Err OutOfRange)) {known : Bool}
-        (told : (R : Record) → multilog ≡ stored R → Checked R → known ≡ mem x (written R)) where
-      knows : {b : Bool} → known ≡ b → mem e (written (decoded es cs)) ≡ b
-      knows k = rw (name-taken e q).1 at (sym (told (decoded es cs) p.1 checked) ∙ k)
-
-      pub bundle-unknown-refused : known ≡ false → 5 ≡ lent_bundle_fault es cs e
-      unfolding lent_bundle_fault
-      bundle-unknown-refused k = rw (sym p.0, (name-taken e q).0, knows k)
-
-      module _ (k : known ≡ true) {whole : Bool} (test : (R : Record) → multilog ≡ stored R → Fit R → whole ≡ sound R) where
-        pub bundle-unsound-refused : whole ≡ false → 8 ≡ lent_bundle_fault es cs e
-        unfolding lent_bundle_fault
-        bundle-unsound-refused s = let u : sound (decoded es cs) ≡ false = sym (test (decoded es cs) p.1 fit) ∙ s in rw (sym p.0, (name-taken e q).0, knows k, u)
-
-        pub bundle-accepted : whole ≡ true → {small : declared.Record}
-            → ((R : Record) → multilog ≡ stored R → Fit R → x among written R → small ≡ stored (bundle R x))
-            → (0 ≡ lent_bundle_fault es cs e) × (small ≡ stored (bundle (decoded es cs) e))
-        unfolding lent_bundle_fault
-        bundle-accepted s made =
-            let u : sound (decoded es cs) ≡ true = sym (test (decoded es cs) p.1 fit) ∙ s in
-            (rw (sym p.0, (name-taken e q).0, knows k, u), rw (name-taken e q).1 at (made (decoded es cs) p.1 fit (sym (told (decoded es cs) p.1 checked) ∙ k)))
-
   -- what is not refused has rows without fault
-  pub bundle-checked : 0 ≡ lent_bundle_fault es cs e → 0 ≡ lent_fault empty_tables es cs
-  unfolding lent_bundle_fault
+  pub bundle-checked : 0 ≡ lent_edit_fault es cs e → 0 ≡ lent_fault empty_tables es cs
+  unfolding lent_edit_fault
   bundle-checked h = sym (orelse-none (lent_fault empty_tables es cs) _ (sym h)).0
 
-  pub bundle-answered : 0 ≡ lent_bundle_fault es cs e → (x : Bool) (b : declared.Record) → x ≡ eligible (decoded es cs) e → b ≡ stored (bundle (decoded es cs) e)
+  pub bundle-answered : 0 ≡ lent_edit_fault es cs e → (x : Bool) (b : declared.Record) → x ≡ eligible (decoded es cs) e → b ≡ stored (bundle (decoded es cs) e)
       → record { number = 0; eligible = x; bundle = b } ≡ bundle_answer es cs e
   unfolding bundle_answer
   bundle-answered z x b p q = rw (sym z) (λ i. record { number = 0; eligible = p i; bundle = q i })
 
-  pub bundle-refused : (n : ℕ) → n ≡ lent_bundle_fault es cs e → (n ≡ 0 → ⊥) → refused_bundle n ≡ bundle_answer es cs e
+  pub bundle-refused : (n : ℕ) → n ≡ lent_edit_fault es cs e → (n ≡ 0 → ⊥) → refused_bundle n ≡ bundle_answer es cs e
   unfolding bundle_answer
-  bundle-refused n q h = let z : eqb (lent_bundle_fault es cs e) 0 ≡ false = ne_eqb (lent_bundle_fault es cs e) 0 (λ y. h (q ∙ y)) in rw (z, q)
+  bundle-refused n q h = let z : eqb (lent_edit_fault es cs e) 0 ≡ false = ne_eqb (lent_edit_fault es cs e) 0 (λ y. h (q ∙ y)) in rw (z, q)

@@ -1,23 +1,14 @@
 -- Document 01, "Proposals and votes" and "What is turned away": how the parts of a bundle are stored, and the answer about an edit's bundle in a lent record. Assumes nothing.
-use Rattle.std.specs.Prelude.{Bool, false, not, cond, ℕ, eqb, Result, Ok, Err}
-use Rattle.lists.specs.Lists.{mem}
+use Rattle.std.specs.Prelude.{Bool, false, cond, ℕ, eqb, Result, Ok, Err}
 use Rattle.record.specs.declared.Record as declared
-use Rattle.record.specs.Record.{written}
 use Rattle.record.specs.Stored.{stored, empty_record}
-use Rattle.record.specs.Judgement.{sound}
-use Rattle.record_rows.specs.row.Row.{is_name}
-use Rattle.record_rows.specs.grounds.Ground.{Rows, ◌given◌, ◌orelse◌}
-use Rattle.record_tables.specs.Table.{empty_tables, decoded, lent_fault}
+use Rattle.record_rows.specs.grounds.Ground.{Rows}
+use Rattle.record_tables.specs.Table.{decoded}
+use Rattle.judgement.specs.lent_edit.Asked.{lent_edit_fault}
 use Rattle.refusals.specs.declared.Refusal.{Refusal}
 use Rattle.refusals.specs.Numbers.{number}
 use Rattle.voting.specs.Bundle.{bundle, eligible}
 use Rattle.voting_bundles.specs.declared.Bundled.{Bundled}
-
--- the number of the refusal: rows, then the faults of the whole call
-unfoldable pub lent_bundle_fault : Rows → Rows → ℕ → ℕ
-lent_bundle_fault edits constraints e =
-    lent_fault empty_tables edits constraints orelse 2 given not (is_name e) orelse 5 given not (mem e (written (decoded edits constraints)))
-    orelse 8 given not (sound (decoded edits constraints))
 
 -- The answer about a bundle in numbers: on refusal every part but the number is 0, and the bundle the empty record.
 pub record BundleAnswer : Type 0 where
@@ -36,6 +27,6 @@ bundle_told (Err refusal) = refused_bundle (number refusal)
 -- THE ANSWER about the bundle of e in a lent record
 unfoldable pub bundle_answer : Rows → Rows → ℕ → BundleAnswer
 bundle_answer edits constraints e =
-    let n = lent_bundle_fault edits constraints e in
+    let n = lent_edit_fault edits constraints e in
     let R = decoded edits constraints in
     cond (eqb n 0) (record { number = 0; eligible = eligible R e; bundle = stored (bundle R e) }) (refused_bundle n)

@@ -14,14 +14,14 @@ ghost use Rattle.graph.specs.indexes.Fit.{Fit};
 ghost use Rattle.voting.specs.Bundle as vote;
 ghost use Rattle.refusals.specs.Numbers.{Gives};
 ghost use Rattle.record_tables.specs.Table.{decoded};
-ghost use Rattle.voting_bundles.specs.Bundles.{lent_bundle_fault, bundle_answer, bundle_told};
+ghost use Rattle.judgement.specs.lent_edit.Asked.{lent_edit_fault};
+ghost use Rattle.voting_bundles.specs.Bundles.{bundle_answer, bundle_told};
 
 use bundling::Bundling;
 use graph::links::Marks;
+use judgement::lent_edit;
 use record::Record;
-use record_rows::row;
 use record_rows::row::LentRecord;
-use record_tables::lookup;
 use refusals::Refusal;
 
 // The bundle of an edit that the record knows. It is safe for any record and edit.
@@ -54,17 +54,10 @@ pub struct Bundled {
 
 // The bundle of an edit in a lent record.
 fn small_of(lent: LentRecord, edit: u32) -> Result<Record, Refusal>
-    ensures { Gives (lent_bundle_fault lent.entry.edits.now lent.entry.constraints.now edit) (stored (vote.bundle (decoded lent.entry.edits.now lent.entry.constraints.now) edit)) result }
+    ensures { Gives (lent_edit_fault lent.entry.edits.now lent.entry.constraints.now edit) (stored (vote.bundle (decoded lent.entry.edits.now lent.entry.constraints.now) edit)) result }
 {
-    let multilog = record_joining::lent(lent)?;
-    let name = row::name(edit)?;
-    if !lookup::knows(multilog, name) {
-        return Err(Refusal::Unknown);
-    }
-    if !judgement::sound(multilog) {
-        return Err(Refusal::Unsound);
-    }
-    Ok(bundle(multilog, name))
+    let known = lent_edit::lent_edit(lent, edit)?;
+    Ok(bundle(known.multilog, known.name))
 }
 
 // THE BUNDLE of an edit in a lent record, and whether it is eligible.

@@ -26,7 +26,7 @@ module _ (es cs : Rows) where
 
   -- where the rows have no fault, what is left is whether the record is sound
   module _ (none : lent_fault empty_tables es cs ≡ 0) (r : declared.Record) (is : r ≡ stored (decoded es cs)) (s : Bool) (f : (R : Record) → r ≡ stored R → Fit R → s ≡ sound R) where
-    is-sound : s ≡ sound (decoded es cs)
+    pub is-sound : s ≡ sound (decoded es cs)
     is-sound = f (decoded es cs) is (checked-fit (decoded es cs) (lent-checked es cs none))
 
     pub lent-taken : s ≡ true → Taking es cs r

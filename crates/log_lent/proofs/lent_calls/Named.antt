@@ -16,10 +16,10 @@ use Rattle.lists.proofs.Arrays.{get_or-any}
 use Rattle.record_rows.specs.row.Row.{Row, is_name, edit_row}
 use Rattle.record_rows.proofs.row.Cells.{name-taken, name-refused}
 use Rattle.std.specs.Prelude.{Option, Some, None, is_some, unwrap_or, ok_or, Result, Ok, Err}
+use Rattle.judgement.proofs.lent_edit.Asked.{missing-refused}
 use Rattle.refusals.specs.declared.Refusal.{Refusal}
 use Rattle.refusals.specs.declared.Refusal.TheVariants.{OutOfRange, Unknown}
-use Rattle.refusals.specs.Numbers.{number, number_of, Gives}
-use Rattle.refusals.proofs.Numbers.{number-positive}
+use Rattle.refusals.specs.Numbers.{number, Gives}
 use Rattle.record_tables.specs.Checked.{known_place}
 use Rattle.suggestions.specs.declared.Suggested.{Suggested}
 use Rattle.suggestions.specs.Suggest.{suggested}
@@ -75,11 +75,6 @@ module _ (R : Record) (x : ℕ) where
   unfolding row_known
   named-row-is {row} s = let m = some-known s in sym (ap (λ (q : Option Row). unwrap_or q []) (rw m at s))
 
--- a name that the record does not know is refused with 5
-refused-unknown : (o : Option Row) (r : Refusal) → ◌≡◌ {A = Result Row Refusal} (Err r) (ok_or o Unknown) → (number r ≡ 5) × (o ≡ None)
-refused-unknown None r e = (ap number_of e, refl)
-refused-unknown (Some row) r e = absurd (number-positive r (ap number_of e))
-
 -- of two names what the code tells: that they are names, and the rows that the record has for them
 module _ (R : Record) (asked : Suggesting) where
   pub first-unnamed : {r : Refusal} → Err r ≡ cond (is_name asked.first) (Ok asked.first) (Err OutOfRange) → number r ≡ suggestion_fault R asked
@@ -109,7 +104,7 @@ module _ (R : Record) (asked : Suggesting) where
         pub first-unknown : {r : Refusal} → ◌≡◌ {A = Result Row Refusal} (Err r) (ok_or o Unknown) → number r ≡ suggestion_fault R asked
         unfolding suggestion_fault suggest_fault
         first-unknown {r} w =
-            let u = refused-unknown o r w in
+            let u = missing-refused Unknown o r w in
             let m = rw a.1 at (none-known R x (sym e ∙ u.1)) in
             rw (a.0, b.0, fine, m) u.0
 
@@ -120,7 +115,7 @@ module _ (R : Record) (asked : Suggesting) where
           pub second-unknown : {r : Refusal} → ◌≡◌ {A = Result Row Refusal} (Err r) (ok_or other Unknown) → number r ≡ suggestion_fault R asked
           unfolding suggestion_fault suggest_fault
           second-unknown {r} w =
-              let u = refused-unknown other r w in
+              let u = missing-refused Unknown other r w in
               let m = rw b.1 at (none-known R y (sym f ∙ u.1)) in
               rw (a.0, b.0, fine, c, m) u.0
 
