@@ -1,0 +1,4 @@
+pub mod Reasons
+pub mod Given
+pub mod Costs
+pub mod Aims
