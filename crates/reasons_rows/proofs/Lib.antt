@@ -1,0 +1,4 @@
+pub mod Making
+pub mod Aiming
+pub mod Ringing
+pub mod Giving
