@@ -1,0 +1,2 @@
+pub mod ReasonLine
+pub mod Rows
