@@ -1,5 +1,5 @@
 /* What a desk tool does with the library: document 01's three-edit text checked, reported and written back, also where there is just enough room or
- * too little, a bench kept by its log, and how united the benches are, from some elections. */
+ * too little, why an edit must or can never stand, a bench kept by its log, and how united the benches are, from some elections. */
 #include "catalogue.h"
 #include <stdio.h>
 #include <string.h>
@@ -67,6 +67,14 @@ int main(void) {
                        "left=257 rule=enables right=513\n"
                        "left=258 rule=noncommuting right=513\n"
                        "left=513 rule=enables right=0\n";
+    /* two edits, each of which must come before the other, and a third that needs both */
+    const char *rivals = "edit=257 do=insert chip=1\n"
+                         "edit=258 do=insert chip=2\n"
+                         "edit=259 do=insert chip=3\n"
+                         "left=257 rule=notafter right=258\n"
+                         "left=257 rule=enables right=259\n"
+                         "left=258 rule=notafter right=257\n"
+                         "left=258 rule=enables right=259\n";
     show("check", catalogue_check(bytes_of(text), size_of(text)));
     show("check of a faulty text", catalogue_check(bytes_of("edit=257 do=insert chip=5\nedit=257 do=insert chip=6\n"), 52));
     show("report", catalogue_report(bytes_of(text), size_of(text), out, sizeof out));
@@ -77,6 +85,11 @@ int main(void) {
     memset(out, '-', 8);
     struct catalogue_reply none = catalogue_report(bytes_of(text), size_of(text), out, 8);
     printf("a report in 8 bytes: number=%u, the buffer holds %.8s\n", (unsigned)none.number, (const char *)out);
+
+    show("why 257", catalogue_why(bytes_of(text), size_of(text), 257, out, sizeof out));
+    show("why 258", catalogue_why(bytes_of(text), size_of(text), 258, out, sizeof out));
+    show("why 259", catalogue_why(bytes_of(text), size_of(text), 259, out, sizeof out));
+    show("why an edit can never stand", catalogue_why(bytes_of(rivals), size_of(rivals), 259, out, sizeof out));
 
     show_room(text);
 

@@ -26,7 +26,7 @@
 extern "C" {
 #endif
 
-/* number  0: accepted. Any other is the number of document 01's ground for the refusal; 12: what is to be written does not fit.
+/* number  0: accepted. Any other is the number of the ground for the refusal (documents 01 and 02); 12: what is to be written does not fit.
  * line    of a refused text the line of its fault, counted from 1 (for 8, not sound, how many lines it has); else 0
  * size    accepted, how many bytes were written at the start of `out`; else 0 */
 struct catalogue_reply {
@@ -44,6 +44,11 @@ struct catalogue_reply catalogue_report(const uint8_t *text, size_t text_size, u
 
 /* An exchanged text read and written again: the same bytes. A text without fault has at most CATALOGUE_TEXT_SIZE bytes. */
 struct catalogue_reply catalogue_rewrite(const uint8_t *text, size_t text_size, uint8_t *out, size_t out_size);
+
+/* Why an edit of an exchanged text must stand, or can never stand: the line of the reason, as edit=257 why=must chain=257,513,0 (docs/CALL-LOG.md,
+ * do=why). A faulty text is refused with its line. Else, with line 0, the first of: 2, no edit has such a name; 5, the text has no edit of this name;
+ * 12; 15, the edit is neither. A reason's line has at most CATALOGUE_REASON_SIZE bytes. */
+struct catalogue_reply catalogue_why(const uint8_t *text, size_t text_size, uint32_t edit, uint8_t *out, size_t out_size);
 
 /* A call log (docs/CALL-LOG.md) run on one bench from empty: the answers to all its lines (what the program `replay` prints for it).
  * A line that is refused is answered as such and is no ground to refuse the log: the one ground is 12. The answers are first written to
@@ -86,9 +91,10 @@ struct catalogue_unity_reply catalogue_unity(const uint32_t (*answers)[3], size_
 
 #define CATALOGUE_ANSWERS 200
 
-/* 639 lines of at most 101 bytes; a line of the report for each of 127 edits, and one more */
+/* 639 lines of at most 101 bytes; a line of the report for each of 127 edits, and one more; a reason of at most 128 names of four digits */
 #define CATALOGUE_TEXT_SIZE 64539
 #define CATALOGUE_REPORT_SIZE 8192
+#define CATALOGUE_REASON_SIZE 671
 
 #ifdef __cplusplus
 }

@@ -1,5 +1,5 @@
 -- What the benchmark is answered: parts of the answers to other operations, as numbers. Assumes nothing.
-use Rattle.std.specs.Prelude.{cond, List, [], ◌∷◌, map, ℕ, eqb, replicate}
+use Rattle.std.specs.Prelude.{cond, List, [], ◌∷◌, map, ℕ, eqb, replicate, length}
 use Rattle.record_rows.specs.grounds.Ground.{Rows}
 use Rattle.judgement.specs.declared.lent_record.Judgement.{Judgement}
 use Rattle.judgement.specs.lent_record.Lent.{record_fault, judgement_is}
@@ -10,10 +10,12 @@ use Rattle.ledger.specs.Ledger.{merge, start, step, fed}
 use Rattle.voting.specs.declared.RollRow.{RollRow}
 use Rattle.voting_roll.specs.Election.{benches, election_of}
 use Rattle.voting_count.specs.Count.{lent_proposals}
+use Rattle.text_reasons.specs.ReasonLine.{explained, explained_fault}
 use Rattle.benchmark_entry.specs.declared.Judged.{Judged}
 use Rattle.benchmark_entry.specs.declared.Scheduled.{Scheduled}
 use Rattle.benchmark_entry.specs.declared.Merged.{Merged}
 use Rattle.benchmark_entry.specs.declared.Elected.{Elected}
+use Rattle.benchmark_entry.specs.declared.Explained.{Explained}
 
 -- no mark, of an edit of a record that is refused
 abbrev pub no_marks : List ℕ
@@ -57,3 +59,9 @@ unfoldable pub elected_of : ℕ → Rows → Rows → Rows → Rows → Elected
 elected_of edit edits constraints rivals rival_constraints =
     let a = election_of edit (lent_proposals (halves edits rivals) (halves constraints rival_constraints)) equal_seats in
     record { number = a.number; won = cond a.won 1 0; greatest = a.greatest; silent = a.silent; total = a.total }
+
+-- how many bytes the line of a reason has, or the number of its refusal
+unfoldable pub explained_of : ℕ → Rows → Rows → List ℕ → Explained
+explained_of edit edits constraints out =
+    let n = explained_fault edits constraints edit 0 out in
+    cond (eqb n 0) (record { number = 0; size = length (explained edits constraints edit) }) (record { number = n; size = 0 })

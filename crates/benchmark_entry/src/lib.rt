@@ -1,4 +1,4 @@
-// What the benchmark calls (benchmark/): a judgement, a schedule, a merge and an election on lent tables, as numbers.
+// What the benchmark calls (benchmark/): a judgement, a schedule, a merge, an election and a reason on lent tables, as numbers; of a reason its line too.
 // Kept: `constraints`, `edits`: the two tables of a record apart, as C lends them to the symbols of `benchmark_entry_c`, which are these functions under
 // the same clauses.
 // Kept: an answer is made by a match in the one function that gives it. A `From` for each would be four impls, each with a clause, called once;
@@ -6,7 +6,8 @@
 #![tactic(auto)]
 
 ghost use Rattle.std.specs.Prelude.{◌≡◌};
-ghost use Rattle.benchmark_entry.specs.Measured.{judged_numbers, judgement_numbers, scheduled_of, merged_of, elected_of};
+ghost use Rattle.benchmark_entry.specs.Measured.{judged_numbers, judgement_numbers, scheduled_of, merged_of, elected_of, explained_of};
+ghost use Rattle.text_reasons.specs.ReasonLine.{explained_out};
 
 use graph::links::{MARKS, Marks};
 use judgement::lent_record;
@@ -56,6 +57,15 @@ pub struct Elected {
     pub greatest: u32,
     pub silent: u32,
     pub total: u32,
+}
+
+// How many bytes of a line were written.
+// Kept: a number beside the values, which C reads.
+#[repr(C)]
+#[derive(Clone, Copy)]
+pub struct Explained {
+    pub number: u32,
+    pub size: usize,
 }
 
 pub fn measure_judgement(edits: &[EditRow], constraints: &[ConstraintRow]) -> Judged
@@ -208,6 +218,25 @@ pub fn measure_election<'a>(
             greatest: 0,
             silent: 0,
             total: 0,
+        },
+    }
+}
+
+// The line that tells why an edit must stand, or can never stand, at the start of out.
+pub fn measure_reason(
+    edit: u32,
+    edits: &[EditRow],
+    constraints: &[ConstraintRow],
+    out: &mut [u8],
+) -> Explained
+    ensures answer { result ≡ explained_of edit edits.now constraints.now out.old }
+    ensures bytes { out.new ≡ explained_out edits.now constraints.now edit 0 out.old }
+{
+    match text_reasons::explain(LentRecord { edits, constraints }, edit, out, 0) {
+        Ok(size) => Explained { number: 0, size },
+        Err(refusal) => Explained {
+            number: refusal.number(),
+            size: 0,
         },
     }
 }

@@ -2,9 +2,10 @@
 #![tactic(auto)]
 
 ghost use Rattle.std.specs.Prelude.{◌≡◌};
-ghost use Rattle.benchmark_entry.specs.Measured.{judged_numbers, scheduled_of, merged_of, elected_of};
+ghost use Rattle.benchmark_entry.specs.Measured.{judged_numbers, scheduled_of, merged_of, elected_of, explained_of};
+ghost use Rattle.text_reasons.specs.ReasonLine.{explained_out};
 
-use benchmark_entry::{Elected, Judged, Merged, Scheduled};
+use benchmark_entry::{Elected, Explained, Judged, Merged, Scheduled};
 use record_rows::row::{ConstraintRow, EditRow};
 
 // Kept: `constraints`, `edits`: C lends the two tables of a record apart.
@@ -46,4 +47,17 @@ pub extern "C" fn measure_election<'a>(
     ensures { result ≡ elected_of edit edits.now constraints.now rivals.now rival_constraints.now }
 {
     benchmark_entry::measure_election(edit, edits, constraints, rivals, rival_constraints)
+}
+
+#[unsafe(no_mangle)]
+pub extern "C" fn measure_reason(
+    edit: u32,
+    edits: &[EditRow],
+    constraints: &[ConstraintRow],
+    out: &mut [u8],
+) -> Explained
+    ensures answer { result ≡ explained_of edit edits.now constraints.now out.old }
+    ensures bytes { out.new ≡ explained_out edits.now constraints.now edit 0 out.old }
+{
+    benchmark_entry::measure_reason(edit, edits, constraints, out)
 }

@@ -1,10 +1,15 @@
 -- What the library answers to programs in other languages. Assumes nothing.
-use Rattle.std.specs.Prelude.{Bool, ◌&&◌, cond, List, ◌++◌, ℕ, leb, length, drop, Result, Ok, Err}
+use Rattle.std.specs.Prelude.{Bool, ◌&&◌, cond, List, ◌++◌, ℕ, eqb, leb, length, drop, Result, Ok, Err}
+use Rattle.record.specs.Record.{Record}
+use Rattle.record_rows.specs.grounds.Ground.{◌orelse◌}
+use Rattle.judgement.specs.lent_edit.Asked.{named_fault}
+use Rattle.reasons.specs.Given.{reason_of}
 use Rattle.text_lines.specs.Lines.{lines}
 use Rattle.text.specs.Text.{joined_lines, Answer, Accepted, Refused, text_of}
 use Rattle.text_writer.specs.Placed.{placed, placing}
 use Rattle.text_reader.specs.declared.Fault.{Fault}
 use Rattle.text_report.specs.Report.{report_of}
+use Rattle.text_reasons.specs.ReasonLine.{line_if_given, given_fault}
 use Rattle.log_forms.specs.Printed.{Texts, Buffer, with_texts}
 use Rattle.log_run.specs.Log.{log_run, begun, run_lines}
 use Rattle.refusals.specs.declared.Refusal.{Refusal}
@@ -45,6 +50,24 @@ rewritten_reply (Refused number line) out = record { number = number; line = lin
 abbrev pub rewritten_out : Answer → List ℕ → List ℕ
 rewritten_out (Accepted R) out = placed (text_of R) 0 out
 rewritten_out (Refused number line) out = out
+
+-- the line of the reason for an edit of a text's record, where there is one
+abbrev pub why_line : Record → ℕ → List ℕ
+why_line R edit = line_if_given edit (reason_of R edit)
+
+-- what is asked of the edit, at no line of the text: 2 and 5, and then 12, the line does not fit at the start of the output, and 15
+unfoldable pub why_number : Record → ℕ → List ℕ → ℕ
+why_number R edit out = named_fault R edit orelse given_fault edit (reason_of R edit) 0 out
+
+-- the line at the start of the output, or the number of what is asked; or the text's number and line
+abbrev pub why_reply : Answer → ℕ → List ℕ → Reply
+why_reply (Accepted R) edit out =
+    let n = why_number R edit out in record { number = n; line = 0; size = cond (eqb n 0) (length (why_line R edit)) 0 }
+why_reply (Refused number line) edit out = record { number = number; line = line; size = 0 }
+
+abbrev pub why_out : Answer → ℕ → List ℕ → List ℕ
+why_out (Accepted R) edit out = cond (eqb (why_number R edit out) 0) (placed (why_line R edit) 0 out) out
+why_out (Refused number line) edit out = out
 
 -- the answers to a log; and to the lines that follow a log that was kept
 abbrev pub answers_to : List ℕ → List ℕ

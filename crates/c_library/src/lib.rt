@@ -7,9 +7,10 @@ ghost use Rattle.text.specs.Text.{read_text};
 ghost use Rattle.text_report.specs.Report.{reported_out};
 ghost use Rattle.unity_table.specs.Unity.{weights_of, unity_of, answer_told};
 ghost use Rattle.log_run.specs.Log.{most_lines};
-ghost use Rattle.c_library.specs.Replies.{placed_reply, told_reply, unity_reply, reported_reply, checked_reply, rewritten_reply, rewritten_out, answers_to, answers_after, answered_reply, answered_out, worked};
+ghost use Rattle.c_library.specs.Replies.{placed_reply, told_reply, unity_reply, reported_reply, checked_reply, rewritten_reply, rewritten_out, why_reply, why_out, answers_to, answers_after, answered_reply, answered_out, worked};
 
 use fraction::Fraction;
+use judgement::lent_edit;
 use log_forms::Printer;
 use log_session::Session;
 use refusals::Refusal;
@@ -134,6 +135,26 @@ pub fn catalogue_rewrite(text: &[u8], out: &mut [u8]) -> Reply
         × (out.new ≡ rewritten_out (read_text text.now) out.old) }
 {
     Reply::from(rewrite(text, out))
+}
+
+// Why an edit of a text's record must stand, or can never stand: its line at the start of out.
+fn explain_edit(text: &[u8], edit: u32, out: &mut [u8]) -> Result<usize, Fault>
+    ensures { (told_reply result ≡ why_reply (read_text text.now) edit out.old)
+        × (out.new ≡ why_out (read_text text.now) edit out.old) }
+{
+    let content = text_reader::read_text(text)?;
+    let known = lent_edit::named_edit(content, edit)?;
+    let given = reasons_lent::reason_known(known);
+    let size = text_reasons::write_given(edit, given, out, 0)?;
+    Ok(size)
+}
+
+// Why an edit of a text's record must stand, or can never stand: the line, at the start of out. Refused, out stays as it was.
+pub fn catalogue_why(text: &[u8], edit: u32, out: &mut [u8]) -> Reply
+    ensures { (result ≡ why_reply (read_text text.now) edit out.old)
+        × (out.new ≡ why_out (read_text text.now) edit out.old) }
+{
+    Reply::from(explain_edit(text, edit, out))
 }
 
 // A log that was kept, and the lines that follow it.

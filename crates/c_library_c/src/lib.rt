@@ -6,7 +6,7 @@ ghost use Rattle.text.specs.Text.{read_text};
 ghost use Rattle.text_report.specs.Report.{reported_out};
 ghost use Rattle.unity_table.specs.Unity.{weights_of, unity_of};
 ghost use Rattle.log_run.specs.Log.{most_lines};
-ghost use Rattle.c_library.specs.Replies.{unity_reply, reported_reply, checked_reply, rewritten_reply, rewritten_out, answers_to, answers_after, answered_reply, answered_out, worked};
+ghost use Rattle.c_library.specs.Replies.{unity_reply, reported_reply, checked_reply, rewritten_reply, rewritten_out, why_reply, why_out, answers_to, answers_after, answered_reply, answered_out, worked};
 
 use c_library::{Reply, Unity};
 use unity_table::ElectionRow;
@@ -32,6 +32,14 @@ pub extern "C" fn catalogue_rewrite(text: &[u8], out: &mut [u8]) -> Reply
         × (out.new ≡ rewritten_out (read_text text.now) out.old) }
 {
     c_library::catalogue_rewrite(text, out)
+}
+
+#[unsafe(no_mangle)]
+pub extern "C" fn catalogue_why(text: &[u8], edit: u32, out: &mut [u8]) -> Reply
+    ensures { (result ≡ why_reply (read_text text.now) edit out.old)
+        × (out.new ≡ why_out (read_text text.now) edit out.old) }
+{
+    c_library::catalogue_why(text, edit, out)
 }
 
 #[unsafe(no_mangle)]

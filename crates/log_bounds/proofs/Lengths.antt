@@ -16,7 +16,10 @@ use Rattle.lists.proofs.Logic.{all-has, has-mapped, filter-from}
 use Rattle.lists.proofs.Front.{filter-length}
 use Rattle.record.specs.declared.Edit.{Edit}
 use Rattle.record.specs.declared.Record as declared
+use Rattle.std.specs.Prelude as prelude
+use Rattle.std.specs.Prelude.{Some, None}
 use Rattle.record.specs.Record.{Record}
+use Rattle.record.proofs.Records.{written-names}
 use Rattle.record.specs.Stored.{padded, filler_edit, record_of, stored, edit_named}
 use Rattle.record.specs.Judgement.{must, never}
 use Rattle.record.proofs.Padded.{take-padded}
@@ -42,6 +45,10 @@ use Rattle.voting_roll.specs.Election.{Proposals, held, election_fault, cast, el
 use Rattle.voting_count.specs.Count.{count_of}
 use Rattle.voting_count.specs.Tallied.{Tallied, tallied_of}
 use Rattle.judgement.specs.lent_edit.Asked.{lent_edit_fault}
+use Rattle.reasons.specs.Reasons.{Reason}
+use Rattle.reasons.specs.Given.{reason_of}
+use Rattle.text_reasons.specs.ReasonLine.{reason_line, line_if_given}
+use Rattle.text_reasons.proofs.Size.{given-line-size}
 use Rattle.voting_bundles.specs.Bundles.{BundleAnswer, bundle_answer}
 use Rattle.voting_proposals.specs.Propose.{propose_fault, new_proposal}
 use Rattle.suggestions.specs.declared.Advice.{Advice}
@@ -64,9 +71,9 @@ use Rattle.log_commands.specs.declared.Lend.{Lend as Lends}
 use Rattle.log_commands.specs.declared.Proposing.{Proposing}
 use Rattle.log_commands.specs.declared.Suggesting.{Suggesting}
 use Rattle.log_commands.specs.declared.Vote.{Vote}
-use Rattle.log_commands.specs.declared.Vote.TheVariants.{Elect, Bundle, Suggest, Test, Winner, Tally}
-use Rattle.log_lent.specs.Lent.{is_lent}
-use Rattle.log_lent.specs.lent_calls.Calls.{proposals_of, bundle_in, lent_row_fault, row_sound, suggest_fault, suggestion_fault, suggested_rules_in}
+use Rattle.log_commands.specs.declared.Vote.TheVariants.{Elect, Bundle, Suggest, Test, Winner, Tally, Why}
+use Rattle.log_lent.specs.Lent.{Lent, is_lent}
+use Rattle.log_lent.specs.lent_calls.Calls.{proposals_of, bundle_in, lent_row_fault, row_sound, reason_in, why_fault, suggest_fault, suggestion_fault, suggested_rules_in}
 use Rattle.log_lent.specs.lent_proposals.Made.{tables_of, lent_proposal_fault, proposal_made}
 use Rattle.log_session.specs.Desk.{Desk, Request, outside, make, ledger_of, bench_in, requested, printed_of}
 use Rattle.log_bounds.specs.Bounded.{answer_limit, Bounded}
@@ -77,7 +84,7 @@ use Rattle.log_session.specs.questions.Questions.{ask_text}
 use Rattle.log_session.specs.votes.Votes.{election_line, bundle_text, suggestion_text, test_line, won_text, winner_text, tally_text, proposal_effect, vote_effect}
 use Rattle.log_session.proofs.Cases.{ledger-valid}
 use Rattle.log_session.proofs.calls.Telling.{lend-text}
-use Rattle.log_bounds.proofs.Numbers.{judge-small, propose-small, bundle-number-small, test-number-small, suggest-number-small, lend-number-small, SmallElection, counted-small, election-small, SmallTally, tally-small}
+use Rattle.log_bounds.proofs.Numbers.{judge-small, propose-small, bundle-number-small, test-number-small, why-number-small, why-asked, suggest-number-small, lend-number-small, SmallElection, counted-small, election-small, SmallTally, tally-small}
 use Rattle.log_bounds.proofs.Bounds.{RowFits, SeatFits, decoded-fits, ProposalsFit, held_fits, CallFits, RequestFits, CallLineFits, proposals-fit, request-fits, new-proposal-fits}
 use Rattle.log_session.proofs.votes.Making.{proposal-checked}
 use Rattle.voting_bundles.proofs.Judging.{bundle-checked}
@@ -306,6 +313,18 @@ tally-text-size : (t : Tallied) → SmallTally t → size_of (tally_text t.answe
 unfolding tally_text
 tally-text-size t s = omega (arith, s.few, from-size (λ i E. election_line E) 100 9 0 t.answers (omega (arith, s.few)) (λ i E h m. election-line-size E (s.each E m)))
 
+-- the line of a reason, where one is given
+why-text-size : (L : Lent) (k e : ℕ) → why_fault L k e ≡ 0 → size_of (line_if_given e (reason_in L k e) ∷ []) ≤ answer_limit
+unfolding reason_in
+why-text-size L k e z =
+    let R = decoded (L.edits k) (L.constraints k) in
+    let a = why-asked L k e z in
+    omega (arith, size-one (line_if_given e (reason_of R e)), given-size (reason_of R e) (given-line-size R a.checked a.sound-now e (written-names R e a.known)))
+  where
+    given-size : (o : prelude.Option Reason) → ((r : Reason) → o ≡ Some r → length (reason_line e r) ≤ 671) → length (line_if_given e o) ≤ 671
+    given-size (Some r) f = f r refl
+    given-size None f = omega arith
+
 -- what an election has won
 winner-small : (e : ℕ) (P : Proposals) (roll : List RollRow) → ProposalsFit P → election_fault e P roll ≡ 0 → (B : Record) → winner (cast e P roll) ≡ some B → SmallRecord B
 unfolding winner cast
@@ -382,6 +401,11 @@ module _ (D : Desk) (B : Bounded D) (line : ℕ) (l : line < 2 ^ 64) where
   test-size : (k : ℕ) → size_of (answered_text (lent_row_fault D.lent k) (test_line (row_sound D.lent k)) line) ≤ answer_limit
   test-size k = answer-size (lent_row_fault D.lent k) line (test_line (row_sound D.lent k)) (test-number-small D.lent k) l (λ z. tested-size (row_sound D.lent k))
 
+  why-size : (k edit : ℕ) → size_of (answered_text (why_fault D.lent k edit) (line_if_given edit (reason_in D.lent k edit) ∷ []) line) ≤ answer_limit
+  why-size k edit =
+      answered-size (why_fault D.lent k edit) line answer_limit (line_if_given edit (reason_in D.lent k edit) ∷ []) (omega (arith, why-number-small D.lent k edit)) l (omega arith)
+      (why-text-size D.lent k edit)
+
   -- A LINE ABOUT VOTES
   pub vote-size : (vote : Vote) → size_of (printed_of (vote_effect D vote) line) ≤ answer_limit
   unfolding vote_effect printed_of
@@ -394,6 +418,7 @@ module _ (D : Desk) (B : Bounded D) (line : ℕ) (l : line < 2 ^ 64) where
   vote-size (Test k) = test-size k
   vote-size (Winner edit) = winner-size line l edit (proposals_of D.lent) D.lent.roll (proposals-fit D B) B.weights
   vote-size (Tally edit) = tally-size line l (tallied_of edit (proposals_of D.lent) D.lent.roll) (tally-small edit (proposals_of D.lent) D.lent.roll B.weights)
+  vote-size (Why edit k) = why-size k edit
 
   -- A LINE THAT LENDS
   pub lend-size : (lend : Lends) → size_of (printed_of (lend_effect D lend) line) ≤ answer_limit

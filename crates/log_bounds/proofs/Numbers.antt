@@ -6,21 +6,24 @@ use mathlib.Core.List.{List, [], ◌∷◌}
 use mathlib.Core.Option.{Option, none, some}
 use Prim.Native.Nat.{ℕ, ◌*◌, ◌-◌, ◌≤◌, ◌<◌}
 use native.Mathlib.Omega.{arith}
-use borrow.Author.Tests.{eqb-true, eqb-false}
+use borrow.Author.Tests.{eqb-true, eqb-false, not-false}
 use lib.Dec.{eqb, leb, ltb}
 use lib.ListN.{length, get_or}
 use Rattle.std.specs.Prelude as prelude
-use Rattle.std.specs.Prelude.{Some, None}
-use Rattle.lists.specs.Lists.{any, all, mem, Has}
+use Rattle.std.specs.Prelude.{Some, None, is_none}
+use Rattle.lists.specs.Lists.{any, all, mem, Has, ◌among◌}
 use Rattle.lists.proofs.Lists.{by}
 use Rattle.lists.proofs.Logic.{has-mapped}
 use Rattle.record.specs.Record.{Record, written}
 use Rattle.record.specs.Judgement.{sound, must}
 use Rattle.record_rows.specs.row.Row.{Row, is_name, edit_in_range}
-use Rattle.record_rows.specs.grounds.Ground.{Rows, row_fault, first_fault}
+use Rattle.record_rows.specs.grounds.Ground.{Rows, row_fault, first_fault, ◌given◌, ◌orelse◌}
+use Rattle.record_rows.proofs.grounds.Grounds.{orelse-none, given-none}
 use Rattle.record_rows.proofs.grounds.Small.{orelse-small, given-small, first_small, row-fault-small, first-fault-small}
 use Rattle.record_tables.proofs.Further.{further-small}
-use Rattle.record_tables.specs.Table.{edit_rows, constraint_rows, decoded, empty_tables, edit_kind, constraint_kind, names_of, join_fault, record_join_fault, unite}
+use Rattle.record_tables.specs.Table.{edit_rows, constraint_rows, decoded, empty_tables, edit_kind, constraint_kind, names_of, lent_fault, join_fault, record_join_fault, unite}
+use Rattle.record_tables.specs.Checked.{Checked}
+use Rattle.record_tables.proofs.Records.{lent-checked}
 use Rattle.pages_turner.specs.Turn.{turned, turn_fault}
 use Rattle.voting.specs.declared.RollRow.{RollRow}
 use Rattle.voting.specs.Tally.{Election, ballots, total, is_silent, greatest, silent, counted, winner}
@@ -43,11 +46,11 @@ use Rattle.log_commands.specs.declared.Lend.{Lend}
 use Rattle.log_commands.specs.declared.Lend.TheVariants.{EditRow, ConstraintRow, NoRows, BenchRows, RollRow as SeatRow, NoRoll, RowName, NoRow}
 use Rattle.log_lent.specs.Lent.{Lent, is_lent, edit_places, constraint_places, row_places, rows_fault, seat_number, name_number}
 use Rattle.log_commands.specs.declared.Suggesting.{Suggesting}
-use Rattle.log_lent.specs.lent_calls.Calls.{lent_row_fault as tested_fault, suggest_fault, suggestion_fault}
+use Rattle.log_lent.specs.lent_calls.Calls.{lent_row_fault as tested_fault, reason_in, why_fault, suggest_fault, suggestion_fault}
 use Rattle.log_session.specs.Desk.{Desk}
 use Rattle.log_session.specs.Lends.{lend_effect}
 
--- the numbers of refusals are at most 14
+-- the numbers of refusals are at most 14, of reasons 15
 join-small : (R : Record) (names : List ℕ) (adding : Bool) (edits constraints : Rows) → join_fault R names adding edits constraints ≤ 14
 unfolding join_fault
 join-small R names adding edits constraints =
@@ -112,15 +115,47 @@ propose-small t =
     (first_small 14 11 (unkept (record_m t) (proposal_q t)) _ (omega arith)
     (given-small 14 12 (too_short (length t.new_edits) (length t.new_constraints) (proposed (record_m t) (proposal_q t))) (omega arith)))))
 
-pub bundle-number-small : (edits constraints : Rows) (e : ℕ) → (bundle_answer edits constraints e).number ≤ 14
-unfolding bundle_answer lent_edit_fault named_fault
-bundle-number-small edits constraints e =
-    let n = lent_edit_fault edits constraints e in
-    let s : n ≤ 14 = orelse-small 14 _ _ (join-small empty_tables (names_of edits) false edits constraints)
+edit-fault-small : (edits constraints : Rows) (e : ℕ) → lent_edit_fault edits constraints e ≤ 14
+unfolding lent_edit_fault named_fault
+edit-fault-small edits constraints e =
+    orelse-small 14 _ _ (join-small empty_tables (names_of edits) false edits constraints)
     (orelse-small 14 _ _
     (first_small 14 2 (not (is_name e)) _ (omega arith) (given-small 14 5 (not (mem e (written (decoded edits constraints)))) (omega arith)))
-    (given-small 14 8 (not (sound (decoded edits constraints))) (omega arith))) in
-    by (eqb n 0) (λ (q : eqb n 0 ≡ true). rw q (omega arith)) (λ (q : eqb n 0 ≡ false). rw q s)
+    (given-small 14 8 (not (sound (decoded edits constraints))) (omega arith)))
+
+pub bundle-number-small : (edits constraints : Rows) (e : ℕ) → (bundle_answer edits constraints e).number ≤ 14
+unfolding bundle_answer
+bundle-number-small edits constraints e =
+    let n = lent_edit_fault edits constraints e in
+    by (eqb n 0) (λ (q : eqb n 0 ≡ true). rw q (omega arith)) (λ (q : eqb n 0 ≡ false). rw q (edit-fault-small edits constraints e))
+
+pub why-number-small : (L : Lent) (k e : ℕ) → why_fault L k e ≤ 15
+unfolding why_fault
+why-number-small L k e =
+    first_small 15 2 (not (is_lent k)) _ (omega arith)
+    (orelse-small 15 (lent_edit_fault (L.edits k) (L.constraints k) e) _ (omega (arith, edit-fault-small (L.edits k) (L.constraints k) e)) (given-small 15 15 (is_none (reason_in L k e)) (omega arith)))
+
+-- a record without fault, and an edit that it knows
+pub record AskedOf (R : Record) (e : ℕ) : Type 0 where
+  pub checked : Checked R
+  pub sound-now : sound R ≡ true
+  pub known : e among written R
+
+pub why-asked : (L : Lent) (k e : ℕ) → why_fault L k e ≡ 0 → AskedOf (decoded (L.edits k) (L.constraints k)) e
+unfolding why_fault lent_edit_fault named_fault
+why-asked L k e z =
+    let R = decoded (L.edits k) (L.constraints k) in
+    let whole = 8 given not (sound R) in
+    let unknown = 5 given not (mem e (written R)) in
+    let f = orelse-none (lent_edit_fault (L.edits k) (L.constraints k) e) (15 given is_none (reason_in L k e)) (orelse-none (2 given not (is_lent k)) _ z).1 in
+    let p = orelse-none (lent_fault empty_tables (L.edits k) (L.constraints k)) (named_fault R e orelse whole) f.0 in
+    let q = orelse-none (named_fault R e) whole p.1 in
+    let n = orelse-none (2 given not (is_name e)) unknown q.0 in
+    record {
+      checked = lent-checked (L.edits k) (L.constraints k) p.0;
+      sound-now = not-false (sound R) (given-none 7 (not (sound R)) q.1);
+      known = not-false (mem e (written R)) (given-none 4 (not (mem e (written R))) n.1);
+    }
 
 tested-small : (edits constraints : Rows) → record_fault edits constraints ≤ 14
 unfolding record_fault

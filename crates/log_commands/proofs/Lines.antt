@@ -32,7 +32,7 @@ use Rattle.log_commands.specs.Grammar.{turn_forward, turn_back, command_forms, e
 use Rattle.log_commands.specs.Groups.{line_adds}
 use Rattle.log_commands.specs.declared.Lend.TheVariants.{EditRow}
 use Rattle.log_commands.specs.declared.Call.TheVariants.{AddEdit, AddConstraint, Merge, Hide, Show, Turn, Adopt}
-use Rattle.log_commands.specs.declared.Vote.TheVariants.{Winner, Tally}
+use Rattle.log_commands.specs.declared.Vote.TheVariants.{Winner, Tally, Why}
 use Rattle.log_commands.specs.declared.Command.{Command}
 use Rattle.log_commands.specs.declared.Command.TheVariants.{Lend, Call, Vote}
 use Rattle.log_commands.proofs.Exchanged.{line-added}
@@ -71,7 +71,7 @@ line_read_lem production m ns l k h =
     ∙ rw h
 
 -- the number of forms
-grammar-size : length grammar ≡ 46
+grammar-size : length grammar ≡ 47
 unfolding command_forms grammar shapes set_shapes rule_shapes
 grammar-size = refl
 
@@ -91,6 +91,10 @@ formed-has (first ∷ rest) production =
 one-fits : (n : ℕ) → n < 4294967296 → all fits_word (n ∷ []) ≡ true
 unfolding all
 one-fits n h = rw (lt-ltb n 4294967296 h)
+
+two-fit : (m n : ℕ) → m < 4294967296 → n < 4294967296 → all fits_word (m ∷ n ∷ []) ≡ true
+unfolding all
+two-fit m n a b = rw (lt-ltb m 4294967296 a, lt-ltb n 4294967296 b)
 
 -- a form with one number
 number_read : (production : Production (Result Command Refusal)) → formed grammar production.form ≡ some production → (n : ℕ) → 1 ≡ slots production.form → spelled production.form (n ∷ []) ≡ true
@@ -121,6 +125,12 @@ module _ (n : ℕ) (h : n < 4294967296) where
   pub tally-line : command_read (bytes "do=tally edit=" ++ (decimal n ++ bytes "\n")) ≡ Ok (Vote (Tally n))
   unfolding command_forms grammar formed starts_with bytes is_mark spelling number_spelling fill slots spelled
   tally-line = number_read ("do=tally edit=#" means (λ n. Ok (Vote (Tally (n 0))))) refl n refl refl h
+
+pub why-line : (m n : ℕ) → m < 4294967296 → n < 4294967296 → command_read (bytes "do=why edit=" ++ (decimal m ++ (bytes " lent=" ++ (decimal n ++ bytes "\n")))) ≡ Ok (Vote (Why m n))
+unfolding command_forms grammar formed starts_with bytes is_mark spelling number_spelling fill slots spelled
+why-line m n a b =
+    let production = "do=why edit=# lent=#" means (λ n. Ok (Vote (Why (n 0) (n 1)))) in
+    line_read_lem production (formed-has grammar production refl) (m ∷ n ∷ []) refl refl (two-fit m n a b)
 
 -- the number of pages of a turn is any i32
 pub turn-line : (n : ℕ) → n < 2147483648 → command_read (bytes "do=turn pages=" ++ (decimal n ++ bytes "\n")) ≡ Ok (Call (Turn (pos n)))

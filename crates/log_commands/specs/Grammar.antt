@@ -11,7 +11,7 @@ use Rattle.log_commands.specs.declared.EditCells.{EditCells}
 use Rattle.log_commands.specs.declared.ConstraintCells.{ConstraintCells}
 use Rattle.log_commands.specs.declared.Lend.TheVariants.{EditRow, ConstraintRow, NoRows, BenchRows, RollRow, NoRoll, RowName, NoRow}
 use Rattle.log_commands.specs.declared.Call.TheVariants.{AddEdit, AddConstraint, Merge, Hide, Show, Turn, Adopt}
-use Rattle.log_commands.specs.declared.Vote.TheVariants.{Elect, Bundle, Suggest, Test, Winner, Tally}
+use Rattle.log_commands.specs.declared.Vote.TheVariants.{Elect, Bundle, Suggest, Test, Winner, Tally, Why}
 use Rattle.log_commands.specs.declared.Ask.TheVariants.{Text, Report, Hidden, Schedule, Catalogue, Journal, Page}
 use Rattle.log_commands.specs.declared.Command.{Command}
 use Rattle.log_commands.specs.declared.Command.TheVariants.{Lend, Propose, Call, Vote, Ask}
@@ -46,7 +46,7 @@ command_forms =
     ∷ "do=turn pages=#" means (λ n. turn_forward (n 0))
     ∷ "do=turn pages=-#" means (λ n. turn_back (n 0))
     ∷ "do=adopt edit=#" means (λ n. Ok (Call (Adopt (n 0))))
-    -- votes, proposals, suggestions, tests
+    -- votes, proposals, suggestions, tests, reasons
     ∷ "do=elect edit=#" means (λ n. Ok (Vote (Elect (n 0))))
     ∷ "do=bundle edit=# lent=#" means (λ n. Ok (Vote (Bundle (n 0) (n 1))))
     ∷ "do=propose lent=# old=# edits=# rules=# keep=?"
@@ -55,6 +55,7 @@ command_forms =
     ∷ "do=test lent=#" means (λ n. Ok (Vote (Test (n 0))))
     ∷ "do=winner edit=#" means (λ n. Ok (Vote (Winner (n 0))))
     ∷ "do=tally edit=#" means (λ n. Ok (Vote (Tally (n 0))))
+    ∷ "do=why edit=# lent=#" means (λ n. Ok (Vote (Why (n 0) (n 1))))
     -- questions
     ∷ "ask=text" means (λ n. Ok (Ask Text))
     ∷ "ask=report" means (λ n. Ok (Ask Report))

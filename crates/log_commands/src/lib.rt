@@ -128,7 +128,7 @@ pub enum Call {
     Adopt(u32),
 }
 
-// Elections, bundles, suggestions and tests.
+// Elections, bundles, suggestions, tests and reasons.
 #[derive(Clone, Copy)]
 pub enum Vote {
     Elect(u32),
@@ -137,6 +137,7 @@ pub enum Vote {
     Test(u32),
     Winner(u32),
     Tally(u32),
+    Why(u32, u32),
 }
 
 // Questions.
@@ -248,6 +249,21 @@ fn read_show_or_suggest(bytes: &[u8]) -> Result<Command, Refusal>
     }
 }
 
+#[tactic(auto, using(crate::proofs::Arms::told_arms), unfolding(crate::proofs::Arms::computed))]
+fn read_winner_or_why(bytes: &[u8]) -> Result<Command, Refusal>
+    ensures { result ≡ read_starting "do=w" bytes.now }
+{
+    let letter = text_lines::byte_at(bytes, 4);
+    match letter {
+        b'i' => Ok(Command::Vote(Vote::Winner(read_number(b"do=winner edit=#\n", bytes)?))),
+        b'h' => {
+            let words = productions::read_words(b"do=why edit=# lent=#\n", bytes)?;
+            Ok(Command::Vote(Vote::Why(words[0], words[1])))
+        }
+        _ => Err(Refusal::NotInForm),
+    }
+}
+
 // Kept: a form of several numbers has an arm with `?`, here and below: read_words(..).map(|words| ..) was tried, and the clauses of each closure make
 // the proof longer.
 #[tactic(auto, using(crate::proofs::Arms::told_arms), unfolding(crate::proofs::Arms::computed))]
@@ -280,7 +296,7 @@ fn read_do(bytes: &[u8]) -> Result<Command, Refusal>
             };
             Ok(Command::Propose(proposing))
         }
-        b'w' => Ok(Command::Vote(Vote::Winner(read_number(b"do=winner edit=#\n", bytes)?))),
+        b'w' => read_winner_or_why(bytes),
         _ => Err(Refusal::NotInForm),
     }
 }

@@ -1,6 +1,6 @@
 // Calls whose records, roll and row are what the lines of a call log lend. Public for the crates of this workspace that run logs.
-ghost use Rattle.std.specs.Prelude.{◌≡◌, ◌<◌, IfOk, is_some};
-ghost use Rattle.refusals.specs.Numbers.{Gives};
+ghost use Rattle.std.specs.Prelude.{◌≡◌, ◌<◌, Some, IfOk, is_some};
+ghost use Rattle.refusals.specs.Numbers.{number_of, Gives};
 ghost use Rattle.record.specs.Record as theory;
 ghost use Rattle.record.specs.Stored.{stored};
 ghost use Rattle.record_tables.specs.Checked.{Checked};
@@ -9,18 +9,20 @@ ghost use Rattle.voting_roll.specs.Election.{election_of};
 ghost use Rattle.voting_bundles.specs.Bundles.{bundle_told};
 ghost use Rattle.voting_count.specs.Count.{count_of, count_told};
 ghost use Rattle.voting_count.specs.Tallied.{tallied_told, tallied_of};
+ghost use Rattle.reasons_lent.specs.Asked.{reason_told};
 ghost use Rattle.ledger.specs.Ledger.{Call};
 ghost use Rattle.ledger.specs.Bench.{Answers, told_outcome};
 ghost use Rattle.bench.specs.Changes.{refused_with};
 ghost use Rattle.log_lent.specs.Lent.{Lent, lent_records};
 ghost use Rattle.log_lent.specs.Kept.{Kept};
-ghost use Rattle.log_lent.specs.lent_calls.Calls.{proposals_of, bundle_in, lent_row_fault, row_sound, suggestion_fault, suggested_rules_in};
+ghost use Rattle.log_lent.specs.lent_calls.Calls.{proposals_of, bundle_in, lent_row_fault, row_sound, why_fault, reason_in, suggestion_fault, suggested_rules_in};
 ghost use Rattle.log_lent.specs.lent_calls.Named.{row_known};
 
 use crate::Lending;
 use judgement::lent_record;
 use ledger::{Bench, CallResult};
 use log_commands::Suggesting;
+use reasons_lent::Reason;
 use record::Record;
 use record_rows::element::Element;
 use record_rows::row;
@@ -80,6 +82,16 @@ pub fn test_lent(lending: &Lending, k: u32) -> Result<bool, Refusal>
 {
     let place = crate::record_place(k)?;
     lent_record::test_row(lending.record(place), lending.row.as_slice())
+}
+
+// Why an edit of record k must stand, or can never stand.
+pub fn why_lent(lending: &Lending, k: u32, edit: u32) -> Result<Reason, Refusal>
+    ensures fault { (L : Lent) → Kept L lending.now → number_of result ≡ why_fault L k edit }
+    ensures reason { (L : Lent) → Kept L lending.now → IfOk result (λ r. Some (reason_told r) ≡ reason_in L k edit) }
+{
+    let place = crate::record_place(k)?;
+    let reason = reasons_lent::reason_lent(lending.record(place), edit)?;
+    reason.ok_or(Refusal::NoReason)
 }
 
 // The eight proposals and the roll are what is lent, and the won bundle joins the bench's record.

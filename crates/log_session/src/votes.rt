@@ -1,11 +1,13 @@
-// The lines of a call log about votes, proposals, suggestions and the test of a row: what each prints.
-ghost use Rattle.std.specs.Prelude.{◌≡◌, List, map, Ok, is_some};
+// The lines of a call log about votes, proposals, suggestions, the test of a row and reasons: what each prints.
+ghost use Rattle.std.specs.Prelude.{◌≡◌, List, [], ◌∷◌, map, Ok, is_some};
 ghost use Rattle.refusals.specs.Numbers.{number_of};
 ghost use Rattle.voting.specs.declared.RollRow.{RollRow};
 ghost use Rattle.voting.specs.Tally.{election_told};
 ghost use Rattle.voting_bundles.specs.Bundles.{bundle_told};
 ghost use Rattle.voting_roll.specs.Election.{Proposals};
 ghost use Rattle.voting_count.specs.Count.{count_of, count_told};
+ghost use Rattle.reasons_lent.specs.Asked.{reason_told};
+ghost use Rattle.text_reasons.specs.ReasonLine.{reason_line};
 ghost use Rattle.log_forms.specs.Printed.{Printed};
 ghost use Rattle.log_lent.specs.Kept.{Kept};
 ghost use Rattle.log_session.specs.Desk.{Desk, bench_in, printed_of, accepted_text};
@@ -15,6 +17,7 @@ use crate::{Session, winners};
 use log_commands::{Proposing, Vote};
 use log_forms::Printer;
 use log_lent::{lent_calls, lent_proposals};
+use reasons_lent::Reason;
 use record_rows::row::ConstraintRow;
 use refusals::Refusal;
 use suggestions::Suggested;
@@ -105,6 +108,15 @@ fn print_tally(printer: &mut Printer<'_>, answers: &[ElectionResult])
     }
 }
 
+// Why an edit must stand, or can never stand.
+// Kept: two lines over a writer of its own, as `log_answers::print_text`.
+fn print_reason(printer: &mut Printer<'_>, edit: u32, reason: &Reason)
+    ensures { Printed (reason_line edit (reason_told reason.now) ∷ []) printer.old printer.new }
+{
+    let end = text_reasons::write_reason(edit, reason, printer.out, printer.at);
+    printer.place_at(end);
+}
+
 // Prints what an accepted line about votes answers.
 fn answer_vote(printer: &mut Printer<'_>, session: &Session, vote: Vote) -> Result<(), Refusal>
     ensures { (D : Desk) → Kept D.lent session.now.lending → session.now.bench.multilog ≡ (bench_in D).multilog
@@ -124,6 +136,7 @@ fn answer_vote(printer: &mut Printer<'_>, session: &Session, vote: Vote) -> Resu
             printer,
             lent_calls::tally_lent(lending, edit)?.as_slice(),
         ),
+        Vote::Why(edit, k) => print_reason(printer, edit, &lent_calls::why_lent(lending, k, edit)?),
     }
     Ok(())
 }

@@ -63,13 +63,3 @@ returns-in_err-words-in-112 c =
 pub returns-in_ok-words-in-112 : goal.returns-in_ok-words-in-112
 unfolding computed
 returns-in_ok-words-in-112 c = by_letter c.args.bytes.now c.in_ok-words-in-112.ensures (sym c.byte_at-letter.ensures ∙ c.in-112.is) refl refl
-
-pub returns-in_err-read_number-in-119 : goal.returns-in_err-read_number-in-119
-unfolding computed
-returns-in_err-read_number-in-119 c =
-    let p = err_from_is_err_and c.from_residual-in_err-read_number-in-119.result c.from_residual-in_err-read_number-in-119.ensures.1 in
-    rw (p.1, p.2) (number_by_letter c.args.bytes.now c.in_err-read_number-in-119.ensures (sym c.byte_at-letter.ensures ∙ c.in-119.is) refl refl refl)
-
-pub returns-in_ok-read_number-in-119 : goal.returns-in_ok-read_number-in-119
-unfolding computed
-returns-in_ok-read_number-in-119 c = number_by_letter c.args.bytes.now c.in_ok-read_number-in-119.ensures (sym c.byte_at-letter.ensures ∙ c.in-119.is) refl refl refl

@@ -1,12 +1,12 @@
 -- Calls with what is lent, where it is kept. Assumes nothing.
-use mathlib.Core.Path.{◌≡◌, refl, ap, ◌∙◌}
+use mathlib.Core.Path.{◌≡◌, refl, sym, ap, ◌∙◌}
 use mathlib.Core.Bool.{Bool, true, false}
 use mathlib.Core.List.{List, [], ◌∷◌, map}
 use Prim.Native.Nat.{ℕ, ◌+◌, ◌≤◌, ◌<◌}
 use native.Mathlib.Omega.{arith}
-use lib.Dec.{ltb}
+use lib.Dec.{eqb, ltb}
 use lib.ListN.{length, get_or, take, length-map}
-use borrow.Author.Tests.{lt-ltb, le-ltb}
+use borrow.Author.Tests.{lt-ltb, le-ltb, ne_eqb}
 use Rattle.std.proofs.lemmas.List.{get_or-map}
 use Rattle.std.proofs.lemmas.List.FromFn.{fill_by_all}
 use Rattle.record_rows.specs.declared.row.LentRecord.{LentRecord}
@@ -18,21 +18,27 @@ use Rattle.voting_count.specs.Count.{lent, Count, count_of}
 use Rattle.voting_count.specs.Tallied.{Tallied, tallied_of}
 use Rattle.voting_bundles.specs.declared.Bundled.{Bundled}
 use Rattle.voting_bundles.specs.Bundles.{BundleAnswer, bundle_told, bundle_answer}
-use Rattle.std.specs.Prelude.{Result, Ok, Err, IsErr, IsErrAnd}
+use Rattle.std.specs.Prelude.{Option, Some, None, option_map, ok_or, Result, Ok, Err, IfOk, IsErr, IsErrAnd}
 use Rattle.std.proofs.lemmas.Result.{err_from_is_err_and}
 use Rattle.lists.proofs.Lists.{clash}
 use Rattle.refusals.specs.declared.Refusal.{Refusal}
+use Rattle.refusals.specs.declared.Refusal.TheVariants.{NoReason}
 use Rattle.refusals.specs.Numbers.{number, number_of, Gives}
+use Rattle.refusals.proofs.Numbers.{number-positive}
 use Rattle.record.specs.Judgement.{sound_row}
 use Rattle.record_tables.specs.Table.{decoded}
 use Rattle.judgement.specs.lent_record.Lent.{record_fault}
+use Rattle.judgement.specs.lent_edit.Asked.{lent_edit_fault}
+use Rattle.reasons.specs.Given.{reason_of}
+use Rattle.reasons_lent.specs.declared.Reason.{Reason as Given}
+use Rattle.reasons_lent.specs.Asked.{reason_told}
 use Rattle.ledger.specs.declared.Bench.{Bench}
 use Rattle.ledger.specs.declared.CallResult.{CallResult}
 use Rattle.ledger.specs.Ledger.{merge, adopt}
 use Rattle.ledger.specs.Bench.{Outcome, Answers, told_outcome}
 use Rattle.bench.specs.Changes.{refused_with}
 use Rattle.log_lent.specs.Lent.{Lent, roll_places}
-use Rattle.log_lent.specs.lent_calls.Calls.{proposals_of, bundle_in, lent_row_fault, row_sound}
+use Rattle.log_lent.specs.lent_calls.Calls.{proposals_of, bundle_in, lent_row_fault, row_sound, reason_in, why_fault}
 use Rattle.log_lent.proofs.lent_calls.FirstRows.{first_counted, first-tallied, first-adopted}
 
 -- an answer that is handed on as it was refused
@@ -91,3 +97,32 @@ module _ (L : Lent) where
         → Gives (lent_row_fault L k) (row_sound L k) r
     unfolding lent_row_fault row_sound
     row-given r h q e f g = let d : ltb k 9 ≡ true = lt-ltb k 9 h in rw d (rw (e, f, g) at q)
+
+    -- why an edit of record k must stand, or can never stand
+    module _ (e : ℕ) where
+      pub why-elsewhere : 9 ≤ k → 2 ≡ why_fault L k e
+      unfolding why_fault
+      why-elsewhere h = let d : ltb k 9 ≡ false = le-ltb k 9 h in rw d refl
+
+      module _ {E C : Rows} (h : k < 9) (p : E ≡ L.edits k) (q : C ≡ L.constraints k) where
+        here : ltb k 9 ≡ true
+        here = lt-ltb k 9 h
+
+        pub why-refused : (r : Refusal) → number r ≡ lent_edit_fault E C e → number r ≡ why_fault L k e
+        unfolding why_fault
+        why-refused r f =
+            let g = rw (p, q) at f in
+            let z : eqb (lent_edit_fault (L.edits k) (L.constraints k) e) 0 ≡ false = ne_eqb (lent_edit_fault (L.edits k) (L.constraints k) e) 0 (λ y. number-positive r (g ∙ y)) in
+            rw (here, z) g
+
+        pub why-given : (found : Option Given) (r : Result Given Refusal) → 0 ≡ lent_edit_fault E C e → option_map reason_told found ≡ reason_of (decoded E C) e → r ≡ ok_or found NoReason
+            → (number_of r ≡ why_fault L k e) × IfOk r (λ x. Some (reason_told x) ≡ reason_in L k e)
+        unfolding why_fault reason_in
+        why-given None r f o g =
+            let z = rw (p, q) at f in
+            let n : reason_of (decoded (L.edits k) (L.constraints k)) e ≡ None = sym (rw (p, q) at o) in
+            rw (g, here, sym z, n) (refl, tt)
+        why-given (Some x) r f o g =
+            let z = rw (p, q) at f in
+            let n : reason_of (decoded (L.edits k) (L.constraints k)) e ≡ Some (reason_told x) = sym (rw (p, q) at o) in
+            rw (g, here, sym z, n) (refl, refl)

@@ -1,5 +1,5 @@
 -- Calls whose records, roll and row are what the lines of a call log lend. Assumes nothing.
-use Rattle.std.specs.Prelude.{Bool, not, ◌&&◌, cond, map, ℕ, ltb}
+use Rattle.std.specs.Prelude.{Bool, not, ◌&&◌, cond, map, ℕ, ltb, Option, is_none}
 use Rattle.lists.specs.Lists.{mem}
 use Rattle.record.specs.Record.{Record, written}
 use Rattle.record.specs.Stored.{edit_named}
@@ -11,6 +11,9 @@ use Rattle.voting_bundles.specs.Bundles.{BundleAnswer, bundle_answer, refused_bu
 use Rattle.record.specs.Judgement.{sound_row}
 use Rattle.record_tables.specs.Table.{decoded}
 use Rattle.judgement.specs.lent_record.Lent.{record_fault}
+use Rattle.judgement.specs.lent_edit.Asked.{lent_edit_fault}
+use Rattle.reasons.specs.Reasons.{Reason}
+use Rattle.reasons.specs.Given.{reason_of}
 use Rattle.suggestions.specs.declared.Suggested.{Suggested}
 use Rattle.suggestions.specs.Suggest.{pair_fault, suggested_rules}
 use Rattle.log_commands.specs.declared.Suggesting.{Suggesting}
@@ -30,6 +33,13 @@ lent_row_fault L k = cond (is_lent k) (record_fault (L.edits k) (L.constraints k
 
 unfoldable pub row_sound : Lent → ℕ → Bool
 row_sound L k = sound_row (decoded (L.edits k) (L.constraints k)) L.row
+
+-- why an edit of record k must stand, or can never stand, where it is one of these: the number of the refusal, and the reason
+unfoldable pub reason_in : Lent → ℕ → ℕ → Option Reason
+reason_in L k e = reason_of (decoded (L.edits k) (L.constraints k)) e
+
+unfoldable pub why_fault : Lent → ℕ → ℕ → ℕ
+why_fault L k e = 2 given not (is_lent k) orelse lent_edit_fault (L.edits k) (L.constraints k) e orelse 15 given is_none (reason_in L k e)
 
 -- what two edits of a record suggest; case 0: the second after the first by one author, 1: concurrent
 unfoldable pub suggest_fault : Record → Suggesting → ℕ

@@ -1,4 +1,4 @@
--- The lines of a call log about votes, proposals, suggestions and the test of a row, each with its effect. Assumes nothing.
+-- The lines of a call log about votes, proposals, suggestions, the test of a row and reasons, each with its effect. Assumes nothing.
 use Rattle.std.specs.Prelude.{Bool, cond, ◌&&◌, List, [], ◌∷◌, ◌++◌, map, ℕ, eqb, length}
 use Rattle.record.specs.declared.Record as declared
 use Rattle.record.specs.Stored.{stored, record_of}
@@ -12,13 +12,14 @@ use Rattle.voting_bundles.specs.Bundles.{BundleAnswer}
 use Rattle.suggestions.specs.declared.Suggested.{Suggested}
 use Rattle.suggestions.specs.Suggest.{rules_of}
 use Rattle.text_lines.specs.Line.{constraint_line}
+use Rattle.text_reasons.specs.ReasonLine.{line_if_given}
 use Rattle.log_forms.specs.Printed.{Texts, texts_from}
 use Rattle.log_answers.specs.Answers.{answer_line, bit, stored_text, record_text}
 use Rattle.log_commands.specs.declared.Proposing.{Proposing}
 use Rattle.log_commands.specs.declared.Vote.{Vote}
-use Rattle.log_commands.specs.declared.Vote.TheVariants.{Elect, Bundle, Suggest, Test, Winner, Tally}
+use Rattle.log_commands.specs.declared.Vote.TheVariants.{Elect, Bundle, Suggest, Test, Winner, Tally, Why}
 use Rattle.log_lent.specs.Lent.{with_record}
-use Rattle.log_lent.specs.lent_calls.Calls.{proposals_of, bundle_in, lent_row_fault, row_sound, suggestion_fault, suggested_rules_in}
+use Rattle.log_lent.specs.lent_calls.Calls.{proposals_of, bundle_in, lent_row_fault, row_sound, reason_in, why_fault, suggestion_fault, suggested_rules_in}
 use Rattle.log_lent.specs.lent_proposals.Made.{lent_proposal_fault, proposal_made}
 use Rattle.log_session.specs.Desk.{Desk, Effect, ledger_of, tells}
 
@@ -75,3 +76,4 @@ vote_effect D (Suggest w) =
 vote_effect D (Test k) = tells D (lent_row_fault D.lent k) (test_line (row_sound D.lent k))
 vote_effect D (Winner edit) = let c = count_of edit (proposals_of D.lent) D.lent.roll in tells D c.election.number (winner_text edit c)
 vote_effect D (Tally edit) = let t = tallied_of edit (proposals_of D.lent) D.lent.roll in tells D t.number (tally_text t.answers)
+vote_effect D (Why edit k) = tells D (why_fault D.lent k edit) (line_if_given edit (reason_in D.lent k edit) ∷ [])

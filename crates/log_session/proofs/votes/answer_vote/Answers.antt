@@ -1,9 +1,13 @@
 -- `votes::answer_vote` meets its contract. Assumes nothing.
 use mathlib.Core.Path.{ap}
+use mathlib.Core.List.{[], ◌∷◌}
+use Rattle.std.specs.Prelude.{Option}
+use Rattle.reasons.specs.Reasons.{Reason}
 use Rattle.voting.specs.Tally.{Election}
 use Rattle.voting_count.specs.Count.{Count}
 use Rattle.voting_count.specs.Tallied.{Tallied}
 use Rattle.voting_bundles.specs.Bundles.{BundleAnswer}
+use Rattle.text_reasons.specs.ReasonLine.{line_if_given}
 use Rattle.log_session.specs.votes.Votes.{election_line, bundle_text, suggestion_text, test_line, winner_text, tally_text, vote_effect}
 use Rattle.log_session.proofs.Cases.{multilog-stored, ledger-valid}
 use Rattle.log_session.proofs.votes.Voting.{vote-accepted, vote-refused}
@@ -97,3 +101,17 @@ returns-in_ok-tally_lent-in-Tally c =
     λ D K m.
     let e = c.in_ok-tally_lent-in-Tally.ensures D.lent K in
     vote-accepted D c.in-Tally.is (ap (λ (t : Tallied). t.number) e) (ap (λ (t : Tallied). tally_text t.answers) e) (rw c.as_slice.ensures.value at c.print_tally.ensures)
+
+pub returns-in_err-why_lent-in-Why : goal.returns-in_err-why_lent-in-Why
+unfolding vote_effect
+returns-in_err-why_lent-in-Why c =
+    λ D K m.
+    let r = c.from_residual-in_err-why_lent-in-Why in
+    vote-refused D c.in-Why.is r.result _ c.args.printer.now r.ensures (c.in_err-why_lent-in-Why.ensures.fault D.lent K)
+
+pub returns-in_ok-why_lent-in-Why : goal.returns-in_ok-why_lent-in-Why
+unfolding vote_effect
+returns-in_ok-why_lent-in-Why c =
+    λ D K m.
+    let e = c.in_ok-why_lent-in-Why.ensures in
+    vote-accepted D c.in-Why.is (e.fault D.lent K) (ap (λ (o : Option Reason). line_if_given c.in-Why.edit o ∷ []) (e.reason D.lent K)) c.print_reason.ensures
