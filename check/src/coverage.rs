@@ -1,5 +1,6 @@
 //! What occurred in the logs and texts, and what must have occurred.
 
+mod reasons;
 mod tallies;
 
 use crate::log::{self, Kind};
@@ -26,8 +27,9 @@ pub struct Parts {
 
 /// How often each kind of line had each outcome. An outcome is `accepted`, the
 /// answer's first word where answers differ in that, what becomes of the edit of a
-/// won election, the counts of a full record, or `refused=N`. An accepted tally is also
-/// counted by what the rows of its roll do.
+/// won election, whether a reason is one of must or of never, the counts of a full
+/// record, or `refused=N`. An accepted tally is also counted by what the rows of its roll
+/// do, a reason by its chain and ring.
 #[derive(Default)]
 pub struct Coverage {
     counts: BTreeMap<(&'static str, String), u64>,
@@ -42,11 +44,15 @@ impl Coverage {
         let result = match outcome.refused {
             None if tells_by_first_word(outcome.kind) => first_word(answer),
             None if outcome.kind == Some(Kind::Winner) => verdict(answer),
+            None if outcome.kind == Some(Kind::Why) => second_word(answer),
             refused => result(refused, answer),
         };
         self.add(line, result);
         if outcome.kind == Some(Kind::Tally) {
             tallies::names(answer).into_iter().for_each(|name| self.add(line, name.to_string()));
+        }
+        if outcome.kind == Some(Kind::Why) {
+            reasons::names(answer).into_iter().for_each(|name| self.add(line, name.to_string()));
         }
         self.lines += 1;
     }
@@ -142,7 +148,15 @@ fn tells_by_first_word(kind: Option<Kind>) -> bool {
 }
 
 fn first_word(answer: &[u8]) -> String {
-    let word = answer.split(|byte| byte.is_ascii_whitespace()).next().unwrap_or_default();
+    word(answer, 0)
+}
+
+fn second_word(answer: &[u8]) -> String {
+    word(answer, 1)
+}
+
+fn word(answer: &[u8], place: usize) -> String {
+    let word = answer.split(|byte| byte.is_ascii_whitespace()).nth(place).unwrap_or_default();
     String::from_utf8_lossy(word).into_owned()
 }
 
@@ -163,7 +177,8 @@ fn wanted_of_logs() -> Vec<(&'static str, String)> {
         accepted.chain(refused).map(move |result| (form, result))
     });
     let tallies = tallies::CASES.map(|(name, _)| (form_of(Kind::Tally), name.to_string()));
-    lines.chain(tallies).chain([(NO_FORM, "refused=1".to_string())]).collect()
+    let reasons = reasons::CASES.map(|(name, _)| (form_of(Kind::Why), name.to_string()));
+    lines.chain(tallies).chain(reasons).chain([(NO_FORM, "refused=1".to_string())]).collect()
 }
 
 fn wanted_of_texts() -> Vec<(&'static str, String)> {
@@ -179,6 +194,7 @@ fn accepted_results(kind: Kind) -> &'static [&'static str] {
         Kind::Suggest => &["rules=0", "rules=1", "rules=2"],
         Kind::Test => &["sound=yes", "sound=no"],
         Kind::Winner => &["won=no", "must=yes never=no", "must=no never=yes"],
+        Kind::Why => &["why=must", "why=never"],
         Kind::AskReport => &["accepted", FULL],
         _ => &["accepted"],
     }
@@ -203,6 +219,7 @@ fn numbers(kind: Kind) -> &'static [u8] {
         Kind::Adopt => &[2, 3, 4, 5, 6, 8, 13, 14],
         Kind::Elect | Kind::Winner | Kind::Tally => &[2, 3, 5, 6, 8, 13, 14],
         Kind::Bundle | Kind::Test => &[2, 3, 5, 6, 8, 13],
+        Kind::Why => &[2, 3, 5, 6, 8, 13, 15],
         Kind::Propose => &[2, 3, 4, 5, 6, 8, 11, 12, 13],
         Kind::Suggest => &[2, 5],
         Kind::RollNone

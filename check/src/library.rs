@@ -23,6 +23,7 @@ pub trait Functions {
     fn check(&self, text: &[u8]) -> Reply;
     fn report(&self, text: &[u8], out: &mut [u8]) -> Reply;
     fn rewrite(&self, text: &[u8], out: &mut [u8]) -> Reply;
+    fn why(&self, text: &[u8], edit: u32, out: &mut [u8]) -> Reply;
     fn replay(&self, log: &[u8], work: &mut [u8], out: &mut [u8]) -> Reply;
     fn go_on(&self, kept: &[u8], log: &[u8], work: &mut [u8], out: &mut [u8]) -> Reply;
 }
@@ -43,6 +44,7 @@ mod archive {
         fn catalogue_check(text: &[u8]) -> Reply;
         fn catalogue_report(text: &[u8]; out: &mut [u8]) -> Reply;
         fn catalogue_rewrite(text: &[u8]; out: &mut [u8]) -> Reply;
+        fn catalogue_why(text: &[u8], [edit: u32]; out: &mut [u8]) -> Reply;
         fn catalogue_replay(log: &[u8]; work: &mut [u8], out: &mut [u8]) -> Reply;
         fn catalogue_continue(
             kept: &[u8], log: &[u8]; work: &mut [u8], out: &mut [u8]
@@ -62,6 +64,10 @@ mod archive {
 
         fn rewrite(&self, text: &[u8], out: &mut [u8]) -> Reply {
             catalogue_rewrite(text, out)
+        }
+
+        fn why(&self, text: &[u8], edit: u32, out: &mut [u8]) -> Reply {
+            catalogue_why(text, edit, out)
         }
 
         fn replay(&self, log: &[u8], work: &mut [u8], out: &mut [u8]) -> Reply {
@@ -109,6 +115,10 @@ impl Library {
 
     pub fn rewrite(&mut self, text: &[u8], out: usize) -> Vec<u8> {
         answer(&mut self.out, out, |out| self.functions.rewrite(text, out))
+    }
+
+    pub fn why(&mut self, text: &[u8], edit: u32, out: usize) -> Vec<u8> {
+        answer(&mut self.out, out, |out| self.functions.why(text, edit, out))
     }
 
     pub fn replay_within(&mut self, log: &[u8], work: usize, out: usize) -> Vec<u8> {

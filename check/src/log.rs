@@ -5,12 +5,12 @@ use crate::lent::{
     push_roll, push_within, record_number, LENT_CONSTRAINT_LIMIT, LENT_EDIT_LIMIT, ROW_LIMIT,
 };
 use crate::model::text::{
-    put, write_constraint, write_counts, write_report, write_text, yes_or_no,
+    put, write_constraint, write_counts, write_reason, write_report, write_text, yes_or_no,
 };
 use crate::model::{
-    election, is_eligible, is_sound_schedule, propose, suggest_named, tally, Bench, Bundles,
-    ConstraintRow, EditRow, Election, Entry, Ground, Pages, Record, RollRow, Room, Sound, Tables,
-    BENCHES,
+    election, is_eligible, is_sound_schedule, propose, reason, suggest_named, tally, Bench,
+    Bundles, ConstraintRow, EditRow, Election, Entry, Ground, Pages, Record, RollRow, Room, Sound,
+    Tables, BENCHES,
 };
 
 /// The forms of the log's lines.
@@ -45,6 +45,7 @@ pub enum Kind {
     Test,
     Winner,
     Tally,
+    Why,
     AskText,
     AskReport,
     AskHidden,
@@ -54,7 +55,7 @@ pub enum Kind {
     AskPage,
 }
 
-pub const FORMS: [(Kind, &str); 36] = [
+pub const FORMS: [(Kind, &str); 37] = [
     (Kind::LentEdit, "lent=# edit=# kind=# chip=# field=# value=#"),
     (Kind::LentConstraint, "lent=# left=# rule=# right=#"),
     (Kind::LentInsert, "lent=# edit=@ do=insert chip=#"),
@@ -84,6 +85,7 @@ pub const FORMS: [(Kind, &str); 36] = [
     (Kind::Test, "do=test lent=#"),
     (Kind::Winner, "do=winner edit=#"),
     (Kind::Tally, "do=tally edit=#"),
+    (Kind::Why, "do=why edit=# lent=#"),
     (Kind::AskText, "ask=text"),
     (Kind::AskReport, "ask=report"),
     (Kind::AskHidden, "ask=hidden"),
@@ -206,6 +208,7 @@ impl Session {
             Kind::Test => self.test(first, out),
             Kind::Winner => self.winner(first, out),
             Kind::Tally => self.tally(first, out),
+            Kind::Why => self.why(first, second, out),
             _ => {
                 self.answer(kind, out);
                 Ok(())
@@ -333,6 +336,14 @@ impl Session {
         Sound::new(&record)?;
         let sound = is_sound_schedule(&record, &self.row);
         put(out, format_args!("sound={}", yes_or_no(sound)));
+        Ok(())
+    }
+
+    fn why(&self, edit: u32, lent: u32, out: &mut Vec<u8>) -> Result<(), Ground> {
+        let record = Record::lent(&self.lent[record_number(lent)?])?;
+        let index = record.named(edit)?;
+        Sound::new(&record)?;
+        write_reason(edit, &reason(&record, index).ok_or(Ground::NoReason)?, out);
         Ok(())
     }
 
@@ -531,6 +542,39 @@ mod tests {
         for (roll, expected) in cases {
             assert_eq!(answers(&format!("{lent}{roll}do=tally edit=257\n")), expected, "{roll}");
         }
+    }
+
+    #[test]
+    fn why_is_asked_of_a_lent_record() {
+        let log = "lent=1 edit=257 do=insert chip=5\n\
+                   lent=1 edit=258 do=insert chip=5\n\
+                   lent=1 edit=259 do=insert chip=5\n\
+                   lent=1 left=257 rule=notafter right=258\n\
+                   lent=1 left=257 rule=enables right=259\n\
+                   lent=1 left=258 rule=notafter right=257\n\
+                   lent=1 left=258 rule=enables right=259\n\
+                   do=why edit=259 lent=1\n\
+                   do=why edit=257 lent=1\n\
+                   do=why edit=0 lent=1\n\
+                   do=why edit=260 lent=1\n\
+                   do=why edit=259 lent=9\n\
+                   lent=1 left=259 rule=enables right=0\n\
+                   do=why edit=257 lent=1\n\
+                   do=why edit=260 lent=1\n\
+                   lent=1 left=259 rule=enables right=0\n\
+                   do=why edit=260 lent=1\n";
+        let expected = "edit=259 why=never chain=259,257 ring=257,258\n\
+                        refused=15 line=9\nrefused=2 line=10\nrefused=5 line=11\n\
+                        refused=2 line=12\nrefused=8 line=14\nrefused=5 line=15\n\
+                        refused=13 line=17\n";
+        assert_eq!(answers(log), expected);
+        let decided = "edit=257 do=insert chip=5\n\
+                       lent=1 edit=257 do=insert chip=5\n\
+                       lent=1 left=257 rule=enables right=0\n\
+                       do=merge lent=1\n\
+                       lent=0 rows=bench\n\
+                       do=why edit=257 lent=0\n";
+        assert!(answers(decided).ends_with("edit=257 why=must chain=257,0\n"));
     }
 
     /// Lines of a tally are those of elections on rolls that have some of the rows.

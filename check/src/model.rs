@@ -7,6 +7,7 @@ mod catalogue;
 mod graph;
 mod ground;
 mod proposal;
+mod reason;
 mod record;
 mod sound;
 mod suggestion;
@@ -21,6 +22,7 @@ pub use bundle::{is_eligible, Bundles};
 pub use catalogue::{Catalogue, Entry};
 pub use ground::Ground;
 pub use proposal::{keeps, propose, Room};
+pub use reason::{reason, Reason};
 pub use record::{
     is_name, Body, Constraint, ConstraintRow, Deed, Edit, EditRow, Field, Joining, Record, Rule,
     Tables, CONSTRAINT_LIMIT, EDIT_LIMIT, INIT, PLACES,

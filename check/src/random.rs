@@ -1,6 +1,7 @@
 //! Random call logs and texts, the same for the same seed.
 
 pub(crate) mod damage;
+pub(crate) mod layered;
 mod logs;
 pub(crate) mod tables;
 mod texts;

@@ -1,11 +1,12 @@
 //! C functions that are handed slices.
 
 /// Makes safe functions of C functions that get some numbers, then slices that
-/// they read, then slices that they write to, each as its place and its size:
+/// they read, then maybe one more number, then slices that they write to, each
+/// slice as its place and its size:
 ///
 /// ```text
 /// functions_of_slices! {
-///     fn name[number: u32](read: &[u8]; written: &mut [u8]) -> Answer;
+///     fn name[number: u32](read: &[u8], [late: u32]; written: &mut [u8]) -> Answer;
 /// }
 /// ```
 ///
@@ -14,18 +15,21 @@
 macro_rules! functions_of_slices {
     ($(
         $visibility:vis fn $function:ident $([$($number:ident: $kind:ty),+])? (
-            $($read:ident: &[$row:ty]),+ $(; $($written:ident: &mut [$cell:ty]),+)?
+            $($read:ident: &[$row:ty]),+ $(, [$late:ident: $late_kind:ty])?
+            $(; $($written:ident: &mut [$cell:ty]),+)?
         ) -> $answer:ty;
     )+) => {$(
         $visibility fn $function(
             $($($number: $kind,)+)?
             $($read: &[$row],)+
+            $($late: $late_kind,)?
             $($($written: &mut [$cell],)+)?
         ) -> $answer {
             extern "C" {
                 fn $function(
                     $($($number: $kind,)+)?
                     $($read: *const $row, _: usize,)+
+                    $($late: $late_kind,)?
                     $($($written: *mut $cell, _: usize,)+)?
                 ) -> $answer;
             }
@@ -35,6 +39,7 @@ macro_rules! functions_of_slices {
                 $function(
                     $($($number,)+)?
                     $($read.as_ptr(), $read.len(),)+
+                    $($late,)?
                     $($($written.as_mut_ptr(), $written.len(),)+)?
                 )
             }

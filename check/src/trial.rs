@@ -40,12 +40,13 @@ impl Room {
 }
 
 /// A call and the room that it is lent. `Continue` runs the second half of a log on
-/// the bench that the first one made.
+/// the bench that the first one made; `Why` asks of an edit that the text itself tells.
 #[derive(Clone, Copy, PartialEq, Eq, PartialOrd, Ord, Debug)]
 pub enum Trial {
     Check,
     Report { out: Room },
     Rewrite { out: Room },
+    Why { out: Room },
     Replay { work: Room, out: Room },
     Continue { work: Room, out: Room },
 }
@@ -90,6 +91,7 @@ impl Trial {
             Trial::Rewrite { out: Room::Ample },
             Trial::Report { out: report },
             Trial::Rewrite { out: rewrite },
+            Trial::Why { out: report },
         ]
     }
 
@@ -117,7 +119,7 @@ impl Trial {
     fn rooms(self) -> Vec<Room> {
         match self {
             Trial::Check => vec![],
-            Trial::Report { out } | Trial::Rewrite { out } => vec![out],
+            Trial::Report { out } | Trial::Rewrite { out } | Trial::Why { out } => vec![out],
             Trial::Replay { work, out } | Trial::Continue { work, out } => vec![work, out],
         }
     }
@@ -145,6 +147,7 @@ impl Trial {
                 fault.map_or(Ok(report), Err)
             }
             Trial::Rewrite { .. } => rewritten(input),
+            Trial::Why { .. } => text::why(input, asked(input)),
             Trial::Replay { .. } => Ok(log::run(input)),
             Trial::Continue { .. } => {
                 let (kept, log) = halves(input);
@@ -158,6 +161,7 @@ impl Trial {
             Trial::Check => library.check(input),
             Trial::Report { out } => library.report(input, out.size(needed)),
             Trial::Rewrite { out } => library.rewrite(input, out.size(needed)),
+            Trial::Why { out } => library.why(input, asked(input), out.size(needed)),
             Trial::Replay { work, out } => {
                 library.replay_within(input, work.size(needed), out.size(needed))
             }
@@ -185,6 +189,19 @@ fn rewritten(text: &[u8]) -> Result<Vec<u8>, Fault> {
     Ok(written)
 }
 
+/// The edit that is asked of, by the text's size: one that its lines name, INIT or the
+/// last name there is.
+fn asked(text: &[u8]) -> u32 {
+    let number = |line: &[u8]| {
+        let rest = line.strip_prefix(b"edit=")?;
+        let digits = rest.iter().take_while(|byte| byte.is_ascii_digit()).count();
+        std::str::from_utf8(&rest[..digits]).ok()?.parse().ok()
+    };
+    let mut numbers: Vec<u32> = text.split(|&byte| byte == b'\n').filter_map(number).collect();
+    numbers.extend([0, 2303]);
+    numbers[text.len() % numbers.len()]
+}
+
 /// The log in two halves. One of even size is parted between two lines, another one
 /// at any byte, and then its first half may lack its end.
 pub(crate) fn halves(log: &[u8]) -> (&[u8], &[u8]) {
@@ -208,6 +225,7 @@ impl fmt::Display for Trial {
             Trial::Check => write!(output, "check"),
             Trial::Report { out } => write!(output, "report, out {}", out.word()),
             Trial::Rewrite { out } => write!(output, "rewrite, out {}", out.word()),
+            Trial::Why { out } => write!(output, "why, out {}", out.word()),
             Trial::Replay { work, out } => {
                 write!(output, "replay, work {}, out {}", work.word(), out.word())
             }
@@ -270,7 +288,7 @@ mod tests {
     #[test]
     fn each_two_rooms_are_tried() {
         let count = Room::ALL.len();
-        assert_eq!(Trial::all().len(), 2 + 2 * 2 * count + 2 * count * count);
+        assert_eq!(Trial::all().len(), 2 + 3 * 2 * count + 2 * count * count);
     }
 
     #[test]
@@ -280,6 +298,13 @@ mod tests {
         assert_eq!(halves(b"abcdef"), (&b""[..], &b"abcdef"[..]));
         assert_eq!(halves(b"a\nbc\nd\n"), (&b"a\nb"[..], &b"c\nd\n"[..]));
         assert_eq!(halves(b""), (&b""[..], &b""[..]));
+    }
+
+    #[test]
+    fn the_edit_that_is_asked_of_is_one_of_the_text() {
+        assert_eq!([b"".as_slice(), b"\n"].map(asked), [0, 2303]);
+        let line = |value| format!("edit=257 do=set chip=1 field=id value={value}\n");
+        assert_eq!([1, 10, 100].map(|value| asked(line(value).as_bytes())), [0, 2303, 257]);
     }
 
     /// Nothing is written, so no room is too short.

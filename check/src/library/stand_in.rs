@@ -2,7 +2,7 @@
 
 use super::{Functions, Reply};
 use crate::log;
-use crate::model::text::{place_into, Fault};
+use crate::model::text::{place_into, why, Fault};
 use crate::trial::{Room, Trial};
 
 #[derive(Clone, Copy, PartialEq, Eq, Debug)]
@@ -54,6 +54,10 @@ impl Functions for StandIn {
 
     fn rewrite(&self, text: &[u8], out: &mut [u8]) -> Reply {
         self.reply(Trial::Rewrite { out: Room::Ample }.model(text), out)
+    }
+
+    fn why(&self, text: &[u8], edit: u32, out: &mut [u8]) -> Reply {
+        self.reply(why(text, edit), out)
     }
 
     fn replay(&self, log: &[u8], work: &mut [u8], out: &mut [u8]) -> Reply {

@@ -32,10 +32,12 @@ pub enum Ground {
     Order = 13,
     /// 14: any fault of a roll.
     Roll = 14,
+    /// 15: the edit is neither must nor never.
+    NoReason = 15,
 }
 
 impl Ground {
-    pub const ALL: [Ground; 14] = [
+    pub const ALL: [Ground; 15] = [
         Ground::Form,
         Ground::Range,
         Ground::NoPlace,
@@ -50,6 +52,7 @@ impl Ground {
         Ground::TooShort,
         Ground::Order,
         Ground::Roll,
+        Ground::NoReason,
     ];
 
     pub fn number(self) -> u8 {

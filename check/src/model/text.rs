@@ -1,6 +1,6 @@
 //! The exchanged text: its reader, its writer and the report on it.
 
-use super::{Constraint, Deed, Edit, Ground, Joining, Record, Sound};
+use super::{reason, Constraint, Deed, Edit, Ground, Joining, Reason, Record, Sound};
 use crate::form::{self, constraint_row, edit_row};
 use std::io::Write;
 
@@ -55,6 +55,18 @@ fn read_line(line: form::Line, joining: &mut Joining) -> Result<(), Ground> {
         Kind::Remove => joining.edit(edit_row(2, numbers)),
         Kind::Constraint => joining.constraint(constraint_row(numbers)),
     }
+}
+
+/// The line of the reason for an edit of a text's record. What is wrong with the edit is
+/// at no line of the text.
+pub fn why(text: &[u8], edit: u32) -> Result<Vec<u8>, Fault> {
+    let record = read(text)?;
+    let asked = |ground| Fault { ground, line: 0 };
+    let index = record.named(edit).map_err(asked)?;
+    let reason = reason(&record, index).ok_or(asked(Ground::NoReason))?;
+    let mut output = Vec::new();
+    write_reason(edit, &reason, &mut output);
+    Ok(output)
 }
 
 /// Writes one line at the end of the output.
@@ -127,6 +139,24 @@ pub fn write_report(record: &Record, sound: &Sound, output: &mut Vec<u8>) {
             ),
         );
     }
+}
+
+/// The chain and, of an edit that can never stand, the ring.
+pub fn write_reason(edit: u32, reason: &Reason, output: &mut Vec<u8>) {
+    match reason {
+        Reason::Must { chain } => {
+            put(output, format_args!("edit={edit} why=must chain={}", listed(chain)));
+        }
+        Reason::Never { chain, ring } => {
+            let (chain, ring) = (listed(chain), listed(ring));
+            put(output, format_args!("edit={edit} why=never chain={chain} ring={ring}"));
+        }
+    }
+}
+
+/// Names with commas between.
+fn listed(names: &[u16]) -> String {
+    names.iter().map(u16::to_string).collect::<Vec<_>>().join(",")
 }
 
 /// Puts bytes into a lent output from a given place on, if there is room for

@@ -5,6 +5,7 @@ mod calls;
 mod lending;
 mod limits;
 mod proposals;
+mod reasons;
 mod votes;
 
 use super::damage::damaged;
@@ -32,6 +33,7 @@ pub fn log(seed: u64, calls: usize) -> Vec<u8> {
 enum Mood {
     Bench,
     Lending,
+    Reasons,
     Votes,
     Proposals,
     Crowd,
@@ -52,7 +54,7 @@ struct Maker {
 impl Maker {
     fn new(seed: u64) -> Maker {
         let mut random = Random::new(seed);
-        let moods = [Mood::Bench, Mood::Lending, Mood::Votes, Mood::Proposals];
+        let moods = [Mood::Bench, Mood::Lending, Mood::Reasons, Mood::Votes, Mood::Proposals];
         let mood = match random.below(24) {
             0..=2 => Mood::Full,
             3 | 4 => Mood::Crowd,
@@ -140,6 +142,7 @@ impl Maker {
         match self.mood {
             Mood::Bench if favourite => self.on_the_bench(),
             Mood::Lending if favourite => self.lend_and_use(),
+            Mood::Reasons if favourite => self.any_reason(),
             Mood::Votes if favourite => self.any_vote(),
             Mood::Proposals if favourite => self.propose_and_vote(),
             Mood::Crowd if favourite => self.crowded_proposal(),
@@ -149,7 +152,7 @@ impl Maker {
     }
 
     fn any_episode(&mut self) {
-        match self.random.below(20) {
+        match self.random.below(21) {
             0..=7 => self.on_the_bench(),
             8 => self.ask(),
             9 => self.suggest(),
@@ -161,6 +164,7 @@ impl Maker {
             16 => self.hidden_must(),
             17 => self.chain(),
             18 => self.test_row(),
+            19 => self.any_reason(),
             _ => self.repeat_call(),
         }
     }

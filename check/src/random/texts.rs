@@ -1,6 +1,7 @@
 //! Random texts for `shelf`.
 
 use super::damage::damaged;
+use super::layered::layered_record;
 use super::tables::{require_a_ring, spoil, Recipe, World};
 use super::Random;
 use crate::model::{Field, Rule, Tables};
@@ -11,7 +12,10 @@ pub fn text(seed: u64) -> Vec<u8> {
     let size = random.pick(&[1, 2, 3, 5, 8, 15, 30, 127, 135]);
     let world = World::new(size, &mut random);
     let recipe = any_recipe(&world, &mut random);
-    let record = world.record(recipe, &mut random);
+    let record = match random.one_in(4) {
+        true => layered_record(world.some_edits(recipe.edits, &mut random), &mut random),
+        false => world.record(recipe, &mut random),
+    };
     let mut tables = Tables::from(&record);
     if random.one_in(10) {
         require_a_ring(&mut tables, &world.some_edits(2, &mut random));

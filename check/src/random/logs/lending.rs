@@ -65,7 +65,7 @@ impl Maker {
 
     pub(super) fn use_slot(&mut self, slot: usize) {
         let said = self.said_slot(slot);
-        match self.random.below(8) {
+        match self.random.below(9) {
             0 | 1 => self.say(&format!("do=merge lent={said}")),
             2 => self.bundle(slot),
             3 => self.test_row_on(slot),
@@ -75,6 +75,7 @@ impl Maker {
                 let old = self.slot();
                 self.propose(slot, old);
             }
+            7 => self.ask_why(slot),
             _ => {
                 let from = self.slot();
                 self.propose(from, slot);

@@ -43,7 +43,7 @@ impl Maker {
     }
 
     pub(super) fn at_the_limits(&mut self) {
-        match self.random.below(16) {
+        match self.random.below(18) {
             0 => self.add_edit(),
             1..=3 => self.add_new_edit(),
             4 | 5 => self.add_constraint(),
@@ -54,6 +54,7 @@ impl Maker {
             13 => self.use_full_tables(),
             14 if self.random.one_in(3) => self.long_row(),
             14 => self.propose_and_vote(),
+            15 | 16 => self.reasons_at_the_limits(),
             _ => self.lend_and_use(),
         }
     }
@@ -149,6 +150,7 @@ impl Maker {
         self.say(&format!("do=merge lent={slot}"));
         self.say(&format!("do=bundle edit={edit} lent={slot}"));
         self.say(&format!("do=test lent={slot}"));
+        self.say(&format!("do=why edit={edit} lent={slot}"));
         self.say(&format!("do=elect edit={edit}"));
         self.say(&format!("do=winner edit={edit}"));
         self.say(&format!("do=tally edit={edit}"));
