@@ -1,8 +1,9 @@
 //! Rows in which functions are called: the proved ones and the baseline's.
 
 use crate::clock::{by_turns, Effort, Times};
-use crate::proved::{self, Elected, Judged, Merged, Scheduled};
+use crate::proved::{self, Elected, Explained, Judged, Merged, Scheduled};
 use benchmark::plain::{self, Bench};
+use benchmark::questions::Question;
 use benchmark::shapes::Shape;
 use check::library::Reply;
 use check::model::{Ground, RollRow, Tables};
@@ -113,6 +114,19 @@ pub fn report(row: &str, shape: &Shape, effort: Effort) -> Times {
     let text = shape.text();
     let proved = |out: &mut [u8]| proved::catalogue_report(black_box(&text), out);
     compared_outputs(row, effort, proved, |out| plain::shelf(black_box(&text), out))
+}
+
+pub fn reason(row: &str, question: &Question, effort: Effort) -> Times {
+    let tables = question.tables();
+    let edit = question.edit.into();
+    let proved = |out: &mut [u8]| {
+        let Explained { number, size } = proved::reason(edit, black_box(&tables), out);
+        Reply { number, line: 0, size }
+    };
+    let plain = |out: &mut Vec<u8>| {
+        plain::explain(black_box(&tables), edit, out).expect("each question has an answer");
+    };
+    compared_outputs(row, effort, proved, plain)
 }
 
 pub fn replay(row: &str, log: &[u8], effort: Effort) -> Times {

@@ -2,4 +2,5 @@
 
 pub mod logs;
 pub mod plain;
+pub mod questions;
 pub mod shapes;

@@ -1,5 +1,6 @@
 //! Call logs at the limits.
 
+use crate::questions::Question;
 use crate::shapes::Shape;
 use check::model::{text, ConstraintRow, EditRow, Record};
 use check::random::{self, Random};
@@ -20,6 +21,10 @@ pub fn build(record: &Record) -> Vec<u8> {
 
 /// Lends the record and merges it.
 pub fn merged(record: &Record) -> String {
+    lent(record) + "do=merge lent=0\n"
+}
+
+fn lent(record: &Record) -> String {
     let mut log = String::new();
     for &edit in &record.edits {
         let EditRow { name, kind, place, field, value } = edit.into();
@@ -32,7 +37,7 @@ pub fn merged(record: &Record) -> String {
         let ConstraintRow { left, rule, right } = constraint.into();
         put(&mut log, format_args!("lent=0 left={left} rule={rule} right={right}"));
     }
-    log + "do=merge lent=0\n"
+    log
 }
 
 fn put(log: &mut String, line: std::fmt::Arguments) {
@@ -68,6 +73,19 @@ pub fn hidings(shape: &Shape, lines: usize) -> Vec<u8> {
 pub fn questions(shape: &Shape, rounds: usize) -> Vec<u8> {
     let questions = "ask=report\nask=schedule\nask=catalogue\nask=text\nask=journal\nask=hidden\n";
     (merged(&shape.record) + &questions.repeat(rounds)).into_bytes()
+}
+
+/// Each record lent once, and asked why of each of its edits.
+pub fn reasons(questions: &[Question]) -> Vec<u8> {
+    let mut log = String::new();
+    for question in questions {
+        log += "lent=0 rows=none\n";
+        log += &lent(&question.record);
+        for edit in &question.record.edits {
+            put(&mut log, format_args!("do=why edit={} lent=0", edit.name));
+        }
+    }
+    log.into_bytes()
 }
 
 /// Random logs one after the other, on one bench.

@@ -8,6 +8,7 @@ mod processor;
 mod proved;
 
 use benchmark::logs;
+use benchmark::questions::{questions, Question};
 use benchmark::shapes::{shapes, Shape};
 use clock::{Effort, Times};
 use processes::Program;
@@ -98,6 +99,7 @@ fn measure(options: &Options) {
     let shapes = shapes();
     print_table("At the limits", options, |table| {
         measure_calls(&shapes, table, options.effort);
+        measure_reasons(&questions(), table, options.effort);
         measure_logs(&builds(&shapes), table, options.effort);
         measure_shelves(&shapes, table, options);
         measure_replays(&builds(&shapes), table, options);
@@ -164,6 +166,14 @@ fn measure_calls(shapes: &[Shape], table: &mut Table, effort: Effort) {
     }
 }
 
+/// Why an edit must stand, or can never stand.
+fn measure_reasons(questions: &[Question], table: &mut Table, effort: Effort) {
+    for question in questions {
+        let row = format!("why, {}", question.name);
+        table.measure(&row, || calls::reason(&row, question, effort));
+    }
+}
+
 /// Logs by name.
 type Logs = Vec<(String, Vec<u8>)>;
 
@@ -183,6 +193,7 @@ fn other_logs(shapes: &[Shape]) -> Logs {
         logs.push((format!("replay, hidings {name}"), logs::hidings(shape, HIDING_LINES)));
         logs.push((format!("replay, questions {name}"), logs::questions(shape, QUESTION_ROUNDS)));
     }
+    logs.push(("replay, why".to_string(), logs::reasons(&questions())));
     logs.push(("replay, mix".to_string(), logs::mix()));
     logs
 }

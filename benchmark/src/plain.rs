@@ -11,7 +11,9 @@ mod joining;
 mod order;
 mod print;
 mod proposal;
+mod reason;
 mod record;
+mod rings;
 mod session;
 mod sound;
 #[cfg(test)]
@@ -20,6 +22,7 @@ mod text;
 
 pub use bench::Bench;
 pub use election::{election, Election};
+pub use reason::explain;
 pub use record::Record;
 pub use session::{replay, Session};
 pub use sound::{judgement, schedule, Judgement, Sound};

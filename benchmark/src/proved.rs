@@ -39,6 +39,14 @@ pub struct Elected {
     pub total: u32,
 }
 
+#[derive(PartialEq, Eq, Debug)]
+#[repr(C)]
+pub struct Explained {
+    pub number: u32,
+    /// How many bytes were written.
+    pub size: usize,
+}
+
 check::functions_of_slices! {
     fn measure_judgement(edits: &[EditRow], constraints: &[ConstraintRow]) -> Judged;
     fn measure_schedule(edits: &[EditRow], constraints: &[ConstraintRow]) -> Scheduled;
@@ -50,6 +58,9 @@ check::functions_of_slices! {
         edits: &[EditRow], constraints: &[ConstraintRow],
         rival_edits: &[EditRow], rival_constraints: &[ConstraintRow]
     ) -> Elected;
+    fn measure_reason[edit: u32](
+        edits: &[EditRow], constraints: &[ConstraintRow]; out: &mut [u8]
+    ) -> Explained;
     pub fn catalogue_report(text: &[u8]; out: &mut [u8]) -> Reply;
     pub fn catalogue_replay(log: &[u8]; work: &mut [u8], out: &mut [u8]) -> Reply;
 }
@@ -70,4 +81,9 @@ pub fn merge(first: &Tables, second: &Tables) -> Merged {
 /// Benches 1 to 4 lend the first record, 5 to 8 the rival, each of weight 1.
 pub fn election(edit: u32, first: &Tables, rival: &Tables) -> Elected {
     measure_election(edit, &first.edits, &first.constraints, &rival.edits, &rival.constraints)
+}
+
+/// The line that tells why the edit must stand, or can never stand.
+pub fn reason(edit: u32, tables: &Tables, out: &mut [u8]) -> Explained {
+    measure_reason(edit, &tables.edits, &tables.constraints, out)
 }

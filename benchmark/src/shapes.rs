@@ -10,7 +10,7 @@ use check::random::Random;
 use std::collections::BTreeSet;
 
 /// Left, rule, right, by index.
-type Row = (usize, Rule, usize);
+pub type Row = (usize, Rule, usize);
 
 /// How often a random row is tried for: a shape may have fewer rows than fit.
 const TRY_LIMIT: usize = 200_000;
@@ -108,13 +108,17 @@ fn required() -> BTreeSet<Row> {
 }
 
 /// Two different edits, the lower first.
-fn any_two(random: &mut Random) -> (usize, usize) {
+pub fn any_two(random: &mut Random) -> (usize, usize) {
     let low = random.between(1, EDIT_LIMIT - 1);
     (low, random.between(low + 1, EDIT_LIMIT))
 }
 
 /// Fills the table with random rows.
-fn filled(mut rows: BTreeSet<Row>, seed: u64, row: impl Fn(&mut Random) -> Row) -> BTreeSet<Row> {
+pub fn filled(
+    mut rows: BTreeSet<Row>,
+    seed: u64,
+    row: impl Fn(&mut Random) -> Row,
+) -> BTreeSet<Row> {
     let mut random = Random::new(seed);
     for _ in 0..TRY_LIMIT {
         if rows.len() == CONSTRAINT_LIMIT {
@@ -126,14 +130,19 @@ fn filled(mut rows: BTreeSet<Row>, seed: u64, row: impl Fn(&mut Random) -> Row) 
 }
 
 fn shape(name: &'static str, rows: BTreeSet<Row>) -> Shape {
+    Shape { name, record: sound_record(name, rows) }
+}
+
+/// A record of all edits with these constraints.
+pub fn sound_record(name: &str, rows: BTreeSet<Row>) -> Record {
     let constraint =
         |(left, rule, right)| Constraint { left: name_at(left), rule, right: name_at(right) };
     let record = Record {
         edits: (1..=EDIT_LIMIT).map(edit_at).collect(),
         constraints: rows.into_iter().map(constraint).collect(),
     };
-    assert!(Sound::new(&record).is_ok(), "the shape {name} is sound");
-    Shape { name, record }
+    assert!(Sound::new(&record).is_ok(), "the record {name} is sound");
+    record
 }
 
 /// Names ascend with the index and have gaps.

@@ -117,6 +117,16 @@ impl Graph {
         &self.links
     }
 
+    pub fn enablers(&self) -> &Lists {
+        &self.enablers
+    }
+
+    /// To each edit those that it enables.
+    pub fn enabled(&self) -> Lists {
+        let enables = self.links.iter().filter(|link| link.rule == Rule::Enables);
+        Lists::new(enables.map(|link| (link.left(), link.right())))
+    }
+
     /// The noncommuting pairs without a recorded order.
     pub fn unordered_pairs(&self) -> impl Iterator<Item = (usize, usize)> + '_ {
         let pairs = self.links.iter().filter(|link| link.rule == Rule::Noncommuting);

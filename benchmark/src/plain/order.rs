@@ -19,6 +19,7 @@ pub enum Order {
     Test { lent: u32 },
     Winner { edit: u32 },
     Tally { edit: u32 },
+    Why { edit: u32, lent: u32 },
     Ask(Question),
 }
 
@@ -241,6 +242,10 @@ impl<'line> Reader<'line> {
             b"bundle" => {
                 let edit = self.number_of(b" edit=")?;
                 Some(Order::Bundle { edit, lent: self.number_of(b" lent=")? })
+            }
+            b"why" => {
+                let edit = self.number_of(b" edit=")?;
+                Some(Order::Why { edit, lent: self.number_of(b" lent=")? })
             }
             b"propose" => self.propose(),
             b"suggest" => {

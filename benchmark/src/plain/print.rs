@@ -1,5 +1,6 @@
 //! Printing into a buffer.
 
+use super::reason::Reason;
 use super::record::Record;
 use super::sound::Sound;
 use check::model::{Constraint, Deed, Edit, Entry, Ground};
@@ -80,6 +81,29 @@ pub fn report(record: &Record, sound: &Sound, out: &mut Vec<u8>) {
         out.text(" never=").yes_or_no(judgement.never[index]);
         out.text(" settled=").yes_or_no(judgement.settled[index]);
         out.text(" place=").number(judgement.place[index]).text("\n");
+    }
+}
+
+/// The chain and, of an edit that can never stand, the ring.
+pub fn reason(record: &Record, edit: u32, reason: &Reason, out: &mut Vec<u8>) {
+    out.text("edit=").number(edit);
+    match reason {
+        Reason::Must { chain } => names(" why=must chain=", record, chain, out),
+        Reason::Never { chain, ring } => {
+            names(" why=never chain=", record, chain, out);
+            names(" ring=", record, ring, out);
+        }
+    }
+    out.text("\n");
+}
+
+/// The names of edits with commas between.
+fn names(begin: &str, record: &Record, row: &[u8], out: &mut Vec<u8>) {
+    let mut before = begin;
+    for &index in row {
+        let name = if index == 0 { 0 } else { record.edits[usize::from(index) - 1].name };
+        out.text(before).number(name);
+        before = ",";
     }
 }
 

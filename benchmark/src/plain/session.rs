@@ -7,6 +7,7 @@ use super::joining::Joining;
 use super::order::{self, Change, Lend, Order, Question};
 use super::print::{self, Print};
 use super::proposal::propose;
+use super::reason::explain;
 use super::sound::is_sound_schedule;
 use check::lent::{
     push_roll, push_within, record_number, LENT_CONSTRAINT_LIMIT, LENT_EDIT_LIMIT, ROW_LIMIT,
@@ -60,6 +61,7 @@ impl Session {
             Order::Test { lent } => self.test(lent, out),
             Order::Winner { edit } => self.winner(edit, out),
             Order::Tally { edit } => self.tally(edit, out),
+            Order::Why { edit, lent } => explain(&self.lent[record_number(lent)?], edit, out),
             Order::Ask(question) => {
                 self.answer(question, out);
                 Ok(())

@@ -1,6 +1,8 @@
 //! The baseline against the model of `check`, byte by byte.
 
 use super::{replay, shelf};
+use crate::logs;
+use crate::questions::questions;
 use check::compare::{cut_log, cut_text, Other};
 use check::{log, model, random};
 
@@ -29,6 +31,12 @@ fn logs_have_the_same_answers() {
             panic!("seed {seed}: {}", cut.escape_ascii());
         }
     }
+}
+
+#[test]
+fn reasons_at_the_limits_are_the_same() {
+    let log = logs::reasons(&questions());
+    assert!(log::run(&log) == Plain.replay(&log));
 }
 
 #[test]
