@@ -16,6 +16,7 @@ use Rattle.record.specs.Stored.{stored, edit_named, filler_edit}
 use Rattle.record.specs.Schedule.{schedule}
 use Rattle.record.specs.Judgement.{sound}
 use Rattle.graph.specs.links.Marks.{marks_of}
+use Rattle.record_rows.specs.row.Row.{field_number}
 use Rattle.record_tables.specs.Checked.{Checked}
 use Rattle.voting.specs.Tally.{Election}
 use Rattle.std.specs.Prelude.{Option, Some, None, Err}
@@ -30,8 +31,10 @@ use Rattle.pages_turner.proofs.Landed.{turned-lands}
 use Rattle.pages.specs.Steps.{common_beginning, Agree}
 use Rattle.record.proofs.Padded.{take-padded}
 use Rattle.catalogue.specs.declared.View.{View}
-use Rattle.catalogue.specs.Chips.{rows, chips_view, schedule_of}
+use Rattle.catalogue.specs.Shelves.{rows, schedule_of}
+use Rattle.catalogue.specs.Chips.{cells, places, chip_place, chips_view}
 use Rattle.catalogue.specs.Changes as moves
+use Rattle.catalogue.proofs.Common.{same-edits, opened-stored, pages-stored}
 use Rattle.ledger.specs.declared.Bench.{Bench}
 use Rattle.ledger.specs.Ledger.{Ledger, Call, CallAnswer, turn, start, pages, last, at_page, judge, act, refusal, change, step, fed, plain_answer, answered}
 use Rattle.ledger.specs.Bench.{Outcome, page_edits, open_edits, bench_of, outcome, told_outcome, Answers}
@@ -97,9 +100,10 @@ open-same L v bench e =
     ap (open_at bench) o ∙ (election-open-is L bench e L.opened v.opened-within ∙ sym e)
 
 -- as the code opens it
-pub opens : (bench : Bench) (page : ℕ) (w : View) → moves.ViewTurns bench.schedule bench.turner.opened page bench.view w
+pub opens : (bench : Bench) (page : ℕ) (w : View cells places)
+    → moves.ViewTurns cells places chip_place field_number bench.schedule bench.turner.opened page bench.view w
     → Opens bench page (record { multilog = bench.multilog; hidden = bench.hidden; schedule = bench.schedule; turner = record { opened = page; last = bench.turner.last }; view = w })
-unfolding Opens open_at bench_of moves.ViewTurns open_edits
+unfolding Opens open_at bench_of moves.ViewTurns open_edits chips_view
 opens bench page w m = λ calls e h.
     let L = fed start calls in
     let v = fed-valid start calls start-valid in
@@ -206,40 +210,46 @@ module _ (L : Ledger) (v : Valid L) (bench : Bench) (e : bench ≡ bench_of L) (
   unfolding news
   length-news = length-map (drop 1 (schedule R h)) (edit_named R.edits)
 
-  pub change-is : (E : Election) (multilog : declared.Record) (hidden : List ℕ) (new : Schedule) (moved : moves.Changed)
+  pub change-is : (E : Election) (multilog : declared.Record) (hidden : List ℕ) (new : Schedule) (c : ℕ) (w : View cells places)
       → multilog ≡ stored R → hidden ≡ marks_of R (λ x. mem x h) → new ≡ pages_of R h
-      → moves.ViewChanges bench.schedule bench.turner.opened new bench.view moved
+      → c ≡ moves.common (take bench.turner.opened bench.schedule.edits) (take new.count new.edits)
+      → moves.ViewChanges cells places chip_place field_number bench.schedule bench.turner.opened new c bench.view w
       → record {
-        answer = answered moved.undone moved.redone E;
-        bench = record { multilog = multilog; hidden = hidden; schedule = new; turner = record { opened = new.count; last = new.count }; view = moved.view };
+        answer = answered (bench.turner.opened - c) (new.count - c) E;
+        bench = record { multilog = multilog; hidden = hidden; schedule = new; turner = record { opened = new.count; last = new.count }; view = w };
       } ≡ outcome (change L R h E)
-  unfolding change outcome bench_of pages_of moves.ViewChanges page_edits open_edits pages last news schedule_of
-  change-is E multilog hidden new moved hm hh hn m =
+  unfolding change outcome bench_of pages_of moves.ViewChanges page_edits open_edits pages last news schedule_of chips_view
+  change-is E multilog hidden new c w hm hh hn hc m =
       let row = drop 1 (schedule R h) in
       let old = take L.opened (page_edits L) in
       let n = length-pages L in
       let o = ap (λ (b : Bench). b.turner.opened) e in
-      let told : moved ≡ record { view = chips_view news; undone = L.opened - moves.common old news; redone = length news - moves.common old news } =
-      rw o at (m (page_edits L) news (omega (arith, last-room L v)) (omega (arith, pages-room R k s h, length-news)) (ap (λ (b : Bench). b.schedule) e) hn
-      (omega (arith, o, v.opened-within)) (rw o agree) (ap (λ (b : Bench). b.view) e ∙ ap (λ (q : ℕ). chips_view (take q (page_edits L))) (sym o))) in
-      let c = common-is in
+      let t = ap (λ (b : Bench). b.schedule) e in
+      let f : bench.turner.opened ≤ length (page_edits L) = omega (arith, o, v.opened-within) in
+      let start = opened-stored bench.schedule (page_edits L) bench.turner.opened t f ∙ ap (λ (q : ℕ). take q (page_edits L)) o in
+      let shared : c ≡ moves.common old news = hc ∙ (λ i. moves.common (start i) (pages-stored new news hn i)) in
+      let told : w ≡ chips_view news =
+      m (page_edits L) news (omega (arith, last-room L v)) (omega (arith, pages-room R k s h, length-news)) t hn f (rw (o, shared) (same-edits old news agree))
+      (ap (λ (b : Bench). b.view) e ∙ ap (λ (q : ℕ). chips_view (take q (page_edits L))) (sym o)) in
+      let counted = shared ∙ common-is in
       let whole : news ≡ take (length row) news = sym (ap (λ (q : ℕ). take q news) (sym length-news) ∙ take-length news) in
       (λ i. record {
-        answer = record { number = 0; undone = (told i).undone; redone = (told i).redone; won = E.won; greatest = E.greatest; silent = E.silent; total = E.total };
-        bench = record { multilog = hm i; hidden = hh i; schedule = hn i; turner = record { opened = (hn i).count; last = (hn i).count }; view = (told i).view };
+        answer = record { number = 0; undone = o i - counted i; redone = (hn i).count - counted i; won = E.won; greatest = E.greatest; silent = E.silent; total = E.total };
+        bench = record { multilog = hm i; hidden = hh i; schedule = hn i; turner = record { opened = (hn i).count; last = (hn i).count }; view = told i };
       })
       ∙ (λ i. record {
-        answer = record { number = 0; undone = L.opened - c i; redone = length-news i - c i; won = E.won; greatest = E.greatest; silent = E.silent; total = E.total };
+        answer = record { number = 0; undone = L.opened - common_beginning (take L.opened (pages L)) row; redone = length-news i - common_beginning (take L.opened (pages L)) row; won = E.won; greatest = E.greatest; silent = E.silent; total = E.total };
         bench = record { multilog = stored R; hidden = marks_of R (λ x. mem x h); schedule = schedule_of news; turner = record { opened = length-news i; last = length-news i }; view = chips_view (whole i) };
       })
 
 -- the same of every list of calls
-pub change-from : (bench : Bench) (multilog : declared.Record) (hidden : List ℕ) (new : Schedule) (E : Election) (moved : moves.Changed)
-    → moves.ViewChanges bench.schedule bench.turner.opened new bench.view moved
+pub change-from : (bench : Bench) (multilog : declared.Record) (hidden : List ℕ) (new : Schedule) (E : Election) (c : ℕ) (w : View cells places)
+    → c ≡ moves.common (take bench.turner.opened bench.schedule.edits) (take new.count new.edits)
+    → moves.ViewChanges cells places chip_place field_number bench.schedule bench.turner.opened new c bench.view w
     → Reschedules bench multilog hidden new E (record {
-      answer = answered moved.undone moved.redone E;
-      bench = record { multilog = multilog; hidden = hidden; schedule = new; turner = record { opened = new.count; last = new.count }; view = moved.view };
+      answer = answered (bench.turner.opened - c) (new.count - c) E;
+      bench = record { multilog = multilog; hidden = hidden; schedule = new; turner = record { opened = new.count; last = new.count }; view = w };
     })
 unfolding Reschedules
-change-from bench multilog hidden new E moved m = λ calls R h e hm hh hn k s keeps.
-    change-is (fed start calls) (fed-valid start calls start-valid) bench e R h k s keeps E multilog hidden new moved hm hh hn m
+change-from bench multilog hidden new E c w hc m = λ calls R h e hm hh hn k s keeps.
+    change-is (fed start calls) (fed-valid start calls start-valid) bench e R h k s keeps E multilog hidden new c w hm hh hn hc m

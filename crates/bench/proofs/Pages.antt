@@ -18,7 +18,7 @@ use Rattle.record.proofs.Scheduled.{schedule-length, schedule-pages}
 use Rattle.record_tables.specs.Checked.{Checked}
 use Rattle.record_tables.proofs.Records.{checked-wellformed}
 use Rattle.pages.specs.Steps.{Agree}
-use Rattle.catalogue.specs.Chips.{rows}
+use Rattle.catalogue.specs.Shelves.{rows}
 use Rattle.ledger.specs.Ledger.{Ledger, pages, last}
 use Rattle.record.specs.Stored.{edit_named}
 use Rattle.ledger.proofs.Valid.{Valid}

@@ -20,7 +20,7 @@ use Rattle.judgement.specs.Judged as judge
 use Rattle.judgement.specs.Judged.{marked_edits}
 use Rattle.graph.specs.indexes.Fit.{Fit}
 use Rattle.graph.proofs.indexes.Fit.{checked-fit}
-use Rattle.catalogue.specs.Chips.{schedule_of}
+use Rattle.catalogue.specs.Shelves.{schedule_of}
 use Rattle.voting.specs.Tally.{Election}
 use Rattle.ledger.specs.declared.Bench.{Bench}
 use Rattle.ledger.specs.Bench.{Outcome}

@@ -11,7 +11,8 @@ use Rattle.graph.specs.links.Marks.{marks_of}
 use Rattle.record_tables.specs.Checked.{Checked}
 use Rattle.voting.specs.Tally.{Election}
 use Rattle.pages_turner.specs.declared.Turner.{Turner}
-use Rattle.catalogue.specs.Chips.{chips_view, schedule_of}
+use Rattle.catalogue.specs.Shelves.{schedule_of}
+use Rattle.catalogue.specs.Chips.{chips_view}
 use Rattle.ledger.specs.declared.Bench.{Bench}
 use Rattle.ledger.specs.Ledger.{Call, start, fed, plain_answer, change}
 use Rattle.ledger.specs.Bench.{Outcome, bench_of, outcome}

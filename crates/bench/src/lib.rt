@@ -10,7 +10,7 @@ ghost use Rattle.ledger.specs.Ledger.{Call, call_told, no_election, plain_answer
 ghost use Rattle.ledger.specs.Bench.{Answers, bench_of, told_outcome};
 ghost use Rattle.bench.specs.Changes.{Opens, Reschedules};
 
-use catalogue::View;
+use catalogue::{Chips, View};
 use graph::links::{MARKS, Marks};
 use ledger::{Bench, CallResult};
 use pages_turner::{Turner, turning};
@@ -36,7 +36,7 @@ pub fn open_at(bench: &mut Bench, page: usize)
     ensures { Opens bench.old page bench.new }
 {
     let opened = bench.turner.opened;
-    bench.view.turn_to(bench.schedule, opened, page);
+    bench.view.turn_to::<Chips>(bench.schedule, opened, page);
     bench.turner.opened = page;
 }
 
@@ -84,14 +84,17 @@ pub fn reschedule(
 {
     let last = schedule.count;
     let opened = bench.turner.opened;
-    let moved = bench.view.change(bench.schedule, opened, schedule);
+    let common = catalogue::common_beginning(bench.schedule, opened, schedule);
+    bench
+        .view
+        .change::<Chips>(bench.schedule, opened, schedule, common);
     bench.multilog = multilog;
     bench.hidden = hidden;
     bench.schedule = schedule;
     bench.turner = Turner { opened: last, last };
     CallResult {
-        undone: moved.undone,
-        redone: moved.redone,
+        undone: opened - common,
+        redone: last - common,
         election,
     }
 }

@@ -1,4 +1,3 @@
-pub mod Entries
-pub mod Loops
+pub mod Common
 pub mod Moves
 pub mod Absent

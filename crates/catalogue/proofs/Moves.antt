@@ -1,112 +1,79 @@
--- Turns and changes of the chip catalogue, by the laws of pages.
+-- Turns and changes of a stored view, by the laws of pages. For any shelf.
 use mathlib.Core.Path.{◌≡◌, refl, ap, ◌∙◌}
-use mathlib.Core.Bool.{Bool, cond}
-use mathlib.Core.List.{List, [], ◌∷◌, map}
-use Prim.Native.Nat.{ℕ, suc, ◌+◌, ◌-◌, ◌<◌, ◌≤◌}
+use mathlib.Core.Bool.{cond}
+use mathlib.Core.List.{List, []}
+use Prim.Native.Nat.{ℕ, ◌<◌, ◌≤◌}
 use native.Mathlib.Omega.{arith}
-use lib.ListN.{length, take, length-map, length-take}
-use lib.Dec.{eqb, leb}
-use Rattle.std.specs.List.{prefix_len, zip}
-use lib.Seq.{slice, take-length}
+use lib.ListN.{length, take, length-take}
+use lib.Dec.{leb}
+use lib.Seq.{slice}
 use borrow.Author.Tests.{le-leb, lt-leb}
 use Rattle.record.specs.declared.Edit.{Edit}
+use Rattle.record.specs.declared.Field.{Field}
 use Rattle.record.specs.declared.Schedule.{Schedule}
-use Rattle.record.specs.Record.{name_of}
 use Rattle.record.specs.Stored.{padded, filler_edit}
+use Rattle.record.proofs.Padded.{slice-padded}
 use Rattle.pages.specs.Pages as pages
 use Rattle.pages.specs.Steps as steps
-use Rattle.pages.specs.Steps.{Agree, common_beginning}
-use Rattle.record.proofs.Padded.{take-padded, slice-padded}
 use Rattle.pages.proofs.Turns.{pages-turn, pages-change}
-use Rattle.pages.proofs.Common.{common-left, common-right, common-take}
+use Rattle.catalogue.specs.declared.Entry.{Entry}
 use Rattle.catalogue.specs.declared.View.{View}
-use Rattle.catalogue.specs.Chips.{rows, places, chips, stored_view, content_of, chips_view, schedule_of}
-use Rattle.catalogue.specs.Changes.{ViewTurns, Changed, ViewChanges, changed, common}
+use Rattle.catalogue.specs.Shelves.{shelf, rows, stored_view, content_of, empty_view, shelf_view, schedule_of}
+use Rattle.catalogue.specs.Changes.{ViewTurns, ViewChanges}
+use Rattle.catalogue.proofs.Common.{opened-stored, pages-stored}
 
--- whether two edits have one name, and how many do at the beginning of two rows
-abbrev pub same_name : Edit × Edit → Bool
-same_name (a, b) = eqb a.name b.name
+module _ (n places : ℕ) (place : Edit → ℕ) (cell : Field → ℕ) where
+  abbrev K : pages.Shelf
+  K = shelf n place cell
 
-pub common-counted : (old new : List Edit) → prefix_len same_name (zip old new) ≡ common old new
-unfolding common common_beginning
-common-counted [] new = refl
-common-counted (x ∷ old) [] = refl
-common-counted (x ∷ old) (y ∷ new) =
-    let more : 1 + prefix_len same_name (zip old new) ≡ suc (common_beginning (map name_of old) (map name_of new)) = omega (arith, common-counted old new) in
-    ap (λ (n : ℕ). cond (eqb x.name y.name) n 0) more
+  -- the empty view is that of no edit
+  pub view-empty : empty_view n places ≡ shelf_view n places place cell []
+  unfolding pages.view_of pages.run pages.kept pages.empty_catalogue padded
+  view-empty = refl
 
-common-short : (old new : List Edit) → (common old new ≤ length old) × (common old new ≤ length new)
-unfolding common
-common-short old new =
-    let p = length-map old name_of in
-    let q = length-map new name_of in
-    (omega (arith, common-left (map name_of old) (map name_of new)), omega (arith, common-right (map name_of old) (map name_of new)))
+  -- a turn as the code makes it
+  module _ (edits : List Edit) (opened page : ℕ) (view r : View n places) where
+    pub turned_on : opened ≤ page → r ≡ stored_view (steps.forward K opened (slice opened page edits) (content_of view))
+        → r ≡ stored_view (steps.turned_view K edits opened page (content_of view))
+    unfolding steps.turned_view
+    turned_on h e = rw (le-leb _ _ h) e
 
-pub common-le : (old new : List Edit) (n m c : ℕ) → c ≡ common (take n old) (take m new) → (c ≤ n) × (c ≤ m)
-common-le old new n m c e =
-    let s = common-short (take n old) (take m new) in
-    (omega (arith, length-take n old), omega (arith, length-take m new))
+    pub turned-back : page < opened → r ≡ stored_view (steps.back K page (slice page opened edits) (content_of view))
+        → r ≡ stored_view (steps.turned_view K edits opened page (content_of view))
+    unfolding steps.turned_view
+    turned-back h e = rw (lt-leb _ _ h) e
 
--- a turn as the code makes it
-module _ (edits : List Edit) (opened page : ℕ) (view : View) (r : View) where
-  pub turned_on : opened ≤ page → r ≡ stored_view (steps.forward chips opened (slice opened page edits) (content_of view))
-      → r ≡ stored_view (steps.turned_view chips edits opened page (content_of view))
+  -- the rows past a schedule's pages are not run
+  turn-stored : (edits : List Edit) (opened page : ℕ) (view : pages.View (Entry n)) → opened ≤ length edits → page ≤ length edits
+      → steps.turned_view K (padded rows filler_edit edits) opened page view ≡ steps.turned_view K edits opened page view
   unfolding steps.turned_view
-  turned_on h e = rw (le-leb _ _ h) e
+  turn-stored edits opened page view h k =
+      let a = slice-padded rows filler_edit opened page edits k in
+      let b = slice-padded rows filler_edit page opened edits h in
+      λ i. cond (leb opened page) (steps.forward K opened (a i) view) (steps.back K page (b i) view)
 
-  pub turned-back : page < opened → r ≡ stored_view (steps.back chips page (slice page opened edits) (content_of view))
-      → r ≡ stored_view (steps.turned_view chips edits opened page (content_of view))
-  unfolding steps.turned_view
-  turned-back h e = rw (lt-leb _ _ h) e
+  pub view-turn-opens : (schedule : Schedule) (opened page : ℕ) (view r : View n places)
+      → r ≡ stored_view (steps.turned_view K schedule.edits opened page (content_of view)) → ViewTurns n places place cell schedule opened page view r
+  unfolding ViewTurns schedule_of
+  view-turn-opens schedule opened page view r e edits room s h k v =
+      e ∙ (λ i. stored_view (steps.turned_view K (s i).edits opened page (content_of (v i))))
+      ∙ ap stored_view (turn-stored edits opened page (pages.view_of K places rows (take opened edits)) h k ∙ pages-turn K places rows edits opened page room h k)
 
--- the rows past a schedule's pages are not run
-turn-stored : (edits : List Edit) (opened page : ℕ) (view : pages.View chips) → opened ≤ length edits → page ≤ length edits
-    → steps.turned_view chips (padded rows filler_edit edits) opened page view ≡ steps.turned_view chips edits opened page view
-unfolding steps.turned_view
-turn-stored edits opened page view h k =
-    let a = slice-padded rows filler_edit opened page edits k in
-    let b = slice-padded rows filler_edit page opened edits h in
-    λ i. cond (leb opened page) (steps.forward chips opened (a i) view) (steps.back chips page (b i) view)
+  -- a change as the code makes it
+  pub change-moves : (view w x : View n places) (old : Schedule) (opened : ℕ) (new : Schedule) (c : ℕ)
+      → w ≡ stored_view (steps.back K c (slice c opened old.edits) (content_of view))
+      → x ≡ stored_view (steps.forward K c (slice c new.count new.edits) (content_of w))
+      → x ≡ stored_view (steps.rescheduled K (take opened old.edits) (take new.count new.edits) c (content_of view))
+  unfolding steps.rescheduled
+  change-moves view w x old opened new c hw hx = rw (hx, hw)
 
-pub view-turn-opens : (schedule : Schedule) (opened page : ℕ) (view r : View) → r ≡ stored_view (steps.turned_view chips schedule.edits opened page (content_of view))
-    → ViewTurns schedule opened page view r
-unfolding ViewTurns chips_view schedule_of
-view-turn-opens schedule opened page view r e edits room s h k v =
-    e ∙ (λ i. stored_view (steps.turned_view chips (s i).edits opened page (content_of (v i))))
-    ∙ ap stored_view (turn-stored edits opened page (pages.view_of chips places rows (take opened edits)) h k ∙ pages-turn chips places rows edits opened page room h k)
-
--- a change as the code makes it
-pub change-moves : (view : View) (old : Schedule) (opened : ℕ) (new : Schedule) (c : ℕ) (w x : View)
-    → c ≡ common (take opened old.edits) (take new.count new.edits)
-    → w ≡ stored_view (steps.back chips c (slice c opened old.edits) (content_of view))
-    → x ≡ stored_view (steps.forward chips c (slice c new.count new.edits) (content_of w))
-    → record { view = x; undone = opened - c; redone = new.count - c } ≡ changed view old opened new
-unfolding changed steps.rescheduled
-change-moves view old opened new c w x hc hw hx = rw (hx, hw, hc)
-
--- the rows of a stored schedule up to its count
-pages-stored : (edits : List Edit) → take (length edits) (padded rows filler_edit edits) ≡ edits
-pages-stored edits = take-padded rows filler_edit (length edits) edits (omega arith) ∙ take-length edits
-
-same-edits : (old new : List Edit) → Agree name_of old new → take (common old new) old ≡ take (common old new) new
-unfolding common
-same-edits old new agree = common-take name_of old new agree
-
-pub change-opens : (view : View) (old : Schedule) (opened : ℕ) (new : Schedule) (r : Changed) → r ≡ changed view old opened new → ViewChanges old opened new view r
-unfolding ViewChanges chips_view schedule_of changed
-change-opens view old opened new r e edits news room size o n h agree v =
-    let before : take opened old.edits ≡ take opened edits = (λ i. take opened (o i).edits) ∙ take-padded rows filler_edit opened edits h in
-    let after : take new.count new.edits ≡ news = (λ i. take (n i).count (n i).edits) ∙ pages-stored news in
-    let short = common-short (take opened edits) news in
-    let fits : length (take opened edits) ≤ rows = omega (arith, length-take opened edits) in
-    let come = pages-change chips places rows (take opened edits) news (common (take opened edits) news) fits size short.0 short.1 (same-edits (take opened edits) news agree) in
-    e ∙ (λ i. record {
-      view = stored_view (steps.rescheduled chips (before i) (after i) (common (before i) (after i)) (content_of (v i)));
-      undone = opened - common (before i) (after i);
-      redone = (n i).count - common (before i) (after i);
-    })
-    ∙ (λ i. record {
-      view = stored_view (come i);
-      undone = opened - common (take opened edits) news;
-      redone = length news - common (take opened edits) news;
-    })
+  pub change-opens : (view r : View n places) (old : Schedule) (opened : ℕ) (new : Schedule) (c : ℕ)
+      → r ≡ stored_view (steps.rescheduled K (take opened old.edits) (take new.count new.edits) c (content_of view))
+      → ViewChanges n places place cell old opened new c view r
+  unfolding ViewChanges schedule_of
+  change-opens view r old opened new c e edits news room size o s h same v =
+      let before = opened-stored old edits opened o h in
+      let after = pages-stored new news s in
+      let fits : length (take opened edits) ≤ rows = omega (arith, length-take opened edits) in
+      e ∙ (λ i. stored_view (steps.rescheduled K (before i) (after i) c (content_of (v i))))
+      ∙ ap stored_view (pages-change K places rows (take opened edits) news c fits size same)

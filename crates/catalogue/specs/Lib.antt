@@ -1,3 +1,4 @@
 pub mod Entries
+pub mod Shelves
 pub mod Chips
 pub mod Changes

@@ -30,7 +30,8 @@ use Rattle.pages_turner.specs.Turn.{landed, turned, turn_fault, open_after}
 use Rattle.pages_turner.proofs.Landed.{turned-lands}
 use Rattle.pages.specs.Pages.{run, empty_catalogue}
 use Rattle.pages.proofs.Pages.{catalogue-of}
-use Rattle.catalogue.specs.Chips.{chips, places, rows, chips_view}
+use Rattle.catalogue.specs.Shelves.{rows}
+use Rattle.catalogue.specs.Chips.{chips, places, chips_view}
 use Rattle.ledger.specs.declared.Bench.{Bench}
 use Rattle.ledger.specs.Ledger.{Ledger, Call, add_edit, add_constraint, merge, hide, show, turn, adopt, Reply, start, pages, last, at_page, judge, change, shown, adopted, act, refusal, step, fed}
 use Rattle.ledger.specs.Bench.{Outcome, open_edits, bench_of, outcome, Answers, Linked, none, more, answers_of, told, Undo}

@@ -6,7 +6,8 @@ use Rattle.lists.specs.Lists.{mem}
 use Rattle.record.specs.Stored.{stored, edit_named}
 use Rattle.graph.specs.links.Marks.{marks_of}
 use Rattle.pages.specs.Pages.{run, empty_catalogue}
-use Rattle.catalogue.specs.Chips.{chips, places, chips_view, schedule_of}
+use Rattle.catalogue.specs.Shelves.{schedule_of}
+use Rattle.catalogue.specs.Chips.{chips, places, chips_view}
 use Rattle.ledger.specs.declared.Bench.{Bench}
 use Rattle.ledger.specs.declared.CallResult.{CallResult}
 use Rattle.ledger.specs.Ledger.{Ledger, Call, CallAnswer, Reply, call_told, start, pages, last, step, fed}

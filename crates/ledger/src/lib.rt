@@ -2,7 +2,7 @@
 // makes, and the undo rule; the calls' code stands in crates above.
 #![tactic(auto)]
 
-use catalogue::View;
+use catalogue::{CHIP_CELLS, CHIP_PLACES, View};
 use graph::links::Marks;
 use pages_turner::Turner;
 use record::{Record, Schedule};
@@ -15,7 +15,7 @@ pub struct Bench {
     pub hidden: Marks,
     pub schedule: Schedule,
     pub turner: Turner,
-    pub view: View,
+    pub view: View<CHIP_CELLS, CHIP_PLACES>,
 }
 
 // What a call that is not refused answers: the pages undone and redone, and of an adoption the election.

@@ -10,7 +10,7 @@ ghost use Rattle.log_answers.specs.bench_answers.Asks.{hides, hidden_line, hidde
 // Kept: `length edits.now ≤ edit_limit`: a slice has no limit by its type, and marks and rows are read at the places of its edits; `edit_slice` and
 // `open_edits` give slices within it.
 
-use catalogue::{CELLS, Cell, Entry, PAGES, PLACES};
+use catalogue::{CHIP_CELLS, CHIP_PLACES, Cell, Entry, PAGES};
 use graph::links::Marks;
 use ledger::Bench;
 use log_forms::Printer;
@@ -108,7 +108,7 @@ fn print_cell(printer: &mut Printer<'_>, owner: Owner, label: u64, field: usize,
 }
 
 // The lines of an entry's cells; the label is the chip or the page.
-fn print_cells(printer: &mut Printer<'_>, owner: Owner, label: u64, cells: &[Cell; CELLS])
+fn print_cells(printer: &mut Printer<'_>, owner: Owner, label: u64, cells: &[Cell; CHIP_CELLS])
     ensures { Printed (cells_text owner label cells.now) printer.old printer.new }
 {
     for (field, cell) in cells.iter().enumerate() {
@@ -116,7 +116,7 @@ fn print_cells(printer: &mut Printer<'_>, owner: Owner, label: u64, cells: &[Cel
     }
 }
 
-fn print_entry(printer: &mut Printer<'_>, chip: usize, entry: &Entry)
+fn print_entry(printer: &mut Printer<'_>, chip: usize, entry: &Entry<CHIP_CELLS>)
     ensures { Printed (entry_text chip entry.now) printer.old printer.new }
 {
     if entry.present {
@@ -125,13 +125,13 @@ fn print_entry(printer: &mut Printer<'_>, chip: usize, entry: &Entry)
     }
 }
 
-fn count_present(entries: &[Entry; PLACES]) -> usize
+fn count_present(entries: &[Entry<CHIP_CELLS>; CHIP_PLACES]) -> usize
     ensures { result ≡ length (filter is_present entries.now) }
 {
     entries.iter().filter(|entry| entry.present).count()
 }
 
-fn print_entries(printer: &mut Printer<'_>, entries: &[Entry; PLACES])
+fn print_entries(printer: &mut Printer<'_>, entries: &[Entry<CHIP_CELLS>; CHIP_PLACES])
     ensures { Printed (texts_from entry_text 0 entries.now) printer.old printer.new }
 {
     for (chip, entry) in entries.iter().enumerate() {
@@ -148,7 +148,7 @@ pub fn print_catalogue(printer: &mut Printer<'_>, bench: &Bench)
 }
 
 // The touched chip and the entry that a page keeps.
-fn print_row(printer: &mut Printer<'_>, page: usize, edit: &Edit, row: &Entry)
+fn print_row(printer: &mut Printer<'_>, page: usize, edit: &Edit, row: &Entry<CHIP_CELLS>)
     ensures { Printed (row_text page edit.now row.now) printer.old printer.new }
 {
     let chip = edit.body.place();
@@ -157,7 +157,7 @@ fn print_row(printer: &mut Printer<'_>, page: usize, edit: &Edit, row: &Entry)
     print_cells(printer, Owner::Page, page as u64, &row.cells);
 }
 
-fn print_rows(printer: &mut Printer<'_>, edits: &[Edit], rows: &[Entry; PAGES])
+fn print_rows(printer: &mut Printer<'_>, edits: &[Edit], rows: &[Entry<CHIP_CELLS>; PAGES])
     requires { length edits.now ≤ edit_limit }
     ensures { Printed (texts_from (row_at rows.now) 1 edits.now) printer.old printer.new }
 {

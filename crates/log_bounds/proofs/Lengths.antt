@@ -30,7 +30,8 @@ use Rattle.record_rows.proofs.row.Cells.{name-small, edit-bounds}
 use Rattle.record_tables.specs.Table.{decoded}
 use Rattle.record_tables.proofs.Tables.{stored_back}
 use Rattle.record_tables.proofs.Records.{lent-checked}
-use Rattle.catalogue.specs.Chips.{rows, chips_view, schedule_of}
+use Rattle.catalogue.specs.Shelves.{rows, schedule_of}
+use Rattle.catalogue.specs.Chips.{chips_view}
 use Rattle.text_forms.specs.Spelling.{bytes}
 use Rattle.text_forms.specs.Form.{is_mark, fill}
 use Rattle.text_forms.proofs.Forms.{room}

@@ -25,7 +25,7 @@ use Rattle.record_tables.proofs.Tables.{stored_back}
 use Rattle.std.specs.Prelude.{Option, Some, None}
 use Rattle.catalogue.specs.declared.Entry.{Entry}
 use Rattle.catalogue.specs.Entries.{place_of, absent_entry}
-use Rattle.catalogue.specs.Chips as chips
+use Rattle.catalogue.specs.Chips.{cells}
 use Rattle.text_forms.specs.Spelling.{bytes}
 use Rattle.text_forms.specs.Form.{is_mark, fill}
 use Rattle.text_forms.proofs.Forms.{room, AllSmall, fill-room, fill-wide}
@@ -225,7 +225,7 @@ ValueFits None = Unit
 ValueFits (Some value) = value < 4294967296
 
 -- an entry of at most four cells whose values fit
-pub record SmallEntry (entry : Entry) : Type 0 where
+pub record SmallEntry (entry : Entry cells) : Type 0 where
   pub few : length entry.cells ≤ 4
   pub values : (c : Option ℕ) → Has c entry.cells → ValueFits c
 
@@ -244,18 +244,18 @@ cell-size : (owner : Owner) (label field : ℕ) (c : Option ℕ) → label < 429
 cell-size owner label field None h v = omega (arith, size_none)
 cell-size owner label field (Some value) h v = line-size (cell_form owner field) (label ∷ value ∷ []) 45 (h, (v, tt)) (cell_room owner field)
 
-cells-size : (owner : Owner) (label : ℕ) (entry : Entry) → label < 4294967296 → SmallEntry entry → size_of (cells_text owner label entry.cells) ≤ 180
+cells-size : (owner : Owner) (label : ℕ) (entry : Entry cells) → label < 4294967296 → SmallEntry entry → size_of (cells_text owner label entry.cells) ≤ 180
 cells-size owner label entry h s =
     omega (arith, s.few, from-size (cell_line owner label) 45 4 0 entry.cells (omega (arith, s.few)) (λ i c l m. cell-size owner label i c h (s.values c m)))
 
-entry-size : (chip : ℕ) (entry : Entry) → chip < 64 → SmallEntry entry → size_of (entry_text chip entry) ≤ 240
+entry-size : (chip : ℕ) (entry : Entry cells) → chip < 64 → SmallEntry entry → size_of (entry_text chip entry) ≤ 240
 unfolding entry_text room bytes is_mark
 entry-size chip entry h s =
     by (is_present entry)
     (λ (e : entry.present ≡ true). rw e (head-size (bytes "chip=#\n") (chip ∷ []) 180 (cells_text Chip chip entry.cells) (omega arith, tt) refl (cells-size Chip chip entry (omega arith) s)))
     (λ (e : entry.present ≡ false). rw e (omega (arith, size_none)))
 
-pub catalogue-size : (entries : List Entry) → length entries ≤ 64 → ((x : Entry) → Has x entries → SmallEntry x) → size_of (catalogue_text entries) ≤ 15420
+pub catalogue-size : (entries : List (Entry cells)) → length entries ≤ 64 → ((x : Entry cells) → Has x entries → SmallEntry x) → size_of (catalogue_text entries) ≤ 15420
 unfolding catalogue_text room bytes is_mark
 catalogue-size entries few small =
     let n = length (filter is_present entries) in
@@ -263,17 +263,17 @@ catalogue-size entries few small =
     head-size (bytes "chips=#\n") (n ∷ []) 15360 (texts_from entry_text 0 entries) (s, tt) refl
     (omega (arith, from-size entry_text 240 64 0 entries (omega arith) (λ i x h m. entry-size i x h (small x m))))
 
-row-size : (page : ℕ) (e : Edit) (row : Entry) → page < 128 → SmallEdit e → SmallEntry row → size_of (row_text page e row) ≤ 240
+row-size : (page : ℕ) (e : Edit) (row : Entry cells) → page < 128 → SmallEdit e → SmallEntry row → size_of (row_text page e row) ≤ 240
 unfolding row_text room bytes is_mark
 row-size page e row h s t =
     head-size (bytes "page=# chip=# present=?\n") (page ∷ place_of e.body ∷ bit row.present ∷ []) 180 (cells_text Page page row.cells)
     (omega arith, (place-small e s, (bit-small row.present, tt))) refl (cells-size Page page row (omega arith) t)
 
-pub journal-size : (edits : List Edit) (rows : List Entry) → length edits ≤ 127 → ((e : Edit) → Has e edits → SmallEdit e) → ((i : ℕ) → SmallEntry (get_or rows i (absent_entry chips.cells))) → size_of (journal_text edits rows) ≤ 30540
+pub journal-size : (edits : List Edit) (rows : List (Entry cells)) → length edits ≤ 127 → ((e : Edit) → Has e edits → SmallEdit e) → ((i : ℕ) → SmallEntry (get_or rows i (absent_entry cells))) → size_of (journal_text edits rows) ≤ 30540
 unfolding journal_text room bytes is_mark
 journal-size edits rows few small each =
     head-size (bytes "open=#\n") (length edits ∷ []) 30480 (texts_from (row_at rows) 1 edits) (omega arith, tt) refl
-    (omega (arith, from-size (row_at rows) 240 128 1 edits (omega arith) (λ i e h m. row-size i e (get_or rows (i - 1) (absent_entry chips.cells)) h (small e m) (each (i - 1)))))
+    (omega (arith, from-size (row_at rows) 240 128 1 edits (omega arith) (λ i e h m. row-size i e (get_or rows (i - 1) (absent_entry cells)) h (small e m) (each (i - 1)))))
 
 pub page-size : (opened last : ℕ) → opened < 4294967296 → last < 4294967296 → size_of (page_text opened last) ≤ 60
 unfolding room bytes is_mark

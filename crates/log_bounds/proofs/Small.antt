@@ -17,7 +17,8 @@ use Rattle.pages.specs.Pages.{touched, run_edit, run, kept, empty_catalogue, vie
 use Rattle.std.specs.Prelude.{Option, Some, None}
 use Rattle.catalogue.specs.declared.Entry.{Entry}
 use Rattle.catalogue.specs.Entries.{place_of, absent_entry, run_body}
-use Rattle.catalogue.specs.Chips.{cells, places, rows, chips, chips_view}
+use Rattle.catalogue.specs.Shelves.{rows}
+use Rattle.catalogue.specs.Chips.{cells, places, chips, chips_view}
 use Rattle.log_bounds.proofs.Sizes.{ValueFits, SmallEdit, SmallEntry}
 
 module _ {A : Type 0} (P : A → Type 0) where
@@ -50,7 +51,7 @@ module _ {A : Type 0} (P : A → Type 0) where
   each_set (y ∷ l) (suc i) v f p x (inl e) = f x (inl e)
   each_set (y ∷ l) (suc i) v f p x (inr m) = each_set l i v (λ z w. f z (inr w)) p x m
 
-blank-small : (entry : Entry) → entry.cells ≡ replicate cells None → SmallEntry entry
+blank-small : (entry : Entry cells) → entry.cells ≡ replicate cells None → SmallEntry entry
 blank-small entry e = record {
   few = rw e (omega (arith, length-replicate {A = Option ℕ} cells None));
   values = rw e (each-filled ValueFits cells None tt);
@@ -59,12 +60,12 @@ blank-small entry e = record {
 absent-small : SmallEntry (absent_entry cells)
 absent-small = blank-small (absent_entry cells) refl
 
-either-small : (t : Bool) (a b : Entry) → SmallEntry a → SmallEntry b → SmallEntry (cond t a b)
+either-small : (t : Bool) (a b : Entry cells) → SmallEntry a → SmallEntry b → SmallEntry (cond t a b)
 either-small true a b p q = p
 either-small false a b p q = q
 
 -- one edit
-body_run : (body : Body) → get_or (body_cells body) 3 0 < 4294967296 → (entry : Entry) → SmallEntry entry → SmallEntry (run_body cells body entry)
+body_run : (body : Body) → get_or (body_cells body) 3 0 < 4294967296 → (entry : Entry cells) → SmallEntry entry → SmallEntry (run_body cells field_number body entry)
 body_run (Insert place) v entry s = either-small entry.present _ _ s (blank-small _ refl)
 body_run (Set place field value) v entry s =
     either-small entry.present _ _
@@ -75,31 +76,31 @@ body_run (Set place field value) v entry s =
     s
 body_run (Remove place) v entry s = absent-small
 
-touched-small : (entries : List Entry) (e : Edit) → EachMember SmallEntry entries → SmallEntry (touched chips entries e)
+touched-small : (entries : List (Entry cells)) (e : Edit) → EachMember SmallEntry entries → SmallEntry (touched chips entries e)
 unfolding touched
 touched-small entries e g = each_at SmallEntry entries (place_of e.body) (absent_entry cells) g absent-small
 
-edit-run : (entries : List Entry) (e : Edit) → SmallEdit e → EachMember SmallEntry entries → EachMember SmallEntry (run_edit chips entries e)
+edit-run : (entries : List (Entry cells)) (e : Edit) → SmallEdit e → EachMember SmallEntry entries → EachMember SmallEntry (run_edit chips entries e)
 unfolding run_edit edit_row
 edit-run entries e s g =
-    each_set SmallEntry entries (place_of e.body) (run_body cells e.body (touched chips entries e)) g (body_run e.body s.value (touched chips entries e) (touched-small entries e g))
+    each_set SmallEntry entries (place_of e.body) (run_body cells field_number e.body (touched chips entries e)) g (body_run e.body s.value (touched chips entries e) (touched-small entries e g))
 
 -- and more
-all-run : (entries : List Entry) (edits : List Edit) → EachMember SmallEdit edits → EachMember SmallEntry entries → EachMember SmallEntry (run chips entries edits)
+all-run : (entries : List (Entry cells)) (edits : List Edit) → EachMember SmallEdit edits → EachMember SmallEntry entries → EachMember SmallEntry (run chips entries edits)
 unfolding run
 all-run entries [] f g = g
 all-run entries (e ∷ edits) f g = all-run (run_edit chips entries e) edits (λ x m. f x (inr m)) (edit-run entries e (f e (inl refl)) g)
 
-all-kept : (entries : List Entry) (edits : List Edit) → EachMember SmallEdit edits → EachMember SmallEntry entries → EachMember SmallEntry (kept chips entries edits)
+all-kept : (entries : List (Entry cells)) (edits : List Edit) → EachMember SmallEdit edits → EachMember SmallEntry entries → EachMember SmallEntry (kept chips entries edits)
 unfolding kept
 all-kept entries [] f g x m = absurd m
 all-kept entries (e ∷ edits) f g x (inl q) = rw q (touched-small entries e g)
 all-kept entries (e ∷ edits) f g x (inr m) = all-kept (run_edit chips entries e) edits (λ y w. f y (inr w)) (edit-run entries e (f e (inl refl)) g) x m
 
-length_run : (entries : List Entry) (edits : List Edit) → length (run chips entries edits) ≡ length entries
+length_run : (entries : List (Entry cells)) (edits : List Edit) → length (run chips entries edits) ≡ length entries
 unfolding run run_edit
 length_run entries [] = refl
-length_run entries (e ∷ edits) = length_run (run_edit chips entries e) edits ∙ length-set entries (place_of e.body) (run_body cells e.body (touched chips entries e))
+length_run entries (e ∷ edits) = length_run (run_edit chips entries e) edits ∙ length-set entries (place_of e.body) (run_body cells field_number e.body (touched chips entries e))
 
 -- what open edits make
 module _ (edits : List Edit) (small : EachMember SmallEdit edits) where

@@ -35,7 +35,7 @@ module _ (K : Shelf) where
   kept_at c (x ∷ xs) (suc i) d e (suc-le-suc h) = kept_at (run_edit K c x) xs i d e h
 
   -- Undo after run is the same view, where the row held an absent entry.
-  pub step-undone : (row : ℕ) (edit : K.Edit) (view : View K) → row < length view.journal → get_or view.journal row K.absent ≡ K.absent
+  pub step-undone : (row : ℕ) (edit : K.Edit) (view : View K.Entry) → row < length view.journal → get_or view.journal row K.absent ≡ K.absent
       → step_back K row edit (step_forward K row edit view) ≡ view
   unfolding step_back step_forward run_edit touched
   step-undone row edit view h z =

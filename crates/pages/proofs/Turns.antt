@@ -1,13 +1,13 @@
 -- Pages run, undone, turned and changed come to the view of the edits that are then open. For any number of places and rows and any kind of entry.
-use mathlib.Core.Path.{◌≡◌, sym, ap, ◌∙◌}
+use mathlib.Core.Path.{◌≡◌, refl, sym, ap, ◌∙◌}
 use mathlib.Core.List.{List, [], ◌∷◌, ◌++◌, append_assoc, append-nil}
-use Prim.Native.Nat.{ℕ, suc, ◌+◌, ◌-◌, ◌≤◌, ◌<◌}
+use Prim.Native.Nat.{ℕ, suc, ◌+◌, ◌-◌, ◌≤◌, ◌<◌, min}
 use native.Mathlib.Omega.{arith}
 use native.Mathlib.Numerals.{add-one}
 use native.Mathlib.Nat.{add-zero, add-suc, suc-add}
 use lib.Dec.{leb}
 use lib.ListN.{length, get_or, take, drop, length-append, length-take, length-drop, take-append-drop, drop_of_length-le}
-use lib.Seq.{slice, slice-cons, length-slice, length-take-le, take-take, take-suc, drop-append-le}
+use lib.Seq.{slice, slice-cons, length-slice, length-take-le, take_all, take-take, take-suc, drop-append-le}
 use borrow.Author.Tests.{leb-true, leb-false}
 use Rattle.lists.proofs.Lists.{by}
 use Rattle.pages.specs.Pages.{Shelf, View, view_of}
@@ -27,14 +27,14 @@ slice_snoc f i l d h k =
     ap (drop f) (take-suc l i d k) ∙ drop-append-le f (take i l) (get_or l i d ∷ []) m
 
 module _ (K : Shelf) where
-  back-snoc : (row : ℕ) (xs : List K.Edit) (x : K.Edit) (view : View K)
+  back-snoc : (row : ℕ) (xs : List K.Edit) (x : K.Edit) (view : View K.Entry)
       → back K row (xs ++ (x ∷ [])) view ≡ back K row xs (step_back K (row + length xs) x view)
   unfolding back
   back-snoc row [] x view = rw add-zero
   back-snoc row (y ∷ xs) x view = rw (add-suc, ← suc-add row) (ap (step_back K row y) (back-snoc (suc row) xs x view))
 
   -- the loops' turns: one page more, one page less
-  module _ (es : List K.Edit) (d : K.Edit) (w x : View K) where
+  module _ (es : List K.Edit) (d : K.Edit) (w x : View K.Entry) where
     pub forward-more : (i t : ℕ) → i < t → t ≤ length es → x ≡ step_forward K i (get_or es i d) w
         → forward K i (slice i t es) w ≡ forward K (i + 1) (slice (i + 1) t es) x
     unfolding forward
@@ -53,11 +53,11 @@ module _ (K : Shelf) where
         ∙ ap (λ (j : ℕ). back K f (slice f (i - 1) es) (step_back K j (get_or es (i - 1) d) w)) n
         ∙ ap (back K f (slice f (i - 1) es)) (sym e)
 
-  pub forward-end : (es : List K.Edit) (w : View K) (i t : ℕ) → t ≤ i → forward K i (slice i t es) w ≡ w
+  pub forward-end : (es : List K.Edit) (w : View K.Entry) (i t : ℕ) → t ≤ i → forward K i (slice i t es) w ≡ w
   unfolding forward
   forward-end es w i t h = rw (slice-end i t es h)
 
-  pub back_end : (es : List K.Edit) (w : View K) (f i : ℕ) → i ≤ f → back K f (slice f i es) w ≡ w
+  pub back_end : (es : List K.Edit) (w : View K.Entry) (f i : ℕ) → i ≤ f → back K f (slice f i es) w ≡ w
   unfolding back
   back_end es w f i h = rw (slice-end f i es h)
 
@@ -110,10 +110,10 @@ module _ (K : Shelf) where
         (λ e. let l : q < p = leb-false p q e in rw e (pages-back es room q p (omega arith) h))
 
     -- A change goes back to a common beginning of c pages and on, and comes to the view of the new edits.
-    pub pages-change : (opened new : List K.Edit) (c : ℕ) → length opened ≤ rows → length new ≤ rows → c ≤ length opened → c ≤ length new
+    change-within : (opened new : List K.Edit) (c : ℕ) → length opened ≤ rows → length new ≤ rows → c ≤ length opened → c ≤ length new
         → take c opened ≡ take c new → rescheduled K opened new c (view_of K places rows opened) ≡ view_of K places rows new
     unfolding rescheduled
-    pages-change opened new c r s h k e =
+    change-within opened new c r s h k e =
         let a : length (take c opened) ≡ c = length-take-le c opened h in
         let b : length (take c new) ≡ c = length-take-le c new k in
         let f : length (take c opened) + length (drop c opened) ≤ rows = omega (arith, length-drop c opened) in
@@ -124,3 +124,17 @@ module _ (K : Shelf) where
         ap (forward K c (drop c new)) undone
         ∙ ap (λ (row : ℕ). forward K row (drop c new) (view_of K places rows (take c new))) (sym b)
         ∙ view-forward (take c new) (drop c new) g ∙ ap (view_of K places rows) (take-append-drop c new)
+
+    -- The same without the bounds: rows that have more pages in common than one of them has are one.
+    pub pages-change : (opened new : List K.Edit) (c : ℕ) → length opened ≤ rows → length new ≤ rows → take c opened ≡ take c new
+        → rescheduled K opened new c (view_of K places rows opened) ≡ view_of K places rows new
+    unfolding rescheduled forward back
+    pages-change opened new c r s e =
+        let m : min c (length opened) ≡ min c (length new) = sym (length-take c opened) ∙ (ap length e ∙ length-take c new) in
+        by (leb c (length opened))
+        (λ t. let h : c ≤ length opened = leb-true _ _ t in change-within opened new c r s h (omega arith) e)
+        (λ t. let h : length opened < c = leb-false _ _ t in
+        let k : length new ≤ c = omega arith in
+        let one : opened ≡ new = sym (take_all c opened (omega arith)) ∙ (e ∙ take_all c new k) in
+        let n : length opened ≤ c = omega arith in
+        rw (drop_of_length-le new k, drop_of_length-le opened n, one) refl)

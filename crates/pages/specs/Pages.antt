@@ -11,9 +11,9 @@ pub record Shelf : Type 1 where
   pub place : Edit → ℕ
   pub action : Edit → Entry → Entry
 
-pub record View (K : Shelf) : Type 0 where
-  pub catalogue : List K.Entry
-  pub journal : List K.Entry
+pub record View (Entry : Type 0) : Type 0 where
+  pub catalogue : List Entry
+  pub journal : List Entry
 
 module _ (K : Shelf) where
   unfoldable pub touched : List K.Entry → K.Edit → K.Entry
@@ -37,7 +37,7 @@ module _ (K : Shelf) where
 
   -- THE VIEW that open edits make: running them gives the catalogue; of the journal's rows, row q holds the touched entry as it was before
   -- the q-th edit ran, and later rows hold an absent entry.
-  unfoldable pub view_of : ℕ → ℕ → List K.Edit → View K
+  unfoldable pub view_of : ℕ → ℕ → List K.Edit → View K.Entry
   view_of places rows edits = record {
     catalogue = run (empty_catalogue places) edits;
     journal = padded rows K.absent (kept (empty_catalogue places) edits);

@@ -6,36 +6,36 @@ use Rattle.pages.specs.Pages.{Shelf, View, touched, run_edit}
 
 module _ (K : Shelf) where
   -- the row keeps the touched entry, and the edit runs
-  unfoldable pub step_forward : ℕ → K.Edit → View K → View K
+  unfoldable pub step_forward : ℕ → K.Edit → View K.Entry → View K.Entry
   step_forward row edit view = record {
     catalogue = run_edit K view.catalogue edit;
     journal = set view.journal row (touched K view.catalogue edit);
   }
 
   -- the row's entry comes back to its place, and the row holds an absent entry again
-  unfoldable pub step_back : ℕ → K.Edit → View K → View K
+  unfoldable pub step_back : ℕ → K.Edit → View K.Entry → View K.Entry
   step_back row edit view = record {
     catalogue = set view.catalogue (K.place edit) (get_or view.journal row K.absent);
     journal = set view.journal row K.absent;
   }
 
   -- the edits of pages run, the first at the row
-  unfoldable pub forward : ℕ → List K.Edit → View K → View K
+  unfoldable pub forward : ℕ → List K.Edit → View K.Entry → View K.Entry
   forward row [] view = view
   forward row (edit ∷ edits) view = forward (suc row) edits (step_forward row edit view)
 
   -- the same pages undone, the last one first
-  unfoldable pub back : ℕ → List K.Edit → View K → View K
+  unfoldable pub back : ℕ → List K.Edit → View K.Entry → View K.Entry
   back row [] view = view
   back row (edit ∷ edits) view = step_back row edit (back (suc row) edits view)
 
   -- a turn from one open page to another
-  unfoldable pub turned_view : List K.Edit → ℕ → ℕ → View K → View K
+  unfoldable pub turned_view : List K.Edit → ℕ → ℕ → View K.Entry → View K.Entry
   turned_view edits opened page view =
       cond (leb opened page) (forward opened (slice opened page edits) view) (back page (slice page opened edits) view)
 
   -- a change from the open edits to new ones: back to the common beginning of c pages, and on
-  unfoldable pub rescheduled : List K.Edit → List K.Edit → ℕ → View K → View K
+  unfoldable pub rescheduled : List K.Edit → List K.Edit → ℕ → View K.Entry → View K.Entry
   rescheduled opened new c view = forward c (drop c new) (back c (drop c opened) view)
 
 -- how many pages two rows of names have in common at their beginning

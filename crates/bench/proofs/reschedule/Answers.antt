@@ -1,8 +1,23 @@
+use native.Mathlib.Omega.{arith}
 use Rattle.std.specs.Prelude.{Ok}
 use Rattle.voting.specs.Tally.{election_told}
+use Rattle.catalogue.proofs.Common.{common-le}
 use Rattle.bench.proofs.Moves.{change-from}
 use Rattle.bench.proofs.reschedule.Goals as goal
 
+pub overflow_sub-result : goal.overflow_sub-result
+overflow_sub-result c =
+    let s = c.args in
+    let k = common-le s.bench.now.schedule.edits s.schedule.edits s.bench.now.turner.opened s.schedule.count _ c.common_beginning-common.ensures in
+    omega arith
+
+pub overflow_sub-result-2 : goal.overflow_sub-result-2
+overflow_sub-result-2 c =
+    let s = c.args in
+    let k = common-le s.bench.now.schedule.edits s.schedule.edits s.bench.now.turner.opened s.schedule.count _ c.common_beginning-common.ensures in
+    omega arith
+
 pub returns : goal.returns
 returns c =
-    change-from c.args.bench.now c.args.multilog c.args.hidden c.args.schedule (election_told (Ok c.args.election)) _ c.change-moved.ensures.opens
+    let s = c.args in
+    change-from s.bench.now s.multilog s.hidden s.schedule (election_told (Ok s.election)) _ _ c.common_beginning-common.ensures c.change.ensures.opens

@@ -7,9 +7,9 @@ use Rattle.std.proofs.lemmas.List.Folds.{length-prefix_len}
 use Rattle.lists.proofs.Lists.{length-mapped}
 use Rattle.lists.proofs.Arrays.{take-least}
 use Rattle.record.specs.declared.Edit.{Edit}
-use Rattle.catalogue.specs.Chips.{rows}
+use Rattle.catalogue.specs.Shelves.{rows}
 use Rattle.catalogue.specs.Changes.{common}
-use Rattle.catalogue.proofs.Moves.{same_name, common-counted}
+use Rattle.catalogue.proofs.Common.{same_name, common-counted}
 use Rattle.catalogue.proofs.common_beginning.Goals as goal
 
 pub returns : goal.returns

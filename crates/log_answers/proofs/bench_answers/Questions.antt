@@ -12,7 +12,7 @@ use Rattle.lists.proofs.Arrays.{get_or-any}
 use Rattle.record.specs.declared.Edit.{Edit}
 use Rattle.catalogue.specs.declared.Entry.{Entry}
 use Rattle.catalogue.specs.Entries.{place_of, absent_entry}
-use Rattle.catalogue.specs.Chips as chips
+use Rattle.catalogue.specs.Chips.{cells}
 use Rattle.log_forms.specs.Printed.{Texts, Printed, texts_from}
 use Rattle.log_forms.specs.declared.Printer.{Printer}
 use Rattle.log_forms.proofs.Printing.{printed-nothing, printed-both}
@@ -47,7 +47,7 @@ module _ (edits : List Edit) {before middle after : Printer} where
   unfolding schedule_text
   schedule-printed p q = printed-both p q
 
-  pub journal-printed : (rows : List Entry) → Printed (answer_line "open=#\n" (length edits ∷ [])) before middle → Printed (texts_from (row_at rows) 1 edits) middle after
+  pub journal-printed : (rows : List (Entry cells)) → Printed (answer_line "open=#\n" (length edits ∷ [])) before middle → Printed (texts_from (row_at rows) 1 edits) middle after
       → Printed (journal_text edits rows) before after
   unfolding journal_text
   journal-printed rows p q = printed-both p q
@@ -63,28 +63,28 @@ last-form Page (suc (suc (suc n))) a b c = refl
 
 -- an entry, all entries, a row
 module _ {before middle after : Printer} where
-  pub entry-printed : (chip : ℕ) (entry : Entry) → entry.present ≡ true → Printed (answer_line "chip=#\n" (chip ∷ [])) before middle
+  pub entry-printed : (chip : ℕ) (entry : Entry cells) → entry.present ≡ true → Printed (answer_line "chip=#\n" (chip ∷ [])) before middle
       → Printed (cells_text Chip chip entry.cells) middle after → Printed (entry_text chip entry) before after
   unfolding entry_text
   entry-printed chip entry e p q = rw e (printed-both p q)
 
-  pub catalogue-printed : (entries : List Entry) {k : ℕ} → k ≡ length (filter is_present entries) → Printed (answer_line "chips=#\n" (k ∷ [])) before middle
+  pub catalogue-printed : (entries : List (Entry cells)) {k : ℕ} → k ≡ length (filter is_present entries) → Printed (answer_line "chips=#\n" (k ∷ [])) before middle
       → Printed (texts_from entry_text 0 entries) middle after → Printed (catalogue_text entries) before after
   unfolding catalogue_text
   catalogue-printed entries {k} c p q = rw (← c) (printed-both p q)
 
-  pub row-printed : (page : ℕ) (e : Edit) (row : Entry) {chip present : ℕ} → chip ≡ place_of e.body → present ≡ cond row.present 1 0
+  pub row-printed : (page : ℕ) (e : Edit) (row : Entry cells) {chip present : ℕ} → chip ≡ place_of e.body → present ≡ cond row.present 1 0
       → Printed (answer_line "page=# chip=# present=?\n" (page ∷ chip ∷ present ∷ [])) before middle → Printed (cells_text Page page row.cells) middle after
       → Printed (row_text page e row) before after
   unfolding row_text
   row-printed page e row {chip} {present} c f p q = rw (← c, ← f) (printed-both p q)
 
-pub entry_absent : (before : Printer) (chip : ℕ) (entry : Entry) → entry.present ≡ false → Printed (entry_text chip entry) before before
+pub entry_absent : (before : Printer) (chip : ℕ) (entry : Entry cells) → entry.present ≡ false → Printed (entry_text chip entry) before before
 unfolding entry_text
 entry_absent before chip entry e = rw e (printed-nothing before)
 
 -- the row of a page
-pub row_before : (rows : List Entry) (i : ℕ) (e : Edit) (d : Entry) → i < length rows → row_text (i + 1) e (get_or rows i d) ≡ row_at rows (i + 1) e
+pub row_before : (rows : List (Entry cells)) (i : ℕ) (e : Edit) (d : Entry cells) → i < length rows → row_text (i + 1) e (get_or rows i d) ≡ row_at rows (i + 1) e
 row_before rows i e d h =
     let q : i + 1 - 1 ≡ i = omega arith in
-    rw (q, get_or-any rows i d (absent_entry chips.cells) h)
+    rw (q, get_or-any rows i d (absent_entry cells) h)

@@ -4,7 +4,7 @@ use Rattle.lists.specs.Lists.{filter}
 use Rattle.record.specs.declared.Edit.{Edit}
 use Rattle.catalogue.specs.declared.Entry.{Entry}
 use Rattle.catalogue.specs.Entries.{place_of, absent_entry}
-use Rattle.catalogue.specs.Chips as chips
+use Rattle.catalogue.specs.Chips.{cells}
 use Rattle.text_forms.specs.Spelling.{bytes}
 use Rattle.text_forms.specs.Form.{fill}
 use Rattle.log_forms.specs.Printed.{Texts, texts_from}
@@ -50,23 +50,23 @@ abbrev pub cells_text : Owner → ℕ → List (Option ℕ) → Texts
 cells_text owner label cells = texts_from (cell_line owner label) 0 cells
 
 -- The catalogue: the present entries.
-abbrev pub is_present : Entry → Bool
+abbrev pub is_present : Entry cells → Bool
 is_present entry = entry.present
 
-unfoldable pub entry_text : ℕ → Entry → Texts
+unfoldable pub entry_text : ℕ → Entry cells → Texts
 entry_text chip entry = cond (is_present entry) (answer_line "chip=#\n" (chip ∷ []) ++ cells_text Chip chip entry.cells) []
 
-unfoldable pub catalogue_text : List Entry → Texts
+unfoldable pub catalogue_text : List (Entry cells) → Texts
 catalogue_text entries = answer_line "chips=#\n" (length (filter is_present entries) ∷ []) ++ texts_from entry_text 0 entries
 
 -- The journal: for each open page the touched chip and the entry as it was before. Row q - 1 is that of page q.
-unfoldable pub row_text : ℕ → Edit → Entry → Texts
+unfoldable pub row_text : ℕ → Edit → Entry cells → Texts
 row_text page e row = answer_line "page=# chip=# present=?\n" (page ∷ place_of e.body ∷ bit row.present ∷ []) ++ cells_text Page page row.cells
 
-abbrev pub row_at : List Entry → ℕ → Edit → Texts
-row_at rows page e = row_text page e (get_or rows (page - 1) (absent_entry chips.cells))
+abbrev pub row_at : List (Entry cells) → ℕ → Edit → Texts
+row_at rows page e = row_text page e (get_or rows (page - 1) (absent_entry cells))
 
-unfoldable pub journal_text : List Edit → List Entry → Texts
+unfoldable pub journal_text : List Edit → List (Entry cells) → Texts
 journal_text edits rows = answer_line "open=#\n" (length edits ∷ []) ++ texts_from (row_at rows) 1 edits
 
 -- The open and the last page.

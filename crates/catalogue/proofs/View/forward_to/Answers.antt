@@ -4,16 +4,16 @@ use lib.ListN.{length}
 use native.Mathlib.Omega.{arith}
 use borrow.Author.Rules.{rules}
 use Rattle.lists.proofs.Lists.{length-mapped}
-use Rattle.catalogue.specs.Chips.{cells, rows, stored_view}
-use Rattle.catalogue.proofs.Loops.{run-more, pages-run-end}
+use Rattle.catalogue.specs.Shelves.{shelf, rows, stored_view}
+use Rattle.pages.proofs.Loops.{run-more, pages-run-end}
 use Rattle.catalogue.proofs.View.forward_to.Goals as goal
 
 pub loop-page-preserved : goal.loop-page-preserved
-loop-page-preserved c =
-    let g : length c.args.schedule.edits ≡ rows = search (rules, length-mapped) in
-    run-more cells rows c.args.schedule.edits _ _ _ _ _ _ _ _ c.loop-page.invariant c.loop-page-test.true (omega arith) c.run.ensures.ran c.run.ensures.kept
+loop-page-preserved g c =
+    let n : length c.args.schedule.edits ≡ rows = search (rules, length-mapped) in
+    run-more (shelf g.row.CELLS g.L.Layout.place g.L.Layout.cell) rows c.args.schedule.edits _ _ _ _ _ _ _ _ c.loop-page.invariant c.loop-page-test.true (omega arith) c.run_edit.ensures.ran c.run_edit.ensures.kept
 
 pub returns : goal.returns
-returns c =
-    let g : length c.args.schedule.edits ≡ rows = search (rules, length-mapped) in
-    ap stored_view (pages-run-end cells rows c.args.schedule.edits g _ _ _ _ _ _ c.loop-page.invariant c.loop-page-test.false c.min-page-end.ensures)
+returns g c =
+    let n : length c.args.schedule.edits ≡ rows = search (rules, length-mapped) in
+    ap stored_view (pages-run-end (shelf g.row.CELLS g.L.Layout.place g.L.Layout.cell) rows c.args.schedule.edits n _ _ _ _ _ _ c.loop-page.invariant c.loop-page-test.false c.min-page-end.ensures)

@@ -1,6 +1,7 @@
-use Rattle.catalogue.specs.Chips.{cells, content_of}
-use Rattle.catalogue.proofs.Loops.{LeftToRun}
+use Rattle.catalogue.specs.Shelves.{shelf, content_of}
+use Rattle.pages.proofs.Loops.{LeftToRun}
 use Rattle.catalogue.proofs.View.forward_to.Given as goal
 
 abbrev pub invariant-loop-page : goal.invariant-loop-page
-invariant-loop-page l = LeftToRun cells l.schedule.edits l.fn.from l.page-end (content_of l.initial.self) l.page (content_of l.self)
+invariant-loop-page g l =
+    LeftToRun (shelf g.row.CELLS g.L.Layout.place g.L.Layout.cell) l.schedule.edits l.fn.from l.page-end (content_of l.initial.self) l.page (content_of l.self)
