@@ -1,3 +1,2 @@
-pub mod Pages
 pub mod Moves
 pub mod Scheduled

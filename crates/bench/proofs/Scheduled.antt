@@ -12,7 +12,9 @@ use Rattle.record.specs.Record.{Record, names, written}
 use Rattle.record.specs.Stored.{stored, edit_named}
 use Rattle.lists.proofs.Lists.{same_by, mem_index, filter-mem, mem-filter}
 use Rattle.record.proofs.Records.{written-names}
-use Rattle.record.proofs.Scheduled.{schedule-same}
+use Rattle.record.specs.Schedule.{schedule}
+use Rattle.record.proofs.Scheduled.{schedule-sound, schedule-same}
+use Rattle.record_tables.proofs.Records.{checked-wellformed}
 use Rattle.graph.specs.links.Marks.{marks_of}
 use Rattle.graph.proofs.links.Names.{get_or-place}
 use Rattle.graph.proofs.links.Marks.{marks-at}
@@ -23,6 +25,7 @@ use Rattle.graph.proofs.indexes.Fit.{checked-fit}
 use Rattle.catalogue.specs.Shelves.{schedule_of}
 use Rattle.voting.specs.Tally.{Election}
 use Rattle.ledger.specs.declared.Bench.{Bench}
+use Rattle.ledger.specs.Ledger.{change}
 use Rattle.ledger.specs.Bench.{Outcome}
 use Rattle.lists.proofs.Tests.{bit_is}
 use Rattle.bench.specs.Changes.{pages_of, Changes, Reschedules}
@@ -42,7 +45,7 @@ marked-hidden R h w x =
     (λ i. let p = filter-mem test (names R) x i in sym (marked-is R (λ y. mem y h) x p.0) ∙ p.1)
     (λ i. let k = written-names R x (w x i) in mem-filter test (names R) x k (marked-is R (λ y. mem y h) x k ∙ i))
 
-pages-made : (R : Record) (h : List ℕ) → h within written R → judge.stored_schedule R (marked_edits R (marks_of R (λ x. mem x h))) ≡ pages_of R h
+pages-made : (R : Record) (h : List ℕ) → h within written R → judge.stored_schedule R (marked_edits R (marks_of R (λ x. mem x h))) ≡ pages_of R (schedule R h)
 unfolding judge.stored_schedule judge.scheduled_edits pages_of schedule_of
 pages-made R h w =
     let e = schedule-same R (marked_edits R (marks_of R (λ x. mem x h))) h (marked-hidden R h w) in
@@ -51,6 +54,7 @@ pages-made R h w =
 pub change-made : (bench : Bench) (multilog : declared.Record) (hidden : List ℕ) (new : Schedule) (E : Election) (r : Outcome)
     → ((R : Record) → multilog ≡ stored R → Fit R → new ≡ judge.stored_schedule R (marked_edits R hidden))
     → Reschedules bench multilog hidden new E r → Changes bench multilog hidden E r
-unfolding Changes Reschedules
+unfolding Changes Reschedules change
 change-made bench multilog hidden new E r s f = λ calls R h e m w hh k snd keeps.
-    f calls R h e m hh (s R m (checked-fit R k) ∙ ap (λ (t : List ℕ). judge.stored_schedule R (marked_edits R t)) hh ∙ pages-made R h w) k snd keeps
+    f calls R h (schedule R h) e m hh (s R m (checked-fit R k) ∙ ap (λ (t : List ℕ). judge.stored_schedule R (marked_edits R t)) hh ∙ pages-made R h w) k
+    (schedule-sound R (checked-wellformed R k) snd h) keeps

@@ -6,7 +6,7 @@ pub mod hidden;
 
 ghost use Rattle.std.specs.Prelude.{◌≡◌, Ok};
 ghost use Rattle.voting.specs.Tally.{election_told};
-ghost use Rattle.ledger.specs.Ledger.{Call, call_told, no_election, plain_answer, start};
+ghost use Rattle.ledger.specs.Ledger.{Call, accepted_answer, call_told, no_election, start};
 ghost use Rattle.ledger.specs.Bench.{Answers, bench_of, told_outcome};
 ghost use Rattle.bench.specs.Changes.{Opens, Reschedules};
 
@@ -41,14 +41,10 @@ pub fn open_at(bench: &mut Bench, page: usize)
 }
 
 // What a turn answers: no pages undone or redone, and no election. Pub for the crates of the call log.
-pub fn plain_result() -> CallResult
-    ensures { call_told (Ok result) ≡ plain_answer 0 }
+pub fn turn_result() -> CallResult
+    ensures { call_told (Ok result) ≡ accepted_answer 0 0 no_election }
 {
-    CallResult {
-        undone: 0,
-        redone: 0,
-        election: no_election(),
-    }
+    CallResult::accepted(0, 0, no_election())
 }
 
 pub fn turn(bench: &mut Bench, by: i32) -> Result<CallResult, Refusal>
@@ -56,7 +52,7 @@ pub fn turn(bench: &mut Bench, by: i32) -> Result<CallResult, Refusal>
 {
     let after = turning::turned(bench.turner, by)?;
     open_at(bench, after.opened);
-    Ok(plain_result())
+    Ok(turn_result())
 }
 
 // What a call without an election tells of one. Pub for the crates of the other calls.
@@ -85,6 +81,8 @@ pub fn reschedule(
     let last = schedule.count;
     let opened = bench.turner.opened;
     let common = catalogue::common_beginning(bench.schedule, opened, schedule);
+    let undone = opened - common;
+    let redone = last - common;
     bench
         .view
         .change::<Chips>(bench.schedule, opened, schedule, common);
@@ -92,9 +90,5 @@ pub fn reschedule(
     bench.hidden = hidden;
     bench.schedule = schedule;
     bench.turner = Turner { opened: last, last };
-    CallResult {
-        undone: opened - common,
-        redone: last - common,
-        election,
-    }
+    CallResult::accepted(undone, redone, election)
 }

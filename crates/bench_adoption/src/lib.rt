@@ -16,10 +16,7 @@ pub fn adopt(bench: &mut Bench, edit: u32, poll: &Poll) -> Result<CallResult, Re
 {
     let counted = voting_count::count(edit, poll)?;
     let Some(bundle) = counted.bundle else {
-        return Ok(CallResult {
-            election: counted.election,
-            ..bench::plain_result()
-        });
+        return Ok(CallResult::accepted(0, 0, counted.election));
     };
     let joined = record_joining::merge_record(bench.multilog, bundle);
     bench_edits::joined_bench(bench, joined, counted.election)

@@ -1,13 +1,14 @@
 -- Two ledgers with one bench answer every call alike, and so the calls of every list are linked. Assumes nothing.
 use mathlib.Core.Path.{◌≡◌, refl, sym, ap, ◌∙◌, fun_ext}
 use mathlib.Core.Bool.{Bool, not, ◌||◌}
-use mathlib.Core.List.{List, [], ◌∷◌}
+use mathlib.Core.List.{List, [], ◌∷◌, map}
 use mathlib.Core.Option.{Option, none as nothing, some}
 use Prim.Native.Nat.{ℕ}
 use lib.Dec.{eqb}
+use lib.ListN.{take}
 use Rattle.lists.specs.Lists.{mem, index_of, ◌within◌}
 use Rattle.lists.proofs.Lists.{by, same_by, mem_index, filter-mem, mem-filter}
-use Rattle.record.specs.Record.{Record, names, written}
+use Rattle.record.specs.Record.{Record, name_of, names, written}
 use Rattle.record.specs.Stored.{record_of}
 use Rattle.record.proofs.Records.{written-names}
 use Rattle.record.proofs.Scheduled.{schedule-same}
@@ -21,10 +22,11 @@ use Rattle.voting.specs.Tally.{Election, winner}
 use Rattle.voting_roll.specs.Election.{cast, counted}
 use Rattle.pages_turner.specs.Turn.{turned, open_after}
 use Rattle.ledger.specs.declared.Bench.{Bench}
-use Rattle.ledger.specs.Ledger.{Ledger, Call, add_edit, add_constraint, merge, hide, show, turn, adopt, CallAnswer, plain_answer, answered, start, pages, last, at_page, judge, change, shown, adopted, act, refusal, step, fed}
+use Rattle.ledger.specs.Ledger.{Ledger, Call, add_edit, add_constraint, merge, hide, show, turn, adopt, CallAnswer, no_election, accepted_answer, refused_answer, start, pages, last, at_page, judge, call_detail, change_to, change, shown, adopted, act, refusal, step, fed}
 use Rattle.ledger.specs.Bench.{page_edits, open_edits, bench_of, outcome, Linked, none, more, outcomes}
 use Rattle.ledger.proofs.Valid.{Valid, start-valid, step-valid, fed-valid}
 use Rattle.ledger.proofs.Undone.{from-valid}
+use Rattle.ledger.proofs.Pages.{schedule-read}
 
 -- the ledger with other hidden edits
 abbrev hiding : Ledger → List ℕ → Ledger
@@ -33,7 +35,7 @@ hiding L hidden = record { multilog = L.multilog; hidden = hidden; schedule = L.
 -- of hidden edits a change depends on their set alone
 change-alike : (L : Ledger) (j : List ℕ) (R : Record) (h k : List ℕ) (E : Election) → ((x : ℕ) → mem x h ≡ mem x k)
     → outcome (change L R h E) ≡ outcome (change (hiding L j) R k E)
-unfolding change outcome bench_of page_edits open_edits pages last
+unfolding change change_to outcome bench_of page_edits open_edits pages last
 change-alike L j R h k E f = rw (schedule-same R h k f, fun_ext f)
 
 -- and so does a step
@@ -47,6 +49,16 @@ module _ (L : Ledger) (k : List ℕ) (f : (x : ℕ) → mem x L.hidden ≡ mem x
   judged-alike (show x) = rw (f x)
   judged-alike (turn n) = refl
   judged-alike (adopt e P roll) = refl
+
+  detail-alike : (call : Call) → call_detail L call ≡ call_detail (hiding L k) call
+  unfolding call_detail
+  detail-alike (add_edit row) = refl
+  detail-alike (add_constraint row) = refl
+  detail-alike (merge edits constraints) = refl
+  detail-alike (hide x) = refl
+  detail-alike (show x) = refl
+  detail-alike (turn n) = refl
+  detail-alike (adopt e P roll) = refl
 
   page-alike : (answer : CallAnswer) (page : ℕ)
       → outcome (record { answer = answer; after = at_page L page }) ≡ outcome (record { answer = answer; after = at_page (hiding L k) page })
@@ -63,7 +75,7 @@ module _ (L : Ledger) (k : List ℕ) (f : (x : ℕ) → mem x L.hidden ≡ mem x
 
   adopted-alike : (E : Election) (o : Option Record) → outcome (adopted L E o) ≡ outcome (adopted (hiding L k) E o)
   unfolding at_page
-  adopted-alike E nothing = page-alike (answered 0 0 E) L.opened
+  adopted-alike E nothing = page-alike (accepted_answer 0 0 E) L.opened
   adopted-alike E (some B) = change-alike L k (unite L.multilog B) L.hidden k E f
 
   acted-alike : (call : Call) → outcome (act L call) ≡ outcome (act (hiding L k) call)
@@ -73,7 +85,7 @@ module _ (L : Ledger) (k : List ℕ) (f : (x : ℕ) → mem x L.hidden ≡ mem x
   acted-alike (merge edits constraints) = change-alike L k _ L.hidden k _ f
   acted-alike (hide x) = change-alike L k L.multilog (x ∷ L.hidden) (x ∷ k) _ (λ y. ap (λ (b : Bool). eqb y x || b) (f y))
   acted-alike (show x) = change-alike L k L.multilog (shown x L.hidden) (shown x k) _ (shown-alike x)
-  acted-alike (turn n) = page-alike (plain_answer 0) (open_after L.opened (turned L.opened (last L) n))
+  acted-alike (turn n) = page-alike (accepted_answer 0 0 no_election) (open_after L.opened (turned L.opened (last L) n))
   acted-alike (adopt e P roll) = adopted-alike (counted (cast e P roll)) (winner (cast e P roll))
 
   step-alike : (call : Call) → outcome (step L call) ≡ outcome (step (hiding L k) call)
@@ -81,7 +93,7 @@ module _ (L : Ledger) (k : List ℕ) (f : (x : ℕ) → mem x L.hidden ≡ mem x
   step-alike call =
       by (eqb (judge (hiding L k) call) 0)
       (λ e. rw (judged-alike call, e) (acted-alike call))
-      (λ e. rw (judged-alike call, e) (page-alike (plain_answer (judge (hiding L k) call)) L.opened))
+      (λ e. rw (judged-alike call, detail-alike call, e) (page-alike (refused_answer (judge (hiding L k) call) (call_detail (hiding L k) call)) L.opened))
 
 -- the marks of hidden edits determine their set
 hidden-within : (R : Record) (h k : List ℕ) → h within written R → marks_of R (λ x. mem x h) ≡ marks_of R (λ x. mem x k) → h within k
@@ -102,7 +114,8 @@ one-bench L M v w e call =
     let f : (x : ℕ) → mem x L.hidden ≡ mem x M.hidden =
     λ x. same_by _ _ (hidden-within L.multilog L.hidden M.hidden v.hidden-written marks x)
     (hidden-within L.multilog M.hidden L.hidden (rw r at w.hidden-written) (sym marks) x) in
-    let s : M.schedule ≡ L.schedule = rw r at w.made ∙ sym (schedule-same L.multilog L.hidden M.hidden f) ∙ sym v.made in
+    let s : M.schedule ≡ L.schedule =
+    sym (schedule-read M w) ∙ ap (λ (b : Bench). 0 ∷ map name_of (take b.schedule.count b.schedule.edits)) (sym e) ∙ schedule-read L v in
     let o : M.opened ≡ L.opened = ap (λ (b : Bench). b.turner.opened) (sym e) in
     let m : M ≡ hiding L M.hidden = λ i. record { multilog = r i; hidden = M.hidden; schedule = s i; opened = o i } in
     step-alike L M.hidden f call ∙ sym (ap (λ (N : Ledger). outcome (step N call)) m)

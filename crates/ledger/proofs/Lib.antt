@@ -1,4 +1,6 @@
 pub mod Valid
+mod House
 pub mod Undone
 pub mod Told
+pub mod Pages
 pub mod Alike

@@ -2,7 +2,7 @@
 use mathlib.Core.Path.{◌≡◌, sym, ap}
 use Rattle.std.specs.Prelude.{Result, Ok, Err}
 use Rattle.refusals.specs.declared.Refusal.{Refusal}
-use Rattle.refusals.proofs.Numbers.{number-injective, number-positive}
+use Rattle.refusals.proofs.Numbers.{refusal-told-unique, number-positive}
 use Rattle.ledger.specs.declared.Bench.{Bench}
 use Rattle.ledger.specs.declared.CallResult.{CallResult}
 use Rattle.ledger.specs.Ledger.{CallAnswer, call_told}
@@ -16,7 +16,7 @@ call-told-unique (Ok r) (Ok s) e = λ i. Ok (record {
 })
 call-told-unique (Ok r) (Err s) e = absurd (number-positive s (ap (λ (a : CallAnswer). a.number) (sym e)))
 call-told-unique (Err r) (Ok s) e = absurd (number-positive r (ap (λ (a : CallAnswer). a.number) e))
-call-told-unique (Err r) (Err s) e = ap Err (number-injective r s (ap (λ (a : CallAnswer). a.number) e))
+call-told-unique (Err r) (Err s) e = ap Err (refusal-told-unique r s (ap (λ (a : CallAnswer). a.number) e) (ap (λ (a : CallAnswer). a.detail) e))
 
 -- and the told outcome the answer and the bench
 pub outcome-told-unique : (a b : Result CallResult Refusal) (c d : Bench) → told_outcome a c ≡ told_outcome b d → (a ≡ b) × (c ≡ d)

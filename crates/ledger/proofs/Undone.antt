@@ -10,13 +10,15 @@ use lib.Dec.{eqb}
 use lib.IntN.{ℤ, pos, ◌+ℤ◌, +ℤ_assoc, +ℤ_idr}
 use lib.ListN.{length, drop}
 use borrow.Author.Tests.{eqb-true, eq-eqb, ne_eqb, le-leb}
+use Rattle.refusals.specs.declared.Refusal.{Refusal}
+use Rattle.refusals.specs.Numbers.{number, detail}
+use Rattle.refusals.proofs.Numbers.{no-detail}
 use Rattle.record.specs.declared.Edit.{Edit}
 use Rattle.lists.specs.Lists.{filter, mem, ◌among◌, Has}
 use Rattle.record.specs.Record.{Record, written, notafter, enables}
 use Rattle.record.specs.Schedule.{schedule}
 use Rattle.record.specs.Judgement.{must}
 use Rattle.lists.proofs.Lists.{by, clash, is-by, mem-head, mem-tail, or-no-r}
-use Rattle.record.proofs.Scheduled.{schedule-sound}
 use Rattle.lists.proofs.Union.{united-old}
 use Rattle.record_rows.proofs.grounds.Grounds.{orelse-none, given-none}
 use Rattle.record_rows.specs.row.Row.{Row, is_name, edit_of}
@@ -33,9 +35,9 @@ use Rattle.pages.proofs.Pages.{catalogue-of}
 use Rattle.catalogue.specs.Shelves.{rows}
 use Rattle.catalogue.specs.Chips.{chips, places, chips_view}
 use Rattle.ledger.specs.declared.Bench.{Bench}
-use Rattle.ledger.specs.Ledger.{Ledger, Call, add_edit, add_constraint, merge, hide, show, turn, adopt, Reply, start, pages, last, at_page, judge, change, shown, adopted, act, refusal, step, fed}
+use Rattle.ledger.specs.Ledger.{Ledger, Call, add_edit, add_constraint, merge, hide, show, turn, adopt, Reply, start, pages, last, at_page, judge, call_detail, change_to, change, shown, adopted, act, refusal, step, fed}
 use Rattle.ledger.specs.Bench.{Outcome, open_edits, bench_of, outcome, Answers, Linked, none, more, answers_of, told, Undo}
-use Rattle.ledger.proofs.Valid.{Valid, ledger-well-formed, start-valid, fed-valid}
+use Rattle.ledger.proofs.Valid.{Valid, start-valid, fed-valid}
 
 -- what is shown of every valid ledger is promised of every list of calls
 pub from-valid : (bench : Bench) (call : Call) (r : Outcome) → ((L : Ledger) → Valid L → bench ≡ bench_of L → r ≡ outcome (step L call)) → Answers bench call r
@@ -75,7 +77,7 @@ undo-rule {calls} l =
     record { ledger = k.ledger; answers = k.answers; catalogue = ap (λ (b : Bench). b.view.catalogue.entries) k.ledger ∙ ran (fed start calls) }
 
 -- a step by its judgement
-pub step-refused : (L : Ledger) (call : Call) → (judge L call ≡ 0 → ⊥) → step L call ≡ refusal L (judge L call)
+pub step-refused : (L : Ledger) (call : Call) → (judge L call ≡ 0 → ⊥) → step L call ≡ refusal L (judge L call) (call_detail L call)
 unfolding step
 step-refused L call n = rw (ne_eqb (judge L call) 0 n)
 
@@ -83,18 +85,29 @@ pub step-accepted : (L : Ledger) (call : Call) → judge L call ≡ 0 → step L
 unfolding step
 step-accepted L call e = rw e
 
+-- what a refusal tells beside the number that the call is judged to have
+pub detail-told : (L : Ledger) (call : Call) (refused : Refusal) → number refused ≡ judge L call → detail refused ≡ call_detail L call
+unfolding call_detail
+detail-told L (add_edit row) refused j = no-detail refused
+detail-told L (add_constraint row) refused j = no-detail refused
+detail-told L (merge edits constraints) refused j = no-detail refused
+detail-told L (hide x) refused j = no-detail refused
+detail-told L (show x) refused j = no-detail refused
+detail-told L (turn n) refused j = no-detail refused
+detail-told L (adopt e P roll) refused j = no-detail refused
+
 accepted-judged : (L : Ledger) (call : Call) → (step L call).answer.number ≡ 0 → judge L call ≡ 0
 unfolding refusal
 accepted-judged L call e =
     is-by (judge L call) 0 (λ q. q) (λ q. sym (ap (λ (r : Reply). r.answer.number) (step-refused L call q)) ∙ e)
 
 adopted-number : (L : Ledger) (E : Election) (o : Option Record) → (adopted L E o).answer.number ≡ 0
-unfolding change
+unfolding change change_to
 adopted-number L E nothing = refl
 adopted-number L E (some B) = refl
 
 accepted-number : (L : Ledger) (call : Call) → (act L call).answer.number ≡ 0
-unfolding act change
+unfolding act change change_to
 accepted-number L (add_edit row) = refl
 accepted-number L (add_constraint row) = refl
 accepted-number L (merge edits constraints) = refl
@@ -157,7 +170,8 @@ opposite-turns calls n k b r s e o a z c =
       ap (λ (u : Outcome). u.bench) y ∙ (ap bench_of (turn-after (at_page L page) k L.opened t₂) ∙ sym e),
     ))
 
--- HIDING AND THEN SHOWING gives the bench of before with its last page open.
+-- HIDING AND THEN SHOWING gives the bench of before with its last page open, where that shows the bench schedule of its record and hidden edits, as
+-- every bench that these calls leave does (`house-schedule`).
 filter-all : (p : ℕ → Bool) (l : List ℕ) → ((y : ℕ) → y among l → p y ≡ true) → filter p l ≡ l
 unfolding filter
 filter-all p [] f = refl
@@ -174,20 +188,21 @@ fresh L x h =
     let k = (orelse-none (5 given not (mem x (written L.multilog))) _ (orelse-none (2 given not (is_name x)) _ h).1).1 in
     or-no-r (must L.multilog x) _ (given-none 8 _ k)
 
-again : (L : Ledger) (x : ℕ) → Valid L → mem x L.hidden ≡ false → (act (act L (hide x)).after (show x)).after ≡ at_page L (last L)
-unfolding act change at_page last pages
-again L x v n =
+again : (L : Ledger) (x : ℕ) → L.schedule ≡ schedule L.multilog L.hidden → mem x L.hidden ≡ false
+    → (act (act L (hide x)).after (show x)).after ≡ at_page L (last L)
+unfolding act change change_to at_page last pages
+again L x made n =
     let e = shown-hidden x L.hidden n in
-    let m : schedule L.multilog (shown x (x ∷ L.hidden)) ≡ L.schedule = ap (schedule L.multilog) e ∙ sym v.made in
+    let m : schedule L.multilog (shown x (x ∷ L.hidden)) ≡ L.schedule = ap (schedule L.multilog) e ∙ sym made in
     λ i. record { multilog = L.multilog; hidden = e i; schedule = m i; opened = length (drop 1 (m i)) }
 
-pub hidden-shown : (calls : List Call) (x : ℕ) (b : Bench) (r s : Outcome) → b ≡ bench_of (fed start calls)
+pub hidden-shown : (calls : List Call) → (fed start calls).schedule ≡ schedule (fed start calls).multilog (fed start calls).hidden
+    → (x : ℕ) (b : Bench) (r s : Outcome) → b ≡ bench_of (fed start calls)
     → Answers b (hide x) r → r.answer.number ≡ 0 → Answers r.bench (show x) s → s.answer.number ≡ 0
     → s.bench ≡ bench_of (at_page (fed start calls) (last (fed start calls)))
-unfolding Answers outcome at_page last pages act change
-hidden-shown calls x b r s e a z c w =
+unfolding Answers outcome at_page last pages act change change_to
+hidden-shown calls made x b r s e a z c w =
     let L = fed start calls in
-    let v = fed-valid start calls start-valid in
     let y = a calls e in
     let hid = accepted-judged L (hide x) (sym (ap (λ (u : Outcome). u.answer.number) y) ∙ z) in
     let L₁ = (act L (hide x)).after in
@@ -196,29 +211,25 @@ hidden-shown calls x b r s e a z c w =
     let y₂ : s ≡ outcome (step L₁ (show x)) = rw m at (c (calls ++ (hide x ∷ [])) q) in
     let sho = accepted-judged L₁ (show x) (sym (ap (λ (u : Outcome). u.answer.number) y₂) ∙ w) in
     let n : mem x L.hidden ≡ false = fresh L x hid in
-    ap (λ (u : Outcome). u.bench) y₂ ∙ (ap (λ (u : Reply). bench_of u.after) (step-accepted L₁ (show x) sho) ∙ ap bench_of (again L x v n))
+    ap (λ (u : Outcome). u.bench) y₂ ∙ (ap (λ (u : Reply). bench_of u.after) (step-accepted L₁ (show x) sho) ∙ ap bench_of (again L x made n))
 
 -- THE DESK'S RULES. An edit never stands without the edits that enable it: of every schedule that calls lead to, whose pages are all in the view
 -- whenever the last one is open.
 pub never-alone : (calls : List Call) (a b : ℕ) → enables (fed start calls).multilog a b ≡ true → b among (fed start calls).schedule → a among (fed start calls).schedule
-never-alone calls a b e i =
-    let v = fed-valid start calls start-valid in
-    let s = schedule-sound (fed start calls).multilog (ledger-well-formed v) v.sound-now (fed start calls).hidden in
-    rw v.made (s.complete a b e (rw v.made at i))
+never-alone calls a b e i = (fed-valid start calls start-valid).sound-schedule.complete a b e i
 
 -- Two edits that are each notafter the other never both stand.
 pub never_both : (calls : List Call) (a b : ℕ) → notafter (fed start calls).multilog a b ≡ true → notafter (fed start calls).multilog b a ≡ true
     → a among (fed start calls).schedule → b among (fed start calls).schedule → ⊥
 never_both calls a b e f i j =
-    let v = fed-valid start calls start-valid in
-    let s = schedule-sound (fed start calls).multilog (ledger-well-formed v) v.sound-now (fed start calls).hidden in
-    let p = s.orders a b e (rw v.made at i) (rw v.made at j) in
-    let q = s.orders b a f (rw v.made at j) (rw v.made at i) in
+    let s = (fed-valid start calls start-valid).sound-schedule in
+    let p = s.orders a b e i j in
+    let q = s.orders b a f j i in
     omega arith
 
 -- Every edit of the record stays in it, with its body.
 act-stays : (L : Ledger) (call : Call) (e : Edit) → Has e L.multilog.edits → Has e (act L call).after.multilog.edits
-unfolding act change unite
+unfolding act change change_to unite
 act-stays L (add_edit row) e h = united-old edit_key e L.multilog.edits _ h
 act-stays L (add_constraint row) e h = united-old edit_key e L.multilog.edits _ h
 act-stays L (merge edits constraints) e h = united-old edit_key e L.multilog.edits _ h
@@ -241,7 +252,7 @@ edits-stay L [] e h = h
 edits-stay L (call ∷ calls) e h = edits-stay (step L call).after calls e (step_stays L call e h)
 
 added-in : (L : Ledger) (row : Row) → Valid L → judge L (add_edit row) ≡ 0 → Has (edit_of row) (act L (add_edit row)).after.multilog.edits
-unfolding act change unite judge
+unfolding act change change_to unite judge
 added-in L row v j = joining-kept L.multilog (written L.multilog) true (row ∷ []) [] v.checked (orelse-none _ _ j).0 (edit_of row) (inl refl)
 
 -- and an edit that is added and accepted is of the record from then on

@@ -1,5 +1,5 @@
 -- What holds of every ledger that calls lead to. Assumes nothing.
-use mathlib.Core.Path.{◌≡◌, refl, sym}
+use mathlib.Core.Path.{◌≡◌, refl}
 use mathlib.Core.Bool.{true, not}
 use mathlib.Core.List.{List, [], ◌∷◌}
 use mathlib.Core.Option.{Option, none, some}
@@ -9,10 +9,12 @@ use lib.Dec.{eqb}
 use lib.IntN.{ℤ}
 use borrow.Author.Tests.{eqb-true, not-false}
 use Rattle.lists.specs.Lists.{any, mem, ◌within◌, find, grown, closure}
-use Rattle.record.specs.Record.{Record, names, written, has, WellFormed}
+use Rattle.record.specs.Record.{Record, names, written, has}
+use Rattle.record.specs.Sound.{Sound}
 use Rattle.record.specs.Schedule.{needs, musts, ready, order, admits, scheduled, schedule}
 use Rattle.record.specs.Judgement.{sound}
 use Rattle.lists.proofs.Lists.{by, and_r, nil-no, cons-within, filter-mem}
+use Rattle.record.proofs.Scheduled.{schedule-sound}
 use Rattle.record_rows.proofs.grounds.Grounds.{orelse-none, given-none}
 use Rattle.record_rows.specs.row.Row.{is_name}
 use Rattle.record_rows.specs.grounds.Ground.{◌given◌}
@@ -25,34 +27,43 @@ use Rattle.voting_roll.specs.Election.{election_fault, cast, counted}
 use Rattle.std.specs.Prelude.{Option as Page, Some, None}
 use Rattle.pages_turner.specs.Turn.{turned, open_after}
 use Rattle.pages_turner.proofs.Landed.{turned-lands}
-use Rattle.ledger.specs.Ledger.{Ledger, Call, add_edit, add_constraint, merge, hide, show, turn, adopt, start, pages, last, bundle_fault, judge, no_election, change, shown, adopted, act, refusal, step, fed}
+use Rattle.ledger.specs.Ledger.{Ledger, Call, add_edit, add_constraint, merge, hide, show, turn, adopt, start, pages, last, bundle_fault, judge, no_election, change_to, change, shown, adopted, act, refusal, step, fed}
 
--- the ledger's record is as every stored record is, and sound; hidden edits are written; the schedule is the record's; the open page is one of it
+-- the ledger's record is as every stored record is, and sound; hidden edits are written; the schedule is a sound row of the record; the open page is one
+-- of it
 pub record Valid (L : Ledger) : Type 0 where
   pub checked : Checked L.multilog
   pub sound-now : sound L.multilog ≡ true
   pub hidden-written : L.hidden within written L.multilog
-  pub made : L.schedule ≡ schedule L.multilog L.hidden
+  pub sound-schedule : Sound L.multilog L.schedule
   pub opened-within : L.opened ≤ last L
 
 -- the schedule of the empty record is INIT alone
-empty-schedule : schedule empty_tables [] ≡ 0 ∷ []
+pub empty-schedule : schedule empty_tables [] ≡ 0 ∷ []
 unfolding schedule scheduled admits musts order ready needs names written has closure grown find any mem
 empty-schedule = refl
 
 pub start-valid : Valid start
 unfolding start last pages
-start-valid =
-    record { checked = empty-checked; sound-now = empty-sound; hidden-written = λ x i. nil-no x i; made = sym empty-schedule; opened-within = omega arith }
+start-valid = record {
+  checked = empty-checked;
+  sound-now = empty-sound;
+  hidden-written = λ x i. nil-no x i;
+  sound-schedule = rw empty-schedule at (schedule-sound empty_tables (checked-wellformed empty_tables empty-checked) empty-sound []);
+  opened-within = omega arith;
+}
 
-module _ {L : Ledger} (v : Valid L) where
-  pub ledger-well-formed : WellFormed L.multilog
-  ledger-well-formed = checked-wellformed L.multilog v.checked
+-- a change to a sound row, and to the bench schedule
+change-to-valid : (L : Ledger) (R : Record) (hidden row : List ℕ) (E : Election) → Checked R → sound R ≡ true → hidden within written R → Sound R row
+    → Valid (change_to L R hidden row E).after
+unfolding change_to last pages
+change-to-valid L R hidden row E k h w s = record { checked = k; sound-now = h; hidden-written = w; sound-schedule = s; opened-within = omega arith }
 
 change-valid : (L : Ledger) (R : Record) (hidden : List ℕ) (E : Election) → Checked R → sound R ≡ true → hidden within written R
     → Valid (change L R hidden E).after
-unfolding change last pages
-change-valid L R hidden E k h w = record { checked = k; sound-now = h; hidden-written = w; made = refl; opened-within = omega arith }
+unfolding change
+change-valid L R hidden E k h w =
+    change-to-valid L R hidden (schedule R hidden) E k h w (schedule-sound R (checked-wellformed R k) h hidden)
 
 -- a union with a checked result, that is sound
 union-valid : (L : Ledger) (S : Record) (E : Election) → Valid L → Checked (unite L.multilog S) → sound (unite L.multilog S) ≡ true
@@ -94,7 +105,7 @@ act-valid L (turn n) v h = record {
   checked = v.checked;
   sound-now = v.sound-now;
   hidden-written = v.hidden-written;
-  made = v.made;
+  sound-schedule = v.sound-schedule;
   opened-within = landing-within L.opened (last L) n (turned L.opened (last L) n) refl v.opened-within;
 }
 act-valid L (adopt e P roll) v h =

@@ -2,7 +2,7 @@
 use Rattle.std.specs.Prelude.{Bool, false, not, ◌&&◌, ◌||◌, cond, List, [], ◌∷◌, ℕ, ◌-◌, eqb, ℤ, length, take, drop, Result, Ok, Err}
 use Rattle.std.proofs.Math.Option.{Option, none, some}
 use Rattle.refusals.specs.declared.Refusal.{Refusal}
-use Rattle.refusals.specs.Numbers.{number}
+use Rattle.refusals.specs.Numbers.{number, detail}
 use Rattle.lists.specs.Lists.{filter, mem}
 use Rattle.record.specs.Record.{Record, written}
 use Rattle.record.specs.Schedule.{schedule}
@@ -67,9 +67,21 @@ judge L (show x) = 2 given not (is_name x) orelse 5 given not (mem x (written L.
 judge L (turn n) = turn_fault (turned L.opened (last L) n)
 judge L (adopt e P roll) = election_fault e P roll orelse bundle_fault L.multilog (winner (cast e P roll))
 
--- What a call answers, in numbers: the number of its refusal, 0 for none, and the pages undone and redone; of an adoption also the election's answer.
+-- WHAT A REFUSED CALL TELLS beside its number: nothing, for every call of these
+unfoldable pub call_detail : Ledger → Call → ℕ
+call_detail L (add_edit row) = 0
+call_detail L (add_constraint row) = 0
+call_detail L (merge edits constraints) = 0
+call_detail L (hide x) = 0
+call_detail L (show x) = 0
+call_detail L (turn n) = 0
+call_detail L (adopt e P roll) = 0
+
+-- What a call answers, in numbers: the number of its refusal, 0 for none, and what is told beside it; the pages undone and redone; of an adoption also
+-- the election's answer.
 pub record CallAnswer : Type 0 where
   pub number : ℕ
+  pub detail : ℕ
   pub undone : ℕ
   pub redone : ℕ
   pub won : Bool
@@ -85,37 +97,41 @@ pub record Reply : Type 0 where
 abbrev pub no_election : Election
 no_election = refused_election 0
 
--- every part of the answer but the number is 0
-abbrev pub plain_answer : ℕ → CallAnswer
-plain_answer number = record { number = number; undone = 0; redone = 0; won = false; greatest = 0; silent = 0; total = 0 }
+-- the answer of every accepted call
+abbrev pub accepted_answer : ℕ → ℕ → Election → CallAnswer
+accepted_answer undone redone E =
+    record { number = 0; detail = 0; undone = undone; redone = redone; won = E.won; greatest = E.greatest; silent = E.silent; total = E.total }
 
-abbrev pub answered : ℕ → ℕ → Election → CallAnswer
-answered undone redone E =
-    record { number = 0; undone = undone; redone = redone; won = E.won; greatest = E.greatest; silent = E.silent; total = E.total }
+-- the answer of every refused call: every part but the number and its detail is 0
+abbrev pub refused_answer : ℕ → ℕ → CallAnswer
+refused_answer number detail = record { number = number; detail = detail; undone = 0; redone = 0; won = false; greatest = 0; silent = 0; total = 0 }
 
 -- the answer that a call gives
 abbrev pub call_told : Result CallResult Refusal → CallAnswer
-call_told (Ok r) = answered r.undone r.redone (election_told (Ok r.election))
-call_told (Err refusal) = plain_answer (number refusal)
+call_told (Ok r) = accepted_answer r.undone r.redone (election_told (Ok r.election))
+call_told (Err refusal) = refused_answer (number refusal) (detail refusal)
 
--- A CHANGE makes the schedule anew, opens the last page and reports pages undone and redone: old open page minus c, and new last page minus c,
--- c pages being the common beginning of the old open part and the new schedule.
-unfoldable pub change : Ledger → Record → List ℕ → Election → Reply
-change L R hidden E =
-    let row = schedule R hidden in
+-- A CHANGE TO A ROW opens the row's last page and reports pages undone and redone: old open page minus c, and new last page minus c, c pages being the
+-- common beginning of the old open part and the new schedule.
+unfoldable pub change_to : Ledger → Record → List ℕ → List ℕ → Election → Reply
+change_to L R hidden row E =
     let page = length (drop 1 row) in
     let c = common_beginning (take L.opened (pages L)) (drop 1 row) in
     record {
-      answer = answered (L.opened - c) (page - c) E;
+      answer = accepted_answer (L.opened - c) (page - c) E;
       after = record { multilog = R; hidden = hidden; schedule = row; opened = page };
     }
+
+-- A CHANGE makes the schedule anew.
+unfoldable pub change : Ledger → Record → List ℕ → Election → Reply
+change L R hidden E = change_to L R hidden (schedule R hidden) E
 
 unfoldable pub shown : ℕ → List ℕ → List ℕ
 shown x hidden = filter (λ y. not (eqb y x)) hidden
 
 -- adoption of a won bundle is a change; with an open election nothing changes
 abbrev pub adopted : Ledger → Election → Option Record → Reply
-adopted L E none = record { answer = answered 0 0 E; after = L }
+adopted L E none = record { answer = accepted_answer 0 0 E; after = L }
 adopted L E (some B) = change L (unite L.multilog B) L.hidden E
 
 -- what an accepted call does
@@ -126,7 +142,7 @@ act L (merge edits constraints) = change L (unite L.multilog (decoded edits cons
 act L (hide x) = change L L.multilog (x ∷ L.hidden) no_election
 act L (show x) = change L L.multilog (shown x L.hidden) no_election
 act L (turn n) = record {
-  answer = plain_answer 0;
+  answer = accepted_answer 0 0 no_election;
   after = record {
     multilog = L.multilog;
     hidden = L.hidden;
@@ -136,13 +152,12 @@ act L (turn n) = record {
 }
 act L (adopt e P roll) = adopted L (counted (cast e P roll)) (winner (cast e P roll))
 
--- a refused call changes nothing, and every other part of its answer is 0
-unfoldable pub refusal : Ledger → ℕ → Reply
-refusal L n =
-    record { answer = plain_answer n; after = L }
+-- a refused call changes nothing
+unfoldable pub refusal : Ledger → ℕ → ℕ → Reply
+refusal L number detail = record { answer = refused_answer number detail; after = L }
 
 unfoldable pub step : Ledger → Call → Reply
-step L call = let n = judge L call in cond (eqb n 0) (act L call) (refusal L n)
+step L call = let n = judge L call in cond (eqb n 0) (act L call) (refusal L n (call_detail L call))
 
 -- the ledger fed calls, one after the other
 unfoldable pub fed : Ledger → List Call → Ledger

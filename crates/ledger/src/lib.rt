@@ -2,6 +2,10 @@
 // makes, and the undo rule; the calls' code stands in crates above.
 #![tactic(auto)]
 
+ghost use Rattle.std.specs.Prelude.{◌≡◌, Ok};
+ghost use Rattle.voting.specs.Tally.{election_told};
+ghost use Rattle.ledger.specs.Ledger.{accepted_answer, call_told};
+
 use catalogue::{CHIP_CELLS, CHIP_PLACES, View};
 use graph::links::Marks;
 use pages_turner::Turner;
@@ -27,4 +31,17 @@ pub struct CallResult {
     pub undone: usize,
     pub redone: usize,
     pub election: ElectionResult,
+}
+
+impl CallResult {
+    // The answer of an accepted call, made here alone. Pub for the crates of the calls.
+    pub fn accepted(undone: usize, redone: usize, election: ElectionResult) -> CallResult
+        ensures { call_told (Ok result) ≡ accepted_answer undone redone (election_told (Ok election)) }
+    {
+        CallResult {
+            undone,
+            redone,
+            election,
+        }
+    }
 }

@@ -28,7 +28,7 @@ use Rattle.voting.specs.Proposal.{joined_constraints, started, finished, propose
 use Rattle.voting_roll.specs.Election.{Proposals, benches, held, cast}
 use Rattle.voting_proposals.specs.Propose as proposal
 use Rattle.voting_proposals.specs.Propose.{propose_fault, new_proposal, record_m, proposal_q}
-use Rattle.ledger.specs.Ledger.{Ledger, Call, CallAnswer, add_edit, add_constraint, merge, adopt, start, change, adopted, act, refusal, judge, step, fed}
+use Rattle.ledger.specs.Ledger.{Ledger, Call, CallAnswer, add_edit, add_constraint, merge, adopt, start, change_to, change, adopted, act, refusal, judge, step, fed}
 use Rattle.ledger.proofs.Undone.{fed-more}
 use Rattle.log_forms.specs.Printed.{Texts}
 use Rattle.log_bounds.proofs.Small.{EachMember, each_both, each_at}
@@ -126,12 +126,12 @@ CallFits (adopt e P roll) = ProposalsFit P × EachMember SeatFits roll
 CallFits call = Unit
 
 adopted-fits : (L : Ledger) (E : Election) (o : Option Record) → VoteFits o → EachMember EditFits L.multilog.edits → EachMember EditFits (adopted L E o).after.multilog.edits
-unfolding change unite
+unfolding change change_to unite
 adopted-fits L E none v f = f
 adopted-fits L E (some B) v f = united-fits L.multilog.edits B.edits f v
 
 act-fits : (L : Ledger) (call : Call) → CallFits call → EachMember EditFits L.multilog.edits → EachMember EditFits (act L call).after.multilog.edits
-unfolding act change unite
+unfolding act change change_to unite
 act-fits L (add_edit row) c f = united-fits L.multilog.edits (map edit_of (row ∷ [])) f (decoded-fits (row ∷ []) (each-one RowFits row c))
 act-fits L (add_constraint row) c f = united-fits L.multilog.edits [] f (λ x m. absurd m)
 act-fits L (merge edits constraints) c f = united-fits L.multilog.edits (map edit_of edits) f (decoded-fits edits c)

@@ -55,10 +55,10 @@ use Rattle.voting_proposals.specs.Propose.{propose_fault, new_proposal}
 use Rattle.suggestions.specs.declared.Advice.{Advice}
 use Rattle.suggestions.specs.declared.Advice.TheVariants.{Nothing, Notafter, NotafterEnables, Noncommuting}
 use Rattle.suggestions.specs.Suggest.{rows_of, advised, given, pair_fault, suggested_rules}
-use Rattle.ledger.specs.Ledger.{Ledger, Call, CallAnswer, add_edit, add_constraint, merge, hide, show, turn, adopt, pages, last, judge, no_election, plain_answer, change, adopted, act, refusal, step}
+use Rattle.ledger.specs.Ledger.{Ledger, Call, CallAnswer, add_edit, add_constraint, merge, hide, show, turn, adopt, pages, last, judge, call_detail, no_election, accepted_answer, refused_answer, change_to, change, adopted, act, refusal, step}
 use Rattle.ledger.specs.Bench.{page_edits, open_edits, bench_of}
 use Rattle.ledger.proofs.Valid.{Valid, step-valid}
-use Rattle.bench.proofs.Pages.{last-room}
+use Rattle.ledger.proofs.Pages.{last-room}
 use Rattle.log_forms.specs.Printed.{Texts}
 use Rattle.log_answers.specs.Answers.{answered_text, bit, stored_text}
 use Rattle.log_answers.specs.bench_answers.Asks.{hidden_text, schedule_text}
@@ -163,20 +163,24 @@ record SmallAnswer (a : CallAnswer) : Type 0 where
   silent : a.silent < 4294967296
   total : a.total < 4294967296
 
-plain-small : (n : ℕ) → n ≤ 14 → SmallAnswer (plain_answer n)
-plain-small n h = record { number = omega arith; undone = omega arith; redone = omega arith; greatest = omega arith; silent = omega arith; total = omega arith }
+refused-small : (n at : ℕ) → n ≤ 14 → SmallAnswer (refused_answer n at)
+refused-small n at h = record { number = omega arith; undone = omega arith; redone = omega arith; greatest = omega arith; silent = omega arith; total = omega arith }
+
+accepted-small : (undone redone : ℕ) (E : Election) → undone ≤ rows → redone ≤ rows → SmallElection E → SmallAnswer (accepted_answer undone redone E)
+accepted-small undone redone E h k s =
+    record { number = omega arith; undone = omega arith; redone = omega arith; greatest = s.greatest; silent = s.silent; total = s.total }
 
 no-election : SmallElection no_election
 no-election = record { number = omega arith; greatest = omega arith; silent = omega arith; total = omega arith }
 
 change-small : (L : Ledger) → Valid L → (R : Record) (hidden : List ℕ) (E : Election) → SmallElection E → last (change L R hidden E).after ≤ rows → SmallAnswer (change L R hidden E).answer
-unfolding change last pages
+unfolding change change_to last pages
 change-small L v R hidden E s h =
-    let o : L.opened ≤ 127 = omega (arith, v.opened-within, last-room L v) in
-    record { number = omega arith; undone = omega arith; redone = omega arith; greatest = s.greatest; silent = s.silent; total = s.total }
+    let o : L.opened ≤ rows = omega (arith, v.opened-within, last-room L v) in
+    accepted-small _ _ E (omega arith) (omega arith) s
 
 adopted-small : (L : Ledger) → Valid L → (E : Election) (o : Option Record) → SmallElection E → last (adopted L E o).after ≤ rows → SmallAnswer (adopted L E o).answer
-adopted-small L v E none s h = record { number = omega arith; undone = omega arith; redone = omega arith; greatest = s.greatest; silent = s.silent; total = s.total }
+adopted-small L v E none s h = accepted-small 0 0 E (omega arith) (omega arith) s
 adopted-small L v E (some B) s h = change-small L v _ L.hidden E s h
 
 act-small : (L : Ledger) → Valid L → (call : Call) → CallFits call → judge L call ≡ 0 → last (act L call).after ≤ rows → SmallAnswer (act L call).answer
@@ -186,7 +190,7 @@ act-small L v (add_constraint row) c z h = change-small L v _ L.hidden no_electi
 act-small L v (merge edits constraints) c z h = change-small L v _ L.hidden no_election no-election h
 act-small L v (hide x) c z h = change-small L v _ (x ∷ L.hidden) no_election no-election h
 act-small L v (show x) c z h = change-small L v _ _ no_election no-election h
-act-small L v (turn n) c z h = plain-small 0 (omega arith)
+act-small L v (turn n) c z h = accepted-small 0 0 no_election (omega arith) (omega arith) no-election
 act-small L v (adopt e P roll) c z h =
     adopted-small L v (counted (cast e P roll)) (winner (cast e P roll)) (counted-small e P roll c.1 (orelse-none (election_fault e P roll) _ z).0) h
 
@@ -196,7 +200,7 @@ step_small L v call c =
     let w = last-room (step L call).after (step-valid L call v) in
     by (eqb (judge L call) 0)
     (λ (e : eqb (judge L call) 0 ≡ true). rw e (act-small L v call c (eqb-true (judge L call) 0 e) (rw e at w)))
-    (λ (e : eqb (judge L call) 0 ≡ false). rw e (plain-small (judge L call) (judge-small L call)))
+    (λ (e : eqb (judge L call) 0 ≡ false). rw e (refused-small (judge L call) (call_detail L call) (judge-small L call)))
 
 pages-size : (a : CallAnswer) (opened last : ℕ) → SmallAnswer a → opened < 4294967296 → last < 4294967296 → size_of (pages_text a opened last) ≤ 200
 unfolding pages_text room bytes is_mark

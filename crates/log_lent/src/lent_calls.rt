@@ -1,5 +1,6 @@
 // Calls whose records, roll and row are what the lines of a call log lend. Public for the crates of this workspace that run logs.
-ghost use Rattle.std.specs.Prelude.{◌≡◌, ◌<◌, Some, IfOk, is_some};
+ghost use Rattle.std.specs.Prelude.{◌≡◌, ◌<◌, Some, Err, IfOk, is_some};
+ghost use Rattle.refusals.specs.declared.Refusal.TheVariants.{OutOfRange};
 ghost use Rattle.refusals.specs.Numbers.{number_of, Gives};
 ghost use Rattle.record.specs.Record as theory;
 ghost use Rattle.record.specs.Stored.{stored};
@@ -12,7 +13,6 @@ ghost use Rattle.voting_count.specs.Tallied.{tallied_told, tallied_of};
 ghost use Rattle.reasons_lent.specs.Asked.{reason_told};
 ghost use Rattle.ledger.specs.Ledger.{Call};
 ghost use Rattle.ledger.specs.Bench.{Answers, told_outcome};
-ghost use Rattle.bench.specs.Changes.{refused_with};
 ghost use Rattle.log_lent.specs.Lent.{Lent, lent_records};
 ghost use Rattle.log_lent.specs.Kept.{Kept};
 ghost use Rattle.log_lent.specs.lent_calls.Calls.{proposals_of, bundle_in, lent_row_fault, row_sound, why_fault, reason_in, suggestion_fault, suggested_rules_in};
@@ -36,7 +36,7 @@ use voting_count::{AnswersSoFar, Counted};
 
 // Record k is merged.
 pub fn merge_lent(bench: &mut Bench, lending: &Lending, k: u32) -> Result<CallResult, Refusal>
-    ensures elsewhere { 8 < k → told_outcome result bench.new ≡ refused_with bench.old 2 }
+    ensures elsewhere { 8 < k → told_outcome result bench.new ≡ told_outcome (Err OutOfRange) bench.old }
     ensures merged { (L : Lent) → Kept L lending.now → k < lent_records → Answers bench.old (Call.merge (L.edits k) (L.constraints k)) (told_outcome result bench.new) }
 {
     let place = crate::record_place(k)?;

@@ -1,21 +1,25 @@
 -- Lines that turn pages or ask for the open page: the turner tells what they come to, and the bench is opened after the last. Assumes nothing.
 use mathlib.Core.Path.{◌≡◌, refl, sym, ap, ◌∙◌}
+use mathlib.Core.Bool.{false}
 use mathlib.Core.List.{List}
 use Prim.Native.Nat.{ℕ, suc, ◌+◌, ◌-◌, ◌≤◌, ◌<◌}
 use native.Mathlib.Omega.{arith}
+use lib.Dec.{eqb}
 use lib.IntN.{ℤ}
+use borrow.Author.Tests.{ne_eqb}
 use lib.ListN.{length, take, drop}
 use Rattle.std.specs.Prelude.{Option, Some, None, is_some, IsSome, Result, Ok, Err, IsOkAnd, MatchResult}
 use Rattle.refusals.specs.declared.Refusal.{Refusal}
-use Rattle.refusals.specs.Numbers.{number_of}
+use Rattle.refusals.specs.Numbers.{number, number_of}
+use Rattle.refusals.proofs.Numbers.{no-detail, number-positive}
 use Rattle.lists.proofs.Lists.{is-by, clash}
 use Rattle.pages_turner.specs.declared.Turner.{Turner}
 use Rattle.pages_turner.specs.turning.Turning.{turner_fault, after_turn}
 use Rattle.ledger.specs.declared.Bench.{Bench}
 use Rattle.ledger.specs.declared.CallResult.{CallResult}
-use Rattle.ledger.specs.Ledger.{turn, call_told, plain_answer}
+use Rattle.ledger.specs.Ledger.{turn, call_told, refused_answer}
 use Rattle.ledger.specs.Bench.{Answers, bench_of}
-use Rattle.bench.specs.Changes.{open_at, turn_reply, Opens}
+use Rattle.bench.specs.Changes.{open_at, turn_answer, turn_reply, Opens}
 use Rattle.bench.proofs.Moves.{open-same, turn-answers}
 use Rattle.log_forms.specs.declared.Printer.{Printer}
 use Rattle.log_forms.specs.Printed.{Printed}
@@ -72,11 +76,13 @@ unfolding replied Answers ledger_of bench_in
 turn-replied D bench b t pages = ap (λ (v : Turner). turn_reply bench (turner_fault v pages) (after_turn v pages)) (sym t) ∙ turn-answers bench pages D.calls b
 
 -- what a turn of the turner alone answers
-pub plain-told : (turned : Result (Unit {0}) Refusal) (answer : Result CallResult Refusal) (P : Unit {0} → CallResult → Type 0) → ((u : Unit {0}) (r : CallResult) → P u r → call_told (Ok r) ≡ plain_answer 0)
-    → MatchResult turned (λ x. IsOkAnd answer (P x)) (λ e. answer ≡ Err e) → call_told answer ≡ plain_answer (number_of turned)
-plain-told (Ok u) (Ok r) P f h = f u r h
-plain-told (Ok u) (Err refusal) P f h = absurd h
-plain-told (Err refusal) answer P f h = ap call_told h
+pub turned-told : (turned : Result (Unit {0}) Refusal) (answer : Result CallResult Refusal) (P : Unit {0} → CallResult → Type 0) → ((u : Unit {0}) (r : CallResult) → P u r → call_told (Ok r) ≡ turn_answer 0)
+    → MatchResult turned (λ x. IsOkAnd answer (P x)) (λ e. answer ≡ Err e) → call_told answer ≡ turn_answer (number_of turned)
+turned-told (Ok u) (Ok r) P f h = f u r h
+turned-told (Ok u) (Err refusal) P f h = absurd h
+turned-told (Err refusal) answer P f h =
+    let e : eqb (number refusal) 0 ≡ false = ne_eqb (number refusal) 0 (number-positive refusal) in
+    rw e (ap call_told h ∙ ap (refused_answer (number refusal)) (no-detail refusal))
 
 module _ (D : Desk) (command : Result Command Refusal) {session : Session} (H : Holds D session) {turner : Turner} (t : session.bench.turner ≡ turner) {before after : Printer} where
   pub page-performed : paging_of command ≡ Some Question → Printed (page_text turner.opened turner.last) before after
@@ -88,7 +94,7 @@ module _ (D : Desk) (command : Result Command Refusal) {session : Session} (H : 
       rw (sym (open-again D H.benched t)) (ask-performed D Page (paging-line command p) H (printed-as x q))
 
   pub turn-performed : (pages : ℤ) → paging_of command ≡ Some (Turn pages) → {by : ℤ} → by ≡ pages → {call : Calls} → call ≡ TurnPages pages
-      → Printed (outcome_text call (plain_answer (turner_fault turner by)) (after_turn turner by) before.line) before after
+      → Printed (outcome_text call (turn_answer (turner_fault turner by)) (after_turn turner by) before.line) before after
       → Performed (opened session (after_turn turner by).opened) before after (effect D command)
   unfolding turn_reply open_at request_of
   turn-performed pages p {by} b {call} k w =

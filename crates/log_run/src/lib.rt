@@ -50,7 +50,7 @@ fn run_page(printer: &mut Printer<'_>, turner: &mut Turner, paging: PageLine)
 {
     match paging {
         PageLine::Turn(pages) => {
-            let answer = turning::turn(turner, pages).map(|()| bench::plain_result());
+            let answer = turning::turn(turner, pages).map(|()| bench::turn_result());
             calls::print_outcome(printer, answer, *turner, Call::Turn(pages));
         }
         PageLine::Question => bench_answers::print_page(printer, *turner),

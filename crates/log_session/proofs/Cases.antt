@@ -5,14 +5,15 @@ use Prim.Native.Nat.{ℕ, ◌<◌}
 use native.Mathlib.Omega.{arith}
 use lib.Dec.{ltb}
 use borrow.Author.Tests.{lt-ltb, le-ltb}
+use Rattle.std.specs.Prelude.{Err}
+use Rattle.refusals.specs.declared.Refusal.TheVariants.{OutOfRange}
 use Rattle.record.specs.declared.Record as declared
 use Rattle.record.specs.Stored.{stored}
 use Rattle.lists.proofs.Lists.{le-by}
 use Rattle.ledger.specs.declared.Bench.{Bench}
 use Rattle.ledger.specs.Ledger.{Call, merge, start}
-use Rattle.ledger.specs.Bench.{Outcome, Answers, bench_of}
+use Rattle.ledger.specs.Bench.{Outcome, Answers, bench_of, told_outcome}
 use Rattle.ledger.proofs.Valid.{Valid, start-valid, fed-valid}
-use Rattle.bench.specs.Changes.{refused_with}
 use Rattle.log_commands.specs.declared.Call.{Call as Calls}
 use Rattle.log_commands.specs.declared.Call.TheVariants.{Merge}
 use Rattle.log_session.specs.Desk.{Desk, outside, make, ledger_of, bench_in, replied}
@@ -33,9 +34,9 @@ bench-stored D e = multilog-stored D (ap (λ (b : Bench). b.multilog) e)
 
 -- a request, and what the code gives for it
 module _ (D : Desk) {bench : Bench} {r : Outcome} (b : bench ≡ bench_in D) where
-  reply-outside : r ≡ refused_with bench 2 → r ≡ replied D outside
+  reply-outside : r ≡ told_outcome (Err OutOfRange) bench → r ≡ replied D outside
   unfolding replied
-  reply-outside q = q ∙ ap (λ (x : Bench). refused_with x 2) b
+  reply-outside q = q ∙ ap (told_outcome (Err OutOfRange)) b
 
   reply-made : (call : Call) → Answers bench call r → r ≡ replied D (make call)
   unfolding replied Answers ledger_of bench_in
@@ -49,7 +50,7 @@ module _ (D : Desk) {bench : Bench} {r : Outcome} (b : bench ≡ bench_in D) whe
     pub call-reply : (made : Call) {given : Call} → request_of D line ≡ make made → given ≡ made → Answers bench given r → r ≡ replied D (request_of D call)
     call-reply made q g a = reply-as (rw q (reply-made made (rw g at a)))
 
-  pub merge-reply : {call : Calls} (k : ℕ) → call ≡ Merge k → (8 < k → r ≡ refused_with bench 2) → (k < 9 → Answers bench (merge (D.lent.edits k) (D.lent.constraints k)) r)
+  pub merge-reply : {call : Calls} (k : ℕ) → call ≡ Merge k → (8 < k → r ≡ told_outcome (Err OutOfRange) bench) → (k < 9 → Answers bench (merge (D.lent.edits k) (D.lent.constraints k)) r)
       → r ≡ replied D (request_of D call)
   unfolding request_of
   merge-reply k e f g =

@@ -1,12 +1,12 @@
 -- A desk: one bench, and what the lines of a call log have lent. Assumes nothing.
 use Rattle.std.specs.Prelude.{List, [], ◌∷◌, ◌++◌, ℕ, Result, Ok, Err}
 use Rattle.refusals.specs.declared.Refusal.{Refusal}
+use Rattle.refusals.specs.declared.Refusal.TheVariants.{OutOfRange}
 use Rattle.log_forms.specs.Printed.{Texts}
 use Rattle.log_answers.specs.Answers.{answered_text}
 use Rattle.ledger.specs.declared.Bench.{Bench}
 use Rattle.ledger.specs.Ledger.{CallAnswer, Ledger, Call, start, fed, step}
-use Rattle.ledger.specs.Bench.{Outcome, bench_of, outcome}
-use Rattle.bench.specs.Changes.{refused_with}
+use Rattle.ledger.specs.Bench.{Outcome, bench_of, outcome, told_outcome}
 use Rattle.log_lent.specs.Lent.{Lent, nothing_lent}
 
 pub record Desk : Type 0 where
@@ -55,7 +55,7 @@ requested D text (make call) =
 
 -- what the code of a call gives for it
 unfoldable pub replied : Desk → Request → Outcome
-replied D outside = refused_with (bench_in D) 2
+replied D outside = told_outcome (Err OutOfRange) (bench_in D)
 replied D (make call) = outcome (step (ledger_of D) call)
 
 -- what is printed of a line: its answer, or its refusal with the line's number

@@ -1,36 +1,59 @@
--- Each ground has a number of its own, so that a number says how an answer is refused. Assumes nothing.
+-- Each ground has a number of its own, so that number and detail say how an answer is refused. Assumes nothing.
 use Rattle.std.specs.Prelude.{◌≡◌, refl, cond, ℕ, eqb, Result, Ok, Err}
 use native.Mathlib.Omega.{arith}
 use Rattle.refusals.specs.declared.Refusal.{Refusal}
 use Rattle.refusals.specs.declared.Refusal.TheVariants.{NotInForm, OutOfRange, NoPlace, OtherBody, Unknown, NotAllowed, Decision, Unsound, NotHideable, NoPage, NotKept, NoRoom, Misplaced, FaultyRoll, NoReason, TooWide}
-use Rattle.refusals.specs.Numbers.{number, Gives}
+use Rattle.refusals.specs.Numbers.{number, detail, Gives}
 use mathlib.Core.Path.{sym, ◌∙◌, ap}
 
--- the ground of a number
-abbrev refusal_at : ℕ → Refusal
-refusal_at n =
+-- the ground of a number, and of what is told beside it
+abbrev refusal_at : ℕ → ℕ → Refusal
+refusal_at n at =
     cond (eqb n 1) NotInForm (cond (eqb n 2) OutOfRange (cond (eqb n 3) NoPlace (cond (eqb n 4) OtherBody (cond (eqb n 5) Unknown (cond (eqb n 6) NotAllowed (cond (eqb n 7) Decision (cond (eqb n 8) Unsound (cond (eqb n 9) NotHideable (cond (eqb n 10) NoPage (cond (eqb n 11) NotKept (cond (eqb n 12) NoRoom (cond (eqb n 13) Misplaced (cond (eqb n 14) FaultyRoll (cond (eqb n 15) NoReason (TooWide)))))))))))))))
 
-number-back : (r : Refusal) → refusal_at (number r) ≡ r
-number-back NotInForm = refl
-number-back OutOfRange = refl
-number-back NoPlace = refl
-number-back OtherBody = refl
-number-back Unknown = refl
-number-back NotAllowed = refl
-number-back Decision = refl
-number-back Unsound = refl
-number-back NotHideable = refl
-number-back NoPage = refl
-number-back NotKept = refl
-number-back NoRoom = refl
-number-back Misplaced = refl
-number-back FaultyRoll = refl
-number-back NoReason = refl
-number-back TooWide = refl
+refusal-back : (r : Refusal) → refusal_at (number r) (detail r) ≡ r
+refusal-back NotInForm = refl
+refusal-back OutOfRange = refl
+refusal-back NoPlace = refl
+refusal-back OtherBody = refl
+refusal-back Unknown = refl
+refusal-back NotAllowed = refl
+refusal-back Decision = refl
+refusal-back Unsound = refl
+refusal-back NotHideable = refl
+refusal-back NoPage = refl
+refusal-back NotKept = refl
+refusal-back NoRoom = refl
+refusal-back Misplaced = refl
+refusal-back FaultyRoll = refl
+refusal-back NoReason = refl
+refusal-back TooWide = refl
+
+-- number and detail say which ground it is
+pub refusal-told-unique : (r s : Refusal) → number r ≡ number s → detail r ≡ detail s → r ≡ s
+refusal-told-unique r s e d = sym (refusal-back r) ∙ ((λ i. refusal_at (e i) (d i)) ∙ refusal-back s)
+
+-- no ground tells anything beside its number
+pub no-detail : (r : Refusal) → detail r ≡ 0
+no-detail NotInForm = refl
+no-detail OutOfRange = refl
+no-detail NoPlace = refl
+no-detail OtherBody = refl
+no-detail Unknown = refl
+no-detail NotAllowed = refl
+no-detail Decision = refl
+no-detail Unsound = refl
+no-detail NotHideable = refl
+no-detail NoPage = refl
+no-detail NotKept = refl
+no-detail NoRoom = refl
+no-detail Misplaced = refl
+no-detail FaultyRoll = refl
+no-detail NoReason = refl
+no-detail TooWide = refl
 
 pub number-injective : (r s : Refusal) → number r ≡ number s → r ≡ s
-number-injective r s e = sym (number-back r) ∙ (ap refusal_at e ∙ number-back s)
+number-injective r s e = refusal-told-unique r s e (no-detail r ∙ sym (no-detail s))
 
 -- no ground has the number 0
 pub number-positive : (r : Refusal) → number r ≡ 0 → ⊥

@@ -12,7 +12,7 @@ use Rattle.record.specs.Record.{Record, name_of, written}
 use Rattle.record.specs.Schedule.{schedule}
 use Rattle.record.specs.Judgement.{sound, must, never, settled}
 use Rattle.lists.proofs.Lists.{mem_index, by}
-use Rattle.record.proofs.Scheduled.{schedule-length}
+use Rattle.record.proofs.Scheduled.{schedule-sound, sound-length}
 use Rattle.lists.proofs.Logic.{has-mapped, all-has}
 use Rattle.record_rows.specs.row.Row.{edit_in_range, edit_row}
 use Rattle.record_tables.specs.Checked.{Checked}
@@ -57,7 +57,7 @@ module _ (R : Record) (k : Checked R) (s : sound R ≡ true) where
   place-small : (x : ℕ) → place_in (schedule R []) x < 4294967296
   unfolding place_in written
   place-small x =
-      let w = schedule-length R (checked-wellformed R k) s [] in
+      let w = sound-length R (schedule R []) (schedule-sound R (checked-wellformed R k) s []) in
       let n : length (map name_of R.edits) ≡ length R.edits = length-map R.edits name_of in
       by (mem x (schedule R []))
       (λ (e : mem x (schedule R []) ≡ true). rw e (omega (arith, mem_index x (schedule R []) e, k.editplaces)))

@@ -5,14 +5,14 @@ use Rattle.catalogue.proofs.Common.{common-le}
 use Rattle.bench.proofs.Moves.{change-from}
 use Rattle.bench.proofs.reschedule.Goals as goal
 
-pub overflow_sub-result : goal.overflow_sub-result
-overflow_sub-result c =
+pub overflow_sub-undone : goal.overflow_sub-undone
+overflow_sub-undone c =
     let s = c.args in
     let k = common-le s.bench.now.schedule.edits s.schedule.edits s.bench.now.turner.opened s.schedule.count _ c.common_beginning-common.ensures in
     omega arith
 
-pub overflow_sub-result-2 : goal.overflow_sub-result-2
-overflow_sub-result-2 c =
+pub overflow_sub-redone : goal.overflow_sub-redone
+overflow_sub-redone c =
     let s = c.args in
     let k = common-le s.bench.now.schedule.edits s.schedule.edits s.bench.now.turner.opened s.schedule.count _ c.common_beginning-common.ensures in
     omega arith
@@ -20,4 +20,4 @@ overflow_sub-result-2 c =
 pub returns : goal.returns
 returns c =
     let s = c.args in
-    change-from s.bench.now s.multilog s.hidden s.schedule (election_told (Ok s.election)) _ _ c.common_beginning-common.ensures c.change.ensures.opens
+    change-from s.bench.now s.multilog s.hidden s.schedule (election_told (Ok s.election)) _ _ _ c.accepted.ensures c.common_beginning-common.ensures c.change.ensures.opens

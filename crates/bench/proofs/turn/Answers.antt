@@ -14,4 +14,4 @@ returns-in_err-after c =
 pub returns : goal.returns
 returns c =
     let t = rw (to_z-of_z c.ranges.by) at c.in_ok-after.ensures in
-    turn-opens c.args.bench.now c.args.by c.in_ok-after.after (sym t.0) t.1 _ c.open_at.ensures _ c.plain_result.ensures
+    turn-opens c.args.bench.now c.args.by c.in_ok-after.after (sym t.0) t.1 _ c.open_at.ensures _ c.turn_result.ensures

@@ -1,10 +1,8 @@
 -- `adopt` meets its contract. Assumes nothing.
-use mathlib.Core.Path.{◌≡◌, refl, ap, sym, ◌∙◌}
+use mathlib.Core.Path.{refl, sym, ◌∙◌}
 use Rattle.std.specs.Prelude.{Ok, Err}
 use Rattle.std.proofs.lemmas.Result.{err_from_is_err_and}
-use Rattle.refusals.proofs.Numbers.{number-positive}
 use Rattle.voting.specs.Tally.{election_told}
-use Rattle.ledger.specs.Ledger.{CallAnswer}
 use Rattle.voting_count.specs.Count.{lent}
 use Rattle.bench_adoption.specs.Adopts.{Adopts}
 use Rattle.bench_adoption.proofs.Adopted.{adopt-refused, adopt-open, adopt-won, adopt-answers}
@@ -17,17 +15,15 @@ returns-in_err-counted c =
     let refusal = c.in_err-counted.field-0.0 in
     let p = err_from_is_err_and c.from_residual.result c.from_residual.ensures.1 in
     adopt-answers c.args.bench.now c.args.edit (lent poll.proposals) poll.roll.now (Err refusal) _ c.in_err-counted.ensures.told tt
-    (λ calls e P roll b h w. rw (p.1, p.2) (adopt-refused e P roll (election_told (Err refusal)) h calls c.args.bench.now b (number-positive refusal)))
+    (λ calls e P roll b h w. rw (p.1, p.2) (adopt-refused e P roll (election_told (Err refusal)) h calls c.args.bench.now b refusal refl))
 
 pub returns-in_default : goal.returns-in_default
 unfolding Adopts
 returns-in_default c =
     let poll = c.args.poll.now in
     let counted = c.in_ok-counted.counted in
-    let undone : c.plain_result.result.undone ≡ 0 = ap (λ (a : CallAnswer). a.undone) c.plain_result.ensures in
-    let redone : c.plain_result.result.redone ≡ 0 = ap (λ (a : CallAnswer). a.redone) c.plain_result.ensures in
-    rw (undone, redone) (adopt-answers c.args.bench.now c.args.edit (lent poll.proposals) poll.roll.now (Ok counted) _ c.in_ok-counted.ensures.told c.in_ok-counted.ensures.bundle
-    (λ calls e P roll b h w. adopt-open e P roll (election_told (Ok counted.election)) h calls c.args.bench.now b refl (sym c.in_default.is ∙ w)))
+    adopt-answers c.args.bench.now c.args.edit (lent poll.proposals) poll.roll.now (Ok counted) _ c.in_ok-counted.ensures.told c.in_ok-counted.ensures.bundle
+    (λ calls e P roll b h w. adopt-open e P roll (election_told (Ok counted.election)) h calls c.args.bench.now b refl (sym c.in_default.is ∙ w) _ c.accepted.ensures)
 
 pub returns : goal.returns
 unfolding Adopts

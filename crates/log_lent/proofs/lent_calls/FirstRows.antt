@@ -18,7 +18,7 @@ use Rattle.voting_count.proofs.Answers.{count-refused}
 use Rattle.voting_count.proofs.Rolled.{rows_few}
 use Rattle.voting_count.proofs.Tallied.{grounds-alike, accepted-roll, tallied-refused}
 use Rattle.ledger.specs.declared.Bench.{Bench}
-use Rattle.ledger.specs.Ledger.{Ledger, adopt, start, fed, bundle_fault, judge, refusal, step}
+use Rattle.ledger.specs.Ledger.{Ledger, adopt, start, fed, bundle_fault, judge, call_detail, refusal, step}
 use Rattle.ledger.specs.Bench.{Outcome, outcome, Answers}
 use Rattle.ledger.proofs.Undone.{step-refused}
 use Rattle.log_lent.specs.Lent.{roll_places}
@@ -36,8 +36,9 @@ module _ (x : ℕ) (P : Proposals) where
     unfolding judge
     adoption-judged = orelse-first (election_fault x P rows) (bundle_fault L.multilog (winner (cast x P rows))) (λ z. h (q ∙ z)) ∙ sym q
 
-    adoption-refused : refusal L n ≡ step L (adopt x P rows)
-    adoption-refused = sym (step-refused L (adopt x P rows) (λ z. h (sym adoption-judged ∙ z)) ∙ ap (refusal L) adoption-judged)
+    adoption-refused : refusal L n 0 ≡ step L (adopt x P rows)
+    unfolding call_detail
+    adoption-refused = sym (step-refused L (adopt x P rows) (λ z. h (sym adoption-judged ∙ z)) ∙ ap (λ k. refusal L k 0) adoption-judged)
 
   module _ (roll : List RollRow) where
     -- an answer that is its refusal's where the election is refused
@@ -57,7 +58,7 @@ module _ (x : ℕ) (P : Proposals) where
     first-tallied = first-answered (tallied_of x P) (λ n. record { number = n; answers = [] }) (tallied-refused x P)
 
     first-stepped : (L : Ledger) → step L (adopt x P (take roll_places roll)) ≡ step L (adopt x P roll)
-    first-stepped L = first-answered (λ rows. step L (adopt x P rows)) (refusal L) (adoption-refused L)
+    first-stepped L = first-answered (λ rows. step L (adopt x P rows)) (λ n. refusal L n 0) (adoption-refused L)
 
     pub first-adopted : (bench : Bench) (r : Outcome) → Answers bench (adopt x P (take roll_places roll)) r → Answers bench (adopt x P roll) r
     unfolding Answers

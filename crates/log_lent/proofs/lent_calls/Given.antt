@@ -22,9 +22,9 @@ use Rattle.std.specs.Prelude.{Option, Some, None, option_map, ok_or, Result, Ok,
 use Rattle.std.proofs.lemmas.Result.{err_from_is_err_and}
 use Rattle.lists.proofs.Lists.{clash}
 use Rattle.refusals.specs.declared.Refusal.{Refusal}
-use Rattle.refusals.specs.declared.Refusal.TheVariants.{NoReason}
+use Rattle.refusals.specs.declared.Refusal.TheVariants.{OutOfRange, NoReason}
 use Rattle.refusals.specs.Numbers.{number, number_of, Gives}
-use Rattle.refusals.proofs.Numbers.{number-positive}
+use Rattle.refusals.proofs.Numbers.{number-injective, number-positive}
 use Rattle.record.specs.Judgement.{sound_row}
 use Rattle.record_tables.specs.Table.{decoded}
 use Rattle.judgement.specs.lent_record.Lent.{record_fault}
@@ -36,7 +36,6 @@ use Rattle.ledger.specs.declared.Bench.{Bench}
 use Rattle.ledger.specs.declared.CallResult.{CallResult}
 use Rattle.ledger.specs.Ledger.{merge, adopt}
 use Rattle.ledger.specs.Bench.{Outcome, Answers, told_outcome}
-use Rattle.bench.specs.Changes.{refused_with}
 use Rattle.log_lent.specs.Lent.{Lent, roll_places}
 use Rattle.log_lent.specs.lent_calls.Calls.{proposals_of, bundle_in, lent_row_fault, row_sound, reason_in, why_fault}
 use Rattle.log_lent.proofs.lent_calls.FirstRows.{first_counted, first-tallied, first-adopted}
@@ -45,9 +44,9 @@ use Rattle.log_lent.proofs.lent_calls.FirstRows.{first_counted, first-tallied, f
 pub told-given : {A : Type 0} (told : Result A Refusal) (x : A) (r : Refusal) {n : ℕ} → IsErr told × IsErrAnd told (λ s. s ≡ r) → number r ≡ n → Gives n x told
 told-given told x r f q = let s = err_from_is_err_and told f.1 in rw (s.1, s.2) (q, tt)
 
-pub merge-refused : (bench : Bench) (r : Result CallResult Refusal) {n : ℕ} → IsErr r → number_of r ≡ n → told_outcome r bench ≡ refused_with bench n
+pub merge-refused : (bench : Bench) (r : Result CallResult Refusal) → IsErr r → number_of r ≡ 2 → told_outcome r bench ≡ told_outcome (Err OutOfRange) bench
 merge-refused bench (Ok y) e q = clash e refl
-merge-refused bench (Err s) e q = rw q refl
+merge-refused bench (Err s) e q = ap (λ (refusal : Refusal). told_outcome (Err refusal) bench) (number-injective s OutOfRange q)
 
 pub merge-given : (bench : Bench) {E C : Rows} (r : Outcome) → Answers bench (merge E C) r → {F D : Rows} → E ≡ F → C ≡ D → Answers bench (merge F D) r
 merge-given bench r a e f = rw (e, f) at a

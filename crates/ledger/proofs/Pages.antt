@@ -1,26 +1,25 @@
 -- The pages of a schedule as rows with bodies: they bear the schedule's names, there are no more than the journal has rows, and rows of two records
 -- of which one keeps the other's edits agree. Assumes nothing.
 use mathlib.Core.Path.{◌≡◌, refl, sym, ap, ◌∙◌}
-use mathlib.Core.Bool.{true}
 use mathlib.Core.List.{List, [], ◌∷◌, map}
-use Prim.Native.Nat.{ℕ, zero, suc, ◌≤◌}
+use Prim.Native.Nat.{ℕ, zero, suc, ◌-◌, ◌≤◌}
 use native.Mathlib.Omega.{arith}
 use lib.Dec.{eqb}
-use lib.ListN.{length, take, drop, length-map, length-drop}
+use lib.ListN.{length, take, drop, replicate, length-map, length-drop}
+use lib.Seq.{take-append_seam}
 use borrow.Author.Tests.{eqb-true}
 use Rattle.record.specs.declared.Edit.{Edit}
 use Rattle.lists.specs.Lists.{mem, ◌among◌, ◌within◌}
 use Rattle.record.specs.Record.{Record, name_of, written}
-use Rattle.record.specs.Schedule.{schedule}
-use Rattle.record.specs.Judgement.{sound}
+use Rattle.record.specs.Stored.{padded, edit_named, filler_edit}
+use Rattle.record.specs.Sound.{Sound}
 use Rattle.lists.proofs.Lists.{by, clash, mem-head, mem-tail, or-by}
-use Rattle.record.proofs.Scheduled.{schedule-length, schedule-pages}
+use Rattle.record.proofs.Scheduled.{sound-length, sound-pages}
 use Rattle.record_tables.specs.Checked.{Checked}
-use Rattle.record_tables.proofs.Records.{checked-wellformed}
 use Rattle.pages.specs.Steps.{Agree}
-use Rattle.catalogue.specs.Shelves.{rows}
+use Rattle.catalogue.specs.Shelves.{rows, schedule_of}
 use Rattle.ledger.specs.Ledger.{Ledger, pages, last}
-use Rattle.record.specs.Stored.{edit_named}
+use Rattle.ledger.specs.Bench.{page_edits}
 use Rattle.ledger.proofs.Valid.{Valid}
 
 -- the edit of a known name bears it
@@ -54,28 +53,33 @@ take_within zero l x h = clash h refl
 take_within (suc n) [] x h = h
 take_within (suc n) (y ∷ l) x h = or-by (eqb x y) (mem x (take n l)) h (λ q. rw q) (λ q. mem-tail x y l (take_within n l x q))
 
--- the pages of a sound record
-module _ (R : Record) (k : Checked R) (s : sound R ≡ true) (hidden : List ℕ) where
-  pub pages-written : drop 1 (schedule R hidden) within written R
-  pages-written = schedule-pages R (checked-wellformed R k) s hidden
+-- a sound row has no more pages than the journal has rows
+pub pages-room : (R : Record) → Checked R → (row : List ℕ) → Sound R row → length (drop 1 row) ≤ rows
+unfolding written
+pages-room R k row s =
+    let a = sound-length R row s in
+    let b = length-map R.edits name_of in
+    let c = length-drop 1 row in
+    omega (arith, k.editplaces)
 
-  pub pages-room : length (drop 1 (schedule R hidden)) ≤ rows
-  unfolding written
-  pages-room =
-      let a = schedule-length R (checked-wellformed R k) s hidden in
-      let b = length-map R.edits name_of in
-      let c = length-drop 1 (schedule R hidden) in
-      omega (arith, k.editplaces)
-
--- and of a ledger
+-- the pages of a ledger
 module _ (L : Ledger) (v : Valid L) where
   pub ledger-written : pages L within written L.multilog
   unfolding pages
-  ledger-written x i = pages-written L.multilog v.checked v.sound-now L.hidden x (rw v.made at i)
+  ledger-written = sound-pages L.multilog L.schedule v.sound-schedule
 
   pub open-written : take L.opened (pages L) within written L.multilog
   open-written x i = ledger-written x (take_within L.opened (pages L) x i)
 
   pub last-room : last L ≤ rows
   unfolding last pages
-  last-room = rw v.made (pages-room L.multilog v.checked v.sound-now L.hidden)
+  last-room = pages-room L.multilog v.checked L.schedule v.sound-schedule
+
+  -- The schedule is read off the stored pages: INIT stands before them, and each bears its name.
+  pub schedule-read : 0 ∷ map name_of (take (schedule_of (page_edits L)).count (schedule_of (page_edits L)).edits) ≡ L.schedule
+  unfolding schedule_of padded page_edits pages written
+  schedule-read =
+      let s = v.sound-schedule.starts in
+      let es = page_edits L in
+      ap (λ (l : List Edit). 0 ∷ map name_of l) (take-append_seam es (replicate (rows - length es) filler_edit))
+      ∙ (ap (λ (l : List ℕ). 0 ∷ l) (names-named L.multilog.edits (pages L) ledger-written) ∙ (ap (λ (l : List ℕ). 0 ∷ drop 1 l) s.1 ∙ sym s.1))
