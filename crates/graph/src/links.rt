@@ -179,18 +179,16 @@ impl Rows {
         Lefts { rows: self, row }
     }
 
-    // The marks of a closed set, with x and all that leads to it. Pub for `judgement_marks`, `voting_members` and `judgement_marks::schedules`.
-    pub fn closed(&self, base: usize, marks: Marks, x: usize) -> Marks
+    // Marks x and all that leads to it, beside a closed set that is marked. Pub for `judgement_marks` and `voting_members`.
+    pub fn close(&self, base: usize, marks: &mut Marks, x: usize)
         requires base { base ≤ noncommuting_base }
         requires low { x < mark_limit }
         ensures { (leads : ℕ → ℕ → Bool) (R : Record) (known s : List ℕ) → Leads leads R base self.now
             → ((a b : ℕ) → leads a b ≡ true → a among known) → ((a b : ℕ) → leads a b ≡ true → b among s → a among s)
-            → x < length (names R) → s within names R → marks ≡ marks_of R (λ y. mem y s)
-            → result ≡ marks_of R (λ y. mem y (closure leads known (name_at R x ∷ s))) }
+            → x < length (names R) → s within names R → marks.old ≡ marks_of R (λ y. mem y s)
+            → marks.new ≡ marks_of R (λ y. mem y (closure leads known (name_at R x ∷ s))) }
     {
-        let mut w = marks;
-        mark(base, self, &mut w, x);
-        w
+        mark(base, self, marks, x);
     }
 
     // Whether a row leads from a to b. Pub for `voting_members`.
@@ -346,11 +344,11 @@ pub struct Graph {
 impl Graph {
     // Whether the marked set holds a ring of notafter, where the old set holds none: a ring then has one that is new, and the search starts from
     // these. Pub for `judgement_marks`.
-    pub fn has_new_ring(&self, old: &Marks, marks: Marks) -> bool
+    pub fn has_new_ring(&self, old: &Marks, marks: &Marks) -> bool
         ensures { (R : Record) (u t : List ℕ) → Leads (notafter R) R notafter_base self.now.rows
-            → self.now.count ≡ length (names R) → t within names R → old.now ≡ marks_of R (λ y. mem y u) → ring R u ≡ false → marks ≡ marks_of R (λ y. mem y t) → result ≡ ring R t }
+            → self.now.count ≡ length (names R) → t within names R → old.now ≡ marks_of R (λ y. mem y u) → ring R u ≡ false → marks.now ≡ marks_of R (λ y. mem y t) → result ≡ ring R t }
     {
-        let mut states = marks;
+        let mut states = *marks;
         for x in 0..self.count {
             if visit_new(&self.rows, old, &mut states, x) {
                 return true;
@@ -360,9 +358,9 @@ impl Graph {
     }
 
     // Whether the marked set holds a ring of notafter. Pub for `judgement`, `judgement_marks` and `judgement_marks::schedules`.
-    pub fn has_ring(&self, marks: Marks) -> bool
+    pub fn has_ring(&self, marks: &Marks) -> bool
         ensures { (R : Record) (t : List ℕ) → Leads (notafter R) R notafter_base self.now.rows
-            → self.now.count ≡ length (names R) → t within names R → marks ≡ marks_of R (λ y. mem y t) → result ≡ ring R t }
+            → self.now.count ≡ length (names R) → t within names R → marks.now ≡ marks_of R (λ y. mem y t) → result ≡ ring R t }
     {
         self.has_new_ring(&[0; MARKS], marks)
     }

@@ -42,7 +42,7 @@ pub fn sound(multilog: Record) -> bool
 {
     let graph = indexes::resolved(multilog);
     let mustmarks = judgement_marks::must_marks(&graph.rows);
-    !graph.has_ring(mustmarks)
+    !graph.has_ring(&mustmarks)
 }
 
 // The edits that must stand.
@@ -59,7 +59,7 @@ pub fn nevers(multilog: Record) -> Marks
 {
     let graph = indexes::resolved(multilog);
     let mustmarks = judgement_marks::must_marks(&graph.rows);
-    judgement_marks::never_marks(&graph, mustmarks)
+    judgement_marks::never_marks(&graph, &mustmarks)
 }
 
 // The edits that are settled.
@@ -68,8 +68,8 @@ pub fn settleds(multilog: Record) -> Marks
 {
     let graph = indexes::resolved(multilog);
     let mustmarks = judgement_marks::must_marks(&graph.rows);
-    let nevermarks = judgement_marks::never_marks(&graph, mustmarks);
-    judgement_marks::settled_marks(&graph, mustmarks, nevermarks)
+    let nevermarks = judgement_marks::never_marks(&graph, &mustmarks);
+    judgement_marks::settled_marks(&graph, &mustmarks, &nevermarks)
 }
 
 // The needs of the edit at an index; past the edits those of INIT.
@@ -79,7 +79,7 @@ pub fn needs(multilog: Record, index: usize) -> Marks
     let graph = indexes::resolved(multilog);
     let mustmarks = judgement_marks::must_marks(&graph.rows);
     let known = if index < graph.count { index } else { 0 };
-    judgement_marks::needs_marks(&graph.rows, mustmarks, known)
+    judgement_marks::needs_marks(&graph.rows, &mustmarks, known)
 }
 
 // A row of indexes as edits, without INIT, which comes first in every schedule. An index of 0 after the first ends it; a schedule's row has none.
@@ -104,7 +104,7 @@ pub fn schedule(multilog: Record, hidden: Marks) -> Schedule
 {
     let graph = indexes::resolved(multilog);
     let mustmarks = judgement_marks::must_marks(&graph.rows);
-    let row = schedules::schedule_row(&graph, mustmarks, &hidden);
+    let row = schedules::schedule_row(&graph, &mustmarks, &hidden);
     edits_of(multilog, row)
 }
 
@@ -114,7 +114,7 @@ pub fn pages(multilog: Record) -> Marks
 {
     let graph = indexes::resolved(multilog);
     let mustmarks = judgement_marks::must_marks(&graph.rows);
-    let row = schedules::schedule_row(&graph, mustmarks, &[0; MARKS]);
+    let row = schedules::schedule_row(&graph, &mustmarks, &[0; MARKS]);
     schedules::page_values(row)
 }
 
@@ -134,8 +134,8 @@ pub fn plan(multilog: Record, hidden: Marks) -> Planned
 {
     let graph = indexes::resolved(multilog);
     let mustmarks = judgement_marks::must_marks(&graph.rows);
-    let ring = graph.has_ring(mustmarks);
-    let pages = schedules::schedule_row(&graph, mustmarks, &hidden);
+    let ring = graph.has_ring(&mustmarks);
+    let pages = schedules::schedule_row(&graph, &mustmarks, &hidden);
     Planned {
         sound: !ring,
         must: mustmarks,
@@ -149,9 +149,9 @@ pub fn judge(multilog: Record) -> Judged
 {
     let graph = indexes::resolved(multilog);
     let mustmarks = judgement_marks::must_marks(&graph.rows);
-    let nevermarks = judgement_marks::never_marks(&graph, mustmarks);
-    let settledmarks = judgement_marks::settled_marks(&graph, mustmarks, nevermarks);
-    let row = schedules::schedule_row(&graph, mustmarks, &[0; MARKS]);
+    let nevermarks = judgement_marks::never_marks(&graph, &mustmarks);
+    let settledmarks = judgement_marks::settled_marks(&graph, &mustmarks, &nevermarks);
+    let row = schedules::schedule_row(&graph, &mustmarks, &[0; MARKS]);
     Judged {
         must: mustmarks,
         never: nevermarks,

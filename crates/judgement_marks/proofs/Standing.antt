@@ -53,10 +53,9 @@ module _ {R : Record} (w : WellFormed R) where
       (needs-within R w (0 ∷ e ∷ []) (e ∷ musts R)
       (cons-within 0 (e ∷ []) _ (needs-holds R (e ∷ musts R) 0 (mem-tail 0 e (musts R) (init-must R))) (one-within e _ (needs-holds R (e ∷ musts R) e (mem-head e (musts R))))) y)
 
-  -- the closure over enables of x and what must stand is the needs of x
+  -- what x and what must stand need is what x needs
   pub needs-closure : (x : ℕ) → length (names R) ≤ 128
-      → marks_of R (λ y. mem y (closure (enables R) (names R) (x ∷ musts R))) ≡ marks_of R (λ y. mem y (needs R (0 ∷ x ∷ [])))
-  unfolding needs
+      → marks_of R (λ y. mem y (needs R (x ∷ musts R))) ≡ marks_of R (λ y. mem y (needs R (0 ∷ x ∷ [])))
   needs-closure x few = marks-same R _ _ few (λ y i. needs_two x y)
 
   -- of one that must stand nothing more is needed

@@ -17,8 +17,8 @@ ghost use Rattle.judgement_marks.specs.Opened.{Opened};
 use graph::links::{ENABLES_BASE, Graph, MARKS, Marks, NONCOMMUTING_BASE, NOTAFTER_BASE, Rows};
 
 // Kept: `x < mark_limit`: as in `graph::links`, where a type of indexes was tried.
-// Kept: `Resolved R graph.now.rows`, `graph.now.count ≡ length (names R)`, `Reversed R reversed.now`, `mustmarks ≡ marks_of R (must R)`,
-// `nevermarks ≡ marks_of R (never R)`: premises of what is ensured. A graph is made of any record, stored with checked tables or not, and the
+// Kept: `Resolved R graph.now.rows`, `graph.now.count ≡ length (names R)`, `Reversed R reversed.now`, `mustmarks.now ≡ marks_of R (must R)`,
+// `nevermarks.now ≡ marks_of R (never R)`: premises of what is ensured. A graph is made of any record, stored with checked tables or not, and the
 // theory's record R is no part of its value: a type could say only that some R is there, not that it is the one a clause speaks of.
 
 // Kept: `a`, `b`: as in `graph::links`.
@@ -27,28 +27,44 @@ use graph::links::{ENABLES_BASE, Graph, MARKS, Marks, NONCOMMUTING_BASE, NOTAFTE
 pub fn must_marks(rows: &Rows) -> Marks
     ensures { (R : Record) → Resolved R rows.now → result ≡ marks_of R (must R) }
 {
-    rows.closed(ENABLES_BASE, [0; MARKS], 0)
+    let mut marks = [0u8; MARKS];
+    rows.close(ENABLES_BASE, &mut marks, 0);
+    marks
+}
+
+// A set that is closed under enables, with the edit at x and its needs. The array is a fresh one, and what is known of the set is copied into it, so
+// that only what is new is looked for. Pub for `schedules`.
+pub fn with_needs(rows: &Rows, known: &Marks, x: usize) -> Marks
+    requires { x < mark_limit }
+    ensures { (R : Record) (s : List ℕ) → Resolved R rows.now → x < length (names R)
+        → ((a b : ℕ) → enables R a b ≡ true → b among s → a among s) → s within names R → known.now ≡ marks_of R (λ y. mem y s)
+        → result ≡ marks_of R (λ y. mem y (needs R (name_at R x ∷ s))) }
+{
+    let mut marks = [0u8; MARKS];
+    marks.copy_from_slice(known);
+    rows.close(ENABLES_BASE, &mut marks, x);
+    marks
 }
 
 // The needs of the edit at x, from the marks of what must stand. Pub for `judgement`.
-pub fn needs_marks(rows: &Rows, mustmarks: Marks, x: usize) -> Marks
+pub fn needs_marks(rows: &Rows, mustmarks: &Marks, x: usize) -> Marks
     requires { x < mark_limit }
     ensures { (R : Record) → Resolved R rows.now → x < length (names R)
-        → mustmarks ≡ marks_of R (must R) → result ≡ marks_of R (λ y. mem y (needs R (0 ∷ name_at R x ∷ []))) }
+        → mustmarks.now ≡ marks_of R (must R) → result ≡ marks_of R (λ y. mem y (needs R (0 ∷ name_at R x ∷ []))) }
 {
-    rows.closed(ENABLES_BASE, mustmarks, x)
+    with_needs(rows, mustmarks, x)
 }
 
 // Whether an edit at x closes a ring when it enters a closed set without one, with its needs. It closes none where it enters alone and comes before
 // none of the set. Pub for `schedules`.
-pub fn closes_ring(graph: &Graph, reversed: &Rows, old: &Marks, marks: Marks, x: usize) -> bool
+pub fn closes_ring(graph: &Graph, reversed: &Rows, old: &Marks, marks: &Marks, x: usize) -> bool
     requires { x < mark_limit }
     ensures { (R : Record) (s : List ℕ) → Resolved R graph.now.rows
         → Reversed R reversed.now → graph.now.count ≡ length (names R) → x < graph.now.count
         → ((a b : ℕ) → enables R a b ≡ true → b among s → a among s) → s within names R → old.now ≡ marks_of R (λ y. mem y s) → ring R s ≡ false
-        → marks ≡ marks_of R (λ y. mem y (needs R (name_at R x ∷ s))) → result ≡ ring R (needs R (name_at R x ∷ s)) }
+        → marks.now ≡ marks_of R (λ y. mem y (needs R (name_at R x ∷ s))) → result ≡ ring R (needs R (name_at R x ∷ s)) }
 {
-    if graph.rows.any_row(ENABLES_BASE + x, old, 0) || reversed.any_row(x, &marks, 1) {
+    if graph.rows.any_row(ENABLES_BASE + x, old, 0) || reversed.any_row(x, marks, 1) {
         return graph.has_new_ring(old, marks);
     }
     false
@@ -68,10 +84,10 @@ pub fn need_before(rows: &Rows, x: usize) -> usize
 
 // Whether the edit at x can never stand, where what must stand holds no ring, and it is known which of those before it never can. Of the needs
 // of one that can the search has only to look at what more x needs.
-fn is_never(graph: &Graph, reversed: &Rows, mustmarks: Marks, nevermarks: &Marks, x: usize) -> bool
+fn is_never(graph: &Graph, reversed: &Rows, mustmarks: &Marks, nevermarks: &Marks, x: usize) -> bool
     requires { x < mark_limit }
     ensures { (R : Record) → Resolved R graph.now.rows → Reversed R reversed.now
-        → graph.now.count ≡ length (names R) → x < graph.now.count → mustmarks ≡ marks_of R (must R) → ring R (musts R) ≡ false → ((y : ℕ) → y < x → get_or nevermarks.now y 0 ≡ cond (never R (name_at R y)) 1 0) → result ≡ never R (name_at R x) }
+        → graph.now.count ≡ length (names R) → x < graph.now.count → mustmarks.now ≡ marks_of R (must R) → ring R (musts R) ≡ false → ((y : ℕ) → y < x → get_or nevermarks.now y 0 ≡ cond (never R (name_at R y)) 1 0) → result ≡ never R (name_at R x) }
 {
     if mustmarks[x] == 1 {
         return false;
@@ -81,17 +97,17 @@ fn is_never(graph: &Graph, reversed: &Rows, mustmarks: Marks, nevermarks: &Marks
         return true;
     }
     let old = needs_marks(&graph.rows, mustmarks, a);
-    let marks = graph.rows.closed(ENABLES_BASE, old, x);
-    closes_ring(graph, reversed, &old, marks, x)
+    let marks = with_needs(&graph.rows, &old, x);
+    closes_ring(graph, reversed, &old, &marks, x)
 }
 
 // The edits that can never stand, where what must stand holds no ring.
-fn sound_nevers(graph: &Graph, mustmarks: Marks) -> Marks
+fn sound_nevers(graph: &Graph, mustmarks: &Marks) -> Marks
     ensures { (R : Record) → Resolved R graph.now.rows → graph.now.count ≡ length (names R)
-        → mustmarks ≡ marks_of R (must R) → ring R (musts R) ≡ false → result ≡ marks_of R (never R) }
+        → mustmarks.now ≡ marks_of R (must R) → ring R (musts R) ≡ false → result ≡ marks_of R (never R) }
 {
     let reversed = graph.reversed();
-    let mut marks = [0; MARKS];
+    let mut marks = [0u8; MARKS];
     for x in 0..graph.count {
         marks[x] = u8::from(is_never(graph, &reversed, mustmarks, &marks, x));
     }
@@ -99,14 +115,14 @@ fn sound_nevers(graph: &Graph, mustmarks: Marks) -> Marks
 }
 
 // The edits that can never stand: none where all edits together hold no ring, all where what must stand holds one. Pub for `judgement`.
-pub fn never_marks(graph: &Graph, mustmarks: Marks) -> Marks
+pub fn never_marks(graph: &Graph, mustmarks: &Marks) -> Marks
     ensures { (R : Record) → Resolved R graph.now.rows → graph.now.count ≡ length (names R)
-        → mustmarks ≡ marks_of R (must R) → result ≡ marks_of R (never R) }
+        → mustmarks.now ≡ marks_of R (must R) → result ≡ marks_of R (never R) }
 {
     let all = graph.all_marks();
-    let ringed = graph.has_ring(all);
+    let ringed = graph.has_ring(&all);
     if !ringed {
-        return [0; MARKS];
+        return [0u8; MARKS];
     }
     if graph.has_ring(mustmarks) {
         return all;
@@ -175,11 +191,11 @@ fn is_settled(mustmark: u8, nevermark: u8, openmark: u8) -> bool
 }
 
 // The edits that are settled. Pub for `judgement`.
-pub fn settled_marks(graph: &Graph, mustmarks: Marks, nevermarks: Marks) -> Marks
+pub fn settled_marks(graph: &Graph, mustmarks: &Marks, nevermarks: &Marks) -> Marks
     ensures { (R : Record) → Resolved R graph.now.rows → graph.now.count ≡ length (names R)
-        → mustmarks ≡ marks_of R (must R) → nevermarks ≡ marks_of R (never R) → result ≡ marks_of R (settled R) }
+        → mustmarks.now ≡ marks_of R (must R) → nevermarks.now ≡ marks_of R (never R) → result ≡ marks_of R (settled R) }
 {
-    let openmarks = open_marks(graph, &nevermarks);
+    let openmarks = open_marks(graph, nevermarks);
     let mut marks = [0; MARKS];
     for x in 0..graph.count {
         marks[x] = u8::from(is_settled(mustmarks[x], nevermarks[x], openmarks[x]));

@@ -13,7 +13,7 @@ use crate::row::Row;
 use graph::links::{ENABLES_BASE, Graph, MARKS, Marks, Rows};
 
 // Kept: `x < mark_limit`: as in `graph::links`, where a type of indexes was tried.
-// Kept: `Resolved R graph.now.rows`, `graph.now.count ≡ length (names R)`, `Reversed R reversed.now`, `mustmarks ≡ marks_of R (must R)`,
+// Kept: `Resolved R graph.now.rows`, `graph.now.count ≡ length (names R)`, `Reversed R reversed.now`, `mustmarks.now ≡ marks_of R (must R)`,
 // `Hides R hidden.now hiddens`: premises of what is ensured, as in the file of the crate: the theory's record R is no part of a value.
 
 // Whether the edit at x waits and none that waits comes before it.
@@ -133,32 +133,29 @@ impl Admission<'_> {
 
     // One edit: taken into the marked set with all its needs, or left out. Nothing of the set is barred, so that only the new needs can be. Where a
     // need that comes before it was left out, so is the edit.
-    fn admitted(&self, marks: Marks, x: usize) -> Marks
+    fn admit(&self, marks: &mut Marks, x: usize)
         requires { x < mark_limit }
         ensures { (R : Record) (hiddens t : List ℕ) → Resolved R self.now.graph.now.rows → Reversed R self.now.reversed.now
             → self.now.graph.now.count ≡ length (names R)
             → x < self.now.graph.now.count → self.now.mustmarks.now ≡ marks_of R (must R) → Hides R self.now.hidden.now hiddens → self.now.barring ≡ any (bars R hiddens) (names R) → self.now.ringed ≡ ring R (names R)
-            → Clear R hiddens t → ring R t ≡ false → Missed R hiddens t x → marks ≡ marks_of R (λ y. mem y t) → result ≡ marks_of R (λ y. mem y (admit R hiddens t (name_at R x))) }
+            → Clear R hiddens t → ring R t ≡ false → Missed R hiddens t x → marks.old ≡ marks_of R (λ y. mem y t) → marks.new ≡ marks_of R (λ y. mem y (admit R hiddens t (name_at R x))) }
     {
         if marks[x] == 1 {
-            return marks;
+            return;
         }
         let graph = self.graph;
         let need = crate::need_before(&graph.rows, x);
         if marks[need] != 1 {
-            return marks;
+            return;
         }
-        let more = graph.rows.closed(ENABLES_BASE, marks, x);
-        if self.is_shut(&marks, &more, x) {
-            return marks;
+        let more = crate::with_needs(&graph.rows, marks, x);
+        if self.is_shut(marks, &more, x) {
+            return;
         }
-        if !self.ringed {
-            return more;
+        if self.ringed && crate::closes_ring(graph, self.reversed, marks, &more, x) {
+            return;
         }
-        if crate::closes_ring(graph, self.reversed, &marks, more, x) {
-            return marks;
-        }
-        more
+        *marks = more;
     }
 
     // What must stand, which holds no ring, then the others by ascending name.
@@ -170,9 +167,7 @@ impl Admission<'_> {
     {
         let mut marks = *self.mustmarks;
         for x in 1..self.graph.count {
-            // Kept: by way of `more`: the borrow checker does not cover a call's result that is laid in a local that holds an array.
-            let more = self.admitted(marks, x);
-            marks = more;
+            self.admit(&mut marks, x);
         }
         marks
     }
@@ -186,7 +181,7 @@ fn scheduled_marks(graph: &Graph, reversed: &Rows, mustmarks: &Marks, hidden: &M
 {
     let all = graph.all_marks();
     let barring = any_barred(graph, &all, hidden, mustmarks);
-    let ringed = graph.has_ring(all);
+    let ringed = graph.has_ring(&all);
     let admission = Admission {
         graph,
         reversed,
@@ -196,7 +191,7 @@ fn scheduled_marks(graph: &Graph, reversed: &Rows, mustmarks: &Marks, hidden: &M
         ringed,
     };
     if ringed {
-        if graph.has_ring(*mustmarks) {
+        if graph.has_ring(mustmarks) {
             return *mustmarks;
         }
         return admission.admitted_marks();
@@ -208,12 +203,12 @@ fn scheduled_marks(graph: &Graph, reversed: &Rows, mustmarks: &Marks, hidden: &M
 }
 
 // The bench schedule. Pub for `judgement`.
-pub fn schedule_row(graph: &Graph, mustmarks: Marks, hidden: &Marks) -> Row
+pub fn schedule_row(graph: &Graph, mustmarks: &Marks, hidden: &Marks) -> Row
     ensures { (R : Record) (hiddens : List ℕ) → Resolved R graph.now.rows → graph.now.count ≡ length (names R)
-        → mustmarks ≡ marks_of R (must R) → Hides R hidden.now hiddens → RowIs R result (schedule R hiddens) }
+        → mustmarks.now ≡ marks_of R (must R) → Hides R hidden.now hiddens → RowIs R result (schedule R hiddens) }
 {
     let reversed = graph.reversed();
-    let marks = scheduled_marks(graph, &reversed, &mustmarks, hidden);
+    let marks = scheduled_marks(graph, &reversed, mustmarks, hidden);
     ordered_row(graph, &reversed, marks)
 }
 

@@ -71,8 +71,8 @@ fn reason_at(multilog: Record, index: usize) -> Option<Reason>
         let chain = reasons_rows::must_chain(&graph, index);
         return Some(Reason::Must(row_names(multilog, &chain)));
     }
-    let needmarks = judgement_marks::needs_marks(&graph.rows, mustmarks, index);
-    if !graph.has_ring(needmarks) {
+    let needmarks = judgement_marks::needs_marks(&graph.rows, &mustmarks, index);
+    if !graph.has_ring(&needmarks) {
         return None;
     }
     let found = reasons_rows::never_chain(&graph, &needmarks, index);

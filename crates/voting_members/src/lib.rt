@@ -70,10 +70,10 @@ fn backward_key(rows: &Rows, c: IndexedConstraint) -> usize
     ensures { (result ≤ mark_limit) × ((R : theory.Record) → Resolved R rows.now → c.left < length (theory.names R)
         → c.right < length (theory.names R) → result ≡ backward_key R c.left c.rule c.right) }
 {
-    if c.rule < 2 {
-        MARKS
-    } else {
-        rival_key(rows, c.right, c.left)
+    // Kept: the specification names a constraint's rule by number.
+    match c.rule {
+        0 | 1 => MARKS,
+        _ => rival_key(rows, c.right, c.left),
     }
 }
 
@@ -123,5 +123,7 @@ pub fn member_marks(table: &IndexTable, rows: &Rows, edit: u16) -> Marks
         → Leads (leads_in R) R 0 rows.now → edit among theory.written R → result ≡ marks_of R (λ y. mem y (members R edit)) }
 {
     let x = table.index_of(usize::from(edit));
-    rows.closed(0, [0; MARKS], x)
+    let mut marks = [0u8; MARKS];
+    rows.close(0, &mut marks, x);
+    marks
 }

@@ -2,11 +2,10 @@
 use mathlib.Core.Path.{sym, ◌∙◌}
 use native.Mathlib.Omega.{arith}
 use Rattle.judgement_marks.proofs.Entering.{bit-yes, bit-no}
-use Rattle.judgement_marks.proofs.Standing.{needs-names, never-must, never-need, never-entering, two-known, calm-two, unmarked-above, must-init, must-on}
+use Rattle.judgement_marks.proofs.Standing.{never-must, never-need, never-entering, two-known, calm-two, unmarked-above, must-init, must-on}
 use Rattle.graph.proofs.links.Names.{get_or-among}
 use Rattle.record.specs.Judgement.{must}
-use Rattle.record.specs.Record.{names, enables}
-use Rattle.record.proofs.Records.{enabler-known}
+use Rattle.record.specs.Record.{names}
 use Rattle.record.proofs.Order.{needs-closed}
 use Rattle.judgement_marks.proofs.is_never.Goals as goal
 
@@ -30,5 +29,5 @@ returns c =
     let z = needs-closed R g.formed _ in
     c.closes_ring.ensures R _ g f q l z i o
     (calm-two R _ (bit-no _ _ (v a.result (a.ensures.2 (unmarked-above R (must R) _ c.args.x e (must-init R) c.if-mustmarks-x-eq1.false))) c.if-nevermarks-a-eq1.false))
-    (c.closed-marks.ensures (enables R) R (names R) _ g.enablers (enabler-known g.formed) z (omega arith) i o ∙ needs-names R _ _)
+    (c.with_needs-marks.ensures R _ g (omega arith) z i o)
     ∙ never-entering g.formed _ _ k.1

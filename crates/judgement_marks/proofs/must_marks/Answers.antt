@@ -10,4 +10,4 @@ use Rattle.judgement_marks.proofs.must_marks.Goals as goal
 
 pub returns : goal.returns
 returns c R g =
-    c.closed.ensures (enables R) R (names R) [] g.enablers (enabler-known g.formed) (none-closed R) (names-some R) (nil-within (names R)) (none-marked R g.enablers.few) ∙ must-closure R
+    c.close.ensures (enables R) R (names R) [] g.enablers (enabler-known g.formed) (none-closed R) (names-some R) (nil-within (names R)) (none-marked R g.enablers.few) ∙ must-closure R

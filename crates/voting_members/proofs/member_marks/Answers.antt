@@ -13,5 +13,5 @@ pub returns : goal.returns
 returns c R f t g i =
     let x = c.args.edit in
     let q = c.index_of-x.ensures.is ∙ (t _ ∙ ap (λ n. place_in (names R) n) c.from.ensures) in
-    c.closed.ensures (leads_in R) R (written R) [] g (leads-in-known R f.formed x i) (none-leading R) (start-low R f x i _ q) (nil-within (names R)) (none-marked R (names-few R f))
+    c.close.ensures (leads_in R) R (written R) [] g (leads-in-known R f.formed x i) (none-leading R) (start-low R f x i _ q) (nil-within (names R)) (none-marked R (names-few R f))
     ∙ members-marks R f x i _ q

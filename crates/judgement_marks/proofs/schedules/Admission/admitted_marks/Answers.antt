@@ -10,7 +10,7 @@ loop-x-init c =
 pub loop-x-preserved : goal.loop-x-preserved
 loop-x-preserved c =
     let l = c.loop-x in
-    (omega arith, λ R h g f q m i b r calm. admitting-step R g.formed h l.marks _ l.x (omega arith) (λ t k z o e. c.admitted-more.ensures R h t g f q (omega arith) m i b r k z o e) (l.invariant.1 R h g f q m i b r calm))
+    (omega arith, λ R h g f q m i b r calm. admitting-step R g.formed h l.marks _ l.x (omega arith) (λ t k z o e. c.admit.ensures R h t g f q (omega arith) m i b r k z o e) (l.invariant.1 R h g f q m i b r calm))
 
 pub returns : goal.returns
 returns c =

@@ -1,6 +1,6 @@
--- `links::Rows::closed` meets its contract. Assumes nothing.
+-- `links::Rows::close` meets its contract. Assumes nothing.
 use Rattle.graph.proofs.links.Closing.{closing}
-use Rattle.graph.proofs.links.Rows.closed.Goals as goal
+use Rattle.graph.proofs.links.Rows.close.Goals as goal
 
 pub returns : goal.returns
 returns c leads R known t g kn cl h sub e =
