@@ -23,7 +23,7 @@ use Rattle.record.proofs.Records.{written-names}
 use Rattle.record.specs.Stored.{padded, filler_edit, record_of, stored, edit_named}
 use Rattle.record.specs.Judgement.{must, never}
 use Rattle.record.proofs.Padded.{take-padded}
-use Rattle.record_rows.specs.row.Row.{Row, name_cell, edit_in_range, edit_row}
+use Rattle.record_rows.specs.row.Row.{Row, name_cell, edit_in_range, edit_of, edit_row}
 use Rattle.record_rows.specs.grounds.Ground.{Rows}
 use Rattle.record_rows.proofs.grounds.Grounds.{orelse-none}
 use Rattle.record_rows.proofs.row.Cells.{name-small, edit-bounds}
@@ -295,7 +295,7 @@ pair-size a b kind z =
     (λ (e : (edit_in_range a && (edit_in_range b && ltb kind 2)) ≡ true).
     let p = edit-bounds a refl (and_l (edit_in_range a) (edit_in_range b && ltb kind 2) e) in
     let q = edit-bounds b refl (and_l (edit_in_range b) (ltb kind 2) (and_r (edit_in_range a) (edit_in_range b && ltb kind 2) e)) in
-    suggestion-size (advised kind a b) (name_cell a) (name_cell b) p.0 q.0)
+    suggestion-size (advised kind (edit_of a) (edit_of b)) (name_cell a) (name_cell b) p.0 q.0)
     (λ (e : (edit_in_range a && (edit_in_range b && ltb kind 2)) ≡ false). absurd (let y : ◌≡◌ {A = ℕ} 2 0 = rw e at z in omega arith))
 
 suggested-size : (R : Record) (w : Suggesting) → suggestion_fault R w ≡ 0 → size_of (suggestion_text (suggested_rules_in R w)) ≤ 162

@@ -5,7 +5,8 @@ ghost use Rattle.lists.specs.Keyed.{precedes};
 ghost use Rattle.record_rows.specs.row.Row.{Row};
 
 use crate::row;
-use record::{Body, CONSTRAINTS, Constraint, EDITS, Edit, Field};
+use crate::row::{CONSTRAINT_CELLS, ConstraintRow, EDIT_CELLS, EditRow, INSERT, REMOVE, SET};
+use record::{Body, CONSTRAINTS, Constraint, EDITS, Edit};
 
 pub trait Element<const CELLS: usize>: Copy {
     // The row of an element, and its first cells, the key.
@@ -57,7 +58,7 @@ pub trait Element<const CELLS: usize>: Copy {
     ghost keyed: { (x : Self) → take KEY (row_of x) ≡ key_of x };
 }
 
-impl Element<5> for Edit {
+impl Element<EDIT_CELLS> for Edit {
     ghost use Rattle.std.specs.Prelude.{[], ◌∷◌};
     ghost use Rattle.record.specs.Stored.{edit_limit, filler_edit};
     ghost use Rattle.record_rows.specs.row.Row.{edit_row, edit_in_range, edit_of};
@@ -81,37 +82,21 @@ impl Element<5> for Edit {
 
     const PLACES: usize = EDITS;
 
-    fn row(self) -> [u32; 5] {
+    fn row(self) -> EditRow {
         let name = u32::from(self.name);
         match self.body {
-            Body::Insert(place) => [name, 0, u32::from(place), 0, 0],
-            Body::Set(place, field, value) => [name, 1, u32::from(place), field as u32, value],
-            Body::Remove(place) => [name, 2, u32::from(place), 0, 0],
+            Body::Insert(place) => [name, INSERT, u32::from(place), 0, 0],
+            Body::Set(place, field, value) => [name, SET, u32::from(place), field as u32, value],
+            Body::Remove(place) => [name, REMOVE, u32::from(place), 0, 0],
         }
     }
 
-    fn in_range(row: &[u32; 5]) -> bool {
+    fn in_range(row: &EditRow) -> bool {
         row::edit_in_range(*row)
     }
 
-    fn of(row: &[u32; 5]) -> Edit {
-        if !row::edit_in_range(*row) {
-            return Edit::filler();
-        }
-        let [name, kind, place, field, value] = *row;
-        let place = place as u8;
-        let body = match (kind, field) {
-            (0, _) => Body::Insert(place),
-            (1, 0) => Body::Set(place, Field::Id, value),
-            (1, 1) => Body::Set(place, Field::Size, value),
-            (1, 2) => Body::Set(place, Field::Erase, value),
-            (1, _) => Body::Set(place, Field::Page, value),
-            _ => Body::Remove(place),
-        };
-        Edit {
-            name: name as u16,
-            body,
-        }
+    fn of(row: &EditRow) -> Edit {
+        row::decoded_edit(*row).unwrap_or(Edit::filler())
     }
 
     fn filler() -> Edit {
@@ -130,7 +115,7 @@ impl Element<5> for Edit {
     ghost keyed = { edit-keyed };
 }
 
-impl Element<3> for Constraint {
+impl Element<CONSTRAINT_CELLS> for Constraint {
     ghost use Rattle.std.specs.Prelude.{[], ◌∷◌};
     ghost use Rattle.record.specs.Stored.{constraint_limit, filler_constraint};
     ghost use Rattle.record_rows.specs.row.Row.{constraint_row, constraint_in_range, constraint_of};
@@ -154,7 +139,7 @@ impl Element<3> for Constraint {
 
     const PLACES: usize = CONSTRAINTS;
 
-    fn row(self) -> [u32; 3] {
+    fn row(self) -> ConstraintRow {
         [
             u32::from(self.left),
             u32::from(self.rule),
@@ -162,11 +147,11 @@ impl Element<3> for Constraint {
         ]
     }
 
-    fn in_range(row: &[u32; 3]) -> bool {
+    fn in_range(row: &ConstraintRow) -> bool {
         row::constraint_in_range(*row)
     }
 
-    fn of(row: &[u32; 3]) -> Constraint {
+    fn of(row: &ConstraintRow) -> Constraint {
         if !row::constraint_in_range(*row) {
             return Constraint::filler();
         }

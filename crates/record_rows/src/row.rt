@@ -3,8 +3,9 @@
 ghost use Rattle.std.specs.Prelude.{◌≡◌, cond, Ok, Err, ◌≤◌, length, take};
 ghost use Rattle.refusals.specs.declared.Refusal.TheVariants.{OutOfRange};
 ghost use Rattle.lists.specs.Keyed.{precedes};
-ghost use Rattle.record_rows.specs.row.Row.{same, is_name, body_in_range, edit_in_range, is_side, constraint_in_range, edit_width, constraint_width};
+ghost use Rattle.record_rows.specs.row.Row.{same, is_name, field_of, body_of, decoded_edit, edit_in_range, is_side, constraint_in_range, edit_width, constraint_width};
 
+use record::{Body, Edit, Field};
 use refusals::Refusal;
 
 // The cells of a row, and bounds of names, benches, chip places and rules; specs/row/Row.antt has the same numbers.
@@ -23,6 +24,13 @@ pub const BENCHES: u32 = 8;
 pub const PLACES: u32 = 64;
 
 const RULES: u32 = 3;
+
+// The kinds of an edit.
+pub const INSERT: u32 = 0;
+
+pub const SET: u32 = 1;
+
+pub const REMOVE: u32 = 2;
 
 // The two tables of a record, as a caller lends them.
 #[derive(Clone, Copy)]
@@ -50,30 +58,52 @@ pub fn name(n: u32) -> Result<u16, Refusal>
     }
 }
 
-#[tactic(auto, unfolding(crate::specs::row::Row::body_in_range))]
-fn unused(field: u32, value: u32) -> bool
-    ensures { result ≡ body_in_range 0 field value }
+// The field with this number.
+fn field_of(number: u32) -> Option<Field>
+    ensures { result ≡ field_of number }
 {
-    (field == 0) & (value == 0)
+    match number {
+        0 => Some(Field::Id),
+        1 => Some(Field::Size),
+        2 => Some(Field::Erase),
+        3 => Some(Field::Page),
+        _ => None,
+    }
 }
 
-// Kept: kinds and fields are numbers here and below, for that is what lent rows have.
-fn body_in_range(kind: u32, field: u32, value: u32) -> bool
-    ensures { result ≡ body_in_range kind field value }
+// The body with these cells.
+// Kept: kinds and fields are numbers here and above, for that is what lent rows have.
+fn body_of(kind: u32, place: u8, field: u32, value: u32) -> Option<Body>
+    ensures { result ≡ body_of kind place field value }
 {
-    match kind {
-        0 => unused(field, value),
-        1 => field < 4,
-        2 => unused(field, value),
-        _ => false,
+    match (kind, field, value) {
+        (INSERT, 0, 0) => Some(Body::Insert(place)),
+        (SET, _, _) => Some(Body::Set(place, field_of(field)?, value)),
+        (REMOVE, 0, 0) => Some(Body::Remove(place)),
+        _ => None,
     }
+}
+
+// The edit of a row; none where a cell is outside its range.
+pub fn decoded_edit(row: EditRow) -> Option<Edit>
+    ensures { result ≡ decoded_edit row }
+{
+    let [name, kind, place, field, value] = row;
+    if !is_name(name) || place >= PLACES {
+        return None;
+    }
+    let body = body_of(kind, place as u8, field, value)?;
+    Some(Edit {
+        name: name as u16,
+        body,
+    })
 }
 
 // The length of the row is ensured for callers that copy it out of a slice.
 pub fn edit_in_range(row: EditRow) -> bool
     ensures { (result ≡ edit_in_range row) × (length row ≡ edit_width) }
 {
-    is_name(row[0]) & (row[2] < PLACES) & body_in_range(row[1], row[3], row[4])
+    decoded_edit(row).is_some()
 }
 
 fn is_side(n: u32) -> bool
@@ -85,7 +115,8 @@ fn is_side(n: u32) -> bool
 pub fn constraint_in_range(row: ConstraintRow) -> bool
     ensures { (result ≡ constraint_in_range row) × (length row ≡ constraint_width) }
 {
-    is_side(row[0]) & (row[1] < RULES) & is_side(row[2])
+    let [left, rule, right] = row;
+    is_side(left) & (rule < RULES) & is_side(right)
 }
 
 // Whether the first k cells of a precede those of b. Pub for `record_tables`, whose rows have so many cells.

@@ -8,7 +8,7 @@ use Rattle.record.specs.declared.Edit.{Edit}
 use Rattle.record.specs.declared.Constraint.{Constraint}
 use Rattle.lists.specs.Keyed.{Ascending}
 use Rattle.lists.proofs.Union.{ascending-map}
-use Rattle.record_rows.specs.row.Row.{edit_row, constraint_row, edit_of, constraint_of}
+use Rattle.record_rows.specs.row.Row.{edit_width, constraint_width, edit_row, constraint_row, edit_of, constraint_of}
 use Rattle.record_rows.proofs.row.Cells.{edit-wide, constraint-wide, edit-back, edit-again, constraint-back, constraint-again}
 use Rattle.record_rows.proofs.grounds.Loop.{Elements}
 use Rattle.record_rows.proofs.grounds.Decoded.{Coding}
@@ -16,11 +16,11 @@ use Rattle.record_rows.specs.element.Laws.{edit-keyed, constraint-keyed}
 use Rattle.record_tables.specs.Table.{edit_kind, constraint_kind, edit_key, constraint_key}
 
 abbrev pub edit_elements : Elements
-edit_elements = record { A = Edit; kind = edit_kind; row_of = edit_row; width = 5; narrow = omega arith; wide = edit-wide }
+edit_elements = record { A = Edit; kind = edit_kind; row_of = edit_row; width = edit_width; narrow = omega arith; wide = edit-wide }
 
 abbrev pub constraint_elements : List ℕ → Bool → Elements
 constraint_elements names adding =
-    record { A = Constraint; kind = constraint_kind names adding; row_of = constraint_row; width = 3; narrow = omega arith; wide = constraint-wide }
+    record { A = Constraint; kind = constraint_kind names adding; row_of = constraint_row; width = constraint_width; narrow = omega arith; wide = constraint-wide }
 
 abbrev pub edit_coding : Coding edit_elements
 edit_coding = record { key = edit_key; keyed = edit-keyed; of = edit_of; back = edit-back; again = edit-again }

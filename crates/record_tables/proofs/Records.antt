@@ -20,7 +20,7 @@ use Rattle.lists.proofs.Logic.{has-map, any-by, all-has, all-by}
 use Rattle.lists.proofs.Order.{less_one}
 use Rattle.lists.proofs.Union.{ascending-united, united-has, united-new, agree-self}
 use Rattle.record_rows.specs.row.Row.{Row, cell, is_name, edit_in_range, constraint_in_range, edit_of, constraint_of, edit_row, constraint_row}
-use Rattle.record_rows.proofs.row.Cells.{edit-in-range, edit-decoded, name-not-zero}
+use Rattle.record_rows.proofs.row.Cells.{edit-in-range, name-not-zero}
 use Rattle.record_rows.specs.grounds.Ground.{Rows, table_fault, ◌given◌, ◌orelse◌}
 use Rattle.record_rows.proofs.grounds.Grounds.{orelse-none, orelse-second, given-none}
 use Rattle.record_rows.proofs.grounds.Accepted.{accepted-range}
@@ -157,7 +157,7 @@ row-names R es h = go es (accepted-range edit_kind (edit_rows R) es h)
     go : (t : Rows) → ((x : Row) → Has x t → edit_in_range x ≡ true) → names_of t ≡ map name_of (map edit_of t)
     go [] f = refl
     go (x ∷ t) f =
-        let e : cell x 0 ≡ (edit_of x).name = ap name_of (edit-decoded x (sym (f x (inl refl))) refl refl) in
+        let e : cell x 0 ≡ (edit_of x).name = sym (ap name_of (edit-in-range x (f x (inl refl))).decoded) in
         let g : names_of t ≡ map name_of (map edit_of t) = go t (λ y m. f y (inr m)) in
         cc
 

@@ -1,9 +1,8 @@
 // Suggested constraints (document 01 and document 02, A1; 002, tables 2 and 3): rows for whoever asks, for two edits and the case that holds.
 #![tactic(auto)]
 
-ghost use Rattle.std.specs.Prelude.{◌≡◌, eqb};
-ghost use Rattle.record_rows.specs.row.Row.{edit_row};
-ghost use Rattle.suggestions.specs.Suggest.{after_table, concurrent_table, kind_of, field_named, advised, rows_of, given, suggested};
+ghost use Rattle.std.specs.Prelude.{◌≡◌};
+ghost use Rattle.suggestions.specs.Suggest.{after_table, concurrent_table, advised, rows_of, given, suggested};
 
 use record::{Body, ENABLES, Edit, NONCOMMUTING, NOTAFTER};
 use record_rows::element::Element;
@@ -34,7 +33,7 @@ pub enum Suggested {
 // B after A by one author: what A and B do.
 #[tactic(auto, unfolding(crate::specs::Suggest::after_table))]
 fn after(first: Body, second: Body) -> Advice
-    ensures { result ≡ after_table (kind_of first) (kind_of second) (eqb (field_named first) (field_named second)) }
+    ensures { result ≡ after_table first second }
 {
     match (first, second) {
         (Body::Insert(_), Body::Insert(_)) => Advice::Nothing,
@@ -50,7 +49,7 @@ fn after(first: Body, second: Body) -> Advice
 // Whether concurrent edits are noncommuting: what A and B do.
 #[tactic(auto, unfolding(crate::specs::Suggest::concurrent_table))]
 fn concurrent(first: Body, second: Body) -> bool
-    ensures { result ≡ concurrent_table (kind_of first) (kind_of second) (eqb (field_named first) (field_named second)) }
+    ensures { result ≡ concurrent_table first second }
 {
     match (first, second) {
         (Body::Insert(_), Body::Insert(_)) => true,
@@ -66,7 +65,7 @@ fn concurrent(first: Body, second: Body) -> bool
 }
 
 fn advise(kind: u32, a: Edit, b: Edit) -> Advice
-    ensures { result ≡ advised kind (edit_row a) (edit_row b) }
+    ensures { result ≡ advised kind a b }
 {
     if a.name == b.name || a.body.place() != b.body.place() {
         Advice::Nothing

@@ -1,16 +1,20 @@
 -- The rows that a text has given so far: they are a lent record without fault, and each is in form. Assumes nothing.
-use mathlib.Core.Path.{◌≡◌, refl, ap, sym, ◌∙◌}
-use mathlib.Core.Bool.{Bool, true, false, ◌&&◌, ◌||◌}
+use mathlib.Core.Path.{◌≡◌, refl, ap, sym, subst, ◌∙◌}
+use mathlib.Core.Bool.{Bool, true, false}
 use mathlib.Core.List.{List, [], ◌∷◌, ◌++◌, map, append_assoc, append-nil, map-append}
-use Prim.Native.Nat.{ℕ, zero, suc, ◌≤◌, ◌<◌}
+use Prim.Native.Nat.{ℕ, ◌≤◌, ◌<◌}
 use native.Mathlib.Omega.{arith}
-use borrow.Author.Tests.{eqb-true, eq-eqb, ltb-true, ltb-false, lt-ltb}
+use borrow.Author.Tests.{eq-eqb, ltb-false, lt-ltb}
 use lib.Dec.{eqb, ltb}
 use lib.ListN.{length, get_or}
-use Rattle.lists.proofs.Lists.{clash, and_l, and_r}
+use Rattle.lists.proofs.Lists.{and_l, and_r}
 use Rattle.lists.specs.Lists.{all}
-use Rattle.record_rows.specs.row.Row.{Row, cell, body_in_range, edit_in_range, constraint_in_range}
-use Rattle.record_rows.proofs.row.Cells.{edit-in-range, constraint-in-range, name-small, constraint-bounds}
+use Rattle.record.specs.declared.Field.{Field}
+use Rattle.record.specs.declared.Field.TheVariants.{Id, Size, Erase, Page}
+use Rattle.record.specs.declared.Body.{Body}
+use Rattle.record.specs.declared.Body.TheVariants.{Insert, Set, Remove}
+use Rattle.record_rows.specs.row.Row.{Row, cell, name_cell, place_cell, value_cell, name_limit, place_limit, edit_in_range, edit_of, constraint_in_range, field_number, body_cells, edit_row}
+use Rattle.record_rows.proofs.row.Cells.{edit-in-range, edit-back, constraint-in-range, name-small, constraint-bounds}
 use Rattle.record_rows.specs.grounds.Ground.{Rows, TableKind, row_fault, first_fault, table_fault, ◌given◌}
 use Rattle.record_rows.proofs.grounds.Grounds.{orelse-none, orelse-second, given-none, Clean, clean, clean_is}
 use Rattle.record_tables.specs.Table.{empty_tables, names_of, edit_kind, constraint_kind, join_fault, lent_fault}
@@ -23,16 +27,6 @@ use Rattle.text_lines.proofs.RoundTrip.{cell-fits}
 small : (n m : ℕ) → n < m → m ≤ 4294967296 → fits_word n ≡ true
 small n m h l = lt-ltb n 4294967296 (omega arith)
 
-five-fit : (row : List ℕ) → length row ≡ 5 → fits_word (get_or row 0 0) ≡ true → fits_word (get_or row 1 0) ≡ true → fits_word (get_or row 2 0) ≡ true → fits_word (get_or row 3 0) ≡ true → fits_word (get_or row 4 0) ≡ true → all fits_word row ≡ true
-unfolding all
-five-fit [] l a b c d e = absurd (omega arith)
-five-fit (v ∷ []) l a b c d e = absurd (omega arith)
-five-fit (v ∷ w ∷ []) l a b c d e = absurd (omega arith)
-five-fit (v ∷ w ∷ x ∷ []) l a b c d e = absurd (omega arith)
-five-fit (v ∷ w ∷ x ∷ y ∷ []) l a b c d e = absurd (omega arith)
-five-fit (v ∷ w ∷ x ∷ y ∷ z ∷ []) l a b c d e = rw (a, b, c, d, e)
-five-fit (v ∷ w ∷ x ∷ y ∷ z ∷ u ∷ row) l a b c d e = absurd (omega arith)
-
 three-fit : (row : List ℕ) → length row ≡ 3 → fits_word (get_or row 0 0) ≡ true → fits_word (get_or row 1 0) ≡ true → fits_word (get_or row 2 0) ≡ true → all fits_word row ≡ true
 unfolding all
 three-fit [] l a b c = absurd (omega arith)
@@ -41,28 +35,25 @@ three-fit (v ∷ w ∷ []) l a b c = absurd (omega arith)
 three-fit (v ∷ w ∷ x ∷ []) l a b c = rw (a, b, c)
 three-fit (v ∷ w ∷ x ∷ y ∷ row) l a b c = absurd (omega arith)
 
--- what a body in range has
-pub record BodyParts (kind field value : ℕ) : Type 0 where
-  pub kind-known : kind < 3
-  pub field-known : field < 4
-  pub unused : (eqb kind 1 || (eqb field 0 && eqb value 0)) ≡ true
+field-known : (f : Field) → field_number f < 4
+field-known Id = omega arith
+field-known Size = omega arith
+field-known Erase = omega arith
+field-known Page = omega arith
 
-body-parts : (kind field value : ℕ) → body_in_range kind field value ≡ true → BodyParts kind field value
-unfolding body_in_range
-body-parts zero field value h =
-    record { kind-known = omega arith; field-known = omega (arith, eqb-true field 0 (and_l (eqb field 0) (eqb value 0) h)); unused = h }
-body-parts (suc zero) field value h = record { kind-known = omega arith; field-known = ltb-true field 4 h; unused = refl }
-body-parts (suc (suc zero)) field value h =
-    record { kind-known = omega arith; field-known = omega (arith, eqb-true field 0 (and_l (eqb field 0) (eqb value 0) h)); unused = h }
-body-parts (suc (suc (suc n))) field value h = clash h refl
+row-in-form : (n : ℕ) (b : Body) → fits_word n ≡ true → fits_word (place_cell (n ∷ body_cells b)) ≡ true → fits_word (value_cell (n ∷ body_cells b)) ≡ true → is_edit_row (n ∷ body_cells b) ≡ true
+unfolding is_edit_row all
+row-in-form n (Insert place) x y z = rw (x, y)
+row-in-form n (Set place field value) x y z =
+    let k = field-known field in rw (x, y, z, small (field_number field) 4 k (omega arith), lt-ltb (field_number field) 4 k)
+row-in-form n (Remove place) x y z = rw (x, y)
 
-pub edit-in-form : (row : Row) → edit_in_range row ≡ true → fits_word (cell row 4) ≡ true → is_edit_row row ≡ true
-unfolding is_edit_row
+pub edit-in-form : (row : Row) → edit_in_range row ≡ true → fits_word (value_cell row) ≡ true → is_edit_row row ≡ true
+unfolding edit_row
 edit-in-form row h v =
     let r = edit-in-range row h in
-    let b = body-parts (cell row 1) (cell row 3) (cell row 4) r.body in
-    let a : all fits_word row ≡ true = five-fit row r.wide (small (cell row 0) 2304 (name-small (cell row 0) r.name) (omega arith)) (small (cell row 1) 3 b.kind-known (omega arith)) (small (cell row 2) 64 r.place (omega arith)) (small (cell row 3) 4 b.field-known (omega arith)) v in
-    rw (eq-eqb (length row) 5 r.wide, a, lt-ltb (cell row 1) 3 b.kind-known, lt-ltb (cell row 3) 4 b.field-known, b.unused)
+    subst (λ (l : Row). fits_word (name_cell l) ≡ true → fits_word (place_cell l) ≡ true → fits_word (value_cell l) ≡ true → is_edit_row l ≡ true) (edit-back row h) (row-in-form (edit_of row).name (edit_of row).body)
+    (small (name_cell row) name_limit (name-small (name_cell row) r.name) (omega arith)) (small (place_cell row) place_limit r.place (omega arith)) v
 
 pub constraint-in-form : (row : Row) → constraint_in_range row ≡ true → is_constraint_row row ≡ true
 unfolding is_constraint_row

@@ -8,6 +8,7 @@ use Prim.Native.Nat.{ℕ, ◌+◌, ◌*◌, ◌≤◌, ◌<◌, max}
 use native.Mathlib.Omega.{arith}
 use lib.Dec.{ltb}
 use borrow.Author.Tests.{ltb-true, ltb-false, lt-ltb}
+use Rattle.std.proofs.lemmas.Option.{same_Some}
 use Rattle.record.specs.declared.Field.{Field}
 use Rattle.record.specs.declared.Body.{Body}
 use Rattle.record.specs.declared.Body.TheVariants.{Insert, Set, Remove}
@@ -43,7 +44,7 @@ use Rattle.voting.specs.Tally.{
 
 -- Votes are equal just where the test says so.
 field-number : (f g : Field) → field_number f ≡ field_number g → f ≡ g
-field-number f g e = sym (field-again f) ∙ (ap field_of e ∙ field-again g)
+field-number f g e = same_Some _ _ (sym (field-again f) ∙ (ap field_of e ∙ field-again g))
 
 body-cells : (a b : Body) → body_cells a ≡ body_cells b → a ≡ b
 body-cells (Insert p) (Insert q) e = let h : p ≡ q = cc in ap (λ x. Insert x) h

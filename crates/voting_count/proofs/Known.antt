@@ -11,7 +11,8 @@ use Rattle.lists.specs.Lists.{any, all, mem}
 use Rattle.record.specs.Record.{written, name_of}
 use Rattle.record.specs.Stored.{filler_edit}
 use Rattle.lists.proofs.Lists.{by, clash, and_l, and_r}
-use Rattle.record_rows.specs.row.Row.{Row, cell, is_name, edit_in_range, edit_of, edit_row}
+use Rattle.record_rows.proofs.row.Cells.{edit-in-range, edit-filler, name-not-zero}
+use Rattle.record_rows.specs.row.Row.{Row, cell, edit_in_range, edit_of, edit_row}
 use Rattle.record_rows.specs.grounds.Ground.{Rows}
 use Rattle.record_tables.specs.Table.{names_of}
 use Rattle.voting_count.specs.Count.{lent_proposals, Faultless}
@@ -32,12 +33,13 @@ module _ (x : ℕ) where
 
 -- the names of rows in range are those of their edits; what is not in range is the filler, whose row is not either
 filler-out : edit_in_range (edit_row filler_edit) ≡ false
-unfolding edit_in_range edit_row is_name
-filler-out = refl
+unfolding edit_row
+filler-out = by (edit_in_range (edit_row filler_edit)) (λ e. absurd (name-not-zero 0 (edit-in-range (edit_row filler_edit) e).name refl)) (λ e. e)
 
 row_named : (r : Row) → edit_in_range (edit_row (edit_of r)) ≡ true → cell r 0 ≡ (edit_of r).name
-unfolding edit_of
-row_named r h = by (edit_in_range r) (λ e. rw e) (λ e. clash h (rw e filler-out))
+row_named r h =
+    by (edit_in_range r) (λ e. sym (ap name_of (edit-in-range r e).decoded))
+    (λ e. let f : filler_edit ≡ edit_of r = edit-filler r refl e in clash h (rw (← f) filler-out))
 
 rows_named : (t : Rows) → all (λ e. edit_in_range (edit_row e)) (map edit_of t) ≡ true → names_of t ≡ map name_of (map edit_of t)
 unfolding all

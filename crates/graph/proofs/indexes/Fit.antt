@@ -5,15 +5,14 @@ use mathlib.Core.List.{[], ◌∷◌}
 use Prim.Native.Nat.{ℕ, ◌<◌}
 use native.Mathlib.Omega.{arith}
 use lib.Dec.{eqb, ltb}
-use lib.ListN.{length}
 use borrow.Author.Tests.{eqb-false, ltb-true, ltb-false, not-true}
 use Rattle.record.specs.declared.Edit.{Edit}
 use Rattle.record.specs.Record.{Record, written, names}
 use Rattle.lists.proofs.Lists.{and_l, and_r, or-no-l, or-no-r, cons-by}
 use Rattle.record.proofs.Records.{all-constraints}
 use Rattle.lists.proofs.Logic as logic
-use Rattle.record_rows.proofs.row.Cells.{name-small}
-use Rattle.record_rows.specs.row.Row.{body_cells, is_name, is_side, edit_in_range, constraint_in_range, edit_row, constraint_row}
+use Rattle.record_rows.proofs.row.Cells.{name-small, edit-in-range}
+use Rattle.record_rows.specs.row.Row.{is_name, is_side, edit_in_range, constraint_in_range, edit_row, constraint_row}
 use Rattle.record_tables.specs.Table.{pair_not_allowed}
 use Rattle.record_tables.specs.Checked.{Checked}
 use Rattle.record_tables.proofs.Unions.{mem-by}
@@ -21,8 +20,8 @@ use Rattle.record_tables.proofs.Records.{checked-wellformed, checked-ascending}
 use Rattle.graph.specs.indexes.Fit.{Fit}
 
 edit-name : (e : Edit) → edit_in_range (edit_row e) ≡ true → is_name e.name ≡ true
-unfolding edit_in_range edit_row
-edit-name e h = and_l _ _ (and_r (eqb (length (e.name ∷ body_cells e.body)) 5) _ h)
+unfolding edit_row
+edit-name e h = (edit-in-range (edit_row e) h).name
 
 rule-low : (a k b : ℕ) → constraint_in_range (a ∷ k ∷ b ∷ []) ≡ true → k < 3
 unfolding constraint_in_range

@@ -15,12 +15,12 @@ constraint-narrow = suc-le-suc (suc-le-suc (suc-le-suc zero-le))
 
 pub edit-wide : (e : Edit) → length (edit_row e) ≡ edit_width
 unfolding edit_row
-edit-wide e = five e.body
+edit-wide e = go e.body
   where
-    five : (b : Body) → length (e.name ∷ body_cells b) ≡ 5
-    five (Insert p) = refl
-    five (Set p f v) = refl
-    five (Remove p) = refl
+    go : (b : Body) → length (e.name ∷ body_cells b) ≡ edit_width
+    go (Insert p) = refl
+    go (Set p f v) = refl
+    go (Remove p) = refl
 
 pub constraint-wide : (c : Constraint) → length (constraint_row c) ≡ constraint_width
 unfolding constraint_row

@@ -1,5 +1,5 @@
 -- Document 01, "The record": edits and constraints as rows of numbers, the range of each cell, and the edit or constraint that a row in range is. Assumes nothing.
-use Rattle.std.specs.Prelude.{Bool, true, false, cond, ◌&&◌, ◌||◌, List, [], ◌∷◌, ℕ, zero, suc, ◌/◌, ◌%◌, leb, ltb, eqb, length, get_or}
+use Rattle.std.specs.Prelude.{Bool, true, false, cond, ◌&&◌, ◌||◌, List, [], ◌∷◌, ℕ, zero, suc, ◌/◌, ◌%◌, leb, ltb, eqb, length, get_or, Option, Some, None, is_some, unwrap_or, option_map}
 use Rattle.record.specs.declared.Field.{Field}
 use Rattle.record.specs.declared.Field.TheVariants.{Id, Size, Erase, Page}
 use Rattle.record.specs.declared.Body.{Body}
@@ -63,39 +63,49 @@ name_limit = 2304
 abbrev pub place_limit : ℕ
 place_limit = 64
 
--- kind 0 insert, 1 set, 2 remove; the cells that a kind does not use are 0
-unfoldable pub body_in_range : ℕ → ℕ → ℕ → Bool
-body_in_range zero field value = eqb field 0 && eqb value 0
-body_in_range (suc zero) field value = ltb field 4
-body_in_range (suc (suc zero)) field value = eqb field 0 && eqb value 0
-body_in_range (suc (suc (suc n))) field value = false
+-- rules are below it
+abbrev pub rule_limit : ℕ
+rule_limit = 3
+
+-- the field with this number
+abbrev pub field_of : ℕ → Option Field
+field_of zero = Some Id
+field_of (suc zero) = Some Size
+field_of (suc (suc zero)) = Some Erase
+field_of (suc (suc (suc zero))) = Some Page
+field_of (suc (suc (suc (suc n)))) = None
+
+-- the body with these cells: kind 0 insert, 1 set, 2 remove; the cells that a kind does not use are 0
+abbrev pub body_of : ℕ → ℕ → ℕ → ℕ → Option Body
+body_of zero place field value = cond (eqb field 0 && eqb value 0) (Some (Insert place)) None
+body_of (suc zero) place field value = option_map (λ f. Set place f value) (field_of field)
+body_of (suc (suc zero)) place field value = cond (eqb field 0 && eqb value 0) (Some (Remove place)) None
+body_of (suc (suc (suc n))) place field value = None
+
+abbrev pub edit_with : ℕ → Body → Edit
+edit_with name body = record { name = name; body = body }
+
+-- the edit of a row; none where a cell is outside its range
+unfoldable pub decoded_edit : Row → Option Edit
+decoded_edit row =
+    cond (eqb (length row) edit_width && (is_name (name_cell row) && ltb (place_cell row) place_limit))
+    (option_map (edit_with (name_cell row)) (body_of (kind_cell row) (place_cell row) (field_cell row) (value_cell row))) None
 
 unfoldable pub edit_in_range : Row → Bool
-edit_in_range row = eqb (length row) edit_width && (is_name (name_cell row) && (ltb (place_cell row) place_limit && body_in_range (kind_cell row) (field_cell row) (value_cell row)))
+edit_in_range row = is_some (decoded_edit row)
+
+-- of a row out of range the filler
+unfoldable pub edit_of : Row → Edit
+edit_of row = unwrap_or (decoded_edit row) filler_edit
 
 -- a side of a constraint: a name or 0
 unfoldable pub is_side : ℕ → Bool
 is_side n = eqb n 0 || is_name n
 
 unfoldable pub constraint_in_range : Row → Bool
-constraint_in_range row = eqb (length row) constraint_width && (is_side (constraint_cells row).left && (ltb (constraint_cells row).rule 3 && is_side (constraint_cells row).right))
+constraint_in_range row = eqb (length row) constraint_width && (is_side (constraint_cells row).left && (ltb (constraint_cells row).rule rule_limit && is_side (constraint_cells row).right))
 
--- the edit that a row in range is
-abbrev pub field_of : ℕ → Field
-field_of zero = Id
-field_of (suc zero) = Size
-field_of (suc (suc zero)) = Erase
-field_of (suc (suc (suc n))) = Page
-
-abbrev pub body_of : ℕ → ℕ → ℕ → ℕ → Body
-body_of zero place field value = Insert place
-body_of (suc zero) place field value = Set place (field_of field) value
-body_of (suc (suc n)) place field value = Remove place
-
-unfoldable pub edit_of : Row → Edit
-edit_of row =
-    cond (edit_in_range row) (record { name = name_cell row; body = body_of (kind_cell row) (place_cell row) (field_cell row) (value_cell row) }) filler_edit
-
+-- the constraint that a row in range is
 unfoldable pub constraint_of : Row → Constraint
 constraint_of row = cond (constraint_in_range row) (constraint_cells row) filler_constraint
 

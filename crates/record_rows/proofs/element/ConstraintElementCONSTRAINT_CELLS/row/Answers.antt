@@ -1,6 +1,6 @@
 -- `Element::row` of a constraint meets its contract. Assumes nothing.
 use Rattle.record_rows.specs.row.Row.{constraint_row}
-use Rattle.record_rows.proofs.element.ConstraintElement3.row.Goals as goal
+use Rattle.record_rows.proofs.element.ConstraintElementCONSTRAINT_CELLS.row.Goals as goal
 
 pub returns : goal.returns
 unfolding constraint_row

@@ -2,7 +2,7 @@
 use Rattle.std.proofs.Common.{arith}
 use Rattle.std.proofs.lemmas.Grind.{common_steps}
 use Rattle.lists.specs.Keyed.{precedes}
-use Rattle.record_rows.proofs.element.ConstraintElement3.below.Goals as goal
+use Rattle.record_rows.proofs.element.ConstraintElementCONSTRAINT_CELLS.below.Goals as goal
 
 pub returns : goal.returns
 unfolding precedes

@@ -2,7 +2,7 @@
 use mathlib.Core.Path.{◌∙◌}
 use native.Mathlib.Omega.{arith}
 use Rattle.record_rows.proofs.row.Cells.{constraint-filler, constraint-bounds, constraint-decoded}
-use Rattle.record_rows.proofs.element.ConstraintElement3.of.Goals as goal
+use Rattle.record_rows.proofs.element.ConstraintElementCONSTRAINT_CELLS.of.Goals as goal
 
 pub returns-then-not-constraint_in_range : goal.returns-then-not-constraint_in_range
 returns-then-not-constraint_in_range c = c.filler.ensures ∙ constraint-filler c.args.row.now c.constraint_in_range.ensures.0 c.if-not-constraint_in_range.true

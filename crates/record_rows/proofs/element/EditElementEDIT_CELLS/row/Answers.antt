@@ -2,7 +2,7 @@
 use Rattle.std.proofs.Common.{arith}
 use Rattle.std.proofs.lemmas.Grind.{common_steps}
 use Rattle.record_rows.specs.row.Row.{edit_row}
-use Rattle.record_rows.proofs.element.EditElement5.row.Goals as goal
+use Rattle.record_rows.proofs.element.EditElementEDIT_CELLS.row.Goals as goal
 
 pub returns-in-Insert : goal.returns-in-Insert
 unfolding edit_row
