@@ -12,6 +12,7 @@ use Rattle.lists.specs.Lists.{filter, Has}
 use Rattle.lists.proofs.Lists.{by}
 use Rattle.lists.proofs.Logic.{has-mapped, all-has}
 use Rattle.lists.proofs.Front.{filter-length}
+use Rattle.record.specs.declared.Field.TheVariants.{Id, Size, Erase, Page as PageField}
 use Rattle.record.specs.declared.Body.{Body}
 use Rattle.record.specs.declared.Body.TheVariants.{Insert, Set, Remove}
 use Rattle.record.specs.declared.Edit.{Edit}
@@ -26,10 +27,12 @@ use Rattle.std.specs.Prelude.{Option, Some, None}
 use Rattle.catalogue.specs.declared.Entry.{Entry}
 use Rattle.catalogue.specs.Entries.{place_of, absent_entry}
 use Rattle.catalogue.specs.Chips.{cells}
-use Rattle.text_forms.specs.Spelling.{bytes}
+use Rattle.text_forms.specs.Spelling.{bytes, decimal_notation}
+use Rattle.text_forms.proofs.Lawful.{decimal-lawful}
 use Rattle.text_forms.specs.Form.{is_mark, fill}
 use Rattle.text_forms.proofs.Forms.{room, AllSmall, fill-room, fill-wide}
-use Rattle.text_lines.specs.Line.{set_form, edit_form, rule_form, edit_line, constraint_line}
+use Rattle.text_lines.specs.Line.{edit_form, edit_numbers, edit_line_in, edit_line, constraint_line}
+use Rattle.text_lines.proofs.Puts.{rule-length, rule_part-short}
 use Rattle.text.specs.Text.{joined_lines, rows_text, text_of}
 use Rattle.text_report.specs.Report.{counts_form, refusal_form, refusal_line}
 use Rattle.text_report.proofs.Size.{joined-size}
@@ -58,7 +61,7 @@ size-one t = ap length (append-nil t)
 
 -- a line, and a head of at most 60 bytes before other texts
 pub line-size : (form ns : List ℕ) (bound : ℕ) → AllSmall ns → leb (room form) bound ≡ true → size_of (fill form ns ∷ []) ≤ bound
-line-size form ns bound s h = omega (arith, size-one (fill form ns), fill-room form ns s, leb-true (room form) bound h)
+line-size form ns bound s h = omega (arith, size-one (fill form ns), fill-room decimal-lawful form ns s, leb-true (room form) bound h)
 
 pub head-size : (form ns : List ℕ) (bound : ℕ) (rest : Texts) → AllSmall ns → leb (room form) 60 ≡ true → size_of rest ≤ bound → size_of ((fill form ns ∷ []) ++ rest) ≤ 60 + bound
 head-size form ns bound rest s h k = omega (arith, size-both (fill form ns ∷ []) rest, line-size form ns 60 s h)
@@ -91,7 +94,7 @@ refusal-length = refl
 refused-size : (number line : ℕ) → number < 4294967296 → line < 2 ^ 64 → size_of (refusal_line number line ∷ []) ≤ 340
 unfolding refusal_line
 refused-size number line h i =
-    let w = fill-wide refusal_form (number ∷ line ∷ []) (λ k. two-wide number line k (omega arith) i) in
+    let w = fill-wide decimal-lawful refusal_form (number ∷ line ∷ []) (λ k. two-wide number line k (omega arith) i) in
     omega (arith, size-one (fill refusal_form (number ∷ line ∷ [])), refusal-length)
 
 pub answered-size : (number line bound : ℕ) (texts : Texts) → number < 4294967296 → line < 2 ^ 64 → 340 ≤ bound → (number ≡ 0 → size_of texts ≤ bound) → size_of (answered_text number texts line) ≤ bound
@@ -118,36 +121,31 @@ unfolding edit_row
 place-small e s = rw (← place-cell e.body) s.place
 
 -- the lines of a record's text
-set_room : (field : ℕ) → leb (room (set_form field)) 68 ≡ true
-unfolding room set_form bytes is_mark
-set_room zero = refl
-set_room (suc zero) = refl
-set_room (suc (suc zero)) = refl
-set_room (suc (suc (suc n))) = refl
-
-edit-room : (kind field : ℕ) → leb (room (edit_form kind field)) 68 ≡ true
+edit-room : (kind : ℕ) → leb (room (edit_form kind)) 68 ≡ true
 unfolding room edit_form bytes is_mark
-edit-room zero field = refl
-edit-room (suc zero) field = set_room field
-edit-room (suc (suc n)) field = refl
+edit-room zero = refl
+edit-room (suc zero) = refl
+edit-room (suc (suc zero)) = refl
+edit-room (suc (suc (suc n))) = refl
 
-rule-room : (rule : ℕ) → leb (room (rule_form rule)) 51 ≡ true
-unfolding room rule_form bytes is_mark
-rule-room zero = refl
-rule-room (suc zero) = refl
-rule-room (suc (suc n)) = refl
+field-small : (b : Body) → get_or (body_cells b) 2 0 < 4294967296
+field-small (Insert place) = omega arith
+field-small (Set place Id value) = omega arith
+field-small (Set place Size value) = omega arith
+field-small (Set place Erase value) = omega arith
+field-small (Set place PageField value) = omega arith
+field-small (Remove place) = omega arith
 
 edit-line-size : (e : Edit) → SmallEdit e → length (edit_line (edit_row e)) ≤ 68
-unfolding edit_line edit_row
+unfolding edit_line_in edit_row
 edit-line-size e s =
-    let form = edit_form (cell (edit_row e) 1) (cell (edit_row e) 3) in
-    let ns = cell (edit_row e) 0 ∷ cell (edit_row e) 2 ∷ cell (edit_row e) 4 ∷ [] in
-    omega (arith, size-one (fill form ns), line-size form ns 68 (s.name, (s.place, (s.value, tt))) (edit-room (cell (edit_row e) 1) (cell (edit_row e) 3)))
+    let form = edit_form (cell (edit_row e) 1) in
+    let ns = edit_numbers (edit_row e) in
+    omega (arith, size-one (fill form ns), line-size form ns 68 (s.name, (s.place, (field-small e.body, (s.value, tt)))) (edit-room (cell (edit_row e) 1)))
 
 pub rule-line-size : (row : List ℕ) → cell row 0 < 4294967296 → cell row 2 < 4294967296 → length (constraint_line row) ≤ 51
-unfolding constraint_line
 rule-line-size row h i =
-    omega (arith, size-one (fill (rule_form (cell row 1)) (cell row 0 ∷ cell row 2 ∷ [])), line-size (rule_form (cell row 1)) (cell row 0 ∷ cell row 2 ∷ []) 51 (h, (i, tt)) (rule-room (cell row 1)))
+    omega (arith, rule-length decimal_notation row, decimal-lawful.names.narrow (cell row 0) h, decimal-lawful.names.narrow (cell row 2) i, rule_part-short (cell row 1))
 
 constraint-size : (c : Constraint) → constraint_in_range (constraint_row c) ≡ true → length (constraint_line (constraint_row c)) ≤ 51
 constraint-size c h =

@@ -18,8 +18,8 @@ use Rattle.text_forms.proofs.decimal.Laws.{number_short}
 use Rattle.text_lines.proofs.Says.{word-fits, word-same, word-large, word-refused}
 use Rattle.text_lines.proofs.Signs.{no-numeral, the-size, the-value, some-size, first-at}
 use Rattle.text_forms.proofs.decimal.RoundTrip.{saturated-test, saturated-same}
-use Rattle.text_forms.specs.Spelling.{bytes, starts_with, number_spelling}
-use Rattle.text_forms.specs.Form.{is_mark, spelling, number_before, begins_with, taken}
+use Rattle.text_forms.specs.Spelling.{bytes, starts_with, number_spelling, decimal_notation}
+use Rattle.text_forms.specs.Form.{is_mark, spelling_in, number_before, begins_with, taken}
 use Rattle.text_forms.proofs.Marks.{word-starts}
 use lib.Pointwise.{pointwise}
 use Rattle.std.specs.Prelude.{Option as Answer, Some, None, Result, Ok, Err}
@@ -28,38 +28,32 @@ use Rattle.refusals.specs.declared.Refusal.TheVariants.{NotInForm, OutOfRange}
 use Rattle.refusals.specs.Numbers.{number_of}
 use Rattle.text_forms.proofs.Forms.{plain, mark-taken, mark-missing, byte-taken, byte-missing}
 use Rattle.text_lines.specs.declared.Line.{Line}
-use Rattle.text_lines.specs.Line.{Shape, edit_shape, rule_shape, set_shapes, rule_shapes, shapes, fits_word, word_read, said, read_as, read_by, line_read, line_limit}
+use Rattle.text_lines.specs.Line.{Shape, shapes, fits_word, word_read, said, read_as, read_by, line_read_in, line_read, line_limit}
 use Rattle.log_forms.specs.productions.Productions.{Production, meant, parse}
-use Rattle.log_forms.proofs.productions.Choosing.{letter_after, letter_leaves, letter-keeps}
+use Rattle.text_lines.proofs.Signs.{letter_after}
+use Rattle.log_forms.proofs.productions.Choosing.{letter_leaves, letter-keeps}
 use Rattle.log_commands.specs.Grammar.{adding, lending_to, add_form, lend_form}
 use Rattle.log_commands.specs.Groups.{line_adds, line_lends, lent_number, lent_line_read}
 use Rattle.log_commands.specs.declared.Command.{Command}
 use Rattle.std.proofs.lemmas.List.{take_rest}
 
--- a shape says a row, of the first three numbers
-abbrev Fair : Shape → Type 0
-Fair shape = (ns : List ℕ) → shape.says (get_or ns 0 0 ∷ get_or ns 1 0 ∷ get_or ns 2 0 ∷ []) ≡ shape.says ns
+-- a shape says a row, of the first four numbers
+abbrev OfFour : Shape → Type 0
+OfFour shape = (ns : List ℕ) → shape.says (get_or ns 0 0 ∷ get_or ns 1 0 ∷ get_or ns 2 0 ∷ get_or ns 3 0 ∷ []) ≡ shape.says ns
 
-abbrev AllFair : List Shape → Type 0
-AllFair [] = Unit
-AllFair (shape ∷ rest) = Fair shape × AllFair rest
+abbrev AllOfFour : List Shape → Type 0
+AllOfFour [] = Unit
+AllOfFour (shape ∷ rest) = OfFour shape × AllOfFour rest
 
-edit-fair : (kind field : ℕ) → Fair (edit_shape kind field)
-edit-fair kind field ns = refl
-
-rule-fair : (rule : ℕ) → Fair (rule_shape rule)
-rule-fair rule ns = refl
-
-shapes-fair : AllFair shapes
-unfolding shapes set_shapes rule_shapes
-shapes-fair =
-    (edit-fair 0 0, (edit-fair 2 0, (edit-fair 1 0, (edit-fair 1 1, (edit-fair 1 2, (edit-fair 1 3, (rule-fair 0, (rule-fair 1, (rule-fair 2, tt)))))))))
+shapes-of-four : AllOfFour shapes
+unfolding shapes
+shapes-of-four = (λ ns. refl, (λ ns. refl, (λ ns. refl, (λ ns. refl, tt))))
 
 -- the productions made of shapes read a text s as the shapes read t
 module _ (production : Shape → Production (Result Command Refusal)) (command : Result Line Refusal → Result Command Refusal) (s t : List ℕ)
     (refused : command (Err NotInForm) ≡ Err NotInForm)
     (missed : (shape : Shape) → taken shape.form t ≡ none → taken (production shape).form s ≡ none)
-    (met : (shape : Shape) (ns : List ℕ) (other : Result Command Refusal) → Fair shape → taken shape.form t ≡ some ns
+    (met : (shape : Shape) (ns : List ℕ) (other : Result Command Refusal) → OfFour shape → taken shape.form t ≡ some ns
     → meant Err (production shape).meaning (taken (production shape).form s) other ≡ command (said shape (some ns))) where
   shape-number : (shape : Shape) (ns : List ℕ) → eqb (number_of (said shape (some ns))) 1 ≡ false
   shape-number shape ns =
@@ -67,26 +61,26 @@ module _ (production : Shape → Production (Result Command Refusal)) (command :
       (λ (e : all fits_word ns ≡ true). rw e)
       (λ (e : all fits_word ns ≡ false). rw e)
 
-  shapes-read : (hs : List Shape) → AllFair hs → parse Err (map production hs) s ≡ command (read_by hs t)
+  shapes-read : (hs : List Shape) → AllOfFour hs → parse Err (map production hs) s ≡ command (read_by decimal_notation hs t)
   unfolding parse read_by read_as
   shapes-read [] f = sym refused
   shapes-read (shape ∷ hs) f = go (taken shape.form t) refl (shapes-read hs f.1)
     where
-      go : (o : Option (List ℕ)) → taken shape.form t ≡ o → parse Err (map production hs) s ≡ command (read_by hs t)
-          → parse Err (map production (shape ∷ hs)) s ≡ command (read_by (shape ∷ hs) t)
+      go : (o : Option (List ℕ)) → taken shape.form t ≡ o → parse Err (map production hs) s ≡ command (read_by decimal_notation hs t)
+          → parse Err (map production (shape ∷ hs)) s ≡ command (read_by decimal_notation (shape ∷ hs) t)
       go none e q = rw (missed shape e, e) q
       go (some ns) e q = met shape ns (parse Err (map production hs) s) f.0 e ∙ rw (e, shape-number shape ns)
 
 -- a line of the exchanged text adds its row
 module _ (s : List ℕ) (h : length s ≤ line_limit) where
-  line-short : line_read s ≡ read_by shapes s
-  unfolding line_read
+  line-short : line_read s ≡ read_by decimal_notation shapes s
+  unfolding line_read_in
   line-short = rw (le-ltb line_limit (length s) h)
 
   pub line-added : {r : Result Command Refusal} → r ≡ line_adds (line_read s) → r ≡ parse Err (map add_form shapes) s
-  line-added e = e ∙ rw line-short (sym (shapes-read add_form line_adds s s refl (λ shape q. q) met shapes shapes-fair))
+  line-added e = e ∙ rw line-short (sym (shapes-read add_form line_adds s s refl (λ shape q. q) met shapes shapes-of-four))
     where
-      met : (shape : Shape) (ns : List ℕ) (other : Result Command Refusal) → Fair shape → taken shape.form s ≡ some ns
+      met : (shape : Shape) (ns : List ℕ) (other : Result Command Refusal) → OfFour shape → taken shape.form s ≡ some ns
           → meant Err (add_form shape).meaning (taken shape.form s) other ≡ line_adds (said shape (some ns))
       met shape ns other f e =
           by (all fits_word ns)
@@ -97,12 +91,12 @@ module _ (s : List ℕ) (h : length s ≤ line_limit) where
 word-taken : (word f s : List ℕ) → plain word ≡ true → taken (word ++ f) s ≡ cond (starts_with word s) (taken f (drop (length word) s)) none
 unfolding all starts_with
 word-taken [] f s h = refl
-word-taken (c ∷ word) f [] h = byte-missing c (word ++ f) (not-true (is_mark c) (and_l (not (is_mark c)) (plain word) h)) [] refl
+word-taken (c ∷ word) f [] h = byte-missing decimal_notation c (word ++ f) (not-true (is_mark c) (and_l (not (is_mark c)) (plain word) h)) [] refl
 word-taken (c ∷ word) f (x ∷ s) h =
     let m : is_mark c ≡ false = not-true (is_mark c) (and_l (not (is_mark c)) (plain word) h) in
     by (eqb c x)
-    (λ (e : eqb c x ≡ true). byte-taken c (word ++ f) m (x ∷ s) e ∙ rw e (word-taken word f s (and_r (not (is_mark c)) (plain word) h)))
-    (λ (e : eqb c x ≡ false). byte-missing c (word ++ f) m (x ∷ s) e ∙ rw e)
+    (λ (e : eqb c x ≡ true). byte-taken decimal_notation c (word ++ f) m (x ∷ s) e ∙ rw e (word-taken word f s (and_r (not (is_mark c)) (plain word) h)))
+    (λ (e : eqb c x ≡ false). byte-missing decimal_notation c (word ++ f) m (x ∷ s) e ∙ rw e)
 
 -- the record's number that a line begins with
 module _ (s : List ℕ) where
@@ -146,11 +140,11 @@ lends-saturated n (Ok line) =
     (λ (e : fits_word n ≡ true). rw (saturated-same n (ltb-true n 4294967296 e)))
     (λ (e : fits_word n ≡ false). rw (saturated-test n, e))
 
-lends-read : (s t : List ℕ) (n : ℕ) → ((f : List ℕ) → taken (bytes "lent=# " ++ f) s ≡ number_before n (taken f t)) → parse Err (map lend_form shapes) s ≡ line_lends n (read_by shapes t)
+lends-read : (s t : List ℕ) (n : ℕ) → ((f : List ℕ) → taken (bytes "lent=# " ++ f) s ≡ number_before n (taken f t)) → parse Err (map lend_form shapes) s ≡ line_lends n (read_by decimal_notation shapes t)
 unfolding all
-lends-read s t n h = shapes-read lend_form (line_lends n) s t refl (λ shape q. h shape.form ∙ ap (number_before n) q) met shapes shapes-fair
+lends-read s t n h = shapes-read lend_form (line_lends n) s t refl (λ shape q. h shape.form ∙ ap (number_before n) q) met shapes shapes-of-four
   where
-    met : (shape : Shape) (ns : List ℕ) (other : Result Command Refusal) → Fair shape → taken shape.form t ≡ some ns
+    met : (shape : Shape) (ns : List ℕ) (other : Result Command Refusal) → OfFour shape → taken shape.form t ≡ some ns
         → meant Err (lend_form shape).meaning (taken (bytes "lent=# " ++ shape.form) s) other ≡ line_lends n (said shape (some ns))
     met shape ns other f e =
         by (all fits_word ns)
@@ -177,11 +171,11 @@ module _ (s : List ℕ) where
       go (shape ∷ hs) = rw (h shape.form) (go hs)
 
   pub no-lent-number : None ≡ lent_number s → Err NotInForm ≡ lent_line_read s
-  unfolding lent_number is_mark spelling number_spelling
+  unfolding lent_number is_mark spelling_in number_spelling
   no-lent-number e =
       none_lent (λ f. lent-taken f ∙
       by (starts_with (bytes "lent=") s)
-      (λ (w : starts_with (bytes "lent=") s ≡ true). rw w (mark-missing 35 (32 ∷ f) refl after (no-numeral after (rw w at e))))
+      (λ (w : starts_with (bytes "lent=") s ≡ true). rw w (mark-missing decimal_notation 35 (32 ∷ f) refl after (no-numeral after (rw w at e))))
       (λ (w : starts_with (bytes "lent=") s ≡ false). rw w))
 
   pub lent-missing : (r : Refusal) → ◌≡◌ {A = Result Numeral Refusal} (Err r) (Err NotInForm) → None ≡ lent_number s → Err r ≡ lent_line_read s
@@ -209,10 +203,10 @@ module _ (s : List ℕ) where
     h z = some-size after lent_is (sym size_is ∙ z)
 
     number-taken : (f : List ℕ) → taken (bytes "lent=# " ++ f) s ≡ number_before (numeral_value after) (taken (32 ∷ f) (drop (5 + lent.size) s))
-    unfolding is_mark spelling number_spelling
+    unfolding is_mark spelling_in number_spelling
     number-taken f =
         lent-taken f
-        ∙ rw begun (mark-taken 35 (32 ∷ f) refl after (λ z. h (size_is ∙ z)) ∙ rw (← size_is, drop-drop lent.size 5 s))
+        ∙ rw begun (mark-taken decimal_notation 35 (32 ∷ f) refl after (λ z. h (size_is ∙ z)) ∙ rw (← size_is, drop-drop lent.size 5 s))
 
     pub lent-inside : 5 + lent.size ≤ length s
     lent-inside = omega (arith, size_is, h, number_short after, length-drop 5 s)
@@ -222,7 +216,7 @@ module _ (s : List ℕ) where
       unfolding is_mark
       no-space n =
           none_lent (λ f. number-taken f ∙ ap (number_before (numeral_value after))
-          (byte-missing 32 f refl (drop (5 + lent.size) s) (begins-other 32 (drop (5 + lent.size) s) (λ z. n (b ∙ first-at (5 + lent.size) s ∙ z)))))
+          (byte-missing decimal_notation 32 f refl (drop (5 + lent.size) s) (begins-other 32 (drop (5 + lent.size) s) (λ z. n (b ∙ first-at (5 + lent.size) s ∙ z)))))
 
       module _ (x : space ≡ 32) where
         pub space-inside : 5 + lent.size + 1 ≤ length s
@@ -232,7 +226,7 @@ module _ (s : List ℕ) where
         unfolding is_mark
         line_taken f =
             number-taken f ∙ ap (number_before (numeral_value after))
-            (byte-taken 32 f refl (drop (5 + lent.size) s) (begins-so 31 (drop (5 + lent.size) s) space-begins) ∙ ap (taken f) (drop-drop 1 (5 + lent.size) s))
+            (byte-taken decimal_notation 32 f refl (drop (5 + lent.size) s) (begins-so 31 (drop (5 + lent.size) s) space-begins) ∙ ap (taken f) (drop-drop 1 (5 + lent.size) s))
           where
             space-begins : get_or (drop (5 + lent.size) s) 0 0 ≡ 32
             space-begins = sym (first-at (5 + lent.size) s) ∙ sym b ∙ x
@@ -245,15 +239,15 @@ module _ (s : List ℕ) where
             let u : length (drop start s) ≤ line_limit = omega (arith, length-drop start s) in
             q
             ∙ rw (take_rest s start, line-short (drop start s) u)
-            (ap (λ (n : ℕ). line_lends n (read_by shapes (drop start s))) value_is ∙ lends-saturated (numeral_value after) (read_by shapes (drop start s)))
+            (ap (λ (n : ℕ). line_lends n (read_by decimal_notation shapes (drop start s))) value_is ∙ lends-saturated (numeral_value after) (read_by decimal_notation shapes (drop start s)))
             ∙ sym (lends-read s (drop start s) (numeral_value after) line_taken)
 
 -- of the forms of lines of the exchanged text a letter leaves the same
 module _ (s : List ℕ) {x : ℕ} {r : Result Command Refusal} where
-  pub added-kept : length s ≤ line_limit → x ≡ letter_after (bytes "..") s → (letter : ℕ) → x ≡ letter → r ≡ line_adds (line_read s)
+  pub added-kept : length s ≤ line_limit → x ≡ letter_after decimal_notation (bytes "..") s → (letter : ℕ) → x ≡ letter → r ≡ line_adds (line_read s)
       → r ≡ parse Err (letter_leaves (bytes "..") letter (map add_form shapes)) s
   added-kept h e letter l q = letter-keeps Err (bytes "..") s e (map add_form shapes) letter l (line-added s h q)
 
-  pub lent-kept : x ≡ letter_after (bytes "lent=# ") s → (letter : ℕ) → x ≡ letter → r ≡ lent_line_read s → r ≡ parse Err (letter_leaves (bytes "lent=# ") letter (map lend_form shapes)) s
+  pub lent-kept : x ≡ letter_after decimal_notation (bytes "lent=# ") s → (letter : ℕ) → x ≡ letter → r ≡ lent_line_read s → r ≡ parse Err (letter_leaves (bytes "lent=# ") letter (map lend_form shapes)) s
   unfolding lent_line_read
   lent-kept e letter l q = letter-keeps Err (bytes "lent=# ") s e (map lend_form shapes) letter l q

@@ -11,21 +11,22 @@ use borrow.Author.Tests.{lt-ltb, le-ltb, ltb-true, ltb-false}
 use lib.Dec.{ltb}
 use lib.IntN.{pos, neg_ℤ}
 use lib.ListN.{length, get_or}
-use Rattle.lists.specs.Lists.{all, mem, Has}
+use Rattle.lists.specs.Lists.{all, any, Has}
 use Rattle.lists.proofs.Lists.{by, and_l, and_r, none-some}
 use Rattle.lists.proofs.Logic.{all-has, has-map}
 use Rattle.text_forms.specs.decimal.Decimal.{decimal}
-use Rattle.text_forms.specs.Spelling.{bytes, starts_with, number_spelling, name_spelling, answer_spelling}
-use Rattle.text_forms.specs.Form.{is_mark, spelling, fill, taken}
-use Rattle.text_forms.proofs.Forms.{differ, slots, spelled, spelled-all, separate, taken-fill, room, AllSmall, fill-room}
+use Rattle.text_forms.specs.Spelling.{bytes, starts_with, number_spelling, word_spelling, answer_words, rule_words, field_words, decimal_notation}
+use Rattle.text_forms.specs.Form.{is_mark, words_in, spelling_in, fill_in, fill, taken}
+use Rattle.text_forms.proofs.Lawful.{decimal-lawful}
+use Rattle.text_forms.proofs.Forms.{differ, slots, spelled, spelled-all, separate, taken-fill, room, fill-room}
 use Rattle.std.specs.Prelude.{Result, Ok, Err}
 use Rattle.refusals.specs.declared.Refusal.{Refusal}
 use Rattle.refusals.specs.declared.Refusal.TheVariants.{NotInForm, OutOfRange}
 use Rattle.text_lines.specs.declared.Line.{Line}
 use Rattle.text_lines.specs.declared.Line.TheVariants.{Edit, Constraint}
-use Rattle.text_lines.specs.Line.{Shape, edit_shape, set_form, edit_form, rule_form, edit_line, constraint_line, set_shapes, rule_shapes, shapes, fits_word, line_limit, line_read}
+use Rattle.text_lines.specs.Line.{Shape, edit_shape, edit_form, constraint_form, edit_line, constraint_line, shapes, fits_word, line_limit, line_read_in, line_read}
 use Rattle.text_lines.specs.Row.{is_edit_row, is_constraint_row}
-use Rattle.text_lines.proofs.RoundTrip.{edit-line-read, constraint-line-read}
+use Rattle.text_lines.proofs.RoundTrip.{all-small, edit-line-read, constraint-line-read}
 use Rattle.log_forms.specs.productions.Productions.{Production, ◌means◌, parse, Unambiguous}
 use Rattle.log_forms.proofs.productions.Unambiguous.{tell_apart, apart, apart-unambiguous, parse-has, parse-by}
 use Rattle.log_commands.specs.Grammar.{turn_forward, turn_back, command_forms, edit_cells_of, constraint_cells_of, adding, add_form, lend_form, grammar, command_read}
@@ -38,7 +39,7 @@ use Rattle.log_commands.specs.declared.Command.TheVariants.{Lend, Call, Vote}
 use Rattle.log_commands.proofs.Exchanged.{line-added}
 
 grammar-apart : apart grammar ≡ true
-unfolding command_forms grammar shapes set_shapes rule_shapes set_form edit_form rule_form tell_apart apart all differ bytes is_mark spelling number_spelling name_spelling answer_spelling
+unfolding command_forms grammar shapes edit_form constraint_form tell_apart apart all any differ bytes starts_with is_mark words_in spelling_in number_spelling word_spelling answer_words rule_words field_words decimal_notation
 grammar-apart = refl
 
 pub unambiguous : Unambiguous grammar
@@ -51,28 +52,23 @@ unfolding command_read
 line-meant production m s ns h e = rw (le-ltb line_limit (length s) h) (parse-has Err production grammar s ns grammar-apart m e)
 
 -- every form reads back what it gives, and no line with numbers of 32 bits is too long
-grammar-fine : all (λ p. separate p.form && ltb (room p.form) 102) grammar ≡ true
-unfolding command_forms grammar shapes set_shapes rule_shapes set_form edit_form rule_form all separate room bytes is_mark spelling number_spelling name_spelling answer_spelling
+grammar-fine : all (λ p. separate decimal_notation p.form && ltb (room p.form) 102) grammar ≡ true
+unfolding command_forms grammar shapes edit_form constraint_form all separate room bytes is_mark words_in spelling_in number_spelling word_spelling decimal_notation
 grammar-fine = refl
-
-small : (ns : List ℕ) → all fits_word ns ≡ true → AllSmall ns
-unfolding all
-small [] h = tt
-small (n ∷ ns) h = (ltb-true n 4294967296 (and_l (fits_word n) (all fits_word ns) h), small ns (and_r (fits_word n) (all fits_word ns) h))
 
 -- the line of a form with these numbers
 pub line_read_lem : (production : Production (Result Command Refusal)) → Has production grammar → (ns : List ℕ) → length ns ≡ slots production.form
-    → spelled production.form ns ≡ true → all fits_word ns ≡ true → command_read (fill production.form ns) ≡ production.meaning (λ k. get_or ns k 0)
+    → spelled decimal_notation production.form ns ≡ true → all fits_word ns ≡ true → command_read (fill production.form ns) ≡ production.meaning (λ k. get_or ns k 0)
 line_read_lem production m ns l k h =
     let f = production.form in
-    let fine : (separate f && ltb (room f) 102) ≡ true = all-has (λ p. separate p.form && ltb (room p.form) 102) grammar grammar-fine production m in
-    let near : room f < 102 = ltb-true (room f) 102 (and_r (separate f) (ltb (room f) 102) fine) in
-    line-meant production m (fill f ns) ns (omega (arith, fill-room f ns (small ns h))) (taken-fill f ns (and_l (separate f) (ltb (room f) 102) fine) k l)
+    let fine : (separate decimal_notation f && ltb (room f) 102) ≡ true = all-has (λ p. separate decimal_notation p.form && ltb (room p.form) 102) grammar grammar-fine production m in
+    let near : room f < 102 = ltb-true (room f) 102 (and_r (separate decimal_notation f) (ltb (room f) 102) fine) in
+    line-meant production m (fill f ns) ns (omega (arith, fill-room decimal-lawful f ns (all-small ns h))) (taken-fill decimal-lawful f ns (and_l (separate decimal_notation f) (ltb (room f) 102) fine) k l)
     ∙ rw h
 
 -- the number of forms
-grammar-size : length grammar ≡ 47
-unfolding command_forms grammar shapes set_shapes rule_shapes
+grammar-size : length grammar ≡ 37
+unfolding command_forms grammar shapes
 grammar-size = refl
 
 -- the production of a form
@@ -97,48 +93,48 @@ unfolding all
 two-fit m n a b = rw (lt-ltb m 4294967296 a, lt-ltb n 4294967296 b)
 
 -- a form with one number
-number_read : (production : Production (Result Command Refusal)) → formed grammar production.form ≡ some production → (n : ℕ) → 1 ≡ slots production.form → spelled production.form (n ∷ []) ≡ true
+number_read : (production : Production (Result Command Refusal)) → formed grammar production.form ≡ some production → (n : ℕ) → 1 ≡ slots production.form → spelled decimal_notation production.form (n ∷ []) ≡ true
     → n < 4294967296 → command_read (fill production.form (n ∷ [])) ≡ production.meaning (λ k. get_or (n ∷ []) k 0)
 number_read production e n l k h = line_read_lem production (formed-has grammar production e) (n ∷ []) l k (one-fits n h)
 
 module _ (n : ℕ) (h : n < 4294967296) where
   pub merge-line : command_read (bytes "do=merge lent=" ++ (decimal n ++ bytes "\n")) ≡ Ok (Call (Merge n))
-  unfolding command_forms grammar formed starts_with bytes is_mark spelling number_spelling fill slots spelled
+  unfolding command_forms grammar formed starts_with bytes is_mark spelling_in number_spelling fill_in slots spelled
   merge-line = number_read ("do=merge lent=#" means (λ n. Ok (Call (Merge (n 0))))) refl n refl refl h
 
   pub hide-line : command_read (bytes "do=hide edit=" ++ (decimal n ++ bytes "\n")) ≡ Ok (Call (Hide n))
-  unfolding command_forms grammar formed starts_with bytes is_mark spelling number_spelling fill slots spelled
+  unfolding command_forms grammar formed starts_with bytes is_mark spelling_in number_spelling fill_in slots spelled
   hide-line = number_read ("do=hide edit=#" means (λ n. Ok (Call (Hide (n 0))))) refl n refl refl h
 
   pub show-line : command_read (bytes "do=show edit=" ++ (decimal n ++ bytes "\n")) ≡ Ok (Call (Show n))
-  unfolding command_forms grammar formed starts_with bytes is_mark spelling number_spelling fill slots spelled
+  unfolding command_forms grammar formed starts_with bytes is_mark spelling_in number_spelling fill_in slots spelled
   show-line = number_read ("do=show edit=#" means (λ n. Ok (Call (Show (n 0))))) refl n refl refl h
 
   pub adopt-line : command_read (bytes "do=adopt edit=" ++ (decimal n ++ bytes "\n")) ≡ Ok (Call (Adopt n))
-  unfolding command_forms grammar formed starts_with bytes is_mark spelling number_spelling fill slots spelled
+  unfolding command_forms grammar formed starts_with bytes is_mark spelling_in number_spelling fill_in slots spelled
   adopt-line = number_read ("do=adopt edit=#" means (λ n. Ok (Call (Adopt (n 0))))) refl n refl refl h
 
   pub winner-line : command_read (bytes "do=winner edit=" ++ (decimal n ++ bytes "\n")) ≡ Ok (Vote (Winner n))
-  unfolding command_forms grammar formed starts_with bytes is_mark spelling number_spelling fill slots spelled
+  unfolding command_forms grammar formed starts_with bytes is_mark spelling_in number_spelling fill_in slots spelled
   winner-line = number_read ("do=winner edit=#" means (λ n. Ok (Vote (Winner (n 0))))) refl n refl refl h
 
   pub tally-line : command_read (bytes "do=tally edit=" ++ (decimal n ++ bytes "\n")) ≡ Ok (Vote (Tally n))
-  unfolding command_forms grammar formed starts_with bytes is_mark spelling number_spelling fill slots spelled
+  unfolding command_forms grammar formed starts_with bytes is_mark spelling_in number_spelling fill_in slots spelled
   tally-line = number_read ("do=tally edit=#" means (λ n. Ok (Vote (Tally (n 0))))) refl n refl refl h
 
 pub why-line : (m n : ℕ) → m < 4294967296 → n < 4294967296 → command_read (bytes "do=why edit=" ++ (decimal m ++ (bytes " lent=" ++ (decimal n ++ bytes "\n")))) ≡ Ok (Vote (Why m n))
-unfolding command_forms grammar formed starts_with bytes is_mark spelling number_spelling fill slots spelled
+unfolding command_forms grammar formed starts_with bytes is_mark spelling_in number_spelling fill_in slots spelled
 why-line m n a b =
     let production = "do=why edit=# lent=#" means (λ n. Ok (Vote (Why (n 0) (n 1)))) in
     line_read_lem production (formed-has grammar production refl) (m ∷ n ∷ []) refl refl (two-fit m n a b)
 
 -- the number of pages of a turn is any i32
 pub turn-line : (n : ℕ) → n < 2147483648 → command_read (bytes "do=turn pages=" ++ (decimal n ++ bytes "\n")) ≡ Ok (Call (Turn (pos n)))
-unfolding command_forms grammar formed starts_with turn_forward bytes is_mark spelling number_spelling fill slots spelled
+unfolding command_forms grammar formed starts_with turn_forward bytes is_mark spelling_in number_spelling fill_in slots spelled
 turn-line n h = number_read ("do=turn pages=#" means (λ n. turn_forward (n 0))) refl n refl refl (omega arith) ∙ rw (lt-ltb n 2147483648 h)
 
 pub turn-back-line : (n : ℕ) → n ≤ 2147483648 → command_read (bytes "do=turn pages=-" ++ (decimal n ++ bytes "\n")) ≡ Ok (Call (Turn (neg_ℤ (pos n))))
-unfolding command_forms grammar formed starts_with turn_back bytes is_mark spelling number_spelling fill slots spelled
+unfolding command_forms grammar formed starts_with turn_back bytes is_mark spelling_in number_spelling fill_in slots spelled
 turn-back-line n h =
     let l : n < 2147483649 = omega arith in
     number_read ("do=turn pages=-#" means (λ n. turn_back (n 0))) refl n refl refl (omega arith) ∙ rw (lt-ltb n 2147483649 l)
@@ -168,7 +164,7 @@ pub lent-form : (shape : Shape) → Has shape shapes → Has (lend_form shape) g
 lent-form shape m = lent-has (lend_form shape) (has-map lend_form shape shapes m)
 
 read-within : (s : List ℕ) {line : Line} → line_read s ≡ Ok line → length s ≤ line_limit
-unfolding line_read
+unfolding line_read_in
 read-within s {line} =
     by (ltb line_limit (length s))
     (λ (e : ltb line_limit (length s) ≡ true). rw e (λ z. let y : ⊥ = cc in absurd y))
@@ -193,14 +189,14 @@ three-fit : (m n p : ℕ) → m < 4294967296 → n < 4294967296 → p < 42949672
 unfolding all
 three-fit m n p a b c = rw (lt-ltb m 4294967296 a, lt-ltb n 4294967296 b, lt-ltb p 4294967296 c)
 
-insert-known : Has (edit_shape 0 0) shapes
+insert-known : Has (edit_shape 0) shapes
 unfolding shapes
 insert-known = inl refl
 
 pub lent-insert-line : (lent name place : ℕ) → lent < 4294967296 → name < 4294967296 → place < 4294967296
     → command_read (fill (bytes "lent=# edit=@ do=insert chip=#\n") (lent ∷ name ∷ place ∷ []))
     ≡ Ok (Lend (EditRow lent (record { name = name; kind = 0; place = place; field = 0; value = 0 })))
-unfolding edit_form bytes is_mark slots mem
+unfolding edit_form bytes is_mark slots all
 lent-insert-line lent name place a b c =
-    line_read_lem (lend_form (edit_shape 0 0)) (lent-form (edit_shape 0 0) insert-known) (lent ∷ name ∷ place ∷ []) refl
-    (spelled-all (bytes "lent=# " ++ edit_form 0 0) (lent ∷ name ∷ place ∷ []) refl) (three-fit lent name place a b c)
+    line_read_lem (lend_form (edit_shape 0)) (lent-form (edit_shape 0) insert-known) (lent ∷ name ∷ place ∷ []) refl
+    (spelled-all (bytes "lent=# " ++ edit_form 0) (lent ∷ name ∷ place ∷ []) refl) (three-fit lent name place a b c)

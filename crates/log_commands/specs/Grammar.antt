@@ -83,10 +83,10 @@ lending_to lent (Constraint row) = Lend (ConstraintRow lent (constraint_cells_of
 
 -- a line of the exchanged text adds its row, and after a record's number it lends it
 abbrev pub add_form : Shape → Production (Result Command Refusal)
-add_form shape = record { form = shape.form; meaning = λ n. Ok (adding (shape.says (n 0 ∷ n 1 ∷ n 2 ∷ []))) }
+add_form shape = record { form = shape.form; meaning = λ n. Ok (adding (shape.says (n 0 ∷ n 1 ∷ n 2 ∷ n 3 ∷ []))) }
 
 abbrev pub lend_form : Shape → Production (Result Command Refusal)
-lend_form shape = record { form = bytes "lent=# " ++ shape.form; meaning = λ n. Ok (lending_to (n 0) (shape.says (n 1 ∷ n 2 ∷ n 3 ∷ []))) }
+lend_form shape = record { form = bytes "lent=# " ++ shape.form; meaning = λ n. Ok (lending_to (n 0) (shape.says (n 1 ∷ n 2 ∷ n 3 ∷ n 4 ∷ []))) }
 
 unfoldable pub grammar : List (Production (Result Command Refusal))
 grammar = command_forms ++ (map add_form shapes ++ map lend_form shapes)

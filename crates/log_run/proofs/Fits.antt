@@ -15,7 +15,7 @@ use Rattle.refusals.specs.Numbers.{number}
 use Rattle.lists.specs.Lists.{all}
 use Rattle.lists.proofs.Lists.{by, and_l, and_r}
 use Rattle.text_forms.specs.Form.{taken}
-use Rattle.text_lines.specs.Line.{set_shapes, rule_shapes, shapes, fits_word, line_limit}
+use Rattle.text_lines.specs.Line.{shapes, fits_word, line_limit}
 use Rattle.log_forms.specs.productions.Productions.{Production, meant, parse}
 use Rattle.ledger.specs.Ledger.{last}
 use Rattle.log_forms.specs.Printed.{Texts, PrintedInto}
@@ -88,11 +88,11 @@ forms-fit = search (forward-fits, back_fits)
 
 -- the lines of the exchanged text
 added-fit : AllFit (map add_form shapes)
-unfolding shapes set_shapes rule_shapes
+unfolding shapes
 added-fit = search arith
 
 lent-fit : AllFit (map lend_form shapes)
-unfolding shapes set_shapes rule_shapes
+unfolding shapes
 lent-fit = search arith
 
 command-fits : (line : List ℕ) → CommandFits (command_read line)

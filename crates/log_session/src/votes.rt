@@ -57,8 +57,10 @@ fn print_bundle(printer: &mut Printer<'_>, small: &Bundled)
 fn print_rule(printer: &mut Printer<'_>, row: ConstraintRow)
     ensures { Printed (rule_line row) printer.old printer.new }
 {
-    let form = text_lines::rule_form(row[1]);
-    printer.print(form, &[u64::from(row[0]), u64::from(row[2])]);
+    printer.print(
+        text_lines::constraint_form(),
+        &[u64::from(row[0]), u64::from(row[1]), u64::from(row[2])],
+    );
 }
 
 // The line of how many constraints are suggested.

@@ -22,7 +22,7 @@ use Rattle.refusals.specs.declared.Refusal.{Refusal}
 use Rattle.refusals.proofs.Numbers.{number-positive}
 use Rattle.text_lines.specs.declared.Line.{Line}
 use Rattle.text_lines.specs.declared.Line.TheVariants.{Edit, Constraint}
-use Rattle.text_lines.specs.Line.{line_read, line_limit}
+use Rattle.text_lines.specs.Line.{line_read_in, line_read, line_limit}
 use Rattle.text_lines.specs.Lines.{lines, joined}
 use Rattle.text_lines.proofs.Ends.{ended-line}
 use Rattle.text_lines.proofs.RoundTrip.{Faithful, line-back, Saying, fault-one, fault-two, an-edit, a-constraint, line-saying}
@@ -40,14 +40,14 @@ given-few edits constraints g =
 
 -- a line without fault has at most 101 bytes
 line-limit : (l : List ℕ) (edits constraints : Rows) → line_fault edits constraints (line_read l) ≡ 0 → length l ≤ line_limit
-unfolding line_read line_fault
+unfolding line_read_in line_fault
 line-limit l edits constraints =
     by (ltb line_limit (length l))
     (λ (e : ltb line_limit (length l) ≡ true). rw e (λ z. let y : ◌≡◌ {A = ℕ} 1 0 = z in absurd (omega arith)))
     (λ (e : ltb line_limit (length l) ≡ false). λ z. ltb-false line_limit (length l) e)
 
 too_long : (n : ℕ) (edits constraints : Rows) (l : List ℕ) (rest : List (List ℕ)) → line_limit < length l → read_from n edits constraints (l ∷ rest) ≡ Refused 1 (suc n)
-unfolding read_from line_fault line_read
+unfolding read_from line_fault line_read_in
 too_long n edits constraints l rest h = rw (lt-ltb line_limit (length l) h)
 
 -- a text goes to its first byte 10, or has none

@@ -205,7 +205,7 @@ edits-read [] done n s c f = let z : 0 + n ≡ n = omega arith in rw (append-nil
 edits-read (x ∷ es) done n s c f =
     let m : suc (length es) + n ≡ length es + suc n = omega arith in
     let q : done ++ (x ∷ es) ≡ (done ++ (x ∷ [])) ++ es = sym (append_assoc done (x ∷ []) es) in
-    rw (append_assoc (edit_line x) (joined_lines (map edit_line es)) s, edit-line-first x (joined_lines (map edit_line es) ++ s), m, q)
+    rw (append_assoc (edit_line x) (joined_lines (map edit_line es)) s, edit-line-first x (joined_lines (map edit_line es) ++ s) (f x (inl refl)), m, q)
     (step-edit n done x (lines (joined_lines (map edit_line es) ++ s)) (f x (inl refl)) c.0 ∙ edits-read es (done ++ (x ∷ [])) (suc n) s c.1 (λ y k. f y (inr k)))
 
 constraints-read : (edits cs done : Rows) (n : ℕ) → Clean (row_fault (constraint_kind (names_of edits) false) []) done cs → ((x : Row) → Has x cs → is_constraint_row x ≡ true)

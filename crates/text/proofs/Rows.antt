@@ -19,9 +19,11 @@ use Rattle.record_rows.specs.grounds.Ground.{Rows, TableKind, row_fault, first_f
 use Rattle.record_rows.proofs.grounds.Grounds.{orelse-none, orelse-second, given-none, Clean, clean, clean_is}
 use Rattle.record_tables.specs.Table.{empty_tables, names_of, edit_kind, constraint_kind, join_fault, lent_fault}
 use Rattle.text_lines.specs.Line.{fits_word, edit_line, constraint_line}
-use Rattle.text_lines.specs.Row.{is_edit_row, is_constraint_row}
+use Rattle.text_forms.specs.Spelling.{number_spelling, rule_words, field_words, decimal_notation}
+use Rattle.text_lines.specs.Row.{body_in_form, is_edit_row_in, is_constraint_row_in, is_edit_row, is_constraint_row}
 use Rattle.text.specs.Text.{edit_fault, constraint_fault, joined_lines, rows_text}
-use Rattle.text_lines.proofs.RoundTrip.{cell-fits}
+use Rattle.text_lines.proofs.Says.{cell-fits}
+use Rattle.text_lines.proofs.RoundTrip.{edit-in-form-parts}
 
 -- a row in range whose value fits 32 bits has a line of its own
 small : (n m : ℕ) → n < m → m ≤ 4294967296 → fits_word n ≡ true
@@ -42,7 +44,7 @@ field-known Erase = omega arith
 field-known Page = omega arith
 
 row-in-form : (n : ℕ) (b : Body) → fits_word n ≡ true → fits_word (place_cell (n ∷ body_cells b)) ≡ true → fits_word (value_cell (n ∷ body_cells b)) ≡ true → is_edit_row (n ∷ body_cells b) ≡ true
-unfolding is_edit_row all
+unfolding is_edit_row_in body_in_form decimal_notation number_spelling field_words all
 row-in-form n (Insert place) x y z = rw (x, y)
 row-in-form n (Set place field value) x y z =
     let k = field-known field in rw (x, y, z, small (field_number field) 4 k (omega arith), lt-ltb (field_number field) 4 k)
@@ -56,7 +58,7 @@ edit-in-form row h v =
     (small (name_cell row) name_limit (name-small (name_cell row) r.name) (omega arith)) (small (place_cell row) place_limit r.place (omega arith)) v
 
 pub constraint-in-form : (row : Row) → constraint_in_range row ≡ true → is_constraint_row row ≡ true
-unfolding is_constraint_row
+unfolding is_constraint_row_in decimal_notation number_spelling rule_words
 constraint-in-form row h =
     let r = constraint-in-range row h in
     let b = constraint-bounds row (sym h) refl in
@@ -65,8 +67,7 @@ constraint-in-form row h =
 
 -- and a row in form has a value that fits
 pub value-fits : (row : Row) → is_edit_row row ≡ true → fits_word (cell row 4) ≡ true
-unfolding is_edit_row
-value-fits row h = cell-fits row 4 (and_l (all fits_word row) _ (and_r (eqb (length row) 5) _ h))
+value-fits row h = cell-fits row 4 (edit-in-form-parts decimal_notation row h).words
 
 -- one row more is no fault of a table that has none
 clean-more : (f : Rows → Row → ℕ) (above t : Rows) (row : Row) → Clean f above t → f (above ++ t) row ≡ 0 → Clean f above (t ++ (row ∷ []))

@@ -11,7 +11,9 @@ use lib.ListN.{length, get_or, take, drop, set, length-append, length-drop, drop
 use lib.Seq.{drop-cons, drop-drop, length-take-le, take-append-add, drop-append-add, take-append_seam, drop-append_seam, set_split}
 use Rattle.text_forms.specs.decimal.Written.{Written}
 use Rattle.text_forms.proofs.decimal.Parts.{part-written}
-use Rattle.text_forms.specs.Form.{is_mark, spelling, fill}
+use Rattle.text_forms.specs.Spelling.{decimal_notation}
+use Rattle.text_forms.specs.Form.{is_mark, spelling, fill_in, fill}
+use Rattle.text_forms.proofs.Lawful.{decimal-lawful}
 use Rattle.std.proofs.Common.{Some, None, Option, MatchOption, option_copied, Bor, Iter}
 use Rattle.std.specs.Prelude.{unwrap_or}
 use Rattle.text_forms.specs.Fit.{room_after}
@@ -40,13 +42,13 @@ module _ (s t : Iter ℕ) where
 module _ (form ns : List ℕ) (i : ℕ) where
   pub mark-fill : i < length form → is_mark (get_or form i 0) ≡ true
       → fill (drop i form) ns ≡ (spelling (get_or form i 0)).write (get_or ns 0 0) ++ fill (drop (i + 1) form) (drop 1 ns)
-  mark-fill h m = rw (drop-cons form i 0 h, add-one) (fill-mark (get_or form i 0) (drop (suc i) form) m ns)
+  mark-fill h m = rw (drop-cons form i 0 h, add-one) (fill-mark decimal_notation (get_or form i 0) (drop (suc i) form) m ns)
 
   pub byte-fill : i < length form → is_mark (get_or form i 0) ≡ false → fill (drop i form) ns ≡ get_or form i 0 ∷ fill (drop (i + 1) form) ns
-  byte-fill h m = rw (drop-cons form i 0 h, add-one) (fill-byte (get_or form i 0) (drop (suc i) form) m ns)
+  byte-fill h m = rw (drop-cons form i 0 h, add-one) (fill-byte decimal_notation (get_or form i 0) (drop (suc i) form) m ns)
 
   pub end-fill : length form ≤ i → fill (drop i form) ns ≡ []
-  unfolding fill
+  unfolding fill_in
   end-fill h = rw (drop_of_length-le form {i = i} h)
 
 -- fitting: what is left of the form leaves of what is left what the whole leaves of the room
@@ -55,7 +57,7 @@ Fitting form ns room left i rest = room_after left (length (fill (drop i form) r
 
 module _ (form ns : List ℕ) where
   pub fitting-ample : (room : ℕ) → ((k : ℕ) → get_or ns k 0 < 2 ^ 64) → length form ≤ room / 20 → true ≡ leb (length (fill form ns)) room
-  fitting-ample room h l = sym (le-leb (length (fill form ns)) room (omega (arith, fill-wide form ns h)))
+  fitting-ample room h l = sym (le-leb (length (fill form ns)) room (omega (arith, fill-wide decimal-lawful form ns h)))
 
   module _ (room left i : ℕ) (rest : List ℕ) (w : Fitting form ns room left i rest) where
     size_more : (others : List ℕ) (size : ℕ) → length (fill (drop i form) rest) ≡ size + length (fill (drop (i + 1) form) others)

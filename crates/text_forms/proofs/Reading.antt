@@ -15,9 +15,8 @@ use lib.Seq.{drop-cons, set_out, set_at, take-set-lt, take-append-le, sets}
 use Rattle.lists.proofs.Lists.{by, le-by}
 use Rattle.text_forms.specs.decimal.Decimal.{saturated}
 use Rattle.text_forms.specs.declared.decimal.Numeral.{Numeral}
-use Rattle.text_forms.specs.Spelling.{Spelling, numeral_of}
-use Rattle.text_forms.specs.Form.{is_mark, spelling, number_before, taken, filled_of}
-use Rattle.text_forms.proofs.Lawful.{lawful}
+use Rattle.text_forms.specs.Spelling.{Spelling, Notation, numeral_of}
+use Rattle.text_forms.specs.Form.{is_mark, spelling_in, number_before, taken_in, filled_of}
 use Rattle.text_forms.proofs.Forms.{mark-taken, mark-missing, byte-taken, byte-missing}
 use Rattle.std.proofs.lemmas.List.{nil_from_length}
 
@@ -79,10 +78,10 @@ told_more k n xs (some ns) = refl
 told_none : (k : ℕ) (xs : List ℕ) {o : Option (List ℕ)} → o ≡ none → told_from k xs o ≡ None
 told_none k xs e = rw e
 
-left-over : (s : List ℕ) → (length s ≡ 0 → ⊥) → taken [] s ≡ none
-unfolding taken
-left-over [] h = absurd (h refl)
-left-over (x ∷ s) h = refl
+left-over : (N : Notation) (s : List ℕ) → (length s ≡ 0 → ⊥) → taken_in N [] s ≡ none
+unfolding taken_in
+left-over N [] h = absurd (h refl)
+left-over N (x ∷ s) h = refl
 
 -- a spelled number that is there, or is not
 module _ (S : Spelling) (s : List ℕ) where
@@ -100,16 +99,16 @@ module _ (S : Spelling) (s : List ℕ) where
     numeral-same = let q = rw (ne_eqb (S.size s) 0 numeral-there) at h in (cc)
 
 -- reading: what is left of the form is to be read from what is left of the text
-pub record Reading (form s numbers rest : List ℕ) (i k : ℕ) : Type 0 where
-  pub all : filled_of (taken form s) ≡ told_from k numbers (taken (drop i form) rest)
+pub record Reading (N : Notation) (form s numbers rest : List ℕ) (i k : ℕ) : Type 0 where
+  pub all : filled_of (taken_in N form s) ≡ told_from k numbers (taken_in N (drop i form) rest)
   pub used : k ≤ i
   pub eight : length numbers ≡ 8
 
-pub reading-start : (form s : List ℕ) → Reading form s (replicate 8 0) s 0 0
-reading-start form s = record { all = told-start (taken form s); used = omega arith; eight = refl }
+pub reading-start : (N : Notation) (form s : List ℕ) → Reading N form s (replicate 8 0) s 0 0
+reading-start N form s = record { all = told-start (taken_in N form s); used = omega arith; eight = refl }
 
-module _ (form s numbers rest : List ℕ) (i k : ℕ) (w : Reading form s numbers rest i k) where
-  missing : taken (drop i form) rest ≡ none → None ≡ filled_of (taken form s)
+module _ (N : Notation) (form s numbers rest : List ℕ) (i k : ℕ) (w : Reading N form s numbers rest i k) where
+  missing : taken_in N (drop i form) rest ≡ none → None ≡ filled_of (taken_in N form s)
   missing e = sym (w.all ∙ told_none k numbers e)
 
   module _ (h : i < length form) where
@@ -117,48 +116,45 @@ module _ (form s numbers rest : List ℕ) (i k : ℕ) (w : Reading form s number
     first_of = rw (add-one, drop-cons form i 0 h)
 
     module _ (m : is_mark (get_or form i 0) ≡ true) where
-      pub reading-no-mark : None ≡ numeral_of (spelling (get_or form i 0)) rest → None ≡ filled_of (taken form s)
-      reading-no-mark e = missing (rw first_of (mark-missing (get_or form i 0) (drop (i + 1) form) m rest (numeral-missing (spelling (get_or form i 0)) rest e)))
+      pub reading-no-mark : None ≡ numeral_of (spelling_in N (get_or form i 0)) rest → None ≡ filled_of (taken_in N form s)
+      reading-no-mark e = missing (rw first_of (mark-missing N (get_or form i 0) (drop (i + 1) form) m rest (numeral-missing (spelling_in N (get_or form i 0)) rest e)))
 
-      module _ {n : Numeral} (e : Some n ≡ numeral_of (spelling (get_or form i 0)) rest) where
-        size_is : n.size ≡ (spelling (get_or form i 0)).size rest
-        size_is = ap (λ (x : Numeral). x.size) (numeral-same (spelling (get_or form i 0)) rest e)
+      module _ {n : Numeral} (e : Some n ≡ numeral_of (spelling_in N (get_or form i 0)) rest) where
+        size_is : n.size ≡ (spelling_in N (get_or form i 0)).size rest
+        size_is = ap (λ (x : Numeral). x.size) (numeral-same (spelling_in N (get_or form i 0)) rest e)
 
-        value-is : n.value ≡ saturated ((spelling (get_or form i 0)).value rest)
-        value-is = ap (λ (x : Numeral). x.value) (numeral-same (spelling (get_or form i 0)) rest e)
+        value-is : n.value ≡ saturated ((spelling_in N (get_or form i 0)).value rest)
+        value-is = ap (λ (x : Numeral). x.value) (numeral-same (spelling_in N (get_or form i 0)) rest e)
 
-        pub mark-inside : n.size ≤ length rest
-        mark-inside = omega (arith, size_is, (lawful (get_or form i 0)).short rest)
-
-        pub reading-mark : {xs : List ℕ} → xs ≡ set numbers k n.value → Reading form s xs (drop n.size rest) (i + 1) (k + 1)
+        pub reading-mark : {xs : List ℕ} → xs ≡ set numbers k n.value → Reading N form s xs (drop n.size rest) (i + 1) (k + 1)
         reading-mark q = record {
           all = w.all
-              ∙ rw (first_of, mark-taken (get_or form i 0) (drop (i + 1) form) m rest (numeral-there (spelling (get_or form i 0)) rest e), told_more, ← size_is, ← value-is, q, add-one k);
+              ∙ rw (first_of, mark-taken N (get_or form i 0) (drop (i + 1) form) m rest (numeral-there (spelling_in N (get_or form i 0)) rest e), told_more, ← size_is, ← value-is, q, add-one k);
           used = omega (arith, w.used);
           eight = ap length q ∙ length-set numbers k n.value ∙ w.eight;
         }
 
     module _ (m : is_mark (get_or form i 0) ≡ false) where
-      pub reading-no-byte : length rest ≡ 0 → None ≡ filled_of (taken form s)
+      pub reading-no-byte : length rest ≡ 0 → None ≡ filled_of (taken_in N form s)
       reading-no-byte l =
-          missing (rw (first_of, nil_from_length rest l) (byte-missing (get_or form i 0) (drop (i + 1) form) m [] refl))
+          missing (rw (first_of, nil_from_length rest l) (byte-missing N (get_or form i 0) (drop (i + 1) form) m [] refl))
 
-      pub reading-other-byte : (x : ℕ) (xs : List ℕ) → rest ≡ x ∷ xs → x ≢ get_or form i 0 → None ≡ filled_of (taken form s)
+      pub reading-other-byte : (x : ℕ) (xs : List ℕ) → rest ≡ x ∷ xs → x ≢ get_or form i 0 → None ≡ filled_of (taken_in N form s)
       reading-other-byte x xs l d =
-          missing (rw (first_of, l) (byte-missing (get_or form i 0) (drop (i + 1) form) m (x ∷ xs) (ne_eqb (get_or form i 0) x (λ y. d (sym y)))))
+          missing (rw (first_of, l) (byte-missing N (get_or form i 0) (drop (i + 1) form) m (x ∷ xs) (ne_eqb (get_or form i 0) x (λ y. d (sym y)))))
 
-      pub reading-byte : (x : ℕ) (xs : List ℕ) → rest ≡ x ∷ xs → x ≡ get_or form i 0 → Reading form s numbers xs (i + 1) k
+      pub reading-byte : (x : ℕ) (xs : List ℕ) → rest ≡ x ∷ xs → x ≡ get_or form i 0 → Reading N form s numbers xs (i + 1) k
       reading-byte x xs l d = record {
         all = w.all
-            ∙ ap (told_from k numbers) (rw (first_of, l) (byte-taken (get_or form i 0) (drop (i + 1) form) m (x ∷ xs) (eq-eqb (get_or form i 0) x (sym d))));
+            ∙ ap (told_from k numbers) (rw (first_of, l) (byte-taken N (get_or form i 0) (drop (i + 1) form) m (x ∷ xs) (eq-eqb (get_or form i 0) x (sym d))));
         used = omega (arith, w.used);
         eight = w.eight;
       }
 
   module _ (h : length form ≤ i) where
-    pub reading-long : (length rest ≡ 0 → ⊥) → None ≡ filled_of (taken form s)
-    reading-long l = missing (rw (drop_of_length-le form {i = i} h) (left-over rest l))
+    pub reading-long : (length rest ≡ 0 → ⊥) → None ≡ filled_of (taken_in N form s)
+    reading-long l = missing (rw (drop_of_length-le form {i = i} h) (left-over N rest l))
 
-    pub reading-end : length rest ≡ 0 → Some numbers ≡ filled_of (taken form s)
-    unfolding taken
+    pub reading-end : length rest ≡ 0 → Some numbers ≡ filled_of (taken_in N form s)
+    unfolding taken_in
     reading-end l = sym (w.all ∙ rw (drop_of_length-le form {i = i} h, nil_from_length rest l))

@@ -1,4 +1,5 @@
 pub mod Spelling
 pub mod Form
+pub mod Words
 pub mod Fit
 pub mod decimal

@@ -1,71 +1,25 @@
-// Forms (document 01, "Text"): quoted texts in which `#` stands for a number, `@` for an edit's name and `?` for yes or no, read and
-// written. Public for the crates of this workspace that read and write lines; what they lend is long enough, so the writers require it.
+// Forms (document 01, "Text"): quoted texts in which `#` stands for a number, `@` for an edit's name, `?` for yes or no, `%` for a field and `!` for a
+// rule, read and written. Public for the crates of this workspace that read and write lines; what they lend is long enough, so the writers require it.
 // Kept: a writer is lent the rest of the output and answers how many bytes it wrote: document 01 lends a line's writer "the output's part from the
 // given place". Its clause (`Written`) then speaks of these bytes alone; a struct of output and place has to say besides what stands before the
 // place, and that it holds the same reference, as a line of the log does once (`Printed` of `log_forms`), and here each word of a line would.
 #![tactic(auto)]
 
 pub mod decimal;
+pub mod notation;
 
-ghost use Rattle.std.specs.Prelude.{◌≡◌, ◌≤◌, [], ◌∷◌, ◌++◌, Some, None, MatchOption, leb, length, replicate, set};
+ghost use Rattle.std.specs.Prelude.{◌≡◌, ◌≤◌, [], ◌∷◌, ◌++◌, Some, None, MatchOption, IfSome, leb, length, replicate, set};
 ghost use Rattle.text_forms.specs.decimal.Decimal.{decimal};
 ghost use Rattle.text_forms.specs.decimal.Written.{Written};
-ghost use Rattle.text_forms.specs.Spelling.{name_spelling, answer_spelling, numeral_of};
-ghost use Rattle.text_forms.specs.Form.{is_mark, spelling, fill, taken, number_places, filled_of};
+ghost use Rattle.text_forms.specs.Spelling.{numeral_of};
+ghost use Rattle.text_forms.specs.Form.{is_mark, spelling_in, spelling, fill, taken_in, taken, number_places, filled_of};
 ghost use Rattle.text_forms.specs.Fit.{room_after};
 
 use crate::decimal::Numeral;
+use crate::notation::{DecimalNotation, Notated};
 
 // How many numbers of a form are kept, the first ones. Pub for `log_forms`, which reads lines by forms.
 pub const NUMBERS: usize = 8;
-
-// The spelling of an edit's name.
-// Kept: these three hand on to a number's, since in the definitions too a name has a spelling of its own (`name_spelling`) that is a number's now;
-// it stands once in length, writer and reader, so that names could be spelled otherwise by these alone (docs/DECISIONS.md, 28).
-fn name_length(n: u64) -> usize
-    ensures { result ≡ length (name_spelling.write n) }
-{
-    decimal::number_length(n)
-}
-
-fn write_name(out: &mut [u8], n: u64) -> usize
-    requires { length (name_spelling.write n) ≤ length out.old }
-    ensures { Written (name_spelling.write n) out.old result out.new }
-{
-    decimal::write_short(out, n)
-}
-
-fn read_name(bytes: &[u8]) -> Option<Numeral>
-    ensures { result ≡ numeral_of name_spelling bytes.now }
-{
-    decimal::read_number(bytes)
-}
-
-// The spelling of yes and no.
-fn answer_word(n: u64) -> &'static [u8]
-    ensures { result.now ≡ answer_spelling.write n }
-{
-    if n == 0 { b"no" } else { b"yes" }
-}
-
-fn write_answer(out: &mut [u8], n: u64) -> usize
-    requires { length (answer_spelling.write n) ≤ length out.old }
-    ensures { Written (answer_spelling.write n) out.old result out.new }
-{
-    write_word(out, answer_word(n))
-}
-
-fn read_answer(bytes: &[u8]) -> Option<Numeral>
-    ensures { result ≡ numeral_of answer_spelling bytes.now }
-{
-    if bytes.starts_with(b"yes") {
-        return Some(Numeral { size: 3, value: 1 });
-    }
-    if bytes.starts_with(b"no") {
-        return Some(Numeral { size: 2, value: 0 });
-    }
-    None
-}
 
 // Kept: the range of the marks is tested before them, so that letters, spaces and ends take one test. Without it reading by a form took two thirds more
 // time, and writing by one half as much again.
@@ -73,17 +27,17 @@ fn read_answer(bytes: &[u8]) -> Option<Numeral>
 fn is_mark(c: u8) -> bool
     ensures { result ≡ is_mark c }
 {
-    matches!(c, b'#'..=b'@') && matches!(c, b'#' | b'@' | b'?')
+    matches!(c, b'!'..=b'@') && matches!(c, b'#' | b'@' | b'?' | b'%' | b'!')
 }
 
-// Kept: a match on the mark's byte: an enum of the three would be made of it only to be matched here, in the writer and the reader.
+// Kept: a match on the mark's byte: an enum of the marks would be made of it only to be matched here, in the writer and the reader.
 fn mark_length(mark: u8, n: u64) -> usize
     ensures { (result ≡ length ((spelling mark).write n)) × (result ≤ 20) }
 {
     match mark {
-        b'?' => answer_word(n).len(),
-        b'@' => name_length(n),
-        _ => decimal::number_length(n),
+        b'#' => decimal::number_length(n),
+        b'@' => decimal::number_length(n),
+        _ => notation::nth_word(notation::words::<DecimalNotation>(mark), n).len(),
     }
 }
 
@@ -93,20 +47,24 @@ fn write_mark(out: &mut [u8], mark: u8, n: u64) -> usize
     ensures { Written ((spelling mark).write n) out.old result out.new }
 {
     match mark {
-        b'?' => write_answer(out, n),
-        b'@' => write_name(out, n),
-        _ => decimal::write_short(out, n),
+        b'#' => decimal::write_short(out, n),
+        b'@' => decimal::write_short(out, n),
+        _ => write_word(
+            out,
+            notation::nth_word(notation::words::<DecimalNotation>(mark), n),
+        ),
     }
 }
 
 // Kept: as the length above.
-fn read_mark(mark: u8, bytes: &[u8]) -> Option<Numeral>
-    ensures { result ≡ numeral_of (spelling mark) bytes.now }
+fn read_mark<N: Notated>(mark: u8, bytes: &[u8]) -> Option<Numeral>
+    ensures reads { result ≡ numeral_of (spelling_in N.notation mark) bytes.now }
+    ensures inside { IfSome result (λ numeral. numeral.size ≤ length bytes.now) }
 {
     match mark {
-        b'?' => read_answer(bytes),
-        b'@' => read_name(bytes),
-        _ => decimal::read_number(bytes),
+        b'#' => decimal::read_number(bytes),
+        b'@' => N::read_name(bytes),
+        _ => notation::read_word(notation::words::<N>(mark), bytes),
     }
 }
 
@@ -140,8 +98,8 @@ pub fn form_fits(form: &[u8], numbers: &[u64], room: usize) -> bool
     form_fit(room, form, numbers).is_some()
 }
 
-// Writes a word to the start of out, and answers how many bytes that took.
-fn write_word(out: &mut [u8], word: &[u8]) -> usize
+// Writes a word to the start of out, and answers how many bytes that took. Pub for `text_lines`, whose callers have seen that it fits.
+pub fn write_word(out: &mut [u8], word: &[u8]) -> usize
     requires { length word.now ≤ length out.old }
     ensures { Written word.now out.old result out.new }
 {
@@ -149,7 +107,7 @@ fn write_word(out: &mut [u8], word: &[u8]) -> usize
     word.len()
 }
 
-// Writes a word and a number after it. Pub for `text_lines`, whose callers have seen that it fits.
+// Writes a word and a number after it. Pub for `text_lines`, as before.
 pub fn write_worded(out: &mut [u8], word: &[u8], n: u64) -> usize
     requires { length (word.now ++ decimal n) ≤ length out.old }
     ensures { Written (word.now ++ decimal n) out.old result out.new }
@@ -164,6 +122,24 @@ pub fn write_ended(out: &mut [u8], word: &[u8], n: u64) -> usize
     ensures { Written ((word.now ++ decimal n) ++ (10 ∷ [])) out.old result out.new }
 {
     let at = write_worded(out, word, n);
+    at + write_word(&mut out[at..], b"\n")
+}
+
+// Writes a word and a name after it. Pub for `text_lines`, as before.
+pub fn write_named<N: Notated>(out: &mut [u8], word: &[u8], n: u64) -> usize
+    requires { length (word.now ++ N.notation.names.write n) ≤ length out.old }
+    ensures { Written (word.now ++ N.notation.names.write n) out.old result out.new }
+{
+    let at = write_word(out, word);
+    at + N::write_name(&mut out[at..], n)
+}
+
+// Writes a word, a name after it, and the end of the line. Pub for `text_lines`, as before.
+pub fn write_named_end<N: Notated>(out: &mut [u8], word: &[u8], n: u64) -> usize
+    requires { length ((word.now ++ N.notation.names.write n) ++ (10 ∷ [])) ≤ length out.old }
+    ensures { Written ((word.now ++ N.notation.names.write n) ++ (10 ∷ [])) out.old result out.new }
+{
+    let at = write_named::<N>(out, word, n);
     at + write_word(&mut out[at..], b"\n")
 }
 
@@ -202,15 +178,15 @@ fn store(numbers: &mut [u64; NUMBERS], k: usize, n: u64)
 // Kept: `k` is counted by hand, since the form's marks move it on and its other bytes do not.
 // Kept: into an array that is lent, and not inlined: an Option of the array is copied as a whole right after a single number was stored, and waits for it.
 #[inline(never)]
-fn store_numbers(form: &[u8], bytes: &[u8], numbers: &mut [u64; NUMBERS]) -> Option<()>
+fn store_numbers<N: Notated>(form: &[u8], bytes: &[u8], numbers: &mut [u64; NUMBERS]) -> Option<()>
     requires { numbers.old ≡ replicate number_places 0 }
-    ensures { MatchOption result (None ≡ filled_of (taken form.now bytes.now)) (λ u. Some numbers.new ≡ filled_of (taken form.now bytes.now)) }
+    ensures { MatchOption result (None ≡ filled_of (taken_in N.notation form.now bytes.now)) (λ u. Some numbers.new ≡ filled_of (taken_in N.notation form.now bytes.now)) }
 {
     let mut rest = bytes;
     let mut k = 0;
     for c in form {
         if is_mark(*c) {
-            let numeral = read_mark(*c, rest)?;
+            let numeral = read_mark::<N>(*c, rest)?;
             store(numbers, k, numeral.value);
             rest = &rest[numeral.size..];
             k += 1;
@@ -226,10 +202,17 @@ fn store_numbers(form: &[u8], bytes: &[u8], numbers: &mut [u64; NUMBERS]) -> Opt
 }
 
 // The numbers with which the form gives these bytes, where it does, cut off at 2^32. Places past the form's own numbers hold 0.
+pub fn read_form_in<N: Notated>(form: &[u8], bytes: &[u8]) -> Option<[u64; NUMBERS]>
+    ensures { result ≡ filled_of (taken_in N.notation form.now bytes.now) }
+{
+    let mut numbers = [0; NUMBERS];
+    store_numbers::<N>(form, bytes, &mut numbers)?;
+    Some(numbers)
+}
+
+// The same in decimal.
 pub fn read_form(form: &[u8], bytes: &[u8]) -> Option<[u64; NUMBERS]>
     ensures { result ≡ filled_of (taken form.now bytes.now) }
 {
-    let mut numbers = [0; NUMBERS];
-    store_numbers(form, bytes, &mut numbers)?;
-    Some(numbers)
+    read_form_in::<DecimalNotation>(form, bytes)
 }

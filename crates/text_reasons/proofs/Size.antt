@@ -1,10 +1,11 @@
 -- How long the line of a reason is: at most 671 bytes, if it is the one that is given. Assumes nothing.
 use mathlib.Core.Path.{◌≡◌, sym, ◌∙◌}
-use mathlib.Core.Bool.{true, false, cond}
-use mathlib.Core.Logic.{⊎_elim}
+use mathlib.Core.Bool.{true, false, cond, ◌||◌}
+use mathlib.Core.Logic.{◌⊎◌, inl, inr, ⊎_elim}
 use mathlib.Core.List.{List, [], ◌∷◌, ◌++◌}
 use Prim.Native.Nat.{ℕ, zero, suc, ◌+◌, ◌*◌, ◌≤◌, ◌<◌}
 use native.Mathlib.Omega.{arith}
+use borrow.Author.Tests.{eqb-true}
 use lib.Dec.{eqb}
 use lib.ListN.{length, length-append}
 use lib.Seq.{get_or-drop}
@@ -17,9 +18,10 @@ use Rattle.record.proofs.Records.{left-known, right-known, init-known}
 use Rattle.record_tables.specs.Checked.{Checked}
 use Rattle.graph.proofs.indexes.Fit.{checked-fit}
 use Rattle.graph.proofs.indexes.Tables.{names-few}
-use Rattle.text_forms.specs.decimal.Decimal.{decimal}
-use Rattle.text_forms.specs.Spelling.{bytes, answer_spelling, name_spelling, number_spelling}
-use Rattle.text_forms.specs.Form.{is_mark, spelling, fill}
+use Rattle.text_forms.specs.Spelling.{bytes, number_spelling}
+use Rattle.text_forms.specs.Form.{is_mark, spelling, fill_in, fill}
+use Rattle.text_forms.proofs.Lawful.{most_bytes, lawful, decimal-lawful}
+use Rattle.text_forms.proofs.Marks.{spells-decimal}
 use Rattle.text_forms.proofs.decimal.Laws.{decimal-digits}
 use Rattle.reasons.specs.Reasons.{Reason, must_by, never_by, IsReason, names_printed}
 use Rattle.reasons.specs.Given.{reason_of}
@@ -29,23 +31,35 @@ use Rattle.reasons.proofs.Given.{reason-least}
 use Rattle.reasons.proofs.Meeting.{least-printed}
 use Rattle.text_reasons.specs.ReasonLine.{name_marks, must_words, never_words, ring_words, reason_form, reason_line}
 
--- The most bytes that a form takes with numbers of at most four digits.
+-- The most bytes that a mark takes with a number of at most four digits, and a form with such numbers.
+abbrev short_most : ℕ → ℕ
+short_most c = cond (eqb c 35 || eqb c 64) 4 12
+
 unfoldable short_room : List ℕ → ℕ
 short_room [] = 0
-short_room (c ∷ form) = cond (is_mark c) (4 + short_room form) (1 + short_room form)
+short_room (c ∷ form) = cond (is_mark c) (short_most c + short_room form) (1 + short_room form)
 
-mark-short : (c n : ℕ) → n < 10000 → length ((spelling c).write n) ≤ 4
-unfolding spelling answer_spelling name_spelling number_spelling bytes
+most-few : (c : ℕ) → most_bytes c ≤ 12
+most-few c =
+    by (eqb c 37)
+    (λ (e : eqb c 37 ≡ true). rw e (omega arith))
+    (λ (e : eqb c 37 ≡ false).
+    by (eqb c 33) (λ (m : eqb c 33 ≡ true). rw (e, m) (omega arith)) (λ (m : eqb c 33 ≡ false). rw (e, m) (omega arith)))
+
+decimal-short : (c n : ℕ) → number_spelling ≡ spelling c → n < 10000 → length ((spelling c).write n) ≤ 4
+unfolding number_spelling
+decimal-short c n e h = rw (← e) (decimal-digits 3 n h)
+
+mark-short : (c n : ℕ) → n < 10000 → length ((spelling c).write n) ≤ short_most c
 mark-short c n h =
-    let d : length (decimal n) ≤ 4 = decimal-digits 3 n h in
-    by (eqb c 63)
-    (λ (e : eqb c 63 ≡ true).
-    by (eqb n 0) (λ (z : eqb n 0 ≡ true). rw (e, z) (omega arith)) (λ (z : eqb n 0 ≡ false). rw (e, z) (omega arith)))
-    (λ (e : eqb c 63 ≡ false).
-    by (eqb c 64) (λ (m : eqb c 64 ≡ true). rw (e, m) d) (λ (m : eqb c 64 ≡ false). rw (e, m) d))
+    by (eqb c 35 || eqb c 64)
+    (λ (e : (eqb c 35 || eqb c 64) ≡ true).
+    let d : (c ≡ 35) ⊎ (c ≡ 64) = or-by (eqb c 35) (eqb c 64) e (λ m. inl (eqb-true c 35 m)) (λ m. inr (eqb-true c 64 m)) in
+    rw e (decimal-short c n (spells-decimal c d) h))
+    (λ (e : (eqb c 35 || eqb c 64) ≡ false). rw e (omega (arith, (lawful decimal-lawful c).narrow n (omega arith), most-few c)))
 
 fill-short : (f ns : List ℕ) → ((i : ℕ) → get_or ns i 0 < 10000) → length (fill f ns) ≤ short_room f
-unfolding short_room fill
+unfolding short_room fill_in
 fill-short [] ns h = omega arith
 fill-short (c ∷ f) ns h =
     by (is_mark c)

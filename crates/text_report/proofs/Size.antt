@@ -21,6 +21,7 @@ use Rattle.record_tables.proofs.Records.{checked-wellformed}
 use Rattle.graph.specs.links.Marks.{place_in}
 use Rattle.text_forms.specs.Spelling.{bytes}
 use Rattle.text_forms.specs.Form.{is_mark, fill}
+use Rattle.text_forms.proofs.Lawful.{decimal-lawful}
 use Rattle.text_forms.proofs.Forms.{room, fill-room}
 use Rattle.text.specs.Text.{joined_lines, Answer, Accepted, Refused, read_text}
 use Rattle.text.proofs.RoundTrip.{accepted-text}
@@ -67,14 +68,14 @@ module _ (R : Record) (k : Checked R) (s : sound R ≡ true) where
   unfolding report_numbers
   line-size e m =
       let n : e.name < 2304 = edit-small e (all-has (λ e. edit_in_range (edit_row e)) R.edits k.editrange e m) in
-      omega (arith, line-room, fill-room report_form (report_numbers R e.name) (omega arith, (bit-small (must R e.name), (bit-small (never R e.name), (bit-small (settled R e.name), (place-small e.name, tt))))))
+      omega (arith, line-room, fill-room decimal-lawful report_form (report_numbers R e.name) (omega arith, (bit-small (must R e.name), (bit-small (never R e.name), (bit-small (settled R e.name), (place-small e.name, tt))))))
 
   pub report-size : length (report_of R) ≤ 16384
   unfolding report_of written
   report-size =
       let first = fill counts_form (length R.edits ∷ length R.constraints ∷ []) in
       let ls = map (fill report_form) (map (report_numbers R) (map name_of R.edits)) in
-      let a : length first ≤ 40 = omega (arith, counts-room, fill-room counts_form (length R.edits ∷ length R.constraints ∷ []) (omega (arith, k.editplaces), (omega (arith, k.constraintplaces), tt))) in
+      let a : length first ≤ 40 = omega (arith, counts-room, fill-room decimal-lawful counts_form (length R.edits ∷ length R.constraints ∷ []) (omega (arith, k.editplaces), (omega (arith, k.constraintplaces), tt))) in
       let b : length (joined_lines ls) ≤ 100 * length ls = joined-size 100 ls
       (λ l m. has-mapped (fill report_form) l (map (report_numbers R) (map name_of R.edits)) m
       (λ ns u p. has-mapped (report_numbers R) ns (map name_of R.edits) u
@@ -84,7 +85,7 @@ module _ (R : Record) (k : Checked R) (s : sound R ≡ true) where
 
 refusal-size : (number line : ℕ) → number ≤ 13 → line ≤ 640 → length (refusal_line number line) ≤ 16384
 unfolding refusal_line
-refusal-size number line a b = omega (arith, refusal-room, fill-room refusal_form (number ∷ line ∷ []) (omega arith, (omega arith, tt)))
+refusal-size number line a b = omega (arith, refusal-room, fill-room decimal-lawful refusal_form (number ∷ line ∷ []) (omega arith, (omega arith, tt)))
 
 pub printed-size : (text : List ℕ) → length (printed (read_text text)) ≤ 16384
 printed-size text = go (read_text text) refl

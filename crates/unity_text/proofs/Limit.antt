@@ -11,11 +11,12 @@ use borrow.Author.Tests.{eqb-true, eqb-false, ltb-false}
 use lib.Dec.{eqb, ltb}
 use lib.ListN.{length, length-append}
 use Rattle.text_lines.specs.Line.{line_limit}
-use Rattle.lists.specs.Lists.{mem}
+use Rattle.lists.specs.Lists.{all, mem}
 use Rattle.lists.proofs.Lists.{by, clash, mem-snoc}
 use Rattle.text_forms.specs.Spelling.{bytes}
-use Rattle.text_forms.specs.Form.{taken}
-use Rattle.text_forms.proofs.Forms.{spelled-all, fill-taken, one_line, fill-ended}
+use Rattle.text_forms.specs.Form.{is_mark, taken}
+use Rattle.text_forms.proofs.Lawful.{decimal-lawful}
+use Rattle.text_forms.proofs.Forms.{wordless, spelled-all, fill-taken, one_line, fill-ended}
 use Rattle.text_lines.specs.Lines.{joined, lines}
 use Rattle.text_lines.proofs.Ends.{ended-line}
 use Rattle.text.proofs.Limit.{FirstEnd, first-end, begins}
@@ -41,9 +42,9 @@ formed-line line =
     (λ (e : ltb line_limit (length line) ≡ false). rw e (λ h. some-by (taken weights_form line) h (λ ns q. record { numbers = ns; is = q; short = ltb-false line_limit (length line) e })))
 
 -- and ends
-pub no-question : mem 63 weights_form ≡ false
-unfolding weights_form bytes mem
-no-question = refl
+pub wordless-form : wordless weights_form ≡ true
+unfolding weights_form bytes all is_mark
+wordless-form = refl
 
 pub one_line_lem : one_line weights_form ≡ true
 unfolding weights_form bytes one_line
@@ -54,8 +55,8 @@ no_end line m =
     by (in_form line)
     (λ (h : in_form line ≡ true).
     let f = formed-line line h in
-    let e = fill-ended weights_form f.numbers one_line_lem in
-    let q : line ≡ e.inner ++ (10 ∷ []) = (fill-taken weights_form line f.numbers f.is).1 (spelled-all weights_form f.numbers no-question) ∙ e.is in
+    let e = fill-ended decimal-lawful weights_form f.numbers one_line_lem in
+    let q : line ≡ e.inner ++ (10 ∷ []) = (fill-taken decimal-lawful weights_form line f.numbers f.is).1 (spelled-all weights_form f.numbers wordless-form) ∙ e.is in
     clash (mem-snoc 10 e.inner) (rw q at m))
     (λ (h : in_form line ≡ false). h)
 

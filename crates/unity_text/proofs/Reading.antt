@@ -12,7 +12,7 @@ use Rattle.text_lines.specs.Line.{line_limit}
 use Rattle.lists.proofs.Lists.{by}
 use Rattle.text_forms.specs.decimal.Decimal.{saturated}
 use Rattle.text_forms.specs.Form.{taken, filled_of}
-use Rattle.text_lines.proofs.Says.{kept-first, kept_second, kept-third}
+use Rattle.text_lines.proofs.Says.{kept-number}
 use Rattle.unity_table.specs.declared.Weights.{Weights}
 use Rattle.unity_table.specs.declared.Summed.{Summed}
 use Rattle.unity_table.specs.declared.RowFault.{RowFault}
@@ -27,9 +27,9 @@ said-kept : (o : Option (List ℕ)) {numbers : List ℕ} → Some numbers ≡ fi
 said-kept none e = cc
 said-kept (some ns) {numbers = numbers} e =
     let r : numbers ≡ take 8 (map saturated ns ++ replicate 8 0) = cc in
-    let g : get_or numbers 0 0 ≡ saturated (get_or ns 0 0) = rw r (kept-first ns) in
-    let s : get_or numbers 1 0 ≡ saturated (get_or ns 1 0) = rw r (kept_second ns) in
-    let w : get_or numbers 2 0 ≡ saturated (get_or ns 2 0) = rw r (kept-third ns) in
+    let g : get_or numbers 0 0 ≡ saturated (get_or ns 0 0) = rw r (kept-number ns 0 (omega arith)) in
+    let s : get_or numbers 1 0 ≡ saturated (get_or ns 1 0) = rw r (kept-number ns 1 (omega arith)) in
+    let w : get_or numbers 2 0 ≡ saturated (get_or ns 2 0) = rw r (kept-number ns 2 (omega arith)) in
     λ i. Some (record { greatest = g i; silent = s i; total = w i })
 
 said-other : (o : Option (List ℕ)) → None ≡ filled_of o → None ≡ said_of o

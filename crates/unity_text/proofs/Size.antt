@@ -15,6 +15,7 @@ use Rattle.record_rows.proofs.grounds.Small.{given-small, first_small}
 use Rattle.fraction.specs.Fraction.{sum_of, mean}
 use Rattle.fraction.specs.Bounded.{limit64, fits64}
 use Rattle.text_forms.specs.Spelling.{bytes}
+use Rattle.text_forms.proofs.Lawful.{decimal-lawful}
 use Rattle.text_forms.proofs.Forms.{fill-wide}
 use Rattle.text_lines.specs.Lines.{lines}
 use Rattle.text_writer.specs.Placed.{placing}
@@ -129,11 +130,11 @@ unity-printed-size text =
     let z = eqb-true f.number 0 e in
     let q = formed-faults [] (lines text) (accepted-formed [] (lines text) z) in
     let w = numbers_fit l (sym (ap (λ (x : Fault). x.number) q) ∙ z) in
-    let a = fill-wide unity_form (unity_numbers (summary l)) (fit_at (unity_numbers (summary l)) w) in
+    let a = fill-wide decimal-lawful unity_form (unity_numbers (summary l)) (fit_at (unity_numbers (summary l)) w) in
     rw e (omega (arith, a, unity-size)))
     (λ (e : eqb f.number 0 ≡ false).
     let s = fault-small [] (lines text) (omega arith) in
-    let a = fill-wide refusal_form (f.number ∷ f.row ∷ []) (fit_at (f.number ∷ f.row ∷ []) (omega (arith, s.number), (omega (arith, s.row), tt))) in
+    let a = fill-wide decimal-lawful refusal_form (f.number ∷ f.row ∷ []) (fit_at (f.number ∷ f.row ∷ []) (omega (arith, s.number), (omega (arith, s.row), tt))) in
     rw (e, e) (omega (arith, a, refusal-size)))
 
 -- An output of 1,024 bytes takes what is printed of any text.

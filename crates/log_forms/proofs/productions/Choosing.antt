@@ -1,5 +1,4 @@
--- Productions that a letter of the text rules out may be left out. A letter is told by the beginning of a form that it comes after; of a beginning only
--- the marks count, and how many bytes stand between them. Assumes nothing.
+-- Productions that a letter of the text rules out may be left out. Assumes nothing.
 use mathlib.Core.Path.{◌≡◌, refl, ap, sym, ◌∙◌, fun_ext}
 use mathlib.Core.Bool.{Bool, true, false, cond, not, ◌&&◌}
 use mathlib.Core.Logic.{◌≢◌}
@@ -7,65 +6,24 @@ use mathlib.Core.List.{List, [], ◌∷◌, ◌++◌}
 use mathlib.Core.Option.{Option, none, some}
 use Prim.Native.Nat.{ℕ, zero, suc, ◌≤◌}
 use native.Mathlib.Omega.{arith}
-use borrow.Author.Tests.{ne_eqb, not-true, leb-true}
-use lib.Dec.{eqb, leb}
+use borrow.Author.Tests.{leb-true}
+use lib.Dec.{leb}
 use lib.ListN.{length, get_or, take, replicate}
-use Rattle.lists.specs.Lists.{all, mem, filter}
-use Rattle.lists.proofs.Lists.{by, clash, and_l, and_r, and_i, cons-by, nil-no}
-use Rattle.text_forms.specs.Form.{is_mark, taken}
+use Rattle.lists.specs.Lists.{all, filter}
+use Rattle.lists.proofs.Lists.{by, clash}
+use Rattle.text_forms.specs.Spelling.{decimal_notation}
+use Rattle.text_forms.specs.Form.{taken}
+use Rattle.text_forms.proofs.Lawful.{decimal-lawful}
 use Rattle.text_forms.proofs.Forms.{slots, fill-taken}
 use Rattle.text_lines.specs.Line.{fits_word}
-use Rattle.text_lines.proofs.Signs.{line-ends, otherwise, ruled_out, ruled_out_lem}
+use Rattle.text_lines.proofs.Says.{zero-kept}
+use Rattle.text_lines.proofs.Signs.{letter_after, letter_other, letter_among, Others, other_none, among_none}
 use Rattle.std.specs.Prelude.{Result, Ok, Err}
 use Rattle.refusals.specs.declared.Refusal.{Refusal}
 use Rattle.refusals.specs.declared.Refusal.TheVariants.{NotInForm, OutOfRange}
 use Rattle.refusals.specs.Numbers.{number}
 use Rattle.log_forms.specs.productions.Productions.{Production, meant, parse}
 use Rattle.log_forms.specs.productions.Words.{word_at, words_kept, eight_of, words_of}
-
--- the letter of a text after the beginning of a form
-abbrev pub letter_after : List ℕ → List ℕ → ℕ
-letter_after beginning s = get_or s (line-ends beginning 0 s) 0
-
--- a form that has another letter after the beginning
-unfoldable pub letter_other : List ℕ → ℕ → List ℕ → Bool
-letter_other beginning letter form = ruled_out (record { after = beginning; byte = letter } ∷ []) form
-
--- a form that has one of these letters there
-unfoldable pub letter_among : List ℕ → List ℕ → List ℕ → Bool
-letter_among keys [] [] = false
-letter_among keys [] (x ∷ form) = not (is_mark x) && mem x keys
-letter_among keys (y ∷ beginning) [] = false
-letter_among keys (y ∷ beginning) (x ∷ form) = cond (is_mark y) (eqb y x) (not (is_mark x)) && letter_among keys beginning form
-
--- a letter that is none of these
-abbrev pub Others : List ℕ → ℕ → Type 0
-Others [] x = Unit
-Others (key ∷ keys) x = Others keys x × (x ≢ key)
-
-others-not : (keys : List ℕ) (x y : ℕ) → Others keys x → mem y keys ≡ true → x ≢ y
-others-not [] x y o h = nil-no y h
-others-not (key ∷ keys) x y o h = cons-by y key keys h (λ e q. o.1 (q ∙ e)) (λ k. others-not keys x y o.0 k)
-
-among-other : (keys beginning : List ℕ) (x : ℕ) (form : List ℕ) → Others keys x → letter_among keys beginning form ≡ true → otherwise beginning x form ≡ true
-unfolding letter_among otherwise
-among-other keys [] x [] o h = clash h refl
-among-other keys [] x (y ∷ form) o h =
-    let m : is_mark y ≡ false = not-true (is_mark y) (and_l (not (is_mark y)) (mem y keys) h) in
-    rw (m, ne_eqb x y (others-not keys x y o (and_r (not (is_mark y)) (mem y keys) h)))
-among-other keys (z ∷ beginning) x [] o h = clash h refl
-among-other keys (z ∷ beginning) x (y ∷ form) o h =
-    let a = cond (is_mark z) (eqb z y) (not (is_mark y)) in
-    and_i a (otherwise beginning x form) (and_l a (letter_among keys beginning form) h) (among-other keys beginning x form o (and_r a (letter_among keys beginning form) h))
-
-among_none : (keys beginning form s : List ℕ) → Others keys (letter_after beginning s) → letter_among keys beginning form ≡ true → taken form s ≡ none
-unfolding ruled_out
-among_none keys beginning form s o h =
-    ruled_out_lem (record { after = beginning; byte = letter_after beginning s } ∷ []) form s (refl, tt) (rw (among-other keys beginning (letter_after beginning s) form o h))
-
-other_none : (beginning form s : List ℕ) (letter : ℕ) → letter_after beginning s ≡ letter → letter_other beginning letter form ≡ true → taken form s ≡ none
-unfolding letter_other
-other_none beginning form s letter e h = ruled_out_lem (record { after = beginning; byte = letter } ∷ []) form s (e, tt) h
 
 -- words in form are not refused as others
 kept-in-form : (cells : List ℕ) → words_kept cells ≢ Err NotInForm
@@ -79,14 +37,8 @@ kept-in-form cells =
     refused-same {r} {t} n = let q : r ≡ t = cc in ap number q
 
 -- of at most eight numbers none is lost
-no_number : (n m k : ℕ) → ◌≡◌ {A = ℕ} (get_or (take n (replicate m 0)) k 0) 0
-no_number zero m k = refl
-no_number (suc n) zero k = refl
-no_number (suc n) (suc m) zero = refl
-no_number (suc n) (suc m) (suc k) = no_number n m k
-
 same_number : (n m : ℕ) (ns : List ℕ) (k : ℕ) → length ns ≤ n → n ≤ m → get_or (take n (ns ++ replicate m 0)) k 0 ≡ get_or ns k 0
-same_number n m [] k h l = no_number n m k
+same_number n m [] k h l = zero-kept n m k
 same_number zero m (x ∷ ns) k h l = absurd (omega arith)
 same_number (suc n) m (x ∷ ns) zero h l = refl
 same_number (suc n) m (x ∷ ns) (suc k) h l = same_number n m ns k (omega arith) (omega arith)
@@ -123,7 +75,7 @@ module _ {A : Type 0} (refuse : Refusal → A) where
       go : (o : Option (List ℕ)) → taken form s ≡ o → made (words_of o) meaning ≡ meant refuse meaning o (refuse NotInForm)
       go none e = refl
       go (some ns) e =
-          let h : length ns ≤ 8 = omega (arith, (fill-taken form s ns e).0) in
+          let h : length ns ≤ 8 = omega (arith, (fill-taken decimal-lawful form s ns e).0) in
           let n : 8 ≤ 8 = omega arith in
           made_kept meaning (eight_of ns)
           ∙ rw (same-fit 8 8 ns h n) (ap (λ (f : ℕ → ℕ). cond (all fits_word ns) (meaning f) (refuse OutOfRange)) (fun_ext (λ k. same_number 8 8 ns k h n)))
@@ -140,7 +92,7 @@ module _ {A : Type 0} (refuse : Refusal → A) where
 
 -- the productions that a letter leaves, and those that are left where it is none of these
 abbrev pub letter_leaves : {A : Type 0} → List ℕ → ℕ → List (Production A) → List (Production A)
-letter_leaves beginning letter productions = filter (λ p. not (letter_other beginning letter p.form)) productions
+letter_leaves beginning letter productions = filter (λ p. not (letter_other decimal_notation beginning letter p.form)) productions
 
 abbrev pub others_leave : {A : Type 0} → List ℕ → List ℕ → List (Production A) → List (Production A)
 others_leave beginning keys productions = filter (λ p. not (letter_among keys beginning p.form)) productions
@@ -190,15 +142,15 @@ module _ {A : Type 0} (refuse : Refusal → A) where
         other-said none n = refl
         other-said (some ns) n = absurd (kept-in-form (eight_of ns) n)
 
-  module _ (beginning s : List ℕ) {x : ℕ} (e : x ≡ letter_after beginning s) (productions : List (Production A)) {r : A} where
+  module _ (beginning s : List ℕ) {x : ℕ} (e : x ≡ letter_after decimal_notation beginning s) (productions : List (Production A)) {r : A} where
     pub by-letter : (letter : ℕ) → x ≡ letter → r ≡ parse refuse (letter_leaves beginning letter productions) s → r ≡ parse refuse productions s
-    by-letter letter l q = q ∙ sym (left_out refuse s (letter_other beginning letter) (λ form h. other_none beginning form s letter (sym e ∙ l) h) productions)
+    by-letter letter l q = q ∙ sym (left_out refuse s (letter_other decimal_notation beginning letter) (λ form h. other_none decimal-lawful beginning form s letter (sym e ∙ l) h) productions)
 
     pub letter-keeps : (letter : ℕ) → x ≡ letter → r ≡ parse refuse productions s → r ≡ parse refuse (letter_leaves beginning letter productions) s
-    letter-keeps letter l q = q ∙ left_out refuse s (letter_other beginning letter) (λ form h. other_none beginning form s letter (sym e ∙ l) h) productions
+    letter-keeps letter l q = q ∙ left_out refuse s (letter_other decimal_notation beginning letter) (λ form h. other_none decimal-lawful beginning form s letter (sym e ∙ l) h) productions
 
     pub by-others : (keys : List ℕ) → Others keys x → r ≡ parse refuse (others_leave beginning keys productions) s → r ≡ parse refuse productions s
-    by-others keys o q = q ∙ sym (left_out refuse s (λ form. letter_among keys beginning form) (λ form h. among_none keys beginning form s (rw e at o) h) productions)
+    by-others keys o q = q ∙ sym (left_out refuse s (λ form. letter_among keys beginning form) (λ form h. among_none decimal_notation keys beginning form s (rw e at o) h) productions)
 
     -- an arm that reads one form
     pub letter-arm : (letter : ℕ) → x ≡ letter → is_one (letter_leaves beginning letter productions) ≡ true → {w : Result (List ℕ) Refusal} → w ≡ words_of (taken (first_form (letter_leaves beginning letter productions)) s)

@@ -1,6 +1,6 @@
 -- Productions whose forms differ pairwise: no text is taken by two of them, and each reads its own lines. Assumes nothing.
 use mathlib.Core.Path.{◌≡◌, refl, ap, sym, ◌∙◌}
-use mathlib.Core.Bool.{Bool, true, false, cond, not, ◌&&◌}
+use mathlib.Core.Bool.{Bool, true, false, cond, ◌&&◌, ◌||◌}
 use mathlib.Core.Logic.{inl, inr}
 use mathlib.Core.List.{List, [], ◌∷◌, map}
 use mathlib.Core.Option.{Option, none, some}
@@ -13,10 +13,10 @@ use Rattle.lists.specs.Lists.{all, Has}
 use Rattle.lists.proofs.Lists.{by, is-by, clash, and_l, and_r, none-some}
 use Rattle.lists.proofs.Logic.{all-has}
 use Rattle.text_forms.specs.decimal.Decimal.{numeral_size}
-use Rattle.text_forms.specs.Spelling.{name_spelling, number_spelling}
-use Rattle.text_forms.specs.Form.{is_mark, spelling, number_before, begins_with, taken}
-use Rattle.text_forms.proofs.Lawful.{lawful}
-use Rattle.text_forms.proofs.Forms.{differ, unlike, mark-taken, mark-missing, byte-taken, byte-missing}
+use Rattle.text_forms.specs.Spelling.{number_spelling, decimal_notation}
+use Rattle.text_forms.specs.Form.{is_mark, spelling_in, spelling, number_before, begins_with, taken_in, taken}
+use Rattle.text_forms.proofs.Lawful.{decimal-lawful, lawful}
+use Rattle.text_forms.proofs.Forms.{words_apart, differ, unlike, marks-apart, mark-taken, mark-missing, byte-taken, byte-missing}
 use Rattle.refusals.specs.declared.Refusal.{Refusal}
 use Rattle.refusals.specs.declared.Refusal.TheVariants.{NotInForm}
 use Rattle.log_forms.specs.productions.Productions.{Production, meant, parse, Unambiguous}
@@ -26,11 +26,11 @@ abbrev as_number : ℕ → ℕ
 as_number c = cond (eqb c 64) 35 c
 
 name-taken : (f g s : List ℕ) → taken f (drop (numeral_size s) s) ≡ taken g (drop (numeral_size s) s) → taken (35 ∷ f) s ≡ taken (64 ∷ g) s
-unfolding taken is_mark spelling name_spelling number_spelling
+unfolding taken_in is_mark spelling_in decimal_notation number_spelling
 name-taken f g s h = rw h
 
 taken-as-number : (f s : List ℕ) → taken (map as_number f) s ≡ taken f s
-unfolding taken
+unfolding taken_in
 taken-as-number [] s = refl
 taken-as-number (c ∷ f) s =
     by (eqb c 64)
@@ -39,7 +39,7 @@ taken-as-number (c ∷ f) s =
 
 -- no two of the forms give a text in common
 unfoldable pub tell_apart : List ℕ → List ℕ → Bool
-tell_apart f g = differ (map as_number f) (map as_number g)
+tell_apart f g = differ decimal_notation (map as_number f) (map as_number g)
 
 unfoldable pub apart : {A : Type 0} → List (Production A) → Bool
 apart [] = true
@@ -62,27 +62,36 @@ no_none none h = refl
 no_none (some ns) h = clash refl h
 
 nothing-taken : (c : ℕ) (f : List ℕ) → is_taken (taken (c ∷ f) []) ≡ false
-nothing-taken c f = by (is_mark c) (λ m. none-no (mark-missing c f m [] (lawful c).nothing)) (λ m. none-no (byte-missing c f m [] refl))
+nothing-taken c f = by (is_mark c) (λ m. none-no (mark-missing decimal_notation c f m [] (lawful decimal-lawful c).nothing)) (λ m. none-no (byte-missing decimal_notation c f m [] refl))
 
 -- only a text that begins so is taken
 begins-taken : (c : ℕ) (f s : List ℕ) → is_mark c ≡ false → is_taken (taken (c ∷ f) s) ≡ true → begins_with c s ≡ true
-begins-taken c f s m h = by (begins_with c s) (λ e. e) (λ e. clash h (none-no (byte-missing c f m s e)))
+begins-taken c f s m h = by (begins_with c s) (λ e. e) (λ e. clash h (none-no (byte-missing decimal_notation c f m s e)))
 
 mark-begun : (c d : ℕ) (f s : List ℕ) → is_mark c ≡ true → (spelling c).begins d ≡ false → begins_with d s ≡ true → taken (c ∷ f) s ≡ none
 mark-begun c d f [] m b h = clash h refl
-mark-begun c d f (x ∷ s) m b h = let e : d ≡ x = eqb-true d x h in mark-missing c f m (x ∷ s) ((lawful c).other x s (rw (← e) b))
+mark-begun c d f (x ∷ s) m b h = let e : d ≡ x = eqb-true d x h in mark-missing decimal_notation c f m (x ∷ s) ((lawful decimal-lawful c).other x s (rw (← e) b))
 
 one-beginning : (c d : ℕ) (s : List ℕ) → begins_with c s ≡ true → begins_with d s ≡ true → c ≡ d
 one-beginning c d [] p q = clash p refl
 one-beginning c d (x ∷ s) p q = eqb-true c x p ∙ sym (eqb-true d x q)
 
-unlike-no : (c d : ℕ) (f g s : List ℕ) → eqb c d ≡ false → unlike c d ≡ true → is_taken (taken (d ∷ g) s) ≡ true → is_taken (taken (c ∷ f) s) ≡ false
+-- of two marks that begin differently one does not begin a text that the other begins
+both-marks : (c d : ℕ) (f g s : List ℕ) → is_mark c ≡ true → is_mark d ≡ true → (words_apart decimal_notation c d || words_apart decimal_notation d c) ≡ true → is_taken (taken (d ∷ g) s) ≡ true
+    → is_taken (taken (c ∷ f) s) ≡ false
+both-marks c d f g [] m p h t = nothing-taken c f
+both-marks c d f g (x ∷ s) m p h t =
+    by ((spelling d).begins x)
+    (λ b. none-no (mark-missing decimal_notation c f m (x ∷ s) ((lawful decimal-lawful c).other x s (marks-apart decimal_notation c d x h b))))
+    (λ b. clash t (none-no (mark-missing decimal_notation d g p (x ∷ s) ((lawful decimal-lawful d).other x s b))))
+
+unlike-no : (c d : ℕ) (f g s : List ℕ) → eqb c d ≡ false → unlike decimal_notation c d ≡ true → is_taken (taken (d ∷ g) s) ≡ true → is_taken (taken (c ∷ f) s) ≡ false
 unlike-no c d f g s e h t =
     by (is_mark c)
     (λ (m : is_mark c ≡ true).
-    let k : (not (is_mark d) && not ((spelling c).begins d)) ≡ true = rw m at h in
-    let p : is_mark d ≡ false = not-true (is_mark d) (and_l (not (is_mark d)) (not ((spelling c).begins d)) k) in
-    none-no (mark-begun c d f s m (not-true ((spelling c).begins d) (and_r (not (is_mark d)) (not ((spelling c).begins d)) k)) (begins-taken d g s p t)))
+    by (is_mark d)
+    (λ (p : is_mark d ≡ true). both-marks c d f g s m p (rw (m, p) at h) t)
+    (λ (p : is_mark d ≡ false). none-no (mark-begun c d f s m (not-true ((spelling c).begins d) (rw (m, p) at h)) (begins-taken d g s p t))))
     (λ (m : is_mark c ≡ false).
     by (begins_with c s)
     (λ (b : begins_with c s ≡ true).
@@ -91,11 +100,11 @@ unlike-no c d f g s e h t =
     let q : (spelling d).begins c ≡ false = not-true ((spelling d).begins c) (rw (m, p) at h) in
     clash t (none-no (mark-begun d c g s p q b)))
     (λ (p : is_mark d ≡ false). absurd (eqb-false c d e (one-beginning c d s b (begins-taken d g s p t)))))
-    (λ (b : begins_with c s ≡ false). none-no (byte-missing c f m s b)))
+    (λ (b : begins_with c s ≡ false). none-no (byte-missing decimal_notation c f m s b)))
 
 -- two forms that differ take no text in common
-differ-no : (f g s : List ℕ) → differ f g ≡ true → is_taken (taken g s) ≡ true → is_taken (taken f s) ≡ false
-unfolding differ taken
+differ-no : (f g s : List ℕ) → differ decimal_notation f g ≡ true → is_taken (taken g s) ≡ true → is_taken (taken f s) ≡ false
+unfolding differ taken_in
 differ-no [] [] s h t = clash h refl
 differ-no [] (d ∷ g) [] h t = clash t (nothing-taken d g)
 differ-no [] (d ∷ g) (x ∷ s) h t = refl
@@ -105,20 +114,20 @@ differ-no (c ∷ f) (d ∷ g) s h t =
     by (eqb c d)
     (λ (e : eqb c d ≡ true).
     let q : c ≡ d = eqb-true c d e in
-    let k : differ f g ≡ true = rw e at h in
+    let k : differ decimal_notation f g ≡ true = rw e at h in
     rw q
     (by (is_mark d)
     (λ (m : is_mark d ≡ true).
     is-by ((spelling d).size s) 0
-    (λ z. none-no (mark-missing d f m s z))
+    (λ z. none-no (mark-missing decimal_notation d f m s z))
     (λ z.
-    let a : is_taken (taken (d ∷ f) s) ≡ is_taken (taken f (drop ((spelling d).size s) s)) = ap is_taken (mark-taken d f m s z) ∙ taken_more _ (taken f (drop ((spelling d).size s) s)) in
-    let b : is_taken (taken (d ∷ g) s) ≡ is_taken (taken g (drop ((spelling d).size s) s)) = ap is_taken (mark-taken d g m s z) ∙ taken_more _ (taken g (drop ((spelling d).size s) s)) in
+    let a : is_taken (taken (d ∷ f) s) ≡ is_taken (taken f (drop ((spelling d).size s) s)) = ap is_taken (mark-taken decimal_notation d f m s z) ∙ taken_more _ (taken f (drop ((spelling d).size s) s)) in
+    let b : is_taken (taken (d ∷ g) s) ≡ is_taken (taken g (drop ((spelling d).size s) s)) = ap is_taken (mark-taken decimal_notation d g m s z) ∙ taken_more _ (taken g (drop ((spelling d).size s) s)) in
     a ∙ differ-no f g (drop ((spelling d).size s) s) k (sym b ∙ t)))
     (λ (m : is_mark d ≡ false).
     by (begins_with d s)
-    (λ b. ap is_taken (byte-taken d f m s b) ∙ differ-no f g (drop 1 s) k (sym (ap is_taken (byte-taken d g m s b)) ∙ t))
-    (λ b. none-no (byte-missing d f m s b)))))
+    (λ b. ap is_taken (byte-taken decimal_notation d f m s b) ∙ differ-no f g (drop 1 s) k (sym (ap is_taken (byte-taken decimal_notation d g m s b)) ∙ t))
+    (λ b. none-no (byte-missing decimal_notation d f m s b)))))
     (λ (e : eqb c d ≡ false). unlike-no c d f g s e (rw e at h) t)
 
 apart_none : (f g s : List ℕ) {ns : List ℕ} → tell_apart f g ≡ true → taken g s ≡ some ns → taken f s ≡ none
