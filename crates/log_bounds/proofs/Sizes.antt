@@ -33,7 +33,7 @@ use Rattle.text_forms.specs.Form.{is_mark, fill}
 use Rattle.text_forms.proofs.Forms.{room, AllSmall, fill-room, fill-wide}
 use Rattle.text_lines.specs.Line.{edit_form, edit_numbers, edit_line_in, edit_line, constraint_line}
 use Rattle.text_lines.proofs.Puts.{rule-length, rule_part-short}
-use Rattle.text.specs.Text.{joined_lines, rows_text, text_of}
+use Rattle.text.specs.Text.{joined_lines, rows_text, written_in, text_of}
 use Rattle.text_report.specs.Report.{counts_form, refusal_form, refusal_line}
 use Rattle.text_report.proofs.Size.{joined-size}
 use Rattle.log_forms.specs.Printed.{Texts, texts_from}
@@ -169,7 +169,7 @@ checked-small R k v = record {
 
 module _ (R : Record) (k : SmallRecord R) where
   text-size : length (text_of R) ≤ 34748
-  unfolding rows_text
+  unfolding written_in rows_text
   text-size =
       let es = map edit_line (map edit_row R.edits) in
       let cs = map constraint_line (map constraint_row R.constraints) in

@@ -1,3 +1,9 @@
+pub mod Faultless
+pub mod Manners
+pub mod InManner
 pub mod Rows
+pub mod OwnOrder
 pub mod RoundTrip
 pub mod Limit
+pub mod Faults
+pub mod OwnPlaces

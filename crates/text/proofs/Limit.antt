@@ -1,54 +1,35 @@
--- The first 64,641 bytes of a text decide: a text without fault has at most 639 lines of at most 101 bytes, so a longer one has its fault before the end of
--- its line 640, and what follows changes nothing. Assumes nothing.
+-- The first bytes of a text decide: a text without fault has at most 639 lines of rows of at most 101 bytes, and a header, so that a longer one has its fault
+-- before the end of the line after these, and what follows changes nothing. Assumes nothing.
 use mathlib.Core.Path.{◌≡◌, refl, ap, sym, ◌∙◌}
 use mathlib.Core.Bool.{true, false}
 use mathlib.Core.Logic.{◌⊎◌, inl, inr, ⊎_elim, ◌≢◌}
 use mathlib.Core.List.{List, [], ◌∷◌, ◌++◌, append_assoc, append-nil}
 use Prim.Native.Nat.{ℕ, zero, suc, ◌+◌, ◌*◌, ◌≤◌, ◌<◌}
 use native.Mathlib.Omega.{arith}
-use borrow.Author.Tests.{eqb-true, eqb-false, ne_eqb, lt-ltb, ltb-false}
+use borrow.Author.Tests.{eqb-true, eqb-false, ne_eqb, ltb-false, ltb-true}
 use lib.Dec.{eqb, ltb}
 use lib.ListN.{length, length-append}
+use Rattle.std.specs.Prelude.{Result, Ok, Err}
 use Rattle.lists.proofs.Lists.{by, or-no-l, or-no-r}
-use Rattle.lists.specs.Lists.{mem}
+use Rattle.lists.specs.Lists.{mem, all}
 use Rattle.record.specs.Judgement.{sound}
-use Rattle.record_rows.specs.grounds.Ground.{Rows, row_fault, ◌given◌}
-use Rattle.record_tables.specs.Table.{empty_tables, names_of, edit_kind, constraint_kind}
+use Rattle.record_rows.specs.row.Row.{same}
+use Rattle.record_rows.proofs.row.Compared.{same-eq}
+use Rattle.record_rows.specs.grounds.Ground.{Rows, row_fault, ◌given◌, ◌orelse◌}
+use Rattle.record_tables.specs.Table.{names_of, edit_kind, constraint_kind}
 use Rattle.record_rows.proofs.grounds.Small.{orelse-small, given-small, row-fault-small}
 use Rattle.record_tables.proofs.Further.{further-small}
-use Rattle.record_tables.proofs.Records.{empty-checked, joining-editplaces, joining-constraintplaces}
-use Rattle.std.specs.Prelude.{Result, Ok, Err}
 use Rattle.refusals.specs.declared.Refusal.{Refusal}
-use Rattle.refusals.proofs.Numbers.{number-positive}
 use Rattle.text_lines.specs.declared.Line.{Line}
 use Rattle.text_lines.specs.declared.Line.TheVariants.{Edit, Constraint}
-use Rattle.text_lines.specs.Line.{line_read_in, line_read, line_limit}
+use Rattle.text_lines.specs.Line.{line_limit}
 use Rattle.text_lines.specs.Lines.{lines, joined}
 use Rattle.text_lines.proofs.Ends.{ended-line}
-use Rattle.text_lines.proofs.RoundTrip.{Faithful, line-back, Saying, fault-one, fault-two, an-edit, a-constraint, line-saying}
-use Rattle.text.specs.Text.{edit_fault, constraint_fault, line_fault, edits_with, constraints_with, Answer, Accepted, Refused, read_from, read_rows, judged, read_text}
-use Rattle.text.proofs.Rows.{Given, given-none-yet, given-edit, given-constraint, given-faultless}
-use Rattle.text.proofs.RoundTrip.{rows-took}
-
--- the rows of a text without fault are at most 639
-given-few : (edits constraints : Rows) → Given edits constraints → length edits + length constraints ≤ 639
-given-few edits constraints g =
-    let f = given-faultless edits constraints g in
-    let a : length edits ≤ 127 = joining-editplaces empty_tables (names_of edits) false edits constraints empty-checked f in
-    let b : length constraints ≤ 512 = joining-constraintplaces empty_tables (names_of edits) false edits constraints empty-checked f in
-    omega arith
-
--- a line without fault has at most 101 bytes
-line-limit : (l : List ℕ) (edits constraints : Rows) → line_fault edits constraints (line_read l) ≡ 0 → length l ≤ line_limit
-unfolding line_read_in line_fault
-line-limit l edits constraints =
-    by (ltb line_limit (length l))
-    (λ (e : ltb line_limit (length l) ≡ true). rw e (λ z. let y : ◌≡◌ {A = ℕ} 1 0 = z in absurd (omega arith)))
-    (λ (e : ltb line_limit (length l) ≡ false). λ z. ltb-false line_limit (length l) e)
-
-too_long : (n : ℕ) (edits constraints : Rows) (l : List ℕ) (rest : List (List ℕ)) → line_limit < length l → read_from n edits constraints (l ∷ rest) ≡ Refused 1 (suc n)
-unfolding read_from line_fault line_read_in
-too_long n edits constraints l rest h = rw (lt-ltb line_limit (length l) h)
+use Rattle.text.specs.Text.{Manner, edit_fault, constraint_fault, old_manner, line_fault, Answer, Accepted, Refused, ReadSoFar, text_begun, with_line, awaits_header, line_fed, text_finished, read_from, read_in, read_text, rows_number}
+use Rattle.text.proofs.Faultless.{none-faulty}
+use Rattle.text.proofs.Manners.{SaidBack, LawfulManner, header_lines}
+use Rattle.text.proofs.InManner.{so_far, past-header, line-taken, line-refused, said-row}
+use Rattle.text.proofs.RoundTrip.{old-lawful}
 
 -- a text goes to its first byte 10, or has none
 pub record FirstEnd (s : List ℕ) : Type 0 where
@@ -97,125 +78,204 @@ pub record Decided (a b : Answer) : Type 0 where
   pub first : a ≡ Refused number line
   pub second : b ≡ Refused number line
 
--- one line more
-module _ (n : ℕ) (edits constraints : Rows) (l : List ℕ) (ls ms : List (List ℕ)) where
-  decided-here : eqb (line_fault edits constraints (line_read l)) 0 ≡ false → Decided (read_from n edits constraints (l ∷ ls)) (read_from n edits constraints (l ∷ ms))
-  unfolding read_from
-  decided-here e = record { number = line_fault edits constraints (line_read l); line = suc n; first = rw e; second = rw e }
+module _ (M : Manner) (W : LawfulManner M) where
+  -- what was read without fault in so many lines
+  record ReadWell (edits constraints : Rows) : Type 0 where
+    pub faultless : rows_number M edits constraints ≡ 0
+    pub forms : all M.line.spells_edit edits ≡ true
 
-  decided-later : eqb (line_fault edits constraints (line_read l)) 0 ≡ true
-      → Decided (read_from (suc n) (edits_with (line_read l) edits) (constraints_with (line_read l) constraints) ls) (read_from (suc n) (edits_with (line_read l) edits) (constraints_with (line_read l) constraints) ms)
-      → Decided (read_from n edits constraints (l ∷ ls)) (read_from n edits constraints (l ∷ ms))
-  unfolding read_from
-  decided-later e d = rw e d
+  well-none : ReadWell [] []
+  unfolding all
+  well-none = record { faultless = none-faulty M; forms = refl }
 
-given-more : (edits constraints : Rows) (l : List ℕ) → Given edits constraints → line_fault edits constraints (line_read l) ≡ 0 → Given (edits_with (line_read l) edits) (constraints_with (line_read l) constraints)
-unfolding line_fault
-given-more edits constraints l g h = go (line_read l) (line-back l) h
-  where
-    go : (said : Result Line Refusal) → Faithful said l → line_fault edits constraints said ≡ 0 → Given (edits_with said edits) (constraints_with said constraints)
-    go (Ok (Edit row)) b f = given-edit edits constraints row g f b.1
-    go (Ok (Constraint row)) b f = given-constraint edits constraints row g f
-    go (Err refusal) b f = absurd (number-positive refusal f)
+  -- a row's line without fault has at most 101 bytes, and gives one row more
+  line-short : (edits constraints : Rows) (l : List ℕ) → line_fault M edits constraints (M.line.reads l) ≡ 0 → length l ≤ line_limit
+  unfolding line_fault
+  line-short edits constraints l =
+      by (ltb line_limit (length l))
+      (λ (e : ltb line_limit (length l) ≡ true). rw (W.lawful-lines.too-long l (ltb-true line_limit (length l) e)) (λ z. let y : ◌≡◌ {A = ℕ} 1 0 = z in absurd (omega arith)))
+      (λ (e : ltb line_limit (length l) ≡ false). λ z. ltb-false line_limit (length l) e)
 
-count-more : (edits constraints : Rows) (said : Result Line Refusal) → line_fault edits constraints said ≡ 0 → length (edits_with said edits) + length (constraints_with said constraints) ≡ suc (length edits + length constraints)
-unfolding line_fault
-count-more edits constraints (Ok (Edit row)) f = omega (arith, length-append edits (row ∷ []))
-count-more edits constraints (Ok (Constraint row)) f = omega (arith, length-append constraints (row ∷ []))
-count-more edits constraints (Err refusal) f = absurd (number-positive refusal f)
+  next-rows : {P : Type 0} (n : ℕ) (edits constraints : Rows) (l : List ℕ) → ReadWell edits constraints → line_fault M edits constraints (M.line.reads l) ≡ 0
+      → ((es cs : Rows) → with_line (M.line.reads l) (so_far n edits constraints) ≡ so_far (suc n) es cs → ReadWell es cs → length es + length cs ≡ suc (length edits + length constraints) → P) → P
+  next-rows n edits constraints l g z k =
+      said-row M W edits constraints l g.faultless g.forms (M.line.reads l) (W.lawful-lines.said-back l) z
+      (λ row c y t u v. k (edits ++ (row ∷ [])) constraints (rw y refl) (record { faultless = u; forms = v }) (omega (arith, length-append edits (row ∷ []))))
+      (λ row y t u. k edits (constraints ++ (row ∷ [])) (rw y refl) (record { faultless = u; forms = g.forms }) (omega (arith, length-append constraints (row ∷ []))))
 
-module _ (q : List ℕ) where
-  -- what was to be shown of a text in this state
-  abbrev Goal : ℕ → Rows → Rows → List ℕ → Type 0
-  Goal n edits constraints s = Decided (read_from n edits constraints (lines s)) (read_from n edits constraints (lines (s ++ q)))
+  too_long : (n : ℕ) (edits constraints : Rows) (l : List ℕ) (rest : List (List ℕ)) → awaits_header M n ≡ false → line_limit < length l → read_from M (so_far n edits constraints) (l ∷ rest) ≡ Refused 1 (suc n)
+  unfolding read_from line_fed line_fault
+  too_long n edits constraints l rest o h = rw (o, W.lawful-lines.too-long l h) refl
 
-  open-line : (n : ℕ) (edits constraints : Rows) (u : List ℕ) → line_limit < length u → mem 10 u ≡ false → Goal n edits constraints u
-  open-line n edits constraints [] k m = absurd (omega arith)
-  open-line n edits constraints (d ∷ u) k m =
-      let a = begins d u [] m in
-      let b = begins d u q m in
-      let x : lines (d ∷ u) ≡ ((d ∷ u) ++ a.more) ∷ a.later = ap lines (sym (append-nil (d ∷ u))) ∙ a.is in
-      record {
-        number = 1;
-        line = suc n;
-        first = ap (read_from n edits constraints) x ∙ too_long n edits constraints ((d ∷ u) ++ a.more) a.later (omega (arith, length-append (d ∷ u) a.more));
-        second = ap (read_from n edits constraints) b.is ∙ too_long n edits constraints ((d ∷ u) ++ b.more) b.later (omega (arith, length-append (d ∷ u) b.more));
-      }
+  module _ (q : List ℕ) where
+    -- what was to be shown of a text in this state
+    abbrev Goal : ReadSoFar → List ℕ → Type 0
+    Goal before s = Decided (read_from M before (lines s)) (read_from M before (lines (s ++ q)))
 
-  ended-next : (n : ℕ) (edits constraints : Rows) (inner rest s : List ℕ) → mem 10 inner ≡ false → s ≡ (inner ++ (10 ∷ [])) ++ rest
-      → (line_fault edits constraints (line_read (inner ++ (10 ∷ []))) ≡ 0 → Goal (suc n) (edits_with (line_read (inner ++ (10 ∷ []))) edits) (constraints_with (line_read (inner ++ (10 ∷ []))) constraints) rest)
-      → Goal n edits constraints s
-  ended-next n edits constraints inner rest s p e again =
-      let l = inner ++ (10 ∷ []) in
-      let a : lines s ≡ l ∷ lines rest = ap lines e ∙ ended-line inner rest p in
-      let b : lines (s ++ q) ≡ l ∷ lines (rest ++ q) = ap (λ (t : List ℕ). lines (t ++ q)) e ∙ ap lines (append_assoc l rest q) ∙ ended-line inner (rest ++ q) p in
-      rw (a, b)
-      (by (eqb (line_fault edits constraints (line_read l)) 0)
-      (λ (t : eqb (line_fault edits constraints (line_read l)) 0 ≡ true). decided-later n edits constraints l (lines rest) (lines (rest ++ q)) t (again (eqb-true _ 0 t)))
-      (λ (t : eqb (line_fault edits constraints (line_read l)) 0 ≡ false). decided-here n edits constraints l (lines rest) (lines (rest ++ q)) t))
+    -- a line without end that is too long
+    open-line : (n : ℕ) (edits constraints : Rows) (u : List ℕ) → awaits_header M n ≡ false → line_limit < length u → mem 10 u ≡ false → Goal (so_far n edits constraints) u
+    open-line n edits constraints [] o k m = absurd (omega arith)
+    open-line n edits constraints (d ∷ u) o k m =
+        let a = begins d u [] m in
+        let b = begins d u q m in
+        let x : lines (d ∷ u) ≡ ((d ∷ u) ++ a.more) ∷ a.later = ap lines (sym (append-nil (d ∷ u))) ∙ a.is in
+        record {
+          number = 1;
+          line = suc n;
+          first = ap (read_from M (so_far n edits constraints)) x ∙ too_long n edits constraints ((d ∷ u) ++ a.more) a.later o (omega (arith, length-append (d ∷ u) a.more));
+          second = ap (read_from M (so_far n edits constraints)) b.is ∙ too_long n edits constraints ((d ∷ u) ++ b.more) b.later o (omega (arith, length-append (d ∷ u) b.more));
+        }
 
-  -- fewer than 640 lines are read, and enough bytes are left for the others
-  decide : (fuel : ℕ) (s : List ℕ) (n : ℕ) (edits constraints : Rows) → length s ≤ fuel → Given edits constraints → n ≡ length edits + length constraints → 64641 ≤ length s + 101 * n → Goal n edits constraints s
-  decide zero s n edits constraints small g c h = absurd (omega (arith, given-few edits constraints g))
-  decide (suc fuel) s n edits constraints small g c h =
-      ⊎_elim
-      (λ (f : FirstEnd s).
-      let l = f.inner ++ (10 ∷ []) in
-      let w : length s ≡ length l + length f.rest = ap length f.is ∙ length-append l f.rest in
-      let one : length l ≡ length f.inner + 1 = length-append f.inner (10 ∷ []) in
-      ended-next n edits constraints f.inner f.rest s f.plain f.is
-      (λ z.
-      let m : length l ≤ line_limit = line-limit l edits constraints z in
-      decide fuel f.rest (suc n) (edits_with (line_read l) edits) (constraints_with (line_read l) constraints) (omega arith) (given-more edits constraints l g z) (ap suc c ∙ sym (count-more edits constraints (line_read l) z)) (omega arith)))
-      (λ (m : mem 10 s ≡ false). open-line n edits constraints s (omega (arith, given-few edits constraints g)) m)
-      (first-end s)
+    -- the lines of a text whose first line ends
+    module _ (s : List ℕ) (f : FirstEnd s) where
+      lines-here : lines s ≡ (f.inner ++ (10 ∷ [])) ∷ lines f.rest
+      lines-here = ap lines f.is ∙ ended-line f.inner f.rest f.plain
 
--- Of a text of at least 64,641 bytes what follows changes nothing.
+      lines-more : lines (s ++ q) ≡ (f.inner ++ (10 ∷ [])) ∷ lines (f.rest ++ q)
+      lines-more = ap (λ (t : List ℕ). lines (t ++ q)) f.is ∙ ap lines (append_assoc (f.inner ++ (10 ∷ [])) f.rest q) ∙ ended-line f.inner (f.rest ++ q) f.plain
+
+      size-is : length s ≡ length (f.inner ++ (10 ∷ [])) + length f.rest
+      size-is = ap length f.is ∙ length-append (f.inner ++ (10 ∷ [])) f.rest
+
+    -- one line more
+    decided-line : (n : ℕ) (edits constraints : Rows) (l : List ℕ) (ls ms : List (List ℕ)) → awaits_header M n ≡ false
+        → (line_fault M edits constraints (M.line.reads l) ≡ 0 → Decided (read_from M (with_line (M.line.reads l) (so_far n edits constraints)) ls) (read_from M (with_line (M.line.reads l) (so_far n edits constraints)) ms))
+        → Decided (read_from M (so_far n edits constraints) (l ∷ ls)) (read_from M (so_far n edits constraints) (l ∷ ms))
+    decided-line n edits constraints l ls ms o more =
+        by (eqb (line_fault M edits constraints (M.line.reads l)) 0)
+        (λ (e : eqb (line_fault M edits constraints (M.line.reads l)) 0 ≡ true).
+        let z : line_fault M edits constraints (M.line.reads l) ≡ 0 = eqb-true _ 0 e in
+        rw (line-taken M n edits constraints l ls o z, line-taken M n edits constraints l ms o z) (more z))
+        (λ (e : eqb (line_fault M edits constraints (M.line.reads l)) 0 ≡ false).
+        let z = eqb-false (line_fault M edits constraints (M.line.reads l)) 0 e in
+        record { number = line_fault M edits constraints (M.line.reads l); line = suc n; first = line-refused M n edits constraints l ls o z; second = line-refused M n edits constraints l ms o z })
+
+    -- fewer than 640 rows are read, and enough bytes are left for the others
+    decide : (fuel : ℕ) (s : List ℕ) (n : ℕ) (edits constraints : Rows) → awaits_header M n ≡ false → length s ≤ fuel → ReadWell edits constraints → 64641 ≤ length s + 101 * (length edits + length constraints) → Goal (so_far n edits constraints) s
+    decide zero s n edits constraints o small g h = absurd (omega (arith, W.few edits constraints g.faultless))
+    decide (suc fuel) s n edits constraints o small g h =
+        ⊎_elim
+        (λ (f : FirstEnd s).
+        let l = f.inner ++ (10 ∷ []) in
+        rw (lines-here s f, lines-more s f)
+        (decided-line n edits constraints l (lines f.rest) (lines (f.rest ++ q)) o
+        (λ z. next-rows n edits constraints l g z
+        (λ es cs e w c. rw e
+        (decide fuel f.rest (suc n) es cs (past-header M n) (omega (arith, size-is s f, length-append f.inner (10 ∷ []))) w (omega (arith, size-is s f, line-short edits constraints l z)))))))
+        (λ (m : mem 10 s ≡ false). open-line n edits constraints s o (omega (arith, W.few edits constraints g.faultless)) m)
+        (first-end s)
+
+    -- the first line is no header
+    no_header : (l : List ℕ) (ls : List (List ℕ)) → ltb 0 (length M.header) ≡ true → same l M.header ≡ false → read_from M text_begun (l ∷ ls) ≡ Refused 1 1
+    unfolding read_from line_fed
+    no_header l ls e s = rw (e, s) refl
+
+    a_header : (l : List ℕ) (ls : List (List ℕ)) → ltb 0 (length M.header) ≡ true → same l M.header ≡ true → read_from M text_begun (l ∷ ls) ≡ read_from M (so_far 1 [] []) ls
+    unfolding read_from line_fed
+    a_header l ls e s = rw (e, s) refl
+
+    longer : (l : List ℕ) → line_limit < length l → same l M.header ≡ false
+    longer l h =
+        by (same l M.header)
+        (λ (s : same l M.header ≡ true). absurd (omega (arith, W.header-short, ap length (same-eq l M.header s))))
+        (λ (s : same l M.header ≡ false). s)
+
+    decide-headed : (s : List ℕ) → ltb 0 (length M.header) ≡ true → 64742 ≤ length s → Goal text_begun s
+    decide-headed [] e h = absurd (omega arith)
+    decide-headed (d ∷ u) e h =
+        ⊎_elim
+        (λ (f : FirstEnd (d ∷ u)).
+        let l = f.inner ++ (10 ∷ []) in
+        rw (lines-here (d ∷ u) f, lines-more (d ∷ u) f)
+        (by (same l M.header)
+        (λ (s : same l M.header ≡ true).
+        rw (a_header l (lines f.rest) e s, a_header l (lines (f.rest ++ q)) e s)
+        (decide (length f.rest) f.rest 1 [] [] (past-header M 0) (omega arith) well-none (omega (arith, size-is (d ∷ u) f, W.header-short, ap length (same-eq l M.header s)))))
+        (λ (s : same l M.header ≡ false). record { number = 1; line = 1; first = no_header l (lines f.rest) e s; second = no_header l (lines (f.rest ++ q)) e s })))
+        (λ (m : mem 10 (d ∷ u) ≡ false).
+        let a = begins d u [] m in
+        let b = begins d u q m in
+        let x : lines (d ∷ u) ≡ ((d ∷ u) ++ a.more) ∷ a.later = ap lines (sym (append-nil (d ∷ u))) ∙ a.is in
+        record {
+          number = 1;
+          line = 1;
+          first = ap (read_from M text_begun) x ∙ no_header ((d ∷ u) ++ a.more) a.later e (longer ((d ∷ u) ++ a.more) (omega (arith, length-append (d ∷ u) a.more)));
+          second = ap (read_from M text_begun) b.is ∙ no_header ((d ∷ u) ++ b.more) b.later e (longer ((d ∷ u) ++ b.more) (omega (arith, length-append (d ∷ u) b.more)));
+        })
+        (first-end (d ∷ u))
+
+  -- Of a text of so many bytes what follows changes nothing: of 64,641 where the manner has no header.
+  pub first-bytes-decide-in : (first rest : List ℕ) → 64641 + line_limit * header_lines M ≤ length first → read_in M (first ++ rest) ≡ read_in M first
+  unfolding read_in
+  first-bytes-decide-in first rest h =
+      by (ltb 0 (length M.header))
+      (λ (e : ltb 0 (length M.header) ≡ true).
+      let d = decide-headed rest first e (let n : 64641 + line_limit * 1 ≤ length first = rw e at h in omega arith) in
+      rw (d.first, d.second))
+      (λ (e : ltb 0 (length M.header) ≡ false).
+      let d = decide rest (length first) first 0 [] [] (rw e refl) (omega arith) well-none (let n : 64641 + line_limit * 0 ≤ length first = rw e at h in omega arith) in
+      rw (d.first, d.second))
+
+  -- The number of a refusal is at most that of any line, or 8, and its line at most 640 beside the header.
+  module _ (most : ℕ) (a : 8 ≤ most) (b : (edits constraints : Rows) (l : List ℕ) → line_fault M edits constraints (M.line.reads l) ≤ most) (k m : ℕ) where
+    finished-small : (n : ℕ) (edits constraints : Rows) → ReadWell edits constraints → n ≤ header_lines M + (length edits + length constraints) → text_finished M (so_far n edits constraints) ≡ Refused k m → (k ≤ most) × (m ≤ header_lines M + 640)
+    unfolding text_finished
+    finished-small n edits constraints g c h =
+        by (awaits_header M n)
+        (λ (o : awaits_header M n ≡ true). let u : Refused 1 1 ≡ Refused k m = rw o at h in let x : 1 ≡ k = cc in let y : 1 ≡ m = cc in (omega arith, omega arith))
+        (λ (o : awaits_header M n ≡ false).
+        by (sound (M.gathered edits constraints))
+        (λ (s : sound (M.gathered edits constraints) ≡ true). let u : Accepted (M.gathered edits constraints) ≡ Refused k m = rw (o, s) at h in let z : ◌≡◌ {A = ℕ} 0 1 = cc in absurd (omega arith))
+        (λ (s : sound (M.gathered edits constraints) ≡ false).
+        let u : Refused 8 n ≡ Refused k m = rw (o, s) at h in
+        let x : 8 ≡ k = cc in
+        let y : n ≡ m = cc in
+        (omega arith, omega (arith, W.few edits constraints g.faultless))))
+
+    refused-small : (ls : List (List ℕ)) (n : ℕ) (edits constraints : Rows) → awaits_header M n ≡ false → ReadWell edits constraints → n ≤ header_lines M + (length edits + length constraints)
+        → read_from M (so_far n edits constraints) ls ≡ Refused k m → (k ≤ most) × (m ≤ header_lines M + 640)
+    unfolding read_from
+    refused-small [] n edits constraints o g c h = finished-small n edits constraints g c h
+    refused-small (l ∷ ls) n edits constraints o g c h =
+        by (eqb (line_fault M edits constraints (M.line.reads l)) 0)
+        (λ (e : eqb (line_fault M edits constraints (M.line.reads l)) 0 ≡ true).
+        let z : line_fault M edits constraints (M.line.reads l) ≡ 0 = eqb-true _ 0 e in
+        next-rows n edits constraints l g z
+        (λ es cs y w v. refused-small ls (suc n) es cs (past-header M n) w (omega (arith, v, c)) (sym (ap (λ (x : ReadSoFar). read_from M x ls) y) ∙ sym (line-taken M n edits constraints l ls o z) ∙ h)))
+        (λ (e : eqb (line_fault M edits constraints (M.line.reads l)) 0 ≡ false).
+        let u : Refused (line_fault M edits constraints (M.line.reads l)) (suc n) ≡ Refused k m = sym (line-refused M n edits constraints l ls o (eqb-false _ 0 e)) ∙ h in
+        let x : line_fault M edits constraints (M.line.reads l) ≡ k = cc in
+        let y : suc n ≡ m = cc in
+        (omega (arith, b edits constraints l, x), omega (arith, W.few edits constraints g.faultless, y, c)))
+
+    headed-small : (ls : List (List ℕ)) → ltb 0 (length M.header) ≡ true → read_from M text_begun ls ≡ Refused k m → (k ≤ most) × (m ≤ header_lines M + 640)
+    unfolding read_from line_fed
+    headed-small [] e h = finished-small 0 [] [] well-none (omega arith) h
+    headed-small (l ∷ ls) e h =
+        by (same l M.header)
+        (λ (s : same l M.header ≡ true). refused-small ls 1 [] [] (past-header M 0) well-none (rw e (omega arith)) (rw (e, s) at h))
+        (λ (s : same l M.header ≡ false). let u : Refused 1 1 ≡ Refused k m = rw (e, s) at h in let x : 1 ≡ k = cc in let y : 1 ≡ m = cc in (omega arith, omega arith))
+
+    pub refusal-small-in : (text : List ℕ) → read_in M text ≡ Refused k m → (k ≤ most) × (m ≤ header_lines M + 640)
+    unfolding read_in
+    refusal-small-in text h =
+        by (ltb 0 (length M.header))
+        (λ (e : ltb 0 (length M.header) ≡ true). headed-small (lines text) e h)
+        (λ (e : ltb 0 (length M.header) ≡ false). refused-small (lines text) 0 [] [] (rw e refl) well-none (omega arith) h)
+
+-- Of an old text of at least 64,641 bytes what follows changes nothing.
 pub first-bytes-decide : (first rest : List ℕ) → 64641 ≤ length first → read_text (first ++ rest) ≡ read_text first
-unfolding read_text read_rows
-first-bytes-decide first rest h =
-    let d = decide rest (length first) first 0 [] [] (omega arith) given-none-yet (omega arith) (omega arith) in
-    rw (d.first, d.second)
+first-bytes-decide first rest h = first-bytes-decide-in old_manner old-lawful first rest h
 
 -- The number of a refusal is at most 13, and its line at most 640.
-said-small : (edits constraints : Rows) (said : Result Line Refusal) → Saying said → line_fault edits constraints said ≤ 13
+said-small : (edits constraints : Rows) (said : Result Line Refusal) (l : List ℕ) → SaidBack old_manner.line said l → line_fault old_manner edits constraints said ≤ 13
 unfolding line_fault edit_fault constraint_fault
-said-small edits constraints said (fault-one e) = rw e (omega arith)
-said-small edits constraints said (fault-two e) = rw e (omega arith)
-said-small edits constraints said (an-edit row e) =
-    rw e (orelse-small 13 (row_fault edit_kind [] edits row) (13 given ltb 0 (length constraints)) (row-fault-small 13 (omega arith) edit_kind [] edits row (omega arith)) (given-small 13 13 (ltb 0 (length constraints)) (omega arith)))
-said-small edits constraints said (a-constraint row e) =
-    rw e (row-fault-small 13 (omega arith) (constraint_kind (names_of edits) false) [] constraints row (further-small 13 (omega arith) (names_of edits) false row))
-
-fault-small : (edits constraints : Rows) (l : List ℕ) → line_fault edits constraints (line_read l) ≤ 13
-fault-small edits constraints l = said-small edits constraints (line_read l) (line-saying l)
-
-refused-small : (ls : List (List ℕ)) (n : ℕ) (edits constraints : Rows) (k m : ℕ) → Given edits constraints → n ≡ length edits + length constraints → read_from n edits constraints ls ≡ Refused k m → (k ≤ 13) × (m ≤ 640)
-unfolding read_from
-refused-small [] n edits constraints k m g c h = let z : ◌≡◌ {A = ℕ} 0 1 = cc in absurd (omega arith)
-refused-small (l ∷ ls) n edits constraints k m g c h =
-    let number = line_fault edits constraints (line_read l) in
-    by (eqb number 0)
-    (λ (e : eqb number 0 ≡ true).
-    refused-small ls (suc n) (edits_with (line_read l) edits) (constraints_with (line_read l) constraints) k m (given-more edits constraints l g (eqb-true number 0 e)) (ap suc c ∙ sym (count-more edits constraints (line_read l) (eqb-true number 0 e))) (rw e at h))
-    (λ (e : eqb number 0 ≡ false).
-    let q : Refused number (suc n) ≡ Refused k m = rw e at h in
-    let a : number ≡ k = cc in
-    let b : suc n ≡ m = cc in
-    (omega (arith, fault-small edits constraints l), omega (arith, given-few edits constraints g)))
+said-small edits constraints (Ok (Edit row)) l f =
+    orelse-small 13 (row_fault edit_kind [] edits row) (13 given ltb 0 (length constraints) orelse 0) (row-fault-small 13 (omega arith) edit_kind [] edits row (omega arith)) (orelse-small 13 (13 given ltb 0 (length constraints)) 0 (given-small 13 13 (ltb 0 (length constraints)) (omega arith)) (omega arith))
+said-small edits constraints (Ok (Constraint row)) l f = row-fault-small 13 (omega arith) (constraint_kind (names_of edits) false) [] constraints row (further-small 13 (omega arith) (names_of edits) false row)
+said-small edits constraints (Err refusal) l f = omega arith
 
 pub refusal-small : (text : List ℕ) (k m : ℕ) → read_text text ≡ Refused k m → (k ≤ 13) × (m ≤ 640)
-unfolding read_text read_rows
-refusal-small text k m h = go (read_rows text) refl h
-  where
-    go : (a : Answer) → read_rows text ≡ a → judged (length (lines text)) a ≡ Refused k m → (k ≤ 13) × (m ≤ 640)
-    go (Accepted S) q w =
-        by (sound S)
-        (λ (e : sound S ≡ true). let u : Accepted S ≡ Refused k m = rw e at w in let z : ◌≡◌ {A = ℕ} 0 1 = cc in absurd (omega arith))
-        (λ (e : sound S ≡ false).
-        let u : Refused 8 (length (lines text)) ≡ Refused k m = rw e at w in
-        let a : 8 ≡ k = cc in
-        let b : length (lines text) ≡ m = cc in
-        let t = rows-took text S q in
-        (omega arith, omega (arith, t.count, t.checked.editplaces, t.checked.constraintplaces)))
-    go (Refused n l) q w = let u : Refused n l ≡ Refused k m = w in refused-small (lines text) 0 [] [] k m given-none-yet (omega arith) (q ∙ u)
+refusal-small text k m h =
+    refusal-small-in old_manner old-lawful 13 (omega arith)
+    (λ edits constraints l. said-small edits constraints (old_manner.line.reads l) l (old-lawful.lawful-lines.said-back l)) k m text h

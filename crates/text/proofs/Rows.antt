@@ -1,29 +1,61 @@
--- The rows that a text has given so far: they are a lent record without fault, and each is in form. Assumes nothing.
-use mathlib.Core.Path.{◌≡◌, refl, ap, sym, subst, ◌∙◌}
-use mathlib.Core.Bool.{Bool, true, false}
-use mathlib.Core.List.{List, [], ◌∷◌, ◌++◌, map, append_assoc, append-nil, map-append}
+-- Lines in a lawful notation are lawful; in decimal each row in range whose value fits 32 bits has a line of its own. Assumes nothing.
+use mathlib.Core.Path.{◌≡◌, refl, sym, subst}
+use mathlib.Core.Bool.{true}
+use mathlib.Core.List.{List, [], ◌∷◌}
 use Prim.Native.Nat.{ℕ, ◌≤◌, ◌<◌}
 use native.Mathlib.Omega.{arith}
-use borrow.Author.Tests.{eq-eqb, ltb-false, lt-ltb}
-use lib.Dec.{eqb, ltb}
+use borrow.Author.Tests.{eq-eqb, lt-ltb}
 use lib.ListN.{length, get_or}
-use Rattle.lists.proofs.Lists.{and_l, and_r}
+use Rattle.std.specs.Prelude.{Result, Ok, Err}
 use Rattle.lists.specs.Lists.{all}
+use Rattle.lists.proofs.Logic.{has-map, has-mapped, all-has, all-by}
 use Rattle.record.specs.declared.Field.{Field}
 use Rattle.record.specs.declared.Field.TheVariants.{Id, Size, Erase, Page}
 use Rattle.record.specs.declared.Body.{Body}
 use Rattle.record.specs.declared.Body.TheVariants.{Insert, Set, Remove}
-use Rattle.record_rows.specs.row.Row.{Row, cell, name_cell, place_cell, value_cell, name_limit, place_limit, edit_in_range, edit_of, constraint_in_range, field_number, body_cells, edit_row}
+use Rattle.record.specs.Record.{Record}
+use Rattle.record_rows.specs.row.Row.{Row, cell, name_cell, place_cell, value_cell, name_limit, place_limit, edit_in_range, edit_of, constraint_in_range, field_number, body_cells, edit_row, constraint_row}
 use Rattle.record_rows.proofs.row.Cells.{edit-in-range, edit-back, constraint-in-range, name-small, constraint-bounds}
-use Rattle.record_rows.specs.grounds.Ground.{Rows, TableKind, row_fault, first_fault, table_fault, ◌given◌}
-use Rattle.record_rows.proofs.grounds.Grounds.{orelse-none, orelse-second, given-none, Clean, clean, clean_is}
-use Rattle.record_tables.specs.Table.{empty_tables, names_of, edit_kind, constraint_kind, join_fault, lent_fault}
-use Rattle.text_lines.specs.Line.{fits_word, edit_line, constraint_line}
-use Rattle.text_forms.specs.Spelling.{number_spelling, rule_words, field_words, decimal_notation}
+use Rattle.record_tables.specs.Table.{edit_rows, constraint_rows}
+use Rattle.record_tables.specs.Checked.{Checked}
+use Rattle.refusals.specs.declared.Refusal.{Refusal}
+use Rattle.refusals.specs.declared.Refusal.TheVariants.{NotInForm, OutOfRange}
+use Rattle.text_forms.specs.Spelling.{Notation, number_spelling, rule_words, field_words, decimal_notation}
+use Rattle.text_forms.proofs.Lawful.{LawfulNotation, decimal-lawful}
+use Rattle.text_lines.specs.declared.Line.{Line}
+use Rattle.text_lines.specs.declared.Line.TheVariants.{Edit, Constraint}
+use Rattle.text_lines.specs.Line.{fits_word, line_read_in, line_limit}
 use Rattle.text_lines.specs.Row.{body_in_form, is_edit_row_in, is_constraint_row_in, is_edit_row, is_constraint_row}
-use Rattle.text.specs.Text.{edit_fault, constraint_fault, joined_lines, rows_text}
 use Rattle.text_lines.proofs.Says.{cell-fits}
-use Rattle.text_lines.proofs.RoundTrip.{edit-in-form-parts}
+use Rattle.text_lines.proofs.RoundTrip.{edit-in-form-parts, FaithfulIn, line-back-in, Saying, fault-one, fault-two, an-edit, a-constraint, line-saying-in, edit-line-read-in, constraint-line-read-in, edit-line-first-in, constraint-line-first-in}
+use Rattle.text.specs.Text.{lines_in, old_lines, values_fit}
+use Rattle.text.proofs.Manners.{SaidBack, LawfulLines}
+
+module _ (N : Notation) where
+  said-back : (said : Result Line Refusal) (line : List ℕ) → FaithfulIn N said line → Saying said → SaidBack (lines_in N) said line
+  said-back (Ok (Edit row)) line f s = f
+  said-back (Ok (Constraint row)) line f s = f
+  said-back (Err refusal) line f (fault-one e) = let n : refusal ≡ NotInForm = cc in rw n (omega arith)
+  said-back (Err refusal) line f (fault-two e) = let n : refusal ≡ OutOfRange = cc in rw n (omega arith)
+  said-back (Err refusal) line f (an-edit row e) = let z : ⊥ = cc in absurd z
+  said-back (Err refusal) line f (a-constraint row e) = let z : ⊥ = cc in absurd z
+
+  long-line : (line : List ℕ) → line_limit < length line → line_read_in N line ≡ Err NotInForm
+  unfolding line_read_in
+  long-line line h = rw (lt-ltb line_limit (length line) h)
+
+pub lines-lawful : {N : Notation} → LawfulNotation N → LawfulLines (lines_in N)
+lines-lawful {N} L = record {
+  edit-first = edit-line-first-in L;
+  constraint-first = λ row rest h. constraint-line-first-in L row rest;
+  edit-read = edit-line-read-in L;
+  constraint-read = constraint-line-read-in L;
+  said-back = λ line. said-back N (line_read_in N line) line (line-back-in L line) (line-saying-in N line);
+  too-long = long-line N;
+}
+
+pub old-lines-lawful : LawfulLines old_lines
+old-lines-lawful = lines-lawful decimal-lawful
 
 -- a row in range whose value fits 32 bits has a line of its own
 small : (n m : ℕ) → n < m → m ≤ 4294967296 → fits_word n ≡ true
@@ -50,86 +82,39 @@ row-in-form n (Set place field value) x y z =
     let k = field-known field in rw (x, y, z, small (field_number field) 4 k (omega arith), lt-ltb (field_number field) 4 k)
 row-in-form n (Remove place) x y z = rw (x, y)
 
-pub edit-in-form : (row : Row) → edit_in_range row ≡ true → fits_word (value_cell row) ≡ true → is_edit_row row ≡ true
+edit-in-form : (row : Row) → edit_in_range row ≡ true → fits_word (value_cell row) ≡ true → is_edit_row row ≡ true
 unfolding edit_row
 edit-in-form row h v =
     let r = edit-in-range row h in
     subst (λ (l : Row). fits_word (name_cell l) ≡ true → fits_word (place_cell l) ≡ true → fits_word (value_cell l) ≡ true → is_edit_row l ≡ true) (edit-back row h) (row-in-form (edit_of row).name (edit_of row).body)
     (small (name_cell row) name_limit (name-small (name_cell row) r.name) (omega arith)) (small (place_cell row) place_limit r.place (omega arith)) v
 
-pub constraint-in-form : (row : Row) → constraint_in_range row ≡ true → is_constraint_row row ≡ true
+constraint-in-form : (row : Row) → constraint_in_range row ≡ true → is_constraint_row row ≡ true
 unfolding is_constraint_row_in decimal_notation number_spelling rule_words
 constraint-in-form row h =
     let r = constraint-in-range row h in
     let b = constraint-bounds row (sym h) refl in
-    let a : all fits_word row ≡ true = three-fit row r.wide (small (cell row 0) 2304 b.0 (omega arith)) (small (cell row 1) 3 b.1 (omega arith)) (small (cell row 2) 2304 b.2 (omega arith)) in
+    let a : all fits_word row ≡ true = three-fit row r.wide (small (cell row 0) 2304 (b.0) (omega arith)) (small (cell row 1) 3 b.1 (omega arith)) (small (cell row 2) 2304 b.2 (omega arith)) in
     rw (eq-eqb (length row) 3 r.wide, a, lt-ltb (cell row 1) 3 b.1)
 
 -- and a row in form has a value that fits
-pub value-fits : (row : Row) → is_edit_row row ≡ true → fits_word (cell row 4) ≡ true
+value-fits : (row : Row) → is_edit_row row ≡ true → fits_word (cell row 4) ≡ true
 value-fits row h = cell-fits row 4 (edit-in-form-parts decimal_notation row h).words
 
--- one row more is no fault of a table that has none
-clean-more : (f : Rows → Row → ℕ) (above t : Rows) (row : Row) → Clean f above t → f (above ++ t) row ≡ 0 → Clean f above (t ++ (row ∷ []))
-clean-more f above [] row c h = (rw append-nil at h, tt)
-clean-more f above (r ∷ t) row c h = (c.0, clean-more f (above ++ (r ∷ [])) t row c.1 (rw append_assoc h))
+-- so each row of a checked record whose values fit
+module _ (R : Record) where
+  pub constraint-lines : Checked R → all is_constraint_row (constraint_rows R) ≡ true
+  constraint-lines k =
+      all-by is_constraint_row (constraint_rows R) (λ x m. has-mapped constraint_row x R.constraints m
+      (λ c n q. rw q (constraint-in-form (constraint_row c) (all-has (λ c. constraint_in_range (constraint_row c)) R.constraints k.constraintrange c n))))
 
-pub table_more : (K : TableKind) (t : Rows) (row : Row) → table_fault K [] t ≡ 0 → row_fault K [] t row ≡ 0 → table_fault K [] (t ++ (row ∷ [])) ≡ 0
-table_more K t row h e = clean_is (row_fault K []) [] (t ++ (row ∷ [])) (clean-more (row_fault K []) [] t row (clean (row_fault K []) [] t h) e)
+  pub edit-lines : Checked R → values_fit R ≡ true → all is_edit_row (edit_rows R) ≡ true
+  unfolding values_fit
+  edit-lines k v =
+      all-by is_edit_row (edit_rows R) (λ x m. has-mapped edit_row x R.edits m
+      (λ e n q. rw q (edit-in-form (edit_row e) (all-has (λ e. edit_in_range (edit_row e)) R.edits k.editrange e n) (all-has (λ e. fits_word (cell (edit_row e) 4)) R.edits v e n))))
 
--- a line without fault
-pub edit-fault-none : (edits constraints : Rows) (row : Row) → edit_fault edits constraints row ≡ 0 → (row_fault edit_kind [] edits row ≡ 0) × (constraints ≡ [])
-unfolding edit_fault
-edit-fault-none edits constraints row h =
-    let p = orelse-none (row_fault edit_kind [] edits row) (13 given ltb 0 (length constraints)) h in
-    (p.0, nothing constraints (ltb-false 0 (length constraints) (given-none 12 (ltb 0 (length constraints)) p.1)))
-  where
-    nothing : (l : Rows) → length l ≤ 0 → l ≡ []
-    nothing [] z = refl
-    nothing (x ∷ l) z = absurd (omega arith)
-
--- rows without fault, each in form
-pub record Given (edits constraints : Rows) : Type 0 where
-  pub edit-table : table_fault edit_kind [] edits ≡ 0
-  pub constraint-table : table_fault (constraint_kind (names_of edits) false) [] constraints ≡ 0
-  pub form : all is_edit_row edits ≡ true
-
-pub given-none-yet : Given [] []
-unfolding first_fault all
-given-none-yet = record { edit-table = refl; constraint-table = refl; form = refl }
-
-all_snoc : {A : Type 0} (f : A → Bool) (l : List A) (x : A) → all f l ≡ true → f x ≡ true → all f (l ++ (x ∷ [])) ≡ true
-unfolding all
-all_snoc f [] x h e = rw e
-all_snoc f (y ∷ l) x h e = rw (and_l (f y) (all f l) h) (all_snoc f l x (and_r (f y) (all f l) h) e)
-
-pub given-edit : (edits constraints : Rows) (row : Row) → Given edits constraints → edit_fault edits constraints row ≡ 0 → is_edit_row row ≡ true → Given (edits ++ (row ∷ [])) constraints
-unfolding first_fault
-given-edit edits constraints row g h f =
-    let p = edit-fault-none edits constraints row h in
-    rw p.1 (record { edit-table = table_more edit_kind edits row g.edit-table p.0; constraint-table = refl; form = all_snoc is_edit_row edits row g.form f })
-
-pub given-constraint : (edits constraints : Rows) (row : Row) → Given edits constraints → constraint_fault edits constraints row ≡ 0 → Given edits (constraints ++ (row ∷ []))
-unfolding constraint_fault
-given-constraint edits constraints row g h =
-    record { edit-table = g.edit-table; constraint-table = table_more (constraint_kind (names_of edits) false) constraints row g.constraint-table h; form = g.form }
-
-pub given-faultless : (edits constraints : Rows) → Given edits constraints → lent_fault empty_tables edits constraints ≡ 0
-unfolding join_fault
-given-faultless edits constraints g =
-    orelse-second (table_fault edit_kind [] edits) (table_fault (constraint_kind (names_of edits) false) [] constraints) g.edit-table ∙ g.constraint-table
-
--- one line more of the text
-joined_snoc : (ls : List (List ℕ)) (l : List ℕ) → joined_lines (ls ++ (l ∷ [])) ≡ joined_lines ls ++ l
-unfolding joined_lines
-joined_snoc [] l = append-nil l
-joined_snoc (x ∷ ls) l = ap (λ (t : List ℕ). x ++ t) (joined_snoc ls l) ∙ sym (append_assoc x (joined_lines ls) l)
-
-pub text-edit : (edits constraints : Rows) (row : Row) → constraints ≡ [] → rows_text (edits ++ (row ∷ [])) constraints ≡ rows_text edits constraints ++ edit_line row
-unfolding rows_text joined_lines
-text-edit edits constraints row e = rw (e, map-append, joined_snoc (map edit_line edits) (edit_line row)) (simp append-nil)
-
-pub text-constraint : (edits constraints : Rows) (row : Row) → rows_text edits (constraints ++ (row ∷ [])) ≡ rows_text edits constraints ++ constraint_line row
-unfolding rows_text
-text-constraint edits constraints row =
-    rw (map-append, joined_snoc (map constraint_line constraints) (constraint_line row)) (sym (append_assoc (joined_lines (map edit_line edits)) (joined_lines (map constraint_line constraints)) (constraint_line row)))
+  -- and where each has a line, the values fit
+  pub lines-values : all is_edit_row (edit_rows R) ≡ true → values_fit R ≡ true
+  unfolding values_fit
+  lines-values f = all-by (λ e. fits_word (cell (edit_row e) 4)) R.edits (λ e m. value-fits (edit_row e) (all-has is_edit_row (edit_rows R) f (edit_row e) (has-map edit_row e R.edits m)))

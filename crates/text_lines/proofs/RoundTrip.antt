@@ -465,12 +465,6 @@ module _ {N : Notation} (L : LawfulNotation N) where
 abbrev pub Faithful : Result Line Refusal → List ℕ → Type 0
 Faithful = FaithfulIn decimal_notation
 
-pub edit-line-first : (row rest : List ℕ) → is_edit_row row ≡ true → lines (edit_line row ++ rest) ≡ edit_line row ∷ lines rest
-edit-line-first = edit-line-first-in decimal-lawful
-
-pub constraint-line-first : (row rest : List ℕ) → lines (constraint_line row ++ rest) ≡ constraint_line row ∷ lines rest
-constraint-line-first = constraint-line-first-in decimal-lawful
-
 pub edit-line-read : (row : List ℕ) → is_edit_row row ≡ true → line_read (edit_line row) ≡ Ok (Edit row)
 edit-line-read = edit-line-read-in decimal-lawful
 
@@ -479,6 +473,3 @@ constraint-line-read = constraint-line-read-in decimal-lawful
 
 pub line-back : (s : List ℕ) → Faithful (line_read s) s
 line-back = line-back-in decimal-lawful
-
-pub line-saying : (s : List ℕ) → Saying (line_read s)
-line-saying = line-saying-in decimal_notation

@@ -1,3 +1,2 @@
-pub mod Faults
 pub mod Taking
-pub mod Lines
+pub mod Feeding

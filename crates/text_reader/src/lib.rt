@@ -1,23 +1,19 @@
 // A text is read line by line into a record (document 01, "Text").
 #![tactic(auto)]
 
-ghost use Rattle.std.specs.Prelude.{◌≡◌, not, ◌&&◌, [], ◌+◌, leb, length, take, IfOk};
-ghost use Rattle.lists.specs.Keyed.{Ascending};
+ghost use Rattle.std.specs.Prelude.{◌≡◌, ◌+◌, length, IfOk};
 ghost use Rattle.refusals.specs.Numbers.{number_of};
-ghost use Rattle.record_rows.specs.grounds.Ground.{known, row_fault};
-ghost use Rattle.record.specs.Stored.{stored};
-ghost use Rattle.record_tables.specs.Table.{decoded};
-ghost use Rattle.text_lines.specs.Line.{line_read};
 ghost use Rattle.text_lines.specs.Lines.{lines};
-ghost use Rattle.text.specs.Text.{read_rows, read_text};
-ghost use Rattle.text_reader.specs.Reading.{Reads};
-ghost use Rattle.text_reader.specs.Held.{row_kind, none_held, lines_read, EditTaken, ConstraintTaken, LineTaken};
+ghost use Rattle.text.specs.Text.{text_begun, line_fed, text_finished, read_in, awaits_header, read_text};
+ghost use Rattle.text_reader.specs.Reading.{Reads, ReadsLine};
+ghost use Rattle.text_reader.specs.Held.{EditTaken, ConstraintTaken, LineTaken, HeaderTaken, LineRead};
 
-use record::{CONSTRAINTS, Constraint, EDITS, Edit, Record};
-use record_rows::element::Element;
+use record::{CONSTRAINTS, EDITS, Record};
 use record_rows::row::{CONSTRAINT_CELLS, ConstraintRow, EDIT_CELLS, EditRow, LentRecord, NAMES};
 use refusals::Refusal;
-use std::marker::Model;
+use std::marker::{Model, PhantomData};
+use text::manner::{Manner, RowsAbove};
+use text::old::OldText;
 use text_lines::{Line, Lines};
 
 // Why a text is refused, and the line, counted from 1; 0 where there is none.
@@ -42,68 +38,38 @@ impl From<Refusal> for Fault {
     }
 }
 
-// Whether a row is new and the rows above it take every place.
-// Kept: `above` and `row` are two here and below, as in `record_tables`.
-fn no_place<const CELLS: usize, T: Element<CELLS>>(
-    above: &[[u32; CELLS]],
-    row: &[u32; CELLS],
-) -> bool
-    ensures { result ≡ (not (known T.KEY row.now above.now) && leb T.PLACES (length above.now)) }
-{
-    if above.len() < T::PLACES {
-        return false;
-    }
-    !record_tables::is_repeated::<CELLS, T>(above, row)
-}
-
-// The fault of a row below those above it; `further` is that of its kind alone.
-fn row_fault<const CELLS: usize, T: Element<CELLS>>(
-    above: &[[u32; CELLS]],
-    row: &[u32; CELLS],
-    further: Result<(), Refusal>,
-) -> Result<(), Refusal>
-    ensures { Ascending (take T.KEY) above.now → number_of result ≡ row_fault (row_kind T.KEY T.PLACES T.fits (number_of further)) [] above.now row.now }
-{
-    if !T::in_range(row) {
-        return Err(Refusal::OutOfRange);
-    }
-    if no_place::<CELLS, T>(above, row) {
-        return Err(Refusal::NoPlace);
-    }
-    further?;
-    if !record_tables::follows::<CELLS, T>(above, row) {
-        return Err(Refusal::Misplaced);
-    }
-    Ok(())
-}
-
-// The rows of a text as they are read: the first edits and constraints of two tables, as many as are counted, and the marks of the edits' names.
-// Kept: arrays with their counts, no `ArrayVec`: it would spare the counts, `take` in the view, `size` and `few` in the invariant, but not that there
-// is a place, which `push` asks for as the index does now and only the ground of the whole row gives (`more_room`); and it would bring the kit's
+// A text in a manner as it is read: begun, taken in line by line, finished. It holds the first edits and constraints of two tables, as many as are
+// counted, the marks of the edits' names, and how many lines were read.
+// Kept: arrays with their counts, no `ArrayVec`: it would spare the counts, `take` in the view, the sizes in the invariant, but not that there
+// is a place, which `push` asks for as the index does now and only the ground of the whole row gives; and it would bring the kit's
 // crate under all that read a text, of which the log's lent tables alone need it.
 #[derive(Drop)]
-struct RowsRead {
+pub struct RowsRead<M: Manner> {
     edits: [EditRow; EDITS],
     edit_count: usize,
     constraints: [ConstraintRow; CONSTRAINTS],
     constraint_count: usize,
     marks: [u8; NAMES],
+    line_count: usize,
+    manner: PhantomData<M>,
 }
 
-impl Model for RowsRead {
+impl<M: Manner> Model for RowsRead<M> {
     ghost use Rattle.std.specs.Prelude.{take};
-    ghost use Rattle.text_reader.specs.Held.{HeldRows, EditsHeld, ConstraintsHeld};
+    ghost use Rattle.text.specs.Text.{ReadSoFar};
+    ghost use Rattle.text_reader.specs.Held.{RowsHeld};
 
-    ghost Value = { HeldRows };
+    ghost Value = { ReadSoFar };
 
-    ghost view = { λ r. record { edits = take r.edit_count r.edits; constraints = take r.constraint_count r.constraints } };
+    ghost view = { λ r. record { count = r.line_count; edits = take r.edit_count r.edits; constraints = take r.constraint_count r.constraints } };
 
-    ghost invariant = { λ r. EditsHeld r.edits r.marks r.edit_count × ConstraintsHeld r.constraints r.constraint_count };
+    ghost invariant = { λ r. RowsHeld M.manner r.edits r.constraints r.marks r.edit_count r.constraint_count r.line_count };
 }
 
-impl RowsRead {
-    fn new() -> RowsRead
-        ensures { result ≡ none_held }
+impl<M: Manner> RowsRead<M> {
+    // Nothing read.
+    pub fn begin() -> RowsRead<M>
+        ensures { result ≡ text_begun }
     {
         let mut marks = [0; NAMES];
         marks[0] = 1;
@@ -113,75 +79,125 @@ impl RowsRead {
             constraints: [[0; CONSTRAINT_CELLS]; CONSTRAINTS],
             constraint_count: 0,
             marks,
+            line_count: 0,
+            manner: PhantomData,
         }
     }
 
-    // The number of the line after those that gave these rows, counted from 1: each gave one.
-    fn next_line(&self) -> usize
-        ensures { result ≡ lines_read self.now + 1 }
+    // Whether the first line is still to come and is no row.
+    fn awaits_header(&self) -> bool
+        ensures { result ≡ awaits_header M.manner self.now.count }
     {
-        self.edit_count + self.constraint_count + 1
+        self.line_count == 0 && !M::header().is_empty()
     }
 
     // The fault of an edit below the rows. Without fault it is one of them.
     fn take_edit(&mut self, row: EditRow) -> Result<(), Refusal>
-        ensures { EditTaken self.old row (number_of result) self.new }
+        ensures { EditTaken M.manner self.old row (number_of result) self.new }
     {
-        row_fault::<EDIT_CELLS, Edit>(&self.edits[..self.edit_count], &row, Ok(()))?;
-        if 0 < self.constraint_count {
-            return Err(Refusal::Misplaced);
-        }
+        let above = RowsAbove {
+            edits: &self.edits[..self.edit_count],
+            constraints: &self.constraints[..self.constraint_count],
+            marks: &self.marks,
+        };
+        M::edit_fault(above, row)?;
         self.edits[self.edit_count] = row;
         self.edit_count += 1;
         self.marks[row[0] as usize] = 1;
+        self.line_count += 1;
         Ok(())
     }
 
     // The fault of a constraint below the rows. Without fault it is one of them.
     fn take_constraint(&mut self, row: ConstraintRow) -> Result<(), Refusal>
-        ensures { ConstraintTaken self.old row (number_of result) self.new }
+        ensures { ConstraintTaken M.manner self.old row (number_of result) self.new }
     {
-        let further = record_tables::constraint_further(row, &self.marks, false);
-        row_fault::<CONSTRAINT_CELLS, Constraint>(
-            &self.constraints[..self.constraint_count],
-            &row,
-            further,
-        )?;
+        let above = RowsAbove {
+            edits: &self.edits[..self.edit_count],
+            constraints: &self.constraints[..self.constraint_count],
+            marks: &self.marks,
+        };
+        M::constraint_fault(above, row)?;
         self.constraints[self.constraint_count] = row;
         self.constraint_count += 1;
+        self.line_count += 1;
         Ok(())
     }
 
-    // The fault of a line below the rows. Without fault its row is one of them.
-    fn take(&mut self, bytes: &[u8]) -> Result<(), Refusal>
-        ensures { LineTaken self.old (line_read bytes.now) (number_of result) self.new }
+    // The fault of a row's line below the rows. Without fault its row is one of them.
+    fn take_row(&mut self, bytes: &[u8]) -> Result<(), Refusal>
+        ensures { LineTaken M.manner self.old (M.manner.line.reads bytes.now) (number_of result) self.new }
     {
-        match text_lines::read_line(bytes)? {
+        match M::read_line(bytes)? {
             Line::Edit(row) => self.take_edit(row),
             Line::Constraint(row) => self.take_constraint(row),
         }
     }
 
-    fn record(&self) -> Record
-        ensures { result ≡ stored (decoded self.now.edits self.now.constraints) }
+    // The fault of the first line where it is to be the header.
+    fn take_header(&mut self, bytes: &[u8]) -> Result<(), Refusal>
+        requires { self.old.count ≡ 0 }
+        ensures { HeaderTaken M.manner self.old bytes.now (number_of result) self.new }
     {
-        record_union::decode(LentRecord {
+        if bytes != M::header() {
+            return Err(Refusal::NotInForm);
+        }
+        self.line_count += 1;
+        Ok(())
+    }
+
+    // The fault of the next line. Without fault it is read.
+    fn take_line(&mut self, bytes: &[u8]) -> Result<(), Refusal>
+        ensures { LineRead (line_fed M.manner self.old bytes.now) self.old (number_of result) self.new }
+    {
+        if self.awaits_header() {
+            return self.take_header(bytes);
+        }
+        self.take_row(bytes)
+    }
+
+    // One more line. Refused, what was read stays.
+    pub fn take(&mut self, bytes: &[u8]) -> Result<(), Fault>
+        ensures { ReadsLine (line_fed M.manner self.old bytes.now) self.old result self.new }
+    {
+        let line = self.line_count + 1;
+        self.take_line(bytes)
+            .map_err(|refusal| Fault { refusal, line })
+    }
+
+    // The record of the lines read, if it is sound; that it is not is told of the last line.
+    pub fn finish(&self) -> Result<Record, Fault>
+        ensures { Reads (text_finished M.manner self.now) result }
+    {
+        if self.awaits_header() {
+            return Err(Fault {
+                refusal: Refusal::NotInForm,
+                line: 1,
+            });
+        }
+        let content = M::gathered(LentRecord {
             edits: &self.edits[..self.edit_count],
             constraints: &self.constraints[..self.constraint_count],
+        });
+        if judgement::sound(content) {
+            return Ok(content);
+        }
+        Err(Fault {
+            refusal: Refusal::Unsound,
+            line: self.line_count,
         })
     }
 }
 
-// Reads the rows of a text.
-fn read_rows(text: &[u8]) -> Result<Record, Fault>
-    ensures { Reads (read_rows text.now) result }
+// Reads a text in a manner.
+pub fn read_in<M: Manner>(text: &[u8]) -> Result<Record, Fault>
+    ensures { Reads (read_in M.manner text.now) result }
 {
-    let mut rows = RowsRead::new();
-    for bytes in Lines::new(text) {
-        let line = rows.next_line();
-        rows.take(bytes).map_err(|refusal| Fault { refusal, line })?;
+    let mut rows = RowsRead::<M>::begin();
+    for line in Lines::new(text) {
+        rows.take(line)?;
     }
-    Ok(rows.record())
+    rows.finish()
 }
 
 // Reads a text: its rows, and then whether the record is sound; that it is not is told of its last line. An accepted text has a line for each row.
@@ -189,12 +205,5 @@ pub fn read_text(text: &[u8]) -> Result<Record, Fault>
     ensures reads { Reads (read_text text.now) result }
     ensures counted { IfOk result (λ content. content.edit_count + content.constraint_count ≡ length (lines text.now)) }
 {
-    let content = read_rows(text)?;
-    if judgement::sound(content) {
-        return Ok(content);
-    }
-    Err(Fault {
-        refusal: Refusal::Unsound,
-        line: content.edit_count + content.constraint_count,
-    })
+    read_in::<OldText>(text)
 }

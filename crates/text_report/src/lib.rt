@@ -27,13 +27,16 @@ const REPORT_FORM: &[u8] = b"edit=@ must=? never=? settled=? place=#\n";
 // The line of a refusal. Pub for the crates that print it.
 pub const REFUSAL_FORM: &[u8] = b"refused=# line=#\n";
 
+// The kind of text that the lines of a report are: the same beside every manner. No value of it is made.
+struct ReportText;
+
 // The line of an edit, as its numbers: name, must, never, settled and place.
 #[derive(Clone, Copy)]
 struct ReportLine {
     numbers: [u64; 5],
 }
 
-impl Lined for ReportLine {
+impl Lined<ReportText> for ReportLine {
     ghost use Rattle.text_report.specs.Rows.{line_text};
 
     ghost line = { line_text };
@@ -95,7 +98,7 @@ fn report_fits(counts: &[u64], lines: &[ReportLine], room: usize) -> bool
     ensures { result ≡ leb (length (fill counts_form counts.now ++ joined_lines (map line_text lines.now))) room }
 {
     match text_forms::form_fit(room, COUNTS_FORM, counts) {
-        Some(left) => text_writer::lines_fit(left, lines).is_some(),
+        Some(left) => text_writer::lines_fit::<ReportText, ReportLine>(left, lines).is_some(),
         None => false,
     }
 }
@@ -105,7 +108,7 @@ fn write_report(out: &mut [u8], counts: &[u64], lines: &[ReportLine]) -> usize
     ensures { part.Written (fill counts_form counts.now ++ joined_lines (map line_text lines.now)) out.old result out.new }
 {
     let at = text_forms::write_form(out, COUNTS_FORM, counts);
-    at + text_writer::write_lines(&mut out[at..], lines)
+    at + text_writer::write_lines::<ReportText, ReportLine>(&mut out[at..], lines)
 }
 
 // Writes a report at a place of out, where it fits. Refused, out stays as it was.

@@ -1,7 +1,6 @@
 -- Lines written one after the other, for any kind of line: whether they fit, and what they leave. Assumes nothing.
 use Rattle.std.proofs.Common.{◌≡◌, refl, ap, sym, ◌∙◌, List, [], ◌∷◌, ◌++◌, map, append_assoc, ℕ, ◌+◌, ◌-◌, ◌≤◌, ◌<◌, length, get_or, take, drop, Some, None, add-one, length-append, drop-cons, arith}
 use mathlib.Core.List.{map-append, append-nil}
-use Rattle.std.specs.Prelude.{Option, SomeIff}
 use lib.ListN.{drop_of_length-le}
 use lib.Seq.{take-suc, take_all, take-add}
 use Rattle.text_forms.specs.decimal.Written.{Written}
@@ -11,16 +10,11 @@ use Rattle.lists.proofs.Lists.{le-by}
 use Rattle.text_forms.proofs.Fits.{room-short, room-enough, room-whole, room-both}
 use Rattle.text.specs.Text.{joined_lines}
 
--- what is left of a room by a subtraction that may fail
-pub left-is : (room size : ℕ) (left : Option ℕ) → SomeIff left (size ≤ room) (room - size) → left ≡ room_after room size
-left-is room size None h = sym (room-short room size (omega (arith, h)))
-left-is room size (Some x) h = ap Some h.1 ∙ sym (room-enough room size h.0)
-
 -- a line does not fit what is left of a room, or leaves the rest
-room-none : (room size : ℕ) → None ≡ room_after room size → room < size
+pub room-none : (room size : ℕ) → None ≡ room_after room size → room < size
 room-none room size e = le-by size room (λ l. let q = e ∙ room-enough room size l in cc) (λ l. l)
 
-room-some : (room size : ℕ) {rest : ℕ} → Some rest ≡ room_after room size → (size ≤ room) × (rest ≡ room - size)
+pub room-some : (room size : ℕ) {rest : ℕ} → Some rest ≡ room_after room size → (size ≤ room) × (rest ≡ room - size)
 room-some room size {rest} e =
     le-by size room
     (λ l. let q = e ∙ room-enough room size l in let r : rest ≡ room - size = cc in (l, r))

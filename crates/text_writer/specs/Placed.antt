@@ -2,10 +2,13 @@
 use Rattle.std.specs.Prelude.{Bool, cond, List, ◌++◌, ℕ, ◌+◌, leb, length, take, drop, Result, Ok, Err}
 use Rattle.record.specs.declared.Edit.{Edit}
 use Rattle.record.specs.declared.Constraint.{Constraint}
+use Rattle.record.specs.declared.Record as declared
+use Rattle.record.specs.Stored.{record_of}
 use Rattle.record_rows.specs.row.Row.{edit_row, constraint_row}
-use Rattle.text_lines.specs.Line.{edit_line, constraint_line}
+use Rattle.record_tables.specs.Table.{edit_rows, constraint_rows}
 use Rattle.refusals.specs.declared.Refusal.{Refusal}
 use Rattle.refusals.specs.declared.Refusal.TheVariants.{NoRoom}
+use Rattle.text.specs.Text.{Manner, rows_text}
 
 abbrev pub fits_at : List ℕ → ℕ → List ℕ → Bool
 fits_at text at out = leb (at + length text) (length out)
@@ -18,9 +21,16 @@ placed text at out = cond (fits_at text at out) (take at out ++ (text ++ drop (a
 unfoldable pub placing : List ℕ → ℕ → List ℕ → Result ℕ Refusal
 placing text at out = cond (fits_at text at out) (Ok (at + length text)) (Err NoRoom)
 
--- the line of an edit, and of a constraint
-abbrev pub edit_text : Edit → List ℕ
-edit_text e = edit_line (edit_row e)
+-- the line of an edit in a manner, and of a constraint
+abbrev pub edit_text : Manner → Edit → List ℕ
+edit_text M e = M.line.edit (edit_row e)
 
-abbrev pub constraint_text : Constraint → List ℕ
-constraint_text c = constraint_line (constraint_row c)
+abbrev pub constraint_text : Manner → Constraint → List ℕ
+constraint_text M c = M.line.constraint (constraint_row c)
+
+-- the lines of a stored record's tables as they stand, and the header before them
+abbrev pub tables_text : Manner → declared.Record → List ℕ
+tables_text M content = rows_text M (edit_rows (record_of content)) (constraint_rows (record_of content))
+
+abbrev pub headed_text : Manner → declared.Record → List ℕ
+headed_text M content = M.header ++ tables_text M content

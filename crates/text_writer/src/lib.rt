@@ -7,15 +7,17 @@ ghost use Rattle.record.specs.Stored.{record_of};
 ghost use Rattle.text_forms.specs.decimal.Written as part;
 ghost use Rattle.text_forms.specs.Form.{fill};
 ghost use Rattle.text_forms.specs.Fit.{room_after};
-ghost use Rattle.text.specs.Text.{joined_lines, text_of};
-ghost use Rattle.text_writer.specs.Placed.{placed, placing};
+ghost use Rattle.text.specs.Text.{joined_lines, written_in, text_of};
+ghost use Rattle.text_writer.specs.Placed.{placed, placing, tables_text, headed_text};
 
 use record::{Constraint, Edit, Record};
 use record_rows::element::Element;
 use refusals::Refusal;
+use text::manner::Manner;
+use text::old::OldText;
 
-// What has a line in a text. Pub for `text_report`, which writes other lines.
-pub trait Lined: Copy {
+// What has a line in a text of the kind M: in a manner an edit and a constraint. Pub for `text_report`, which writes other lines.
+pub trait Lined<M>: Copy {
     // The line, its end included.
     ghost line: { Self → List ℕ };
 
@@ -29,36 +31,36 @@ pub trait Lined: Copy {
         ensures { part.Written (line self) out.old result out.new };
 }
 
-impl Lined for Edit {
+impl<M: Manner> Lined<M> for Edit {
     ghost use Rattle.text_writer.specs.Placed.{edit_text};
 
-    ghost line = { edit_text };
+    ghost line = { edit_text M.manner };
 
     fn line_fit(self, room: usize) -> Option<usize> {
-        room.checked_sub(text_lines::edit_line_length(self.row()))
+        room.checked_sub(M::edit_line_length(self.row()))
     }
 
     fn write_line(self, out: &mut [u8]) -> usize {
-        text_lines::write_edit_line(out, self.row())
+        M::write_edit_line(out, self.row())
     }
 }
 
-impl Lined for Constraint {
+impl<M: Manner> Lined<M> for Constraint {
     ghost use Rattle.text_writer.specs.Placed.{constraint_text};
 
-    ghost line = { constraint_text };
+    ghost line = { constraint_text M.manner };
 
     fn line_fit(self, room: usize) -> Option<usize> {
-        room.checked_sub(text_lines::constraint_line_length(self.row()))
+        room.checked_sub(M::constraint_line_length(self.row()))
     }
 
     fn write_line(self, out: &mut [u8]) -> usize {
-        text_lines::write_constraint_line(out, self.row())
+        M::write_constraint_line(out, self.row())
     }
 }
 
 // What is left of a room after these lines, where they fit. Pub for `text_report`, which writes other lines.
-pub fn lines_fit<T: Lined>(room: usize, elements: &[T]) -> Option<usize>
+pub fn lines_fit<M, T: Lined<M>>(room: usize, elements: &[T]) -> Option<usize>
     ensures { result ≡ room_after room (length (joined_lines (map T.line elements.now))) }
 {
     let mut left = room;
@@ -69,7 +71,7 @@ pub fn lines_fit<T: Lined>(room: usize, elements: &[T]) -> Option<usize>
 }
 
 // Writes these lines to the start of out, and answers how many bytes that took. Pub as before.
-pub fn write_lines<T: Lined>(out: &mut [u8], elements: &[T]) -> usize
+pub fn write_lines<M, T: Lined<M>>(out: &mut [u8], elements: &[T]) -> usize
     requires { length (joined_lines (map T.line elements.now)) ≤ length out.old }
     ensures { part.Written (joined_lines (map T.line elements.now)) out.old result out.new }
 {
@@ -92,36 +94,71 @@ pub fn place_form(form: &[u8], numbers: &[u64], out: &mut [u8], at: usize) -> Re
     Ok(at + text_forms::write_form(&mut out[at..], form, numbers))
 }
 
-// Whether the text of a record takes at most so many bytes.
-// Kept: tried with `is_some_and`, the check finds no proof of the one goal that both cases then are; of a match it has a goal for each.
-fn text_fits(content: &Record, room: usize) -> bool
-    ensures { result ≡ leb (length (text_of (record_of content.now))) room }
+// What the lines of a record's tables, as they stand, leave of a room, where they fit.
+fn rows_fit<M: Manner>(room: usize, content: &Record) -> Option<usize>
+    ensures { result ≡ room_after room (length (tables_text M.manner content.now)) }
 {
-    match lines_fit(room, content.edit_slice()) {
-        Some(left) => lines_fit(left, content.constraint_slice()).is_some(),
+    let left = lines_fit::<M, Edit>(room, content.edit_slice())?;
+    lines_fit::<M, Constraint>(left, content.constraint_slice())
+}
+
+// Writes the lines of a record's tables, as they stand, to the start of out, and answers how many bytes that took.
+fn write_rows<M: Manner>(out: &mut [u8], content: &Record) -> usize
+    requires { length (tables_text M.manner content.now) ≤ length out.old }
+    ensures { part.Written (tables_text M.manner content.now) out.old result out.new }
+{
+    let at = write_lines::<M, Edit>(out, content.edit_slice());
+    at + write_lines::<M, Constraint>(&mut out[at..], content.constraint_slice())
+}
+
+// Whether the header and these lines take at most so many bytes.
+fn text_fits<M: Manner>(content: &Record, room: usize) -> bool
+    ensures { result ≡ leb (length (headed_text M.manner content.now)) room }
+{
+    match room.checked_sub(M::header().len()) {
+        Some(left) => rows_fit::<M>(left, content).is_some(),
         None => false,
     }
 }
 
-// Writes the text of a record to the start of out, and answers how many bytes that took.
-fn write_rows(out: &mut [u8], content: &Record) -> usize
-    requires { length (text_of (record_of content.now)) ≤ length out.old }
-    ensures { part.Written (text_of (record_of content.now)) out.old result out.new }
+// Writes the header to the start of out, and answers how many bytes that took.
+fn write_header<M: Manner>(out: &mut [u8]) -> usize
+    requires { length M.manner.header ≤ length out.old }
+    ensures { part.Written M.manner.header out.old result out.new }
 {
-    let at = write_lines(out, content.edit_slice());
-    at + write_lines(&mut out[at..], content.constraint_slice())
+    let header = M::header();
+    out[..header.len()].copy_from_slice(header);
+    header.len()
 }
 
-// Writes the text of a record at a place of out, after the bytes that stand there. Refused, out stays as it was.
-pub fn write_text(content: Record, out: &mut [u8], at: usize) -> Result<usize, Refusal>
-    ensures answer { result ≡ placing (text_of (record_of content)) at out.old }
-    ensures bytes { out.new ≡ placed (text_of (record_of content)) at out.old }
+// Writes both.
+fn write_headed<M: Manner>(out: &mut [u8], content: &Record) -> usize
+    requires { length (headed_text M.manner content.now) ≤ length out.old }
+    ensures { part.Written (headed_text M.manner content.now) out.old result out.new }
+{
+    let at = write_header::<M>(out);
+    at + write_rows::<M>(&mut out[at..], content)
+}
+
+// Writes the text of a record in a manner at a place of out, after the bytes that stand there. Refused, out stays as it was.
+pub fn write_in<M: Manner>(content: Record, out: &mut [u8], at: usize) -> Result<usize, Refusal>
+    ensures answer { result ≡ placing (written_in M.manner (record_of content)) at out.old }
+    ensures bytes { out.new ≡ placed (written_in M.manner (record_of content)) at out.old }
 {
     if out.len() < at {
         return Err(Refusal::NoRoom);
     }
-    if !text_fits(&content, out.len() - at) {
+    let content = M::arranged(content);
+    if !text_fits::<M>(&content, out.len() - at) {
         return Err(Refusal::NoRoom);
     }
-    Ok(at + write_rows(&mut out[at..], &content))
+    Ok(at + write_headed::<M>(&mut out[at..], &content))
+}
+
+// Writes the text of a record.
+pub fn write_text(content: Record, out: &mut [u8], at: usize) -> Result<usize, Refusal>
+    ensures answer { result ≡ placing (text_of (record_of content)) at out.old }
+    ensures bytes { out.new ≡ placed (text_of (record_of content)) at out.old }
+{
+    write_in::<OldText>(content, out, at)
 }

@@ -215,7 +215,7 @@ module _ (edit : ℕ) {before middle : Printer} where
   unfolding won_text
   won-printed R b q {v} s p r =
       let back : record_of b ≡ R = ap record_of q ∙ stored_back R in
-      rw back (printed-both (rw s at p) r)
+      rw back (printed-both (rw s at p) (rw back at r))
 
   module _ (c : Count) (p : Printed (election_line c.election) before middle) where
     pub open-printed : c.election.won ≡ false → Printed (winner_text edit c) before middle
