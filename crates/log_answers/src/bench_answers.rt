@@ -80,21 +80,14 @@ pub fn print_schedule(printer: &mut Printer<'_>, bench: &Bench)
     print_pages(printer, edits);
 }
 
-// The line of a cell by its field: of a chip's cell, or of a page's.
-// Kept: fields by number, as the cells of an entry stand: a Field would be made from the number by a match of the same four.
+// The line of a cell: a chip's, or one that a page keeps.
 #[tactic(auto, unfolding(crate::specs::bench_answers::Asks::cell_form, text_forms::specs::Spelling::bytes))]
-fn cell_form(owner: Owner, field: usize) -> &'static [u8]
-    ensures { result.now ≡ cell_form owner field }
+fn cell_form(owner: Owner) -> &'static [u8]
+    ensures { result.now ≡ cell_form owner }
 {
-    match (owner, field) {
-        (Owner::Chip, 0) => b"chip=# field=id value=#\n",
-        (Owner::Chip, 1) => b"chip=# field=size value=#\n",
-        (Owner::Chip, 2) => b"chip=# field=erase value=#\n",
-        (Owner::Chip, _) => b"chip=# field=page value=#\n",
-        (Owner::Page, 0) => b"page=# field=id value=#\n",
-        (Owner::Page, 1) => b"page=# field=size value=#\n",
-        (Owner::Page, 2) => b"page=# field=erase value=#\n",
-        (Owner::Page, _) => b"page=# field=page value=#\n",
+    match owner {
+        Owner::Chip => b"chip=# field=% value=#\n",
+        Owner::Page => b"page=# field=% value=#\n",
     }
 }
 
@@ -103,7 +96,7 @@ fn print_cell(printer: &mut Printer<'_>, owner: Owner, label: u64, field: usize,
     ensures { Printed (cell_line owner label field cell) printer.old printer.new }
 {
     if let Some(value) = cell {
-        printer.print(cell_form(owner, field), &[label, u64::from(value)]);
+        printer.print(cell_form(owner), &[label, field as u64, u64::from(value)]);
     }
 }
 

@@ -227,24 +227,18 @@ pub record SmallEntry (entry : Entry cells) : Type 0 where
   pub few : length entry.cells ≤ 4
   pub values : (c : Option ℕ) → Has c entry.cells → ValueFits c
 
-cell_room : (owner : Owner) (field : ℕ) → leb (room (cell_form owner field)) 45 ≡ true
+cell_room : (owner : Owner) → leb (room (cell_form owner)) 45 ≡ true
 unfolding room cell_form bytes is_mark
-cell_room Chip zero = refl
-cell_room Chip (suc zero) = refl
-cell_room Chip (suc (suc zero)) = refl
-cell_room Chip (suc (suc (suc n))) = refl
-cell_room Page zero = refl
-cell_room Page (suc zero) = refl
-cell_room Page (suc (suc zero)) = refl
-cell_room Page (suc (suc (suc n))) = refl
+cell_room Chip = refl
+cell_room Page = refl
 
-cell-size : (owner : Owner) (label field : ℕ) (c : Option ℕ) → label < 4294967296 → ValueFits c → size_of (cell_line owner label field c) ≤ 45
-cell-size owner label field None h v = omega (arith, size_none)
-cell-size owner label field (Some value) h v = line-size (cell_form owner field) (label ∷ value ∷ []) 45 (h, (v, tt)) (cell_room owner field)
+cell-size : (owner : Owner) (label field : ℕ) (c : Option ℕ) → label < 4294967296 → field < 4 → ValueFits c → size_of (cell_line owner label field c) ≤ 45
+cell-size owner label field None h f v = omega (arith, size_none)
+cell-size owner label field (Some value) h f v = line-size (cell_form owner) (label ∷ field ∷ value ∷ []) 45 (h, (omega arith, (v, tt))) (cell_room owner)
 
 cells-size : (owner : Owner) (label : ℕ) (entry : Entry cells) → label < 4294967296 → SmallEntry entry → size_of (cells_text owner label entry.cells) ≤ 180
 cells-size owner label entry h s =
-    omega (arith, s.few, from-size (cell_line owner label) 45 4 0 entry.cells (omega (arith, s.few)) (λ i c l m. cell-size owner label i c h (s.values c m)))
+    omega (arith, s.few, from-size (cell_line owner label) 45 4 0 entry.cells (omega (arith, s.few)) (λ i c l m. cell-size owner label i c h l (s.values c m)))
 
 entry-size : (chip : ℕ) (entry : Entry cells) → chip < 64 → SmallEntry entry → size_of (entry_text chip entry) ≤ 240
 unfolding entry_text room bytes is_mark

@@ -1,9 +1,9 @@
 -- What the questions print: a line that a test lets through, and a head with its lines. Assumes nothing.
-use mathlib.Core.Path.{◌≡◌, refl}
+use mathlib.Core.Path.{◌≡◌}
 use mathlib.Core.Bool.{Bool, true, false, cond}
 use mathlib.Core.Logic.{◌≢◌}
 use mathlib.Core.List.{List, [], ◌∷◌}
-use Prim.Native.Nat.{ℕ, zero, suc, ◌+◌, ◌-◌, ◌<◌}
+use Prim.Native.Nat.{ℕ, ◌+◌, ◌-◌, ◌<◌}
 use native.Mathlib.Omega.{arith}
 use borrow.Author.Tests.{eq-eqb, ne_eqb}
 use lib.ListN.{length, get_or, take, drop}
@@ -17,9 +17,8 @@ use Rattle.log_forms.specs.Printed.{Texts, Printed, texts_from}
 use Rattle.log_forms.specs.declared.Printer.{Printer}
 use Rattle.log_forms.proofs.Printing.{printed-nothing, printed-both}
 use Rattle.log_answers.specs.Answers.{answer_line}
-use Rattle.log_answers.specs.declared.bench_answers.Owner.{Owner}
 use Rattle.log_answers.specs.declared.bench_answers.Owner.TheVariants.{Chip, Page}
-use Rattle.log_answers.specs.bench_answers.Asks.{hides, hidden_line, hidden_text, page_line, schedule_text, cell_form, cells_text, is_present, entry_text, catalogue_text, row_text, row_at, journal_text}
+use Rattle.log_answers.specs.bench_answers.Asks.{hides, hidden_line, hidden_text, page_line, schedule_text, cells_text, is_present, entry_text, catalogue_text, row_text, row_at, journal_text}
 
 -- texts that a test lets through
 module _ (test : Bool) (texts : Texts) {before : Printer} where
@@ -51,15 +50,6 @@ module _ (edits : List Edit) {before middle after : Printer} where
       → Printed (journal_text edits rows) before after
   unfolding journal_text
   journal-printed rows p q = printed-both p q
-
--- the line of a cell, by its field and by whose it is; any field above is the last
-pub last-form : (owner : Owner) (field : ℕ) → (field ≡ 0 → ⊥) → (field ≡ 1 → ⊥) → (field ≡ 2 → ⊥) → cell_form owner 3 ≡ cell_form owner field
-unfolding cell_form
-last-form owner zero a b c = absurd (a refl)
-last-form owner (suc zero) a b c = absurd (b refl)
-last-form owner (suc (suc zero)) a b c = absurd (c refl)
-last-form Chip (suc (suc (suc n))) a b c = refl
-last-form Page (suc (suc (suc n))) a b c = refl
 
 -- an entry, all entries, a row
 module _ {before middle after : Printer} where

@@ -1,5 +1,5 @@
 -- The call log: what the questions on a bench print: a head, then a line for each of what is asked for. Assumes nothing.
-use Rattle.std.specs.Prelude.{ℕ, zero, suc, ◌-◌, Bool, cond, List, [], ◌∷◌, ◌++◌, eqb, length, get_or, take, drop, Option, Some, None}
+use Rattle.std.specs.Prelude.{ℕ, ◌-◌, Bool, cond, List, [], ◌∷◌, ◌++◌, eqb, length, get_or, take, drop, Option, Some, None}
 use Rattle.lists.specs.Lists.{filter}
 use Rattle.record.specs.declared.Edit.{Edit}
 use Rattle.catalogue.specs.declared.Entry.{Entry}
@@ -30,21 +30,15 @@ page_line page e = answer_line "page=# edit=@\n" (page ∷ e.name ∷ [])
 unfoldable pub schedule_text : List Edit → Texts
 schedule_text edits = answer_line "last=#\n" (length edits ∷ []) ++ texts_from page_line 1 edits
 
--- The line of a cell by its field (0 id, 1 size, 2 erase, 3 page): a chip's cell, and one that a page of the journal keeps.
-unfoldable pub cell_form : Owner → ℕ → List ℕ
-cell_form Chip zero = bytes "chip=# field=id value=#\n"
-cell_form Chip (suc zero) = bytes "chip=# field=size value=#\n"
-cell_form Chip (suc (suc zero)) = bytes "chip=# field=erase value=#\n"
-cell_form Chip (suc (suc (suc n))) = bytes "chip=# field=page value=#\n"
-cell_form Page zero = bytes "page=# field=id value=#\n"
-cell_form Page (suc zero) = bytes "page=# field=size value=#\n"
-cell_form Page (suc (suc zero)) = bytes "page=# field=erase value=#\n"
-cell_form Page (suc (suc (suc n))) = bytes "page=# field=page value=#\n"
+-- The line of a cell: a chip's, and one that a page of the journal keeps. A cell's number is that of its field.
+unfoldable pub cell_form : Owner → List ℕ
+cell_form Chip = bytes "chip=# field=% value=#\n"
+cell_form Page = bytes "page=# field=% value=#\n"
 
 -- the filled cells of an entry; the label is the chip or the page
 abbrev pub cell_line : Owner → ℕ → ℕ → Option ℕ → Texts
 cell_line owner label field None = []
-cell_line owner label field (Some value) = fill (cell_form owner field) (label ∷ value ∷ []) ∷ []
+cell_line owner label field (Some value) = fill (cell_form owner) (label ∷ field ∷ value ∷ []) ∷ []
 
 abbrev pub cells_text : Owner → ℕ → List (Option ℕ) → Texts
 cells_text owner label cells = texts_from (cell_line owner label) 0 cells
