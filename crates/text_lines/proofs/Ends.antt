@@ -2,12 +2,12 @@
 use Prim.Native.Nat.{ℕ, suc, ◌+◌, ◌-◌, ◌≤◌, ◌<◌, min}
 use mathlib.Core.Path.{◌≡◌, refl, ap, sym, ◌∙◌}
 use mathlib.Core.Bool.{Bool, true, false}
-use Rattle.std.specs.Prelude.{◌==◌, Some, None}
+use Rattle.std.specs.Prelude.{◌==◌, Option, Some, None}
 use Rattle.std.specs.List.{position, position_or_len}
 use mathlib.Core.Logic.{◌≢◌}
 use mathlib.Core.List.{List, [], ◌∷◌, ◌++◌}
 use native.Mathlib.Omega.{arith}
-use borrow.Author.Tests.{eqb-true, eqb-false, ne_eqb, ltb-true, ltb-false}
+use borrow.Author.Tests.{eqb-true, eqb-false, ne_eqb, ltb-true, ltb-false, lt-ltb}
 use lib.Dec.{eqb, ltb}
 use lib.ListN.{length, get_or, take, drop, drop_of_length-le, length-drop}
 use lib.Seq.{drop-cons, drop-drop}
@@ -16,6 +16,15 @@ use Rattle.lists.proofs.Lists.{by, or-no-l, or-no-r}
 use Rattle.text_forms.proofs.Forms.{Ended}
 use Rattle.text_lines.specs.Lines.{joined, lines, first_line}
 use Rattle.std.proofs.lemmas.List.{take_rest}
+use Rattle.std.proofs.lemmas.List.Sums.{position_or_len_is}
+use Rattle.memchr.specs.Find.{IsFirstByte}
+
+not-true : (b : Bool) → (b ≡ true → ⊥) → b ≡ false
+not-true true n = absurd (n refl)
+not-true false n = refl
+
+ltb-irrefl : (n : ℕ) → ltb n n ≡ false
+ltb-irrefl n = by (ltb n n) (λ (e : ltb n n ≡ true). let l : n < n = ltb-true n n e in absurd (omega arith)) (λ (e : ltb n n ≡ false). e)
 
 -- the search for an end
 abbrev ends : ℕ → Bool
@@ -25,6 +34,16 @@ before-end : (s : List ℕ) → length (first_line s) ≡ min (suc (position_or_
 unfolding first_line
 before-end [] = omega arith
 before-end (c ∷ s) = by (eqb c 10) (λ (e : eqb c 10 ≡ true). rw e (omega arith)) (λ (e : eqb c 10 ≡ false). rw e (omega (arith, before-end s)))
+
+-- the first byte that passes a test stands at its position
+pub first-position : (test : ℕ → Bool) (s : List ℕ) (r : Option ℕ) → IsFirstByte test s r → r ≡ position test s
+first-position test s None h =
+    let e : position_or_len test s ≡ length s = position_or_len_is test s (length s) 0 (omega arith) (λ k l. not-true _ (h k (omega arith) l)) (λ l. absurd (omega arith)) in
+    rw (e, ltb-irrefl (length s)) refl
+first-position test s (Some k) h =
+    let b = h.0 in
+    let e : position_or_len test s ≡ k = position_or_len_is test s k 0 (omega (arith, b.high)) (λ j l. not-true _ (b.before j (omega arith) l)) (λ l. h.1) in
+    rw (e, lt-ltb k (length s) b.high) refl
 
 end-some : (s : List ℕ) {place : ℕ} → Some place ≡ position ends s → (length (first_line s) ≡ place + 1) × (place < length s)
 end-some s {place} h =

@@ -305,7 +305,7 @@ pub fn write_constraint_line(out: &mut [u8], row: [u32; 3]) -> usize
 fn end_place(bytes: &[u8]) -> Option<usize>
     ensures { result ≡ position (λ x. x == 10) bytes.now }
 {
-    bytes.iter().position(|byte| *byte == b'\n')
+    memchr::memchr(b'\n', bytes)
 }
 
 // Where the line ends that starts at `from`: past its byte 10, or at the end of the text.

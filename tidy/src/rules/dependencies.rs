@@ -10,7 +10,7 @@ use std::collections::{BTreeMap, BTreeSet};
 const LIST: &str = "crates.txt";
 
 /// Libraries of the kit that may be listed, and have no line.
-const KIT: [&str; 2] = ["arrayvec", "io"];
+const KIT: [&str; 3] = ["arrayvec", "io", "memchr"];
 
 struct Entry<'a> {
     line: usize,
