@@ -93,34 +93,29 @@ module _ (M : Manner) where
       pub text-is : rows_text M edits-read constraints-read ≡ rows_text M edits constraints ++ joined_lines ls
       pub count : length edits-read + length constraints-read ≡ (length edits + length constraints) + length ls
 
+    -- with the row of one line before the others
     module _ (edits constraints : Rows) (l : List ℕ) (ls : List (List ℕ)) (R : Record) where
-      came-edit : (row : Row) → constraints ≡ [] → l ≡ M.line.edit row → Came (edits ++ (row ∷ [])) constraints ls R → Came edits constraints (l ∷ ls) R
+      came-more : (es cs : Rows) → rows_text M es cs ≡ rows_text M edits constraints ++ l → length es + length cs ≡ suc (length edits + length constraints) → Came es cs ls R
+          → Came edits constraints (l ∷ ls) R
       unfolding joined_lines
-      came-edit row n e c =
-          record {
-            edits-read = c.edits-read;
-            constraints-read = c.constraints-read;
-            faultless = c.faultless;
-            forms = c.forms;
-            record_is = c.record_is;
-            sound-now = c.sound-now;
-            text-is = c.text-is ∙ rw (text-edit edits constraints row n, e) (append_assoc (rows_text M edits constraints) (M.line.edit row) (joined_lines ls));
-            count = c.count ∙ omega (arith, length-append edits (row ∷ []));
-          }
+      came-more es cs t n c = record {
+        edits-read = c.edits-read;
+        constraints-read = c.constraints-read;
+        faultless = c.faultless;
+        forms = c.forms;
+        record_is = c.record_is;
+        sound-now = c.sound-now;
+        text-is = c.text-is ∙ rw t (append_assoc (rows_text M edits constraints) l (joined_lines ls));
+        count = c.count ∙ omega (arith, n);
+      }
+
+      came-edit : (row : Row) → constraints ≡ [] → l ≡ M.line.edit row → Came (edits ++ (row ∷ [])) constraints ls R → Came edits constraints (l ∷ ls) R
+      came-edit row n e =
+          came-more (edits ++ (row ∷ [])) constraints (rw e (text-edit edits constraints row n)) (omega (arith, length-append edits (row ∷ [])))
 
       came-constraint : (row : Row) → l ≡ M.line.constraint row → Came edits (constraints ++ (row ∷ [])) ls R → Came edits constraints (l ∷ ls) R
-      unfolding joined_lines
-      came-constraint row e c =
-          record {
-            edits-read = c.edits-read;
-            constraints-read = c.constraints-read;
-            faultless = c.faultless;
-            forms = c.forms;
-            record_is = c.record_is;
-            sound-now = c.sound-now;
-            text-is = c.text-is ∙ rw (text-constraint edits constraints row, e) (append_assoc (rows_text M edits constraints) (M.line.constraint row) (joined_lines ls));
-            count = c.count ∙ omega (arith, length-append constraints (row ∷ []));
-          }
+      came-constraint row e =
+          came-more edits (constraints ++ (row ∷ [])) (rw e (text-constraint edits constraints row)) (omega (arith, length-append constraints (row ∷ [])))
 
     -- the rows of one line more are without fault, and each edit is in form
     module _ {P : Type 0} (edits constraints : Rows) (l : List ℕ) (g : rows_number M edits constraints ≡ 0) (f : all M.line.spells_edit edits ≡ true) where
