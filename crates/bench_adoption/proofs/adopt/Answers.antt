@@ -1,35 +1,10 @@
 -- `adopt` meets its contract. Assumes nothing.
-use mathlib.Core.Path.{refl, sym, ◌∙◌}
-use Rattle.std.specs.Prelude.{Ok, Err}
-use Rattle.std.proofs.lemmas.Result.{err_from_is_err_and}
-use Rattle.voting.specs.Tally.{election_told}
 use Rattle.voting_count.specs.Count.{lent}
-use Rattle.bench_adoption.specs.Adopts.{Adopts}
-use Rattle.bench_adoption.proofs.Adopted.{adopt-refused, adopt-open, adopt-won, adopt-answers}
+use Rattle.bench_adoption.proofs.Adopted.{adopt-answers}
 use Rattle.bench_adoption.proofs.adopt.Goals as goal
 
-pub returns-in_err-counted : goal.returns-in_err-counted
-unfolding Adopts
-returns-in_err-counted c =
-    let poll = c.args.poll.now in
-    let refusal = c.in_err-counted.field-0.0 in
-    let p = err_from_is_err_and c.from_residual.result c.from_residual.ensures.1 in
-    adopt-answers c.args.bench.now c.args.edit (lent poll.proposals) poll.roll.now (Err refusal) _ c.in_err-counted.ensures.told tt
-    (λ calls e P roll b h w. rw (p.1, p.2) (adopt-refused e P roll (election_told (Err refusal)) h calls c.args.bench.now b refusal refl))
-
-pub returns-in_default : goal.returns-in_default
-unfolding Adopts
-returns-in_default c =
-    let poll = c.args.poll.now in
-    let counted = c.in_ok-counted.counted in
-    adopt-answers c.args.bench.now c.args.edit (lent poll.proposals) poll.roll.now (Ok counted) _ c.in_ok-counted.ensures.told c.in_ok-counted.ensures.bundle
-    (λ calls e P roll b h w. adopt-open e P roll (election_told (Ok counted.election)) h calls c.args.bench.now b refl (sym c.in_default.is ∙ w) _ c.accepted.ensures)
-
 pub returns : goal.returns
-unfolding Adopts
 returns c =
     let poll = c.args.poll.now in
-    let counted = c.in_ok-counted.counted in
-    adopt-answers c.args.bench.now c.args.edit (lent poll.proposals) poll.roll.now (Ok counted) _ c.in_ok-counted.ensures.told c.in_ok-counted.ensures.bundle
-    (λ calls e P roll b h w. adopt-won e P roll (election_told (Ok counted.election)) h calls c.args.bench.now b c.in-Some.bundle c.merge_record-joined.result _ refl
-    (sym c.in-Some.is ∙ w) c.merge_record-joined.ensures c.joined_bench.ensures)
+    adopt-answers c.args.bench.now c.args.edit (lent poll.proposals) poll.roll.now c.count-counted.result _ c.count-counted.ensures.told c.count-counted.ensures.bundle
+    c.adopted_bench.ensures
