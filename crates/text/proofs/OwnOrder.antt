@@ -24,9 +24,10 @@ use Rattle.record_tables.proofs.Records.{both, empty-checked, lent-checked, chec
 use Rattle.text_lines.specs.Line.{line_limit}
 use Rattle.text_lines.specs.Lines.{lines}
 use Rattle.text.specs.Text.{LineManner, written_in, read_in, Accepted, rows_number, edit_fault, constraint_fault, own_manner}
+use Rattle.text.specs.Rows.{read_rows_in}
 use Rattle.text.proofs.Faultless.{rows-clean, clean-rows}
 use Rattle.text.proofs.Manners.{LawfulLines, LawfulManner}
-use Rattle.text.proofs.InManner.{read-again-in}
+use Rattle.text.proofs.InManner.{rows-read-in, read-again-in}
 
 -- a row without fault by one test is so by another
 clean-by : (f g : Rows → Row → ℕ) (above t : Rows) → ((above : Rows) (row : Row) → f above row ≡ 0 → g above row ≡ 0) → Clean f above t → Clean g above t
@@ -105,7 +106,11 @@ module _ (last : Row → ℕ) (L : LineManner) (header : List ℕ) (W : LawfulMa
       (clean-by (row_fault (constraint_kind (names_of (edit_rows R)) false) []) (λ above row. constraint_fault (edit_rows R) above row) [] (constraint_rows R) (λ above row e. constraint-same last (edit_rows R) above row ∙ e)
       (clean (row_fault (constraint_kind (names_of (edit_rows R)) false) []) [] (constraint_rows R) p.1))
 
-  -- A record whose rows have lines of their own, and none of whose edits meets the last ground, is read again.
+  -- The rows of a record that have lines of their own, and none of whose edits meets the last ground, are read again, and so is the record where it is sound.
+  pub own-rows-read : all L.spells_edit (edit_rows R) ≡ true → all L.spells_constraint (constraint_rows R) ≡ true → all (λ row. eqb (last row) 0) (edit_rows R) ≡ true
+      → read_rows_in (own_manner L header last) (written_in (own_manner L header last) R) ≡ Accepted R
+  own-rows-read f g n = rows-read-in (own_manner L header last) W R (own-faultless n) f g (checked-decoded R k)
+
   pub own-read-again : all L.spells_edit (edit_rows R) ≡ true → all L.spells_constraint (constraint_rows R) ≡ true → all (λ row. eqb (last row) 0) (edit_rows R) ≡ true
       → sound R ≡ true → read_in (own_manner L header last) (written_in (own_manner L header last) R) ≡ Accepted R
   own-read-again f g n s = read-again-in (own_manner L header last) W R (own-faultless n) f g (checked-decoded R k) s
