@@ -1,5 +1,5 @@
 pub mod Valid
-mod House
+pub mod House
 pub mod Undone
 pub mod Told
 pub mod Pages
