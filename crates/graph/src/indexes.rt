@@ -26,7 +26,7 @@ fn name_count(multilog: Record) -> usize
 }
 
 // The index of each name below the limit of names; 0 for INIT and for a name that the record does not know.
-#[derive(Drop)]
+#[derive(Clone, Copy)]
 pub struct IndexTable {
     indexes: [u8; NAMES],
 }
@@ -40,6 +40,8 @@ impl Model for IndexTable {
     ghost Value = { List ℕ };
 
     ghost view = { λ t. t.indexes };
+
+    ghost inverse = { λ indexes. record { indexes = indexes } };
 
     ghost invariant = { λ t. (length t.indexes ≡ name_limit) × ((x : ℕ) → get_or t.indexes x 0 < mark_limit) };
 }

@@ -64,7 +64,7 @@ pub fn put_row(cells: &mut [u16; ROWS], j: usize, key: usize, left: usize)
 
 // Rows that are being linked, each before all others of its key.
 // Kept: the count is of rows, and the array has three cells of a row far apart, so that no slice of it has the rows so far.
-#[derive(Drop)]
+#[derive(Clone, Copy)]
 pub struct Linking {
     cells: [u16; ROWS],
     count: usize,
@@ -112,7 +112,7 @@ pub struct LinkedRow {
 }
 
 // Linked rows. No step along the links leaves them, and each goes down.
-#[derive(Drop)]
+#[derive(Clone, Copy)]
 pub struct Rows {
     cells: [u16; ROWS],
 }
@@ -125,6 +125,8 @@ impl Model for Rows {
     ghost Value = { List ℕ };
 
     ghost view = { λ r. r.cells };
+
+    ghost inverse = { λ cells. record { cells = cells } };
 
     ghost invariant = { λ r. Safe r.cells };
 }
@@ -334,7 +336,7 @@ fn linked_rows(reversed: &[ReversedRow]) -> Rows
 }
 
 // The edits of a record by index: how many there are, INIT's included, and the linked rows of its constraints.
-#[derive(Drop)]
+#[derive(Clone, Copy)]
 pub struct Graph {
     pub count: usize,
     pub rows: Rows,
