@@ -4,24 +4,22 @@
 pub mod bench_answers;
 
 ghost use Rattle.std.specs.Prelude.{◌≡◌, [], ◌∷◌};
-ghost use Rattle.refusals.specs.Numbers.{number};
 ghost use Rattle.record.specs.Record as theory;
 ghost use Rattle.record.specs.Stored.{record_of, stored};
 ghost use Rattle.record_tables.specs.Checked.{Checked};
 ghost use Rattle.text.specs.Text.{text_of};
-ghost use Rattle.log_forms.specs.Printed.{Printed};
+ghost use Rattle.log_forms.specs.Printed.{Printed, SameLine};
 ghost use Rattle.text_report.specs.Report.{report_of, refusal_line};
 ghost use Rattle.log_answers.specs.Answers.{record_text};
 
 use log_forms::Printer;
 use record::Record;
-use refusals::Refusal;
 
-// The line of a refusal.
-pub fn print_refusal(printer: &mut Printer<'_>, refusal: Refusal)
-    ensures { Printed (refusal_line (number refusal) printer.old.line ∷ []) printer.old printer.new }
+// The line of a refusal, by its number.
+pub fn print_refusal(printer: &mut Printer<'_>, number: u32)
+    ensures { Printed (refusal_line number printer.old.line ∷ []) printer.old printer.new }
 {
-    let numbers = [u64::from(refusal.number()), printer.line as u64];
+    let numbers = [u64::from(number), printer.line as u64];
     printer.print(text_report::REFUSAL_FORM, &numbers);
 }
 
@@ -47,7 +45,8 @@ pub fn print_record(printer: &mut Printer<'_>, content: &Record)
 // Prints the report of a sound record.
 // Kept: as the text.
 pub fn print_report(printer: &mut Printer<'_>, content: &Record)
-    ensures { (R : theory.Record) → content.now ≡ stored R → Checked R → Printed (report_of R ∷ []) printer.old printer.new }
+    ensures told { (R : theory.Record) → content.now ≡ stored R → Checked R → Printed (report_of R ∷ []) printer.old printer.new }
+    ensures same { SameLine printer.old printer.new }
 {
     let end = text_report::report_record(*content, printer.out, printer.at);
     printer.place_at(end);

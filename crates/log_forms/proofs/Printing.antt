@@ -17,7 +17,7 @@ use Rattle.refusals.specs.declared.Refusal.{Refusal}
 use Rattle.text_forms.proofs.Filling.{front_of, back-of}
 use Rattle.text.specs.Text.{joined_lines}
 use Rattle.text_writer.specs.Placed.{fits_at, placed, placing}
-use Rattle.log_forms.specs.Printed.{Texts, after_text, Buffer, with_text, with_texts, PrintedInto, Printed, PrintedLines, texts_from}
+use Rattle.log_forms.specs.Printed.{Texts, after_text, Buffer, with_text, with_texts, PrintedInto, Printed, PrintedLines, SameBuffer, SameLine, texts_from}
 use Rattle.log_forms.specs.declared.Printer.{Printer}
 
 -- the buffer keeps its size
@@ -77,6 +77,26 @@ texts-size b (x ∷ texts) = texts-size (with_text b x) texts ∙ placed-size x 
 
 pub printed-length : {texts : Texts} {before : List ℕ} {at : ℕ} {after : List ℕ} {end : ℕ} → PrintedInto texts before at after end → length after ≡ length before
 printed-length {texts} {before} {at} p = ap (λ (b : Buffer). length b.bytes) p.buffer ∙ texts-size (record { bytes = before; place = at }) texts
+
+-- the same buffer, and the same line
+pub buffer_here : (p : Printer) → SameBuffer p p
+buffer_here p = record { same_reference = refl; room = refl }
+
+pub buffer_both : {before middle after : Printer} → SameBuffer before middle → SameBuffer middle after → SameBuffer before after
+buffer_both p q = record { same_reference = q.same_reference ∙ p.same_reference; room = q.room ∙ p.room }
+
+-- a line more, after those before it
+pub buffer_next : {before middle after : Printer} {n : ℕ} → SameBuffer before middle → SameBuffer (record middle { line = n }) after → SameBuffer before after
+buffer_next p q = record { same_reference = q.same_reference ∙ p.same_reference; room = q.room ∙ p.room }
+
+pub same_here : (p : Printer) → SameLine p p
+same_here p = record { buffer = buffer_here p; line = refl }
+
+pub same_printed : {texts : Texts} {before after : Printer} → Printed texts before after → SameLine before after
+same_printed p = record { buffer = record { same_reference = p.same_reference; room = printed-length p.into }; line = p.line }
+
+pub same_both : {before middle after : Printer} → SameLine before middle → SameLine middle after → SameLine before after
+same_both p q = record { buffer = buffer_both p.buffer q.buffer; line = q.line ∙ p.line }
 
 -- where all texts fit, they stand there as one
 both_bytes : (s t before middle : List ℕ) (at : ℕ) → at + length s ≤ length before → middle ≡ take at before ++ (s ++ drop (at + length s) before)

@@ -5,7 +5,7 @@ ghost use Rattle.std.specs.Prelude.{◌≡◌, ◌+◌, ◌<◌, ◌≤◌, leng
 ghost use Rattle.refusals.specs.declared.Refusal.{Refusal};
 ghost use Rattle.text_lines.specs.Lines.{lines, first_line};
 ghost use Rattle.log_forms.specs.declared.Printer.{Printer};
-ghost use Rattle.log_forms.specs.Printed.{Printed, PrintedLines};
+ghost use Rattle.log_forms.specs.Printed.{Printed, PrintedLines, SameBuffer, SameLine};
 ghost use Rattle.log_commands.specs.declared.Command.{Command};
 ghost use Rattle.log_commands.specs.Grammar.{command_read};
 ghost use Rattle.log_session.specs.declared.Session.{Session};
@@ -42,11 +42,13 @@ fn paging_of(read: Result<Command, Refusal>) -> Option<PageLine>
 }
 
 // A line that turns pages or asks for the open page. The bench itself is not needed: what a row of turns comes to is opened once, after the last.
+#[tactic(auto, using(log_forms::proofs::Printing::same_printed))]
 fn run_page(printer: &mut Printer<'_>, turner: &mut Turner, paging: PageLine)
     ensures last { turner.new.last ≡ turner.old.last }
     ensures run { (D : Desk) (read : Result Command Refusal) (session : Session) → Holds D session → session.bench.turner ≡ turner.old
         → paging_of read ≡ Some paging
         → Holds (effect D read).after (opened session turner.new.opened) × Printed (printed_of (effect D read) printer.old.line) printer.old printer.new }
+    ensures same { SameLine printer.old printer.new }
 {
     match paging {
         PageLine::Turn(pages) => {
@@ -58,18 +60,22 @@ fn run_page(printer: &mut Printer<'_>, turner: &mut Turner, paging: PageLine)
 }
 
 // A call on the bench, and what it prints.
+#[tactic(auto, using(log_forms::proofs::Printing::same_printed))]
 fn run_call(printer: &mut Printer<'_>, session: &mut Session, call: Call)
-    ensures { (D : Desk) → Holds D session.old
+    ensures run { (D : Desk) → Holds D session.old
         → Holds (call_effect D call).after session.new × Printed (printed_of (call_effect D call) printer.old.line) printer.old printer.new }
+    ensures same { SameLine printer.old printer.new }
 {
     let answer = log_session::make_call(session, call);
     calls::print_outcome(printer, answer, session.bench.turner, call);
 }
 
 // A line: what it leaves, and what it prints.
+#[tactic(auto, using(log_forms::proofs::Printing::same_printed))]
 fn run_command(printer: &mut Printer<'_>, session: &mut Session, read: Result<Command, Refusal>)
-    ensures { (D : Desk) → Holds D session.old
+    ensures run { (D : Desk) → Holds D session.old
         → Holds (effect D read).after session.new × Printed (printed_of (effect D read) printer.old.line) printer.old printer.new }
+    ensures same { SameLine printer.old printer.new }
 {
     match read {
         Ok(Command::Lend(lend)) => calls::run_lend(printer, session, lend),
@@ -77,7 +83,7 @@ fn run_command(printer: &mut Printer<'_>, session: &mut Session, read: Result<Co
         Ok(Command::Call(call)) => run_call(printer, session, call),
         Ok(Command::Vote(vote)) => votes::print_vote(printer, session, vote),
         Ok(Command::Ask(ask)) => questions::print_ask(printer, &session.bench, ask),
-        Err(refusal) => log_answers::print_refusal(printer, refusal),
+        Err(refusal) => log_answers::print_refusal(printer, refusal.number()),
     }
 }
 
@@ -99,6 +105,7 @@ fn run_turns(
     ensures run { (D : Desk) (before : Printer) (session : Session) → Running log.now D before start session printer.old limit → session.bench.turner ≡ turner.old
         → before.line + length log.now ≤ most_lines
         → Running log.now D before result (opened session turner.new.opened) printer.new limit }
+    ensures same { SameBuffer printer.old printer.new }
 {
     let mut from = start;
     while from < log.len() && printer.at <= limit {
@@ -120,6 +127,7 @@ pub fn run_some(printer: &mut Printer<'_>, session: &mut Session, log: &[u8], li
     ensures stops { Stops (length log.now) limit printer.old.at result printer.new.at }
     ensures run { (D : Desk) → Holds D session.old → printer.old.line + length log.now ≤ most_lines
         → Running log.now D printer.old result session.new printer.new limit }
+    ensures same { SameBuffer printer.old printer.new }
 {
     let mut from = 0;
     while from < log.len() && printer.at <= limit {
@@ -146,6 +154,7 @@ pub fn run_log(printer: &mut Printer<'_>, session: &mut Session, log: &[u8]) -> 
         → Holds (run_lines (begun D printer.old.line) (lines log.now)).desk session.new
         × (printer.new.line ≡ (run_lines (begun D printer.old.line) (lines log.now)).count)
         × PrintedLines (run_lines (begun D printer.old.line) (lines log.now)).printed printer.old printer.new }
+    ensures same { SameBuffer printer.old printer.new }
 {
     // no place is above the greatest number
     run_some(printer, session, log, usize::MAX);

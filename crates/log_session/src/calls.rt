@@ -1,7 +1,7 @@
 // The lines of a call log that lend, run and printed; and what a call prints.
-ghost use Rattle.std.specs.Prelude.{Ok};
+ghost use Rattle.std.specs.Prelude.{◌≡◌, Ok};
 ghost use Rattle.ledger.specs.Ledger.{call_told};
-ghost use Rattle.log_forms.specs.Printed.{Printed};
+ghost use Rattle.log_forms.specs.Printed.{Printed, SameLine};
 ghost use Rattle.log_session.specs.Desk.{Desk, printed_of};
 ghost use Rattle.log_session.specs.Lends.{lend_effect};
 ghost use Rattle.log_session.specs.calls.Lines.{Holds, pages_text, adoption_text, outcome_text};
@@ -60,15 +60,18 @@ pub fn print_outcome(
             Call::Adopt(_) => print_adoption(printer, accepted, turner),
             _ => print_pages(printer, accepted, turner),
         },
-        Err(refusal) => log_answers::print_refusal(printer, refusal),
+        Err(refusal) => log_answers::print_refusal(printer, refusal.number()),
     }
 }
 
 // A line that lends.
 // Kept: two lines, as for a line about votes (`votes::print_vote`).
+#[tactic(auto, using(log_forms::proofs::Printing::same_printed))]
 pub fn run_lend(printer: &mut Printer<'_>, session: &mut Session, lend: Lend)
-    ensures { (D : Desk) → Holds D session.old
+    ensures told { (D : Desk) → Holds D session.old
         → Holds (lend_effect D lend).after session.new × Printed (printed_of (lend_effect D lend) printer.old.line) printer.old printer.new }
+    ensures bench { session.new.bench ≡ session.old.bench }
+    ensures same { SameLine printer.old printer.new }
 {
     let told = crate::lend_line(session, lend);
     crate::print_refused(printer, told);

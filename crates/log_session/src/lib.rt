@@ -46,7 +46,8 @@ impl Session {
 
 // A line that lends.
 pub fn lend_line(session: &mut Session, lend: Lend) -> Result<(), Refusal>
-    ensures { (D : Desk) → Holds D session.old → (number_of result ≡ (lend_effect D lend).number) × Holds (lend_effect D lend).after session.new }
+    ensures told { (D : Desk) → Holds D session.old → (number_of result ≡ (lend_effect D lend).number) × Holds (lend_effect D lend).after session.new }
+    ensures bench { session.new.bench ≡ session.old.bench }
 {
     match lend {
         Lend::EditRow(k, cells) => session.lending.lend_edit(k, cells.into()),
@@ -68,8 +69,9 @@ pub fn lend_line(session: &mut Session, lend: Lend) -> Result<(), Refusal>
 
 // A call on the bench. What is lent stays.
 pub fn make_call(session: &mut Session, call: Call) -> Result<CallResult, Refusal>
-    ensures { (D : Desk) → Holds D session.old
+    ensures told { (D : Desk) → Holds D session.old
         → (told_outcome result session.new.bench ≡ replied D (request_of D call)) × Kept D.lent session.new.lending }
+    ensures lending { session.new.lending ≡ session.old.lending }
 {
     let bench = &mut session.bench;
     let lending = &session.lending;
@@ -85,10 +87,10 @@ pub fn make_call(session: &mut Session, call: Call) -> Result<CallResult, Refusa
 }
 
 // A refusal, if there is one.
-fn print_refused(printer: &mut Printer<'_>, told: Result<(), Refusal>)
+pub fn print_refused(printer: &mut Printer<'_>, told: Result<(), Refusal>)
     ensures { Printed (answered_text (number_of told) [] printer.old.line) printer.old printer.new }
 {
     if let Err(refusal) = told {
-        log_answers::print_refusal(printer, refusal);
+        log_answers::print_refusal(printer, refusal.number());
     }
 }

@@ -1,6 +1,6 @@
 // The questions of a call log, answered.
 ghost use Rattle.std.specs.Prelude.{◌≡◌};
-ghost use Rattle.log_forms.specs.Printed.{Printed};
+ghost use Rattle.log_forms.specs.Printed.{Printed, SameLine};
 ghost use Rattle.log_session.specs.Desk.{Desk, bench_in};
 ghost use Rattle.log_session.specs.questions.Questions.{ask_text};
 
@@ -11,8 +11,10 @@ use log_forms::Printer;
 
 // What a question prints.
 // Kept: `bench`, `printer`: as in `log_answers::bench_answers`.
+#[tactic(auto, using(log_forms::proofs::Printing::same_printed))]
 pub fn print_ask(printer: &mut Printer<'_>, bench: &Bench, ask: Ask)
-    ensures { (D : Desk) → bench.now ≡ bench_in D → Printed (ask_text ask D) printer.old printer.new }
+    ensures told { (D : Desk) → bench.now ≡ bench_in D → Printed (ask_text ask D) printer.old printer.new }
+    ensures same { SameLine printer.old printer.new }
 {
     match ask {
         Ask::Text => log_answers::print_record(printer, &bench.multilog),

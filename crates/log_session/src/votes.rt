@@ -8,7 +8,7 @@ ghost use Rattle.voting_roll.specs.Election.{Proposals};
 ghost use Rattle.voting_count.specs.Count.{count_of, count_told};
 ghost use Rattle.reasons_lent.specs.Asked.{reason_told};
 ghost use Rattle.text_reasons.specs.ReasonLine.{reason_line};
-ghost use Rattle.log_forms.specs.Printed.{Printed};
+ghost use Rattle.log_forms.specs.Printed.{Printed, SameLine};
 ghost use Rattle.log_lent.specs.Kept.{Kept};
 ghost use Rattle.log_session.specs.Desk.{Desk, bench_in, printed_of, accepted_text};
 ghost use Rattle.log_session.specs.votes.Votes.{election_line, bundle_text, rule_line, suggestion_text, test_line, winner_text, tally_text, proposal_effect, vote_effect};
@@ -25,7 +25,7 @@ use voting::ElectionResult;
 use voting_bundles::Bundled;
 use voting_count::Counted;
 
-fn print_election(printer: &mut Printer<'_>, election: ElectionResult)
+pub fn print_election(printer: &mut Printer<'_>, election: ElectionResult)
     ensures { Printed (election_line (election_told (Ok election))) printer.old printer.new }
 {
     printer.print(
@@ -91,9 +91,10 @@ fn print_test(printer: &mut Printer<'_>, sound: bool)
 
 // The election's answer; of one that is won the bundle.
 // Kept: that `won` and the bundle agree is a premise, as `voting_count::Counted` says.
-fn print_winner(printer: &mut Printer<'_>, edit: u32, counted: &Counted)
-    ensures { (P : Proposals) (roll : List RollRow) → count_told (Ok counted.now) ≡ count_of edit P roll → counted.now.election.won ≡ is_some counted.now.bundle
+pub fn print_winner(printer: &mut Printer<'_>, edit: u32, counted: &Counted)
+    ensures told { (P : Proposals) (roll : List RollRow) → count_told (Ok counted.now) ≡ count_of edit P roll → counted.now.election.won ≡ is_some counted.now.bundle
         → Printed (winner_text edit (count_told (Ok counted.now))) printer.old printer.new }
+    ensures same { SameLine printer.old printer.new }
 {
     print_election(printer, counted.election);
     if let Some(bundle) = &counted.bundle {
@@ -120,9 +121,11 @@ fn print_reason(printer: &mut Printer<'_>, edit: u32, reason: &Reason)
 }
 
 // Prints what an accepted line about votes answers.
+#[tactic(auto, using(log_forms::proofs::Printing::same_printed, log_forms::proofs::Printing::same_here))]
 fn answer_vote(printer: &mut Printer<'_>, session: &Session, vote: Vote) -> Result<(), Refusal>
-    ensures { (D : Desk) → Kept D.lent session.now.lending → session.now.bench.multilog ≡ (bench_in D).multilog
+    ensures told { (D : Desk) → Kept D.lent session.now.lending → session.now.bench.multilog ≡ (bench_in D).multilog
         → (number_of result ≡ (vote_effect D vote).number) × Printed (accepted_text result (vote_effect D vote).text) printer.old printer.new }
+    ensures same { SameLine printer.old printer.new }
 {
     let lending = &session.lending;
     match vote {
@@ -145,15 +148,18 @@ fn answer_vote(printer: &mut Printer<'_>, session: &Session, vote: Vote) -> Resu
 
 // What a line about votes prints.
 // Kept: two lines, as for a proposal. One function for both would take the answer as a closure, and its clause would have to say what that prints.
+#[tactic(auto, using(log_forms::proofs::Printing::same_printed, log_forms::proofs::Printing::same_both))]
 pub fn print_vote(printer: &mut Printer<'_>, session: &Session, vote: Vote)
-    ensures { (D : Desk) → Kept D.lent session.now.lending → session.now.bench.multilog ≡ (bench_in D).multilog
+    ensures told { (D : Desk) → Kept D.lent session.now.lending → session.now.bench.multilog ≡ (bench_in D).multilog
         → Printed (printed_of (vote_effect D vote) printer.old.line) printer.old printer.new }
+    ensures same { SameLine printer.old printer.new }
 {
     let told = answer_vote(printer, session, vote);
     crate::print_refused(printer, told);
 }
 
 // Makes a proposal from what is lent and prints it; kept, it takes the place of the old one.
+#[tactic(auto, using(log_forms::proofs::Printing::same_printed, log_forms::proofs::Printing::same_here))]
 fn answer_proposal(
     printer: &mut Printer<'_>,
     session: &mut Session,
@@ -164,6 +170,7 @@ fn answer_proposal(
         × (number_of result ≡ (proposal_effect D asked).number)
         × Printed (accepted_text result (proposal_effect D asked).text) printer.old printer.new }
     ensures bench { session.new.bench ≡ session.old.bench }
+    ensures same { SameLine printer.old printer.new }
 {
     let lending = &mut session.lending;
     let new = lent_proposals::propose_lent(lending, asked)?;
@@ -176,11 +183,13 @@ fn answer_proposal(
 
 // What a line that makes a proposal prints.
 // Kept: two lines, as for a line about votes.
+#[tactic(auto, using(log_forms::proofs::Printing::same_printed, log_forms::proofs::Printing::same_both))]
 pub fn print_proposal(printer: &mut Printer<'_>, session: &mut Session, asked: Proposing)
     ensures told { (D : Desk) → Kept D.lent session.old.lending
         → Kept (proposal_effect D asked).after.lent session.new.lending
         × Printed (printed_of (proposal_effect D asked) printer.old.line) printer.old printer.new }
     ensures bench { session.new.bench ≡ session.old.bench }
+    ensures same { SameLine printer.old printer.new }
 {
     let told = answer_proposal(printer, session, asked);
     crate::print_refused(printer, told);

@@ -5,7 +5,7 @@ ghost use Rattle.record.specs.Record as theory;
 ghost use Rattle.record.specs.Stored.{stored};
 ghost use Rattle.record.specs.Judgement as theory_judgement;
 ghost use Rattle.graph.specs.indexes.Fit.{Fit};
-ghost use Rattle.log_forms.specs.Printed.{Printed};
+ghost use Rattle.log_forms.specs.Printed.{Printed, SameLine};
 ghost use Rattle.log_session.specs.votes.Votes.{won_text};
 
 use graph::indexes;
@@ -37,7 +37,8 @@ fn verdict_of(multilog: Record, edit: u32) -> Verdict
 
 // The verdict on the edit, and the bundle.
 pub fn print_won(printer: &mut Printer<'_>, edit: u32, bundle: &Record)
-    ensures { (R : theory.Record) → bundle.now ≡ stored R → Fit R → edit among theory.names R → Printed (won_text edit bundle.now) printer.old printer.new }
+    ensures told { (R : theory.Record) → bundle.now ≡ stored R → Fit R → edit among theory.names R → Printed (won_text edit bundle.now) printer.old printer.new }
+    ensures same { SameLine printer.old printer.new }
 {
     let said = verdict_of(*bundle, edit);
     printer.print(

@@ -5,4 +5,4 @@ use Rattle.log_answers.proofs.print_refusal.Goals as goal
 
 pub returns : goal.returns
 unfolding refusal_line refusal_form bytes
-returns c = rw c.number.ensures at (rw c.from.ensures at c.print.ensures)
+returns c = rw c.from.ensures at c.print.ensures

@@ -7,4 +7,4 @@ pub returns-in_default : goal.returns-in_default
 returns-in_default c = rw c.in_default.is (printed-nothing c.args.printer.now)
 
 pub returns-in-Err : goal.returns-in-Err
-returns-in-Err c = rw c.in-Err.is (refused-so c.args.printer.now.line c.in-Err.refusal _ c.print_refusal.ensures)
+returns-in-Err c = rw c.in-Err.is (refused-so c.args.printer.now.line c.in-Err.refusal _ (rw c.number.ensures at c.print_refusal.ensures))

@@ -14,4 +14,4 @@ returns-in_default c = let e = pages-only c.args.call c.in_default.not-Adopt in 
 
 pub returns-in-Err : goal.returns-in-Err
 unfolding outcome_text
-returns-in-Err c = rw c.in-Err.is (refused-so c.args.printer.now.line c.in-Err.refusal _ c.print_refusal.ensures)
+returns-in-Err c = rw c.in-Err.is (refused-so c.args.printer.now.line c.in-Err.refusal _ (rw c.number.ensures at c.print_refusal.ensures))

@@ -6,30 +6,30 @@ use Rattle.log_session.proofs.Cases.{ledger-valid, bench-stored}
 use Rattle.log_session.proofs.questions.Answered.{asked}
 use Rattle.log_session.proofs.questions.print_ask.Goals as goal
 
-pub returns-in-Text : goal.returns-in-Text
+pub returns-in-Text-clause-told : goal.returns-in-Text-clause-told
 unfolding ask_text
-returns-in-Text c = λ D e. asked D c.in-Text.is (ap text_in e) c.print_record.ensures
+returns-in-Text-clause-told c = λ D e. asked D c.in-Text.is (ap text_in e) c.print_record.ensures
 
-pub returns-in-Report : goal.returns-in-Report
+pub returns-in-Report-clause-told : goal.returns-in-Report-clause-told
 unfolding ask_text
-returns-in-Report c = λ D e. asked D c.in-Report.is refl (c.print_report.ensures (ledger_of D).multilog (bench-stored D e) (ledger-valid D).checked)
+returns-in-Report-clause-told c = λ D e. asked D c.in-Report.is refl (c.print_report.ensures.told (ledger_of D).multilog (bench-stored D e) (ledger-valid D).checked)
 
-pub returns-in-Hidden : goal.returns-in-Hidden
+pub returns-in-Hidden-clause-told : goal.returns-in-Hidden-clause-told
 unfolding ask_text
-returns-in-Hidden c = λ D e. asked D c.in-Hidden.is (ap hidden_in e) c.print_hidden.ensures
+returns-in-Hidden-clause-told c = λ D e. asked D c.in-Hidden.is (ap hidden_in e) c.print_hidden.ensures
 
-pub returns-in-Schedule : goal.returns-in-Schedule
+pub returns-in-Schedule-clause-told : goal.returns-in-Schedule-clause-told
 unfolding ask_text
-returns-in-Schedule c = λ D e. asked D c.in-Schedule.is (ap schedule_in e) c.print_schedule.ensures
+returns-in-Schedule-clause-told c = λ D e. asked D c.in-Schedule.is (ap schedule_in e) c.print_schedule.ensures
 
-pub returns-in-Catalogue : goal.returns-in-Catalogue
+pub returns-in-Catalogue-clause-told : goal.returns-in-Catalogue-clause-told
 unfolding ask_text
-returns-in-Catalogue c = λ D e. asked D c.in-Catalogue.is (ap catalogue_in e) c.print_catalogue.ensures
+returns-in-Catalogue-clause-told c = λ D e. asked D c.in-Catalogue.is (ap catalogue_in e) c.print_catalogue.ensures
 
-pub returns-in-Journal : goal.returns-in-Journal
+pub returns-in-Journal-clause-told : goal.returns-in-Journal-clause-told
 unfolding ask_text
-returns-in-Journal c = λ D e. asked D c.in-Journal.is (ap journal_in e) c.print_journal.ensures
+returns-in-Journal-clause-told c = λ D e. asked D c.in-Journal.is (ap journal_in e) c.print_journal.ensures
 
-pub returns-in-Page : goal.returns-in-Page
+pub returns-in-Page-clause-told : goal.returns-in-Page-clause-told
 unfolding ask_text
-returns-in-Page c = λ D e. asked D c.in-Page.is (ap page_in e) c.print_page.ensures
+returns-in-Page-clause-told c = λ D e. asked D c.in-Page.is (ap page_in e) c.print_page.ensures
