@@ -1,14 +1,13 @@
 -- What each line that lends leaves. Assumes nothing.
-use mathlib.Core.Path.{◌≡◌, refl, sym, ap, ◌∙◌}
+use mathlib.Core.Path.{◌≡◌, refl, sym, ◌∙◌}
 use mathlib.Core.Bool.{true, false, cond, and-false}
-use mathlib.Core.List.{List, [], ◌∷◌, ◌++◌}
-use Prim.Native.Nat.{ℕ, ◌≤◌, ◌<◌}
+use mathlib.Core.List.{[]}
+use Prim.Native.Nat.{ℕ, ◌+◌, ◌≤◌, ◌<◌}
 use native.Mathlib.Omega.{arith}
 use lib.Dec.{eqb, leb, ltb}
-use lib.ListN.{length, take, length-append, length-take}
-use lib.Seq.{take_all, take-append-le}
+use lib.ListN.{length, set}
+use lib.Seq.{take_all}
 use borrow.Author.Tests.{lt-ltb, le-ltb, eq-eqb, ne_eqb, le-leb, lt-leb}
-use Rattle.arrayvec.specs.ArrayVec.{ArrayVec}
 use Rattle.record.specs.Record.{Record}
 use Rattle.lists.proofs.Lists.{by}
 use Rattle.record_tables.specs.Table.{edit_rows, constraint_rows}
@@ -21,20 +20,17 @@ use Rattle.log_lent.specs.declared.lent_tables.LentTables.{LentTables}
 use Rattle.log_lent.specs.Lent.{Lent, nothing_lent, is_lent, edit_places, constraint_places, roll_places, row_places, with, with_record, record_number, seat_number, with_seat, without_roll, name_number, with_name, without_row}
 use Rattle.log_lent.specs.Kept.{Kept}
 use Rattle.log_lent.specs.lent_tables.Tables.{Tables}
+use Rattle.log_lent.proofs.Listed.{listed-length, listed_same, listed-none, listed_more, first-full, first_one_more}
 
--- the first rows of a list that may be longer
-module _ {A : Type 0} (places : ℕ) (l : List A) (x : A) where
-  first-full : places ≤ length (take places l) → take places (l ++ (x ∷ [])) ≡ take places l
-  first-full h = take-append-le places l (x ∷ []) (omega (arith, length-take places l))
-
-  first_more : length (take places l) < places → take places (l ++ (x ∷ [])) ≡ take places l ++ (x ∷ [])
-  first_more h =
-      let m : length l < places = omega (arith, length-take places l) in
-      take_all places (l ++ (x ∷ [])) (rw (length-append l (x ∷ [])) (omega arith)) ∙ ap (λ (r : List A). r ++ (x ∷ [])) (sym (take_all places l (omega arith)))
-
-pub none_kept : {lending : Lending} → Tables (λ k. []) lending.edits.tables → Tables (λ k. []) lending.constraints.tables → lending.roll.items ≡ [] → lending.row.items ≡ [] → Kept nothing_lent lending
+pub none_kept : {lending : Lending} → Tables (λ k. []) lending.edits.tables → Tables (λ k. []) lending.constraints.tables
+    → length lending.roll ≡ roll_places → lending.roll_count ≡ 0 → length lending.row ≡ row_places → lending.row_count ≡ 0 → Kept nothing_lent lending
 unfolding nothing_lent
-none_kept S T m r = record { edits = S; constraints = T; roll = m ∙ sym (take_all 9 [] (omega arith)); row = r }
+none_kept S T s m r n = record {
+  edits = S;
+  constraints = T;
+  roll = record { rows = rw m (sym (take_all 9 [] (omega arith))); size = s; few = omega arith };
+  row = record { rows = rw n refl; size = r; few = omega arith };
+}
 
 -- the numbers of a row of the roll
 module _ (bench weight : ℕ) where
@@ -78,38 +74,31 @@ module _ {L : Lent} {lending : Lending} (K : Kept L lending) where
       seated : eqb (seat_number bench weight) 0 ≡ true
       seated = eq-eqb (seat_number bench weight) 0 (sym z)
 
-      pub seat-past : roll_places ≤ length lending.roll.items → (0 ≡ seat_number bench weight) × Kept (with_seat L bench weight) lending
+      pub seat-past : roll_places ≤ lending.roll_count → (0 ≡ seat_number bench weight) × Kept (with_seat L bench weight) lending
       unfolding with_seat
-      seat-past h = (
-        z,
-        rw (seated, ← q) (record { edits = K.edits; constraints = K.constraints; roll = K.roll ∙ sym (first-full roll_places L.roll seat (rw K.roll at h)); row = K.row }),
-      )
+      seat-past h = (z, rw (seated, ← q) (record { edits = K.edits; constraints = K.constraints; roll = first-full roll_places L.roll K.roll seat h; row = K.row }))
 
-      pub seat-lent : length lending.roll.items < roll_places → {roll : ArrayVec RollRow} → roll.items ≡ lending.roll.items ++ (seat ∷ [])
-          → (0 ≡ seat_number bench weight) × Kept (with_seat L bench weight) (record lending { roll = roll })
+      pub seat-lent : lending.roll_count < roll_places
+          → (0 ≡ seat_number bench weight) × Kept (with_seat L bench weight) (record lending { roll = set lending.roll lending.roll_count seat; roll_count = lending.roll_count + 1 })
       unfolding with_seat
-      seat-lent h e = (
-        z,
-        rw (seated, ← q)
-            (record { edits = K.edits; constraints = K.constraints; roll = e ∙ ap (λ (l : List RollRow). l ++ (seat ∷ [])) K.roll ∙ sym (first_more roll_places L.roll seat (rw K.roll at h)); row = K.row }),
-      )
+      seat-lent h = (z, rw (seated, ← q) (record { edits = K.edits; constraints = K.constraints; roll = first_one_more roll_places L.roll K.roll seat h; row = K.row }))
 
-  pub no-roll-lent : {roll : ArrayVec RollRow} → roll.items ≡ [] → Kept (without_roll L) (record lending { roll = roll })
+  pub no-roll-lent : Kept (without_roll L) (record lending { roll_count = 0 })
   unfolding without_roll
-  no-roll-lent e = record { edits = K.edits; constraints = K.constraints; roll = e ∙ sym (take_all 9 [] (omega arith)); row = K.row }
+  no-roll-lent = record { edits = K.edits; constraints = K.constraints; roll = listed_same (listed-none K.roll) (sym (take_all 9 [] (omega arith))); row = K.row }
 
-  pub no-row-lent : {row : ArrayVec ℕ} → row.items ≡ [] → Kept (without_row L) (record lending { row = row })
+  pub no-row-lent : Kept (without_row L) (record lending { row_count = 0 })
   unfolding without_row
-  no-row-lent e = record { edits = K.edits; constraints = K.constraints; roll = K.roll; row = e }
+  no-row-lent = record { edits = K.edits; constraints = K.constraints; roll = K.roll; row = listed-none K.row }
 
   module _ (name : ℕ) where
-    pub row-full : row_places ≤ length lending.row.items → (3 ≡ name_number L) × Kept (with_name L name) lending
+    pub row-full : row_places ≤ lending.row_count → (3 ≡ name_number L) × Kept (with_name L name) lending
     unfolding with_name name_number
-    row-full h = let e : leb 129 (length L.row) ≡ true = rw (sym K.row) (le-leb 129 (length lending.row.items) h) in rw e (refl, K)
+    row-full h = let e : leb 129 (length L.row) ≡ true = rw (listed-length K.row) (le-leb 129 lending.row_count h) in rw e (refl, K)
 
-    pub name-lent : length lending.row.items < row_places → {row : ArrayVec ℕ} → row.items ≡ lending.row.items ++ (name ∷ [])
-        → (0 ≡ name_number L) × Kept (with_name L name) (record lending { row = row })
+    pub name-lent : lending.row_count < row_places
+        → (0 ≡ name_number L) × Kept (with_name L name) (record lending { row = set lending.row lending.row_count name; row_count = lending.row_count + 1 })
     unfolding with_name name_number
-    name-lent h e =
-        let f : leb 129 (length L.row) ≡ false = rw (sym K.row) (lt-leb 129 (length lending.row.items) h) in
-        rw f (refl, record { edits = K.edits; constraints = K.constraints; roll = K.roll; row = e ∙ ap (λ (l : List ℕ). l ++ (name ∷ [])) K.row })
+    name-lent h =
+        let e : leb 129 (length L.row) ≡ false = rw (listed-length K.row) (lt-leb 129 lending.row_count h) in
+        rw e (refl, record { edits = K.edits; constraints = K.constraints; roll = K.roll; row = listed_more K.row h name })

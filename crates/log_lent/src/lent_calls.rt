@@ -81,7 +81,7 @@ pub fn test_lent(lending: &Lending, k: u32) -> Result<bool, Refusal>
     ensures { (L : Lent) → Kept L lending.now → Gives (lent_row_fault L k) (row_sound L k) result }
 {
     let place = crate::record_place(k)?;
-    lent_record::test_row(lending.record(place), lending.row.as_slice())
+    lent_record::test_row(lending.record(place), lending.row())
 }
 
 // Why an edit of record k must stand, or can never stand.

@@ -1,35 +1,72 @@
 // The nine lent tables of a kind, the edits or the constraints: one row more, other rows in the place of a table, and its rows.
-ghost use Rattle.std.specs.Prelude.{◌≡◌, [], cond, map, ℕ, ◌<◌, ◌≤◌, length};
+ghost use Rattle.std.specs.Prelude.{◌≡◌, [], ◌∷◌, ◌++◌, cond, map, ℕ, ◌<◌, ◌≤◌, leb, length};
 ghost use Rattle.refusals.specs.Numbers.{number_of};
 ghost use Rattle.record_rows.specs.row.Row.{edit_width};
 ghost use Rattle.record_rows.specs.grounds.Ground.{Rows};
 ghost use Rattle.log_lent.specs.Lent.{lent_records, is_lent, with, constraint_places, rows_fault, added, record_number};
+ghost use Rattle.log_lent.specs.Listed.{Listed};
 ghost use Rattle.log_lent.specs.lent_tables.Tables.{Tables};
 
 use crate::RECORDS;
-use arrayvec::ArrayVec;
 use record_rows::element::Element;
 use refusals::Refusal;
+
+// The rows of a table, in the first places of an array.
+// Kept: an array with its count, as in a record: what is lent is Copy, which the library's ArrayVec is not.
+#[derive(Clone, Copy)]
+struct KeptRows<const CELLS: usize, const PLACES: usize> {
+    rows: [[u32; CELLS]; PLACES],
+    count: usize,
+}
+
+impl<const CELLS: usize, const PLACES: usize> KeptRows<CELLS, PLACES> {
+    // Its rows.
+    // Kept: as those of a record, one line over a field and its count.
+    fn as_slice(&self) -> &[[u32; CELLS]]
+        ensures { (rows : Rows) → Listed PLACES rows self.now.rows self.now.count → result.now ≡ rows }
+    {
+        &self.rows[..self.count.min(PLACES)]
+    }
+
+    // Whether no row has a place.
+    fn is_full(&self) -> bool
+        ensures { result ≡ leb PLACES self.now.count }
+    {
+        PLACES <= self.count
+    }
+
+    // One row more, if it has a place.
+    fn push(&mut self, row: [u32; CELLS])
+        ensures { (rows : Rows) → Listed PLACES rows self.old.rows self.old.count → length rows < PLACES
+            → Listed PLACES (rows ++ (row.entry ∷ [])) self.new.rows self.new.count }
+    {
+        if self.count < PLACES {
+            self.rows[self.count] = row;
+            self.count += 1;
+        }
+    }
+}
 
 // The nine lent tables of a kind.
 // Kept: `CELLS ≤ edit_width`: a clause, since `new` has no kind of element of which a law could say it; as an invariant it was tried, and an element of
 // an array in a struct with such a field was lent to no method (`refill`).
-#[derive(Drop)]
+#[derive(Clone, Copy)]
 pub struct LentTables<const CELLS: usize, const PLACES: usize> {
-    tables: [ArrayVec<[u32; CELLS], PLACES>; RECORDS],
+    tables: [KeptRows<CELLS, PLACES>; RECORDS],
 }
 
 // A table is these elements, if each has a place.
 fn refill<T: Element<CELLS>, const CELLS: usize, const PLACES: usize>(
-    table: &mut ArrayVec<[u32; CELLS], PLACES>,
+    table: &mut KeptRows<CELLS, PLACES>,
     elements: &[T],
 )
     requires narrow { CELLS ≤ edit_width }
-    ensures { length elements.now ≤ PLACES → table.new.items ≡ map T.row_of elements.now }
+    ensures { (rows : Rows) → Listed PLACES rows table.old.rows table.old.count → length elements.now ≤ PLACES
+        → Listed PLACES (map T.row_of elements.now) table.new.rows table.new.count }
 {
-    table.clear();
+    table.count = 0;
     for element in elements {
-        let _pushed = table.try_push(element.row());
+        table.push(element.row());
     }
 }
 
@@ -39,8 +76,12 @@ impl<const CELLS: usize, const PLACES: usize> LentTables<CELLS, PLACES> {
         requires short { PLACES ≤ constraint_places }
         ensures { Tables (λ k. []) result.tables }
     {
+        let none = KeptRows {
+            rows: [[0; CELLS]; PLACES],
+            count: 0,
+        };
         LentTables {
-            tables: Default::default(),
+            tables: [none; RECORDS],
         }
     }
 
@@ -75,7 +116,8 @@ impl<const CELLS: usize, const PLACES: usize> LentTables<CELLS, PLACES> {
         if RECORDS <= k {
             return &[];
         }
-        let table = &self.tables[k];
+        let tables = &self.tables[..];
+        let table = &tables[k];
         table.as_slice()
     }
 }

@@ -15,7 +15,6 @@ ghost use Rattle.log_lent.specs.Lent.{Lent, nothing_lent, lent_records, edit_pla
 ghost use Rattle.log_lent.specs.Kept.{Kept};
 ghost use Rattle.log_lent.specs.lent_calls.Calls.{proposals_of};
 
-use arrayvec::ArrayVec;
 use lent_tables::LentTables;
 use record::{CONSTRAINTS, EDITS, Record};
 use record_rows::row::{CONSTRAINT_CELLS, ConstraintRow, EDIT_CELLS, EditRow, LentRecord};
@@ -37,12 +36,15 @@ const ROLL_PLACES: usize = BENCHES + 1;
 
 // The tables of the nine records; the first rows of the roll; the row to be tested.
 // Kept: `Kept L`: a desk's roll may be longer than the nine rows that are kept, so that no view of a Lending gives the desk back.
-#[derive(Drop)]
+// Kept: arrays with their counts, as those of a table (`KeptRows`).
+#[derive(Clone, Copy)]
 pub struct Lending {
     edits: LentTables<EDIT_CELLS, EDIT_PLACES>,
     constraints: LentTables<CONSTRAINT_CELLS, CONSTRAINT_PLACES>,
-    roll: ArrayVec<RollRow, ROLL_PLACES>,
-    row: ArrayVec<u32, ROW_PLACES>,
+    roll: [RollRow; ROLL_PLACES],
+    roll_count: usize,
+    row: [u32; ROW_PLACES],
+    row_count: usize,
 }
 
 // The place of record k among those that lines lend to.
@@ -74,8 +76,10 @@ impl Lending {
         Lending {
             edits: LentTables::new(),
             constraints: LentTables::new(),
-            roll: ArrayVec::new(),
-            row: ArrayVec::new(),
+            roll: [RollRow::default(); ROLL_PLACES],
+            roll_count: 0,
+            row: [0; ROW_PLACES],
+            row_count: 0,
         }
     }
 
@@ -96,8 +100,16 @@ impl Lending {
     {
         Poll {
             proposals: array::from_fn(|k| self.record(k + 1)),
-            roll: self.roll.as_slice(),
+            roll: &self.roll[..self.roll_count.min(ROLL_PLACES)],
         }
+    }
+
+    // The row to be tested.
+    // Kept: as the slices of a record, one line over a field and its count.
+    pub fn row(&self) -> &[u32]
+        ensures { (L : Lent) → Kept L self.now → result.now ≡ L.row }
+    {
+        &self.row[..self.row_count.min(ROW_PLACES)]
     }
 
     // A row of edits for record k.
@@ -129,8 +141,9 @@ impl Lending {
         ensures { (L : Lent) → Kept L self.old → (number_of result ≡ seat_number bench weight) × Kept (with_seat L bench weight) self.new }
     {
         let seat = seat_of(bench, weight)?;
-        if !self.roll.is_full() {
-            self.roll.push(seat);
+        if self.roll_count < ROLL_PLACES {
+            self.roll[self.roll_count] = seat;
+            self.roll_count += 1;
         }
         Ok(())
     }
@@ -139,17 +152,18 @@ impl Lending {
     pub fn lend_no_roll(&mut self)
         ensures { (L : Lent) → Kept L self.old → Kept (without_roll L) self.new }
     {
-        self.roll.clear();
+        self.roll_count = 0;
     }
 
     // A name of the row to be tested.
     pub fn lend_name(&mut self, name: u32) -> Result<(), Refusal>
         ensures { (L : Lent) → Kept L self.old → (number_of result ≡ name_number L) × Kept (with_name L name) self.new }
     {
-        if self.row.is_full() {
+        if ROW_PLACES <= self.row_count {
             return Err(Refusal::NoPlace);
         }
-        self.row.push(name);
+        self.row[self.row_count] = name;
+        self.row_count += 1;
         Ok(())
     }
 
@@ -157,6 +171,6 @@ impl Lending {
     pub fn lend_no_row(&mut self)
         ensures { (L : Lent) → Kept L self.old → Kept (without_row L) self.new }
     {
-        self.row.clear();
+        self.row_count = 0;
     }
 }

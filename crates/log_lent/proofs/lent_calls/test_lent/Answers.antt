@@ -12,4 +12,4 @@ returns c =
     λ L K.
     let q = c.in_ok-place.ensures in
     let r = c.record.ensures L K (omega (arith, q.0, q.1)) in
-    row-given L _ _ q.1 c.test_row.ensures (r.0 ∙ ap L.edits q.0) (r.1 ∙ ap L.constraints q.0) (c.as_slice.ensures.value ∙ K.row)
+    row-given L _ _ q.1 c.test_row.ensures (r.0 ∙ ap L.edits q.0) (r.1 ∙ ap L.constraints q.0) (c.row.ensures L K)

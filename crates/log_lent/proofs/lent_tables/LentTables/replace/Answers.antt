@@ -2,7 +2,7 @@
 use mathlib.Core.Path.{◌≡◌}
 use borrow.Author.Rules.{rules}
 use Rattle.refusals.specs.Numbers.{number_of}
-use Rattle.log_lent.proofs.lent_tables.Rows.{replaced, not-replaced}
+use Rattle.log_lent.proofs.lent_tables.Rows.{kept-rows, replaced, not-replaced}
 use Rattle.log_lent.proofs.lent_tables.LentTables.replace.Goals as goal
 
 pub returns-in_err-table : goal.returns-in_err-table
@@ -12,4 +12,4 @@ returns-in_err-table g c =
     λ tables T few. rw n (not-replaced T _ e.1 _)
 
 pub returns : goal.returns
-returns g c = λ tables T few. let q = c.in_ok-table.ensures in replaced T q.0 q.1 (c.refill.ensures few)
+returns g c = λ tables T few. let q = c.in_ok-table.ensures in replaced T q.0 q.1 (c.refill.ensures _ (kept-rows T q.0 q.1 _) few)
