@@ -133,6 +133,21 @@ fn replayed<T: Fn(&[u8]) -> Result<(), Failed>>(
     run_lines(memory, &chunk[..rest], tell)
 }
 
+// A whole file from an empty bench.
+// Kept: `callable`, `memory` and `tell`, as above.
+fn replayed_first<T: Fn(&[u8]) -> Result<(), Failed>>(
+    rt: &impl Eprint,
+    file: &mut impl Read,
+    memory: &mut Memory,
+    tell: &T,
+) -> Result<(), Failed>
+    requires callable { T.IsAlwaysCallable tell.now }
+    requires first { Ran (begun empty_desk 0) memory.old }
+    ensures { OnOk result (Streamed (begun empty_desk 0) memory.new) }
+{
+    replayed(rt, file, memory, tell)
+}
+
 // A kept log, of which nothing is printed, and then the lines on standard input.
 fn continued(
     rt: &(impl Input + Print + Eprint),
@@ -142,7 +157,7 @@ fn continued(
     requires first { Ran (begun empty_desk 0) memory.old }
     ensures { OnOk result (Continued memory.new) }
 {
-    replayed(rt, kept, memory, &|_answers: &[u8]| Ok(()))?;
+    replayed_first(rt, kept, memory, &|_answers: &[u8]| Ok(()))?;
     let mut input = rt.reader();
     replayed(
         rt,
@@ -156,7 +171,7 @@ fn continued(
 pub fn replay_input(rt: &(impl Input + Print + Eprint)) {
     let mut memory = Memory::empty();
     let mut input = rt.reader();
-    let _ = replayed(
+    let _ = replayed_first(
         rt,
         &mut input,
         &mut memory,
