@@ -58,7 +58,8 @@ pub fn add_constraint(joined: Record, row: ConstraintRow) -> Result<Record, Refu
 }
 
 // The rows of a table, those past its count empty.
-// Kept: as `record_union`'s elements of rows, the other way.
+// Kept: here and in `record_union::elements_of`: a function of a slice, a closure and a filler for both would be handed a closure whose result is of a
+// type that it does not capture, which the borrow checker refuses where the type is a parameter.
 fn rows_of<const CELLS: usize, const PLACES: usize, T: Element<CELLS>>(
     elements: &[T],
 ) -> [[u32; CELLS]; PLACES]

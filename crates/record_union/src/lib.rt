@@ -4,7 +4,7 @@
 
 pub mod refusal;
 
-ghost use Rattle.std.specs.Prelude.{◌≡◌, map, ◌≤◌, get_or, length, drop};
+ghost use Rattle.std.specs.Prelude.{◌≡◌, map, ◌≤◌, length, drop};
 ghost use Rattle.record.specs.Record as theory;
 ghost use Rattle.record.specs.Stored.{padded, stored, edit_limit, constraint_limit};
 ghost use Rattle.lists.specs.Keyed.{united};
@@ -14,28 +14,20 @@ ghost use Rattle.record_union.specs.Union.{Unites, chosen, united_in};
 use record::{CONSTRAINTS, Constraint, EDITS, Edit, Record};
 use record_rows::element::Element;
 use record_rows::row::{CONSTRAINT_CELLS, EDIT_CELLS, LentRecord};
-use std::array;
 
 // The elements that rows are, and the filler after them.
-// Kept: here and in `record_joining::rows_of`: a function of a slice, a closure and a filler for both would be handed a closure whose result is of a
-// type that it does not capture, which the borrow checker refuses where the type is a parameter.
+// Kept: a loop over the rows that are there. `array::from_fn` would ask at each place whether there is a row: a small record has few of its 639.
 fn elements_of<const CELLS: usize, const PLACES: usize, T: Element<CELLS>>(
     t: &[[u32; CELLS]],
 ) -> [T; PLACES]
     requires { length t.now ≤ PLACES }
     ensures { result ≡ padded PLACES T.filler (map T.element_of t.now) }
 {
-    let filler = T::filler();
-    array::from_fn(
-        |i| -> T
-            ensures { result ≡ get_or (map T.element_of t.entry.now) i filler }
-        {
-            match t.get(i) {
-                Some(row) => T::of(row),
-                None => filler,
-            }
-        },
-    )
+    let mut elements = [T::filler(); PLACES];
+    for (i, row) in t.iter().enumerate() {
+        elements[i] = T::of(row);
+    }
+    elements
 }
 
 // A lent record within the limits as a record.
