@@ -3,20 +3,18 @@ use mathlib.Core.Path.{◌≡◌, refl, sym, ap, ◌∙◌}
 use mathlib.Core.Bool.{Bool, true, false}
 use mathlib.Core.List.{List, [], ◌∷◌, map}
 use Prim.Native.Nat.{ℕ, zero, suc, ◌+◌, ◌-◌, ◌≤◌, ◌<◌}
-use Rattle.std.specs.Bool.{MatchBool}
-use Rattle.std.specs.List.{AllWithin, HoldsAt}
 use native.Mathlib.Omega.{arith}
 use lib.Dec.{leb}
-use lib.ListN.{length, get_or, length-map}
+use lib.ListN.{length, get_or, set, length-map}
+use lib.Seq.{get_or-set_same, get_or-set_other}
 use borrow.Author.Tests.{leb-true}
 use Rattle.record.specs.declared.Record as declared
 use Rattle.lists.specs.Lists.{all}
-use Rattle.record.specs.Record.{Record}
 use Rattle.record.specs.Stored.{stored, empty_record}
 use Rattle.record.specs.Judgement.{sound}
 use Rattle.graph.specs.indexes.Fit.{Fit}
 use Rattle.graph.proofs.indexes.Fit.{checked-fit}
-use Rattle.lists.proofs.Lists.{and_l, and_r, get_or-mapped}
+use Rattle.lists.proofs.Lists.{is-by, and_l, and_r, get_or-mapped}
 use Rattle.std.proofs.lemmas.List.FromFn.{fill_by_all}
 use Rattle.record_rows.specs.row.Row.{edit_of, constraint_of}
 use Rattle.record_rows.specs.grounds.Ground.{Rows}
@@ -55,46 +53,39 @@ proposal-stored rows cells es cs k a b ea eb r f h =
     let c = lent-checked x y (sym (fault-at rows cells es cs k a b ea eb) ∙ h) in
     f (omega (arith, c.editplaces, length-map x edit_of)) (omega (arith, c.constraintplaces, length-map y constraint_of)) ∙ ap stored (sym (held_at rows cells es cs k a b ea eb))
 
--- the eight decoded records are the proposals
-module _ {A B : Type 0} (rows : A → Rows) (cells : B → Rows) (es : List A) (cs : List B) (a : A) (b : B) (ea : rows a ≡ []) (eb : cells b ≡ []) where
-  pub proposals-decoded : (l : List declared.Record) → length l ≡ 8
-      → ((k : ℕ) (d : declared.Record) → k < 8 → length (rows (get_or es k a)) ≤ 127 → length (cells (get_or cs k b)) ≤ 512 → get_or l k d ≡ stored (decoded (rows (get_or es k a)) (cells (get_or cs k b))))
-      → Faultless (lent_proposals (map rows es) (map cells cs)) → l ≡ decoded_proposals (lent_proposals (map rows es) (map cells cs))
-  unfolding decoded_proposals
-  proposals-decoded l e f h =
-      let P = lent_proposals (map rows es) (map cells cs) in
-      fill_by_all (λ k. stored (held P (k + 1))) l 8 empty_record e
-      (λ k lt. proposal-stored rows cells es cs k a b ea eb (get_or l k empty_record) (f k empty_record lt) (bench-faultless P h k lt))
-
 -- the proposal of bench k + 1 among them
 pub decoded-at : (P : Proposals) (l : List declared.Record) → l ≡ decoded_proposals P → (k : ℕ) (d : declared.Record) → k < 8 → get_or l k d ≡ stored (held P (k + 1))
 unfolding decoded_proposals
 decoded-at P l e k d h = rw e (get_or-mapped (λ b. stored (held P b)) benches k 0 d h ∙ ap (λ b. stored (held P b)) (bench-at k h))
-
--- what the judgement tells of a stored record
-abbrev pub Judges : declared.Record → Bool → Type 0
-Judges r b = (R : Record) → r ≡ stored R → Fit R → b ≡ sound R
 
 every : (p : ℕ → Bool) (l : List ℕ) → ((k : ℕ) → k < length l → true ≡ p (get_or l k 0)) → true ≡ all p l
 unfolding all
 every p [] h = refl
 every p (x ∷ l) h = rw (← h 0 (omega arith)) (every p l (λ k e. h (suc k) (omega arith)))
 
-module _ (P : Proposals) (l : List declared.Record) (e : l ≡ decoded_proposals P) (h : Faultless P) where
-  sound-at : (k : ℕ) → k < 8 → (b : Bool) → Judges (get_or l k empty_record) b → b ≡ sound (held P (get_or benches k 0))
-  sound-at k i b f =
-      f (held P (k + 1)) (decoded-at P l e k empty_record i) (checked-fit (held P (k + 1)) (held-checked P (k + 1) (bench-faultless P h k i))) ∙ ap (λ x. sound (held P x)) (sym (bench-at k i))
+-- THE PROPOSALS ONE AFTER THE OTHER: below place k they are decoded, and sound
+abbrev pub DecodedSound : Proposals → List declared.Record → ℕ → Type 0
+DecodedSound P l k = (j : ℕ) → j < k → (get_or l j empty_record ≡ stored (held P (j + 1))) × (sound (held P (j + 1)) ≡ true)
 
-  decoded-length : length l ≡ 8
-  unfolding decoded_proposals
-  decoded-length = rw e (length-map benches (λ k. stored (held P k)))
+module _ (P : Proposals) where
+  pub proposal-fit : Faultless P → (k : ℕ) → k < 8 → Fit (held P (k + 1))
+  proposal-fit h k i = checked-fit (held P (k + 1)) (held-checked P (k + 1) (bench-faultless P h k i))
 
-  pub all-sound : (r : Bool)
-      → MatchBool r (AllWithin (λ x. Judges x true) l 0 (length l)) ((k : ℕ) × (k < length l) × HoldsAt (λ x. Judges x false) l k) → r ≡ all (λ k. sound (held P k)) benches
-  all-sound true w = every (λ k. sound (held P k)) benches (λ k i. sound-at k i true (w k empty_record (omega arith) (omega (arith, decoded-length))))
-  all-sound false w =
-      let i : w.0 < 8 = omega (arith, w.1, decoded-length) in
-      sym (all-broken (λ k. sound (held P k)) benches 8 w.0 0 i (omega arith) (sym (sound-at w.0 i false (w.2 empty_record))))
+  pub one-unsound : (k : ℕ) → k < 8 → sound (held P (k + 1)) ≡ false → false ≡ all (λ k. sound (held P k)) benches
+  one-unsound k i e = sym (all-broken (λ k. sound (held P k)) benches 8 k 0 i (omega arith) (ap (λ b. sound (held P b)) (bench-at k i) ∙ e))
+
+  pub one-more-sound : (l : List declared.Record) (k : ℕ) → k < length l → DecodedSound P l k → (r : declared.Record) → r ≡ stored (held P (k + 1)) → sound (held P (k + 1)) ≡ true
+      → DecodedSound P (set l k r) (k + 1)
+  one-more-sound l k n w r q s j m =
+      is-by j k (λ e. rw (e, get_or-set_same l k r empty_record n) (q, s)) (λ e. rw (get_or-set_other l k j r empty_record e) (w j (omega (arith, e))))
+
+  module _ (l : List declared.Record) (k : ℕ) (i : 8 ≤ k) (w : DecodedSound P l k) where
+    pub all-sound : true ≡ all (λ k. sound (held P k)) benches
+    all-sound = every (λ k. sound (held P k)) benches (λ j m. sym (ap (λ b. sound (held P b)) (bench-at j m) ∙ (w j (omega arith)).1))
+
+    pub all-decoded : length l ≡ 8 → l ≡ decoded_proposals P
+    unfolding decoded_proposals
+    all-decoded e = fill_by_all (λ j. stored (held P (j + 1))) l 8 empty_record e (λ j m. (w j (omega arith)).0)
 
 -- a bench of the roll
 pub proposal-bench-low : (row : RollRow) → is_bench row ≡ true → (1 ≤ row.bench) × (row.bench ≤ 8)

@@ -8,8 +8,9 @@ use Rattle.record.specs.Judgement.{sound}
 use Rattle.record_rows.specs.row.Row.{is_name}
 use Rattle.record_rows.specs.grounds.Ground.{◌given◌, ◌orelse◌}
 use Rattle.voting.specs.declared.RollRow.{RollRow}
+use Rattle.voting.specs.Tally.{winner}
 use Rattle.voting_roll.specs.Election.{Proposals, held, benches, cast}
-use Rattle.voting_tally.specs.Groups.{result_of, tally_of}
+use Rattle.voting_tally.specs.Groups.{result_of, tally_of, held_bundle}
 use Rattle.voting_count.specs.declared.Counting.{Counting}
 use Rattle.voting_count.specs.Tallied.{beginnings}
 
@@ -24,9 +25,9 @@ known_name_fault e P = 2 given not (is_name e) orelse 5 given not (any (λ k. me
 unfoldable pub whole_fault : ℕ → Proposals → ℕ
 whole_fault e P = known_name_fault e P orelse 8 given not (all (λ k. sound (held P k)) benches)
 
--- the tally of the rows, and what the election comes to on each beginning of them
+-- what the election comes to on the rows, and on each beginning of them
 abbrev pub counting_of : ℕ → Proposals → List RollRow → Counting
 counting_of e P rows = record {
-  tally = tally_of (cast e P rows);
+  counted = record { election = (tally_of (cast e P rows)).election; bundle = held_bundle (winner (cast e P rows)) };
   answers = record { items = map (λ b. result_of (cast e P b)) (beginnings rows) };
 }

@@ -2,7 +2,7 @@
 // and before the first and after each the tally holds the election's answer on the rows so far (document 02, A4).
 #![tactic(auto)]
 
-ghost use Rattle.std.specs.Prelude.{◌≡◌, ◌≤◌, IfOk};
+ghost use Rattle.std.specs.Prelude.{◌≡◌, ◌≤◌, true, not, IfOk};
 ghost use Rattle.std.proofs.Math.Option.{none};
 ghost use Rattle.record.specs.Record as theory;
 ghost use Rattle.lists.specs.Lists.{any, all, mem};
@@ -27,9 +27,8 @@ use record_rows::row;
 use record_rows::row::{EditRow, LentRecord};
 use record_tables::lookup;
 use refusals::Refusal;
-use std::array;
 use voting::{BENCHES, ElectionResult, RollRow};
-use voting_tally::{Cast, Tally, Vote};
+use voting_tally::{Cast, Vote};
 
 // The proposals of the eight benches, an empty one for a bench that has none.
 pub type LentProposals<'a> = [LentRecord<'a>; BENCHES];
@@ -56,10 +55,11 @@ pub struct Counted {
     pub bundle: Option<Record>,
 }
 
-// The count of a roll's rows: their tally, and the answers of the election before the first of them and after each.
+// The count of a roll's rows: what the election comes to, and its answers before the first of them and after each. Without their tally: its bundles,
+// one to each bench, would be set to zeros wherever a caller has a place for them, also for a call that is refused.
 #[derive(Drop)]
 struct Counting {
-    tally: Tally,
+    counted: Counted,
     answers: AnswersSoFar,
 }
 
@@ -127,18 +127,20 @@ fn known_name(edit: u32, proposals: &LentProposals) -> Result<u16, Refusal>
     Ok(name)
 }
 
-// The proposals as records, where their rows have no fault.
-fn decoded(proposals: &LentProposals) -> [Record; BENCHES]
-    ensures { Faultless (lent proposals.now) → result ≡ decoded_proposals (lent proposals.now) }
+// Whether all eight proposals are sound, those off the roll too; the table then holds them. Each is judged as soon as it is decoded, so that those after
+// the first that is not sound are never decoded.
+fn decode_sound(proposals: &LentProposals, records: &mut [Record; BENCHES]) -> bool
+    ensures judged { Faultless (lent proposals.now) → result ≡ all (λ k. sound (held (lent proposals.now) k)) benches }
+    ensures decoded { Faultless (lent proposals.now) → result ≡ true → records.new ≡ decoded_proposals (lent proposals.now) }
 {
-    array::from_fn(|k| record_union::decode(proposals[k]))
-}
-
-// Whether all eight proposals are sound, those off the roll too.
-fn all_sound(proposals: &[Record; BENCHES]) -> bool
-    ensures { (P : Proposals) → Faultless P → proposals.now ≡ decoded_proposals P → result ≡ all (λ k. sound (held P k)) benches }
-{
-    proposals.iter().all(|proposal| judgement::sound(*proposal))
+    for (k, proposal) in proposals.iter().enumerate() {
+        let record = record_union::decode(*proposal);
+        if !judgement::sound(record) {
+            return false;
+        }
+        records[k] = record;
+    }
+    true
 }
 
 // The vote of a bench: that of its proposal.
@@ -167,7 +169,13 @@ fn count_rows(
         tally.add_vote(row.weight, &cast);
         answers.push(tally.election);
     }
-    Ok(Counting { tally, answers })
+    Ok(Counting {
+        counted: Counted {
+            election: tally.election,
+            bundle: tally.won_bundle(),
+        },
+        answers,
+    })
 }
 
 // The refusal of a call for a fault of the whole: a fault of the roll comes before it.
@@ -180,6 +188,20 @@ fn after_roll(roll: &[RollRow], refusal: Refusal) -> Refusal
     }
 }
 
+// The count of an election on a known edit, where no row of the proposals has a fault.
+// Not inlined: its table of records and its tally are set to zeros on entry, which a call that is refused before would pay for too.
+#[inline(never)]
+fn count_sound(name: u16, poll: &Poll) -> Result<Counting, Refusal>
+    ensures { Faultless (lent poll.now.proposals) → Gives (14 given roll_faulty poll.now.roll.now orelse 8 given not (all (λ k. sound (held (lent poll.now.proposals) k)) benches))
+        (counting_of name (lent poll.now.proposals) poll.now.roll.now) result }
+{
+    let mut proposals = [record::empty(); BENCHES];
+    if !decode_sound(&poll.proposals, &mut proposals) {
+        return Err(after_roll(poll.roll, Refusal::Unsound));
+    }
+    count_rows(name, &proposals, poll.roll)
+}
+
 // The count of an election on an edit. The grounds: rows of the proposals by bench, the roll, then the faults of the whole call. These are looked for
 // before a vote is made; where there is one, the roll is walked for its own fault alone.
 fn counting_for(edit: u32, poll: &Poll) -> Result<Counting, Refusal>
@@ -190,11 +212,7 @@ fn counting_for(edit: u32, poll: &Poll) -> Result<Counting, Refusal>
         Ok(name) => name,
         Err(refusal) => return Err(after_roll(poll.roll, refusal)),
     };
-    let proposals = decoded(&poll.proposals);
-    if !all_sound(&proposals) {
-        return Err(after_roll(poll.roll, Refusal::Unsound));
-    }
-    count_rows(name, &proposals, poll.roll)
+    count_sound(name, poll)
 }
 
 // THE COUNT of an election on an edit.
@@ -202,18 +220,14 @@ pub fn count(edit: u32, poll: &Poll) -> Result<Counted, Refusal>
     ensures told { count_told result ≡ count_of edit (lent poll.now.proposals) poll.now.roll.now }
     ensures bundle { IfOk result (λ c. c.bundle ≡ held_bundle (winner (cast edit (lent poll.now.proposals) poll.now.roll.now))) }
 {
-    let tally = counting_for(edit, poll)?.tally;
-    Ok(Counted {
-        election: tally.election,
-        bundle: tally.won_bundle(),
-    })
+    Ok(counting_for(edit, poll)?.counted)
 }
 
 // THE ANSWER of an election on an edit.
 pub fn election(edit: u32, poll: &Poll) -> Result<ElectionResult, Refusal>
     ensures { election_told result ≡ election_of edit (lent poll.now.proposals) poll.now.roll.now }
 {
-    Ok(counting_for(edit, poll)?.tally.election)
+    Ok(counting_for(edit, poll)?.counted.election)
 }
 
 // THE ANSWERS SO FAR of an election on an edit: before the first row of the roll and after each.

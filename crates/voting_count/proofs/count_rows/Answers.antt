@@ -10,6 +10,7 @@ use Rattle.lists.proofs.Front.{take_more}
 use Rattle.record_rows.proofs.grounds.Grounds.{given-none}
 use Rattle.voting.specs.declared.ElectionResult.{ElectionResult}
 use Rattle.voting.specs.declared.RollRow.{RollRow}
+use Rattle.voting_roll.specs.Election.{cast}
 use Rattle.voting_roll.specs.Roll.{roll_faulty, row_faulty}
 use Rattle.voting_roll.proofs.Rolls.{no-rows-faultless, row-passed, row-refused}
 use Rattle.voting_count.proofs.Proposals.{proposal-bench-low}
@@ -63,4 +64,5 @@ returns c = λ P h k.
     let whole : take c.loop-i.i rows ≡ rows = take_all c.loop-i.i rows c.loop-i-test.false in
     let counted : RowsCounted c.args.name P rows c.loop-i.tally c.loop-i.answers.items = rw whole at (w.2 P h k) in
     let f : roll_faulty rows ≡ false = rw whole at w.0 in
-    (rw f refl, λ i. record { tally = counted.tally-is i; answers = record { items = counted.answers-are i } })
+    let bundle = c.won_bundle.ensures (cast c.args.name P rows) counted.tally-is in
+    (rw f refl, λ i. record { counted = record { election = (counted.tally-is i).election; bundle = bundle i }; answers = record { items = counted.answers-are i } })

@@ -1,8 +1,12 @@
 -- `election` meets its contract. Assumes nothing.
-use mathlib.Core.Path.{ap}
+use mathlib.Core.Path.{refl, ap, ◌∙◌}
+use Rattle.std.specs.Prelude.{Ok}
 use Rattle.std.proofs.lemmas.Result.{err_from_is_err_and}
 use Rattle.refusals.specs.Numbers.{number}
 use Rattle.refusals.proofs.Numbers.{number-positive}
+use Rattle.voting.specs.Tally.{election_told}
+use Rattle.voting_tally.specs.Groups.{tally_of}
+use Rattle.voting_roll.specs.Election.{cast}
 use Rattle.voting_count.specs.declared.Counting.{Counting}
 use Rattle.voting_count.specs.Count.{lent}
 use Rattle.voting_count.proofs.Answers.{election-answered, election-faulty}
@@ -16,5 +20,7 @@ returns-in_err-counting_for c =
 
 pub returns : goal.returns
 returns c =
+    let P = lent c.args.poll.now.proposals in
+    let rows = c.args.poll.now.roll.now in
     let p = c.in_ok-counting_for.ensures in
-    election-answered c.args.edit (lent c.args.poll.now.proposals) c.args.poll.now.roll.now p.0 _ (ap (λ (k : Counting). k.tally) p.1)
+    ap (λ (k : Counting). election_told (Ok k.counted.election)) p.1 ∙ election-answered c.args.edit P rows p.0 (tally_of (cast c.args.edit P rows)) refl
