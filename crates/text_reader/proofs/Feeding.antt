@@ -39,18 +39,14 @@ module _ (M : Manner) where
         let f : eqb number 0 ≡ false = rw t.number_is e in
         rw (o, e) (t.number_is, eqb-false n 0 e, refl, t.rows-are ∙ rw f refl))
 
-  -- what is read so far, and what is left
-  abbrev pub Upto : List ℕ → ReadSoFar → List ℕ → Type 0
-  Upto text before rest = read_in M text ≡ read_from M before (lines rest)
+  -- what the whole text comes to, what is read so far, and what is left
+  abbrev pub Upto : Answer → ReadSoFar → List ℕ → Type 0
+  Upto whole before rest = whole ≡ read_from M before (lines rest)
 
-  pub upto-start : (text : List ℕ) → Upto text text_begun text
-  unfolding read_in
-  upto-start text = refl
-
-  module _ (text : List ℕ) (before : ReadSoFar) (rest : List ℕ) (u : Upto text before rest) where
+  module _ (whole : Answer) (before : ReadSoFar) (rest : List ℕ) (u : Upto whole before rest) where
     -- the next line, and what is left after it
     module _ (l later : List ℕ) (h : lines rest ≡ l ∷ lines later) (after : ReadSoFar) where
-      pub upto-refused : (fault : Fault) → ReadsLine {A = Unit {0}} (line_fed M before l) before (Err fault) after → Reads (read_in M text) (Err fault)
+      pub upto-refused : (fault : Fault) → ReadsLine {A = Unit {0}} (line_fed M before l) before (Err fault) after → Reads whole (Err fault)
       unfolding read_from
       upto-refused fault t = rw (u, h) (go (line_fed M before l) t)
         where
@@ -58,7 +54,7 @@ module _ (M : Manner) where
           go (Accepted more) t = absurd t
           go (Refused n line) t = t.0
 
-      pub upto_next : (x : Unit {0}) → ReadsLine (line_fed M before l) before (Ok x) after → Upto text after later
+      pub upto_next : (x : Unit {0}) → ReadsLine (line_fed M before l) before (Ok x) after → Upto whole after later
       unfolding read_from
       upto_next x t = u ∙ rw h (go (line_fed M before l) t)
         where
@@ -66,9 +62,19 @@ module _ (M : Manner) where
           go (Accepted more) t = ap (λ now. read_from M now (lines later)) (sym t)
           go (Refused n line) t = absurd t.0
 
-    pub upto-end : lines rest ≡ [] → (answer : Result declared.Record Fault) → Reads (text_finished M before) answer → Reads (read_in M text) answer
+    pub upto-end : lines rest ≡ [] → whole ≡ text_finished M before
     unfolding read_from
-    upto-end h answer r = rw (u, h) r
+    upto-end h = rw h at u
+
+  -- a text is read from where nothing is
+  module _ (text : List ℕ) where
+    pub whole-refused : (fault : Fault) → Reads (read_from M text_begun (lines text)) (Err fault) → Reads (read_in M text) (Err fault)
+    unfolding read_in
+    whole-refused fault r = r
+
+    pub whole-finished : (before : ReadSoFar) → read_from M text_begun (lines text) ≡ text_finished M before → (answer : Result declared.Record Fault) → Reads (text_finished M before) answer → Reads (read_in M text) answer
+    unfolding read_in
+    whole-finished before e answer r = rw e r
 
   -- the end
   module _ (before : ReadSoFar) where

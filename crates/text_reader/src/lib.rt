@@ -1,10 +1,10 @@
 // A text is read line by line into a record (document 01, "Text").
 #![tactic(auto)]
 
-ghost use Rattle.std.specs.Prelude.{◌≡◌, ◌+◌, length, IfOk};
+ghost use Rattle.std.specs.Prelude.{◌≡◌, ◌+◌, length, Err, IfErr, IfOk};
 ghost use Rattle.refusals.specs.Numbers.{number_of};
 ghost use Rattle.text_lines.specs.Lines.{lines};
-ghost use Rattle.text.specs.Text.{text_begun, line_fed, text_finished, read_in, awaits_header, read_text};
+ghost use Rattle.text.specs.Text.{text_begun, line_fed, text_finished, read_from, read_in, awaits_header, read_text};
 ghost use Rattle.text_reader.specs.Reading.{Reads, ReadsLine};
 ghost use Rattle.text_reader.specs.Held.{EditTaken, ConstraintTaken, LineTaken, HeaderTaken, LineRead};
 
@@ -165,6 +165,20 @@ impl<M: Manner> RowsRead<M> {
             .map_err(|refusal| Fault { refusal, line })
     }
 
+    // The lines of a text, up to the first that is refused.
+    // Not inlined: with this loop in it `read_in` set two records, its answer and that of `finish`, to zeros before the first line, and a text that is
+    // refused there took a third more time.
+    #[inline(never)]
+    fn take_lines(&mut self, text: &[u8]) -> Result<(), Fault>
+        ensures refused { IfErr result (λ fault. Reads (read_from M.manner self.old (lines text.now)) (Err fault)) }
+        ensures read { IfOk result (λ _. read_from M.manner self.old (lines text.now) ≡ text_finished M.manner self.new) }
+    {
+        for line in Lines::new(text) {
+            self.take(line)?;
+        }
+        Ok(())
+    }
+
     // The record of the lines read, if it is sound; that it is not is told of the last line.
     pub fn finish(&self) -> Result<Record, Fault>
         ensures { Reads (text_finished M.manner self.now) result }
@@ -194,9 +208,7 @@ pub fn read_in<M: Manner>(text: &[u8]) -> Result<Record, Fault>
     ensures { Reads (read_in M.manner text.now) result }
 {
     let mut rows = RowsRead::<M>::begin();
-    for line in Lines::new(text) {
-        rows.take(line)?;
-    }
+    rows.take_lines(text)?;
     rows.finish()
 }
 

@@ -3,8 +3,9 @@ use mathlib.Core.Path.{◌≡◌, refl, ap, sym, ◌∙◌}
 use mathlib.Core.List.{List, [], ◌∷◌, map}
 use Prim.Native.Nat.{ℕ, zero, suc, ◌+◌, ◌≤◌, ◌<◌}
 use native.Mathlib.Omega.{arith}
-use lib.ListN.{length, get_or, length-map}
-use Rattle.std.proofs.lemmas.List.{get_or_past}
+use lib.ListN.{length, get_or, take, set, length-map}
+use lib.Seq.{take_all}
+use Rattle.std.proofs.lemmas.List.{get_or_past, take_more, take_more_set}
 use Rattle.record.specs.declared.Edit.{Edit}
 use Rattle.record.specs.Record.{Record, name_of, written, names}
 use Rattle.record.specs.Schedule.{schedule}
@@ -39,6 +40,16 @@ module _ (j : Judged) (l : List Edit) (i : ℕ) where
 
   pub line-past : length l ≤ i → no_line ≡ get_or (report_lines j 1 l) i no_line
   line-past h = sym (get_or_past (report_lines j 1 l) i no_line (omega (arith, lines-length j 1 l)))
+
+  module _ (lines : List ReportLine) where
+    -- one line more
+    pub lines-more : {line : ReportLine} → i < length l → i < length lines → line ≡ get_or (report_lines j 1 l) i no_line → take i lines ≡ take i (report_lines j 1 l)
+        → take (i + 1) (set lines i line) ≡ take (i + 1) (report_lines j 1 l)
+    lines-more {line} h k e f = rw (take_more_set lines i line k, take_more (report_lines j 1 l) i no_line (omega (arith, h, lines-length j 1 l)), e, f) refl
+
+    -- a line for each edit
+    pub lines-whole : i ≡ length l → take i lines ≡ take i (report_lines j 1 l) → take (length l) lines ≡ report_lines j 1 l
+    lines-whole e f = rw (← e) (f ∙ take_all i (report_lines j 1 l) (omega (arith, e, lines-length j 1 l)))
 
 -- the edits of the record from an index on
 lines-from : (R : Record) (index : ℕ) (l : List Edit) → ((i : ℕ) → i < length l → (name_at R (index + i) ≡ get_or (map name_of l) i 0) × (index + i < length (names R))) → map line_text (report_lines (judged_of R) index l) ≡ map (fill report_form) (map (report_numbers R) (map name_of l))

@@ -16,7 +16,6 @@ ghost use Rattle.text_report.specs.Rows.{line_text, no_line, report_lines};
 use judgement::Judged;
 use record::{EDITS, Edit, Record};
 use refusals::Refusal;
-use std::array;
 use text_reader::Fault;
 use text_writer::Lined;
 
@@ -83,11 +82,16 @@ fn line_at(edits: &[Edit], judged: &Judged, i: usize) -> ReportLine
 // Kept: an array of all lines, cut to the edits: it is walked twice, to see that all fit and to write them (`lines_fit`, `write_lines`), by the two
 // functions that write the rows of a text, whose elements have a line by themselves; an edit has one only beside the judgement.
 // Kept: beside `record_joining::rows_of` and `record_union::elements_of`: here an element is made of its place too, there of a row alone.
+// Kept: a loop over the edits that are there. `array::from_fn` would ask at each of the 127 places whether there is an edit.
 fn report_lines(edits: &[Edit], judged: &Judged) -> [ReportLine; EDITS]
     requires { length edits.now ≤ edit_limit }
     ensures { (take (length edits.now) result ≡ report_lines judged.now 1 edits.now) × (length result ≡ edit_limit) }
 {
-    array::from_fn(|i| line_at(edits, judged, i))
+    let mut lines = [ReportLine { numbers: [0; 5] }; EDITS];
+    for i in 0..edits.len() {
+        lines[i] = line_at(edits, judged, i);
+    }
+    lines
 }
 
 // Whether a report takes at most so many bytes.
