@@ -67,14 +67,16 @@ module _ (M : Manner) where
     upto-end h = rw h at u
 
   -- a text is read from where nothing is
+  pub upto-start : (text : List ℕ) → Upto (read_in M text) text_begun text
+  unfolding read_in
+  upto-start text = refl
+
   module _ (text : List ℕ) where
     pub whole-refused : (fault : Fault) → Reads (read_from M text_begun (lines text)) (Err fault) → Reads (read_in M text) (Err fault)
-    unfolding read_in
-    whole-refused fault r = r
+    whole-refused fault r = rw (upto-start text) r
 
     pub whole-finished : (before : ReadSoFar) → read_from M text_begun (lines text) ≡ text_finished M before → (answer : Result declared.Record Fault) → Reads (text_finished M before) answer → Reads (read_in M text) answer
-    unfolding read_in
-    whole-finished before e answer r = rw e r
+    whole-finished before e answer r = rw (upto-start text, e) r
 
   -- the end
   module _ (before : ReadSoFar) where

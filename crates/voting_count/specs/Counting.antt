@@ -1,5 +1,6 @@
 -- Inner: the proposals decoded, the faults that come after the roll's, and the count of a roll's rows. Assumes nothing.
 use Rattle.std.specs.Prelude.{not, List, map, ℕ}
+use Rattle.arrayvec.specs.ArrayVec.{ArrayVec}
 use Rattle.lists.specs.Lists.{any, all, mem}
 use Rattle.record.specs.declared.Record as declared
 use Rattle.record.specs.Record.{written}
@@ -7,11 +8,13 @@ use Rattle.record.specs.Stored.{stored}
 use Rattle.record.specs.Judgement.{sound}
 use Rattle.record_rows.specs.row.Row.{is_name}
 use Rattle.record_rows.specs.grounds.Ground.{◌given◌, ◌orelse◌}
+use Rattle.voting.specs.declared.ElectionResult.{ElectionResult}
 use Rattle.voting.specs.declared.RollRow.{RollRow}
 use Rattle.voting.specs.Tally.{winner}
 use Rattle.voting_roll.specs.Election.{Proposals, held, benches, cast}
+use Rattle.voting_tally.specs.declared.Tally.{Tally}
 use Rattle.voting_tally.specs.Groups.{result_of, tally_of, held_bundle}
-use Rattle.voting_count.specs.declared.Counting.{Counting}
+use Rattle.voting_count.specs.declared.CountedRoll.{CountedRoll}
 use Rattle.voting_count.specs.Tallied.{beginnings}
 
 -- the eight proposals as records, by bench
@@ -25,9 +28,20 @@ known_name_fault e P = 2 given not (is_name e) orelse 5 given not (any (λ k. me
 unfoldable pub whole_fault : ℕ → Proposals → ℕ
 whole_fault e P = known_name_fault e P orelse 8 given not (all (λ k. sound (held P k)) benches)
 
--- what the election comes to on the rows, and on each beginning of them
+-- the tally of the rows, and what the election comes to on each beginning of them
+pub record Counting : Type 0 where
+  pub tally : Tally
+  pub answers : ArrayVec ElectionResult
+
 abbrev pub counting_of : ℕ → Proposals → List RollRow → Counting
 counting_of e P rows = record {
-  counted = record { election = (tally_of (cast e P rows)).election; bundle = held_bundle (winner (cast e P rows)) };
+  tally = tally_of (cast e P rows);
   answers = record { items = map (λ b. result_of (cast e P b)) (beginnings rows) };
+}
+
+-- the same without the tally: what the election comes to on the rows, and on each beginning of them
+abbrev pub counted_roll_of : ℕ → Proposals → List RollRow → CountedRoll
+counted_roll_of e P rows = record {
+  counted = record { election = (counting_of e P rows).tally.election; bundle = held_bundle (winner (cast e P rows)) };
+  answers = (counting_of e P rows).answers;
 }

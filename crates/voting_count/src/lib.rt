@@ -2,7 +2,7 @@
 // and before the first and after each the tally holds the election's answer on the rows so far (document 02, A4).
 #![tactic(auto)]
 
-ghost use Rattle.std.specs.Prelude.{◌≡◌, ◌≤◌, true, not, IfOk};
+ghost use Rattle.std.specs.Prelude.{◌≡◌, ◌≤◌, true, not, [], IfOk};
 ghost use Rattle.std.proofs.Math.Option.{none};
 ghost use Rattle.record.specs.Record as theory;
 ghost use Rattle.lists.specs.Lists.{any, all, mem};
@@ -15,11 +15,11 @@ ghost use Rattle.record_tables.specs.Checked.{Checked};
 ghost use Rattle.voting.specs.Bundle as vote;
 ghost use Rattle.voting.specs.Tally.{winner, election_told};
 ghost use Rattle.voting_roll.specs.Roll.{roll_faulty};
-ghost use Rattle.voting_tally.specs.Groups.{cast_of, held_bundle};
+ghost use Rattle.voting_tally.specs.Groups.{cast_of, tally_of, held_bundle};
 ghost use Rattle.voting_roll.specs.Election.{Proposals, held, proposal_fault, first_given, benches, cast, election_fault, election_of};
 ghost use Rattle.voting_count.specs.Count.{lent, Faultless, count_told, count_of};
 ghost use Rattle.voting_count.specs.Tallied.{tallied_told, tallied_of};
-ghost use Rattle.voting_count.specs.Counting.{decoded_proposals, known_name_fault, counting_of};
+ghost use Rattle.voting_count.specs.Counting.{decoded_proposals, known_name_fault, counting_of, counted_roll_of};
 
 use arrayvec::ArrayVec;
 use record::Record;
@@ -28,7 +28,7 @@ use record_rows::row::{EditRow, LentRecord};
 use record_tables::lookup;
 use refusals::Refusal;
 use voting::{BENCHES, ElectionResult, RollRow};
-use voting_tally::{Cast, Vote};
+use voting_tally::{Cast, Tally, Vote};
 
 // The proposals of the eight benches, an empty one for a bench that has none.
 pub type LentProposals<'a> = [LentRecord<'a>; BENCHES];
@@ -58,7 +58,7 @@ pub struct Counted {
 // The count of a roll's rows: what the election comes to, and its answers before the first of them and after each. Without their tally: its bundles,
 // one to each bench, would be set to zeros wherever a caller has a place for them, also for a call that is refused.
 #[derive(Drop)]
-struct Counting {
+struct CountedRoll {
     counted: Counted,
     answers: AnswersSoFar,
 }
@@ -151,16 +151,17 @@ fn vote_in(name: u16, proposals: &[Record; BENCHES], bench: u8) -> Cast
     vote_of(proposals[k], name)
 }
 
-// The count of a roll's rows, in one walk: a row without fault is handed in to the tally, and the answer on the rows so far is kept; at the first faulty
-// one all is refused. Benches off the roll cast no vote.
-fn count_rows(
+// The tally of a roll's rows, in one walk: a row without fault is handed in to the tally, and the answer on the rows so far is kept; at the first faulty
+// one all is refused. Benches off the roll cast no vote. The tally is lent, for what `count_rows` hands on is without it.
+fn tally_rows(
     name: u16,
     proposals: &[Record; BENCHES],
     roll: &[RollRow],
-) -> Result<Counting, Refusal>
-    ensures { (P : Proposals) → Faultless P → proposals.now ≡ decoded_proposals P → Gives (14 given roll_faulty roll.now) (counting_of name P roll.now) result }
+    tally: &mut Tally,
+) -> Result<AnswersSoFar, Refusal>
+    ensures { (P : Proposals) → Faultless P → proposals.now ≡ decoded_proposals P → tally.old ≡ tally_of []
+        → (number_of result ≡ 14 given roll_faulty roll.now) × IfOk result (λ answers. record { tally = tally.new; answers = answers } ≡ counting_of name P roll.now) }
 {
-    let mut tally = voting_tally::no_votes();
     let mut answers = AnswersSoFar::new();
     answers.push(tally.election);
     for (i, row) in roll.iter().enumerate() {
@@ -169,7 +170,20 @@ fn count_rows(
         tally.add_vote(row.weight, &cast);
         answers.push(tally.election);
     }
-    Ok(Counting {
+    Ok(answers)
+}
+
+// The count of a roll's rows: what their tally holds in the end, and its answers.
+fn count_rows(
+    name: u16,
+    proposals: &[Record; BENCHES],
+    roll: &[RollRow],
+) -> Result<CountedRoll, Refusal>
+    ensures { (P : Proposals) → Faultless P → proposals.now ≡ decoded_proposals P → Gives (14 given roll_faulty roll.now) (counted_roll_of name P roll.now) result }
+{
+    let mut tally = voting_tally::no_votes();
+    let answers = tally_rows(name, proposals, roll, &mut tally)?;
+    Ok(CountedRoll {
         counted: Counted {
             election: tally.election,
             bundle: tally.won_bundle(),
@@ -191,9 +205,9 @@ fn after_roll(roll: &[RollRow], refusal: Refusal) -> Refusal
 // The count of an election on a known edit, where no row of the proposals has a fault.
 // Not inlined: its table of records and its tally are set to zeros on entry, which a call that is refused before would pay for too.
 #[inline(never)]
-fn count_sound(name: u16, poll: &Poll) -> Result<Counting, Refusal>
+fn count_sound(name: u16, poll: &Poll) -> Result<CountedRoll, Refusal>
     ensures { Faultless (lent poll.now.proposals) → Gives (14 given roll_faulty poll.now.roll.now orelse 8 given not (all (λ k. sound (held (lent poll.now.proposals) k)) benches))
-        (counting_of name (lent poll.now.proposals) poll.now.roll.now) result }
+        (counted_roll_of name (lent poll.now.proposals) poll.now.roll.now) result }
 {
     let mut proposals = [record::empty(); BENCHES];
     if !decode_sound(&poll.proposals, &mut proposals) {
@@ -204,8 +218,8 @@ fn count_sound(name: u16, poll: &Poll) -> Result<Counting, Refusal>
 
 // The count of an election on an edit. The grounds: rows of the proposals by bench, the roll, then the faults of the whole call. These are looked for
 // before a vote is made; where there is one, the roll is walked for its own fault alone.
-fn counting_for(edit: u32, poll: &Poll) -> Result<Counting, Refusal>
-    ensures { Gives (election_fault edit (lent poll.now.proposals) poll.now.roll.now) (counting_of edit (lent poll.now.proposals) poll.now.roll.now) result }
+fn counting_for(edit: u32, poll: &Poll) -> Result<CountedRoll, Refusal>
+    ensures { Gives (election_fault edit (lent poll.now.proposals) poll.now.roll.now) (counted_roll_of edit (lent poll.now.proposals) poll.now.roll.now) result }
 {
     proposals_fault(&poll.proposals)?;
     let name = match known_name(edit, &poll.proposals) {

@@ -4,7 +4,7 @@ use Rattle.std.specs.Prelude.{Ok}
 use Rattle.std.proofs.lemmas.Result.{err_from_is_err_and}
 use Rattle.refusals.specs.Numbers.{number}
 use Rattle.refusals.proofs.Numbers.{number-positive}
-use Rattle.voting_count.specs.declared.Counting.{Counting}
+use Rattle.voting_count.specs.declared.CountedRoll.{CountedRoll}
 use Rattle.voting_count.specs.Count.{lent, count_told}
 use Rattle.voting_count.proofs.Answers.{count-answered, count-refused}
 use Rattle.voting_roll.specs.Election.{cast}
@@ -24,7 +24,7 @@ returns-clause-told c =
     let P = lent c.args.poll.now.proposals in
     let rows = c.args.poll.now.roll.now in
     let p = c.in_ok-counting_for.ensures in
-    ap (λ (k : Counting). count_told (Ok k.counted)) p.1 ∙ count-answered e P rows p.0 (tally_of (cast e P rows)) refl (held_bundle (winner (cast e P rows))) refl
+    ap (λ (k : CountedRoll). count_told (Ok k.counted)) p.1 ∙ count-answered e P rows p.0 (tally_of (cast e P rows)) refl (held_bundle (winner (cast e P rows))) refl
 
 pub returns-clause-bundle : goal.returns-clause-bundle
-returns-clause-bundle c = ap (λ (k : Counting). k.counted.bundle) c.in_ok-counting_for.ensures.1
+returns-clause-bundle c = ap (λ (k : CountedRoll). k.counted.bundle) c.in_ok-counting_for.ensures.1

@@ -7,7 +7,7 @@ use Rattle.refusals.proofs.Numbers.{number-positive}
 use Rattle.voting.specs.Tally.{election_told}
 use Rattle.voting_tally.specs.Groups.{tally_of}
 use Rattle.voting_roll.specs.Election.{cast}
-use Rattle.voting_count.specs.declared.Counting.{Counting}
+use Rattle.voting_count.specs.declared.CountedRoll.{CountedRoll}
 use Rattle.voting_count.specs.Count.{lent}
 use Rattle.voting_count.proofs.Answers.{election-answered, election-faulty}
 use Rattle.voting_count.proofs.election.Goals as goal
@@ -23,4 +23,4 @@ returns c =
     let P = lent c.args.poll.now.proposals in
     let rows = c.args.poll.now.roll.now in
     let p = c.in_ok-counting_for.ensures in
-    ap (λ (k : Counting). election_told (Ok k.counted.election)) p.1 ∙ election-answered c.args.edit P rows p.0 (tally_of (cast c.args.edit P rows)) refl
+    ap (λ (k : CountedRoll). election_told (Ok k.counted.election)) p.1 ∙ election-answered c.args.edit P rows p.0 (tally_of (cast c.args.edit P rows)) refl

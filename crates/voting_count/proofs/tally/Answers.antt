@@ -3,7 +3,7 @@ use mathlib.Core.Path.{sym, ap}
 use Rattle.std.proofs.lemmas.Result.{err_from_is_err_and}
 use Rattle.refusals.specs.Numbers.{number}
 use Rattle.refusals.proofs.Numbers.{number-positive}
-use Rattle.voting_count.specs.declared.Counting.{Counting}
+use Rattle.voting_count.specs.declared.CountedRoll.{CountedRoll}
 use Rattle.voting_count.specs.Count.{lent}
 use Rattle.voting_count.proofs.Tallied.{tallied-answered, tallied-refused}
 use Rattle.voting_count.proofs.tally.Goals as goal
@@ -17,4 +17,4 @@ returns-in_err-counting_for c =
 pub returns : goal.returns
 returns c =
     let p = c.in_ok-counting_for.ensures in
-    tallied-answered c.args.edit (lent c.args.poll.now.proposals) c.args.poll.now.roll.now (sym p.0) _ (ap (λ (k : Counting). k.answers) p.1)
+    tallied-answered c.args.edit (lent c.args.poll.now.proposals) c.args.poll.now.roll.now (sym p.0) _ (ap (λ (k : CountedRoll). k.answers) p.1)
