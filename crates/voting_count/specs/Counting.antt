@@ -39,7 +39,7 @@ counting_of e P rows = record {
   answers = record { items = map (λ b. result_of (cast e P b)) (beginnings rows) };
 }
 
--- the same without the tally: what the election comes to on the rows, and on each beginning of them
+-- the same with the election and the won bundle in place of the tally
 abbrev pub counted_roll_of : ℕ → Proposals → List RollRow → CountedRoll
 counted_roll_of e P rows = record {
   counted = record { election = (counting_of e P rows).tally.election; bundle = held_bundle (winner (cast e P rows)) };

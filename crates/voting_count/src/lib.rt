@@ -152,7 +152,8 @@ fn vote_in(name: u16, proposals: &[Record; BENCHES], bench: u8) -> Cast
 }
 
 // The tally of a roll's rows, in one walk: a row without fault is handed in to the tally, and the answer on the rows so far is kept; at the first faulty
-// one all is refused. Benches off the roll cast no vote. The tally is lent, for what `count_rows` hands on is without it.
+// one all is refused. Benches off the roll cast no vote. The tally is lent without votes, since what `count_rows` hands on does not hold it; of a roll
+// that is refused nobody reads it, so that no clause says what it holds then.
 fn tally_rows(
     name: u16,
     proposals: &[Record; BENCHES],
